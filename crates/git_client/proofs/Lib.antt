@@ -29,6 +29,7 @@ pub mod EventCounts
 pub mod Alongs
 pub mod HeardBytes
 pub mod Telling
+pub mod WaitingLines
 pub mod HearingSteps
 pub mod SayingSteps
 pub mod HearingBytes

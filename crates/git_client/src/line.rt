@@ -1,4 +1,4 @@
-//! A line of text on its way to a writer, part after part.
+//! Lines of text on their way to a writer, part after part.
 
 ghost use Rattle.std.specs.Prelude.{◌≡◌, ◌+◌, ◌≤◌, ◌++◌, [], decimal, length, OnOk};
 ghost use Rattle.git_names.specs.ObjectName.{hex_of};
@@ -12,8 +12,8 @@ use itoa::Buffer;
 use std::io::Write;
 use std::marker::Model;
 
-/// How many bytes wait for the writer at the most: few lines have more.
-const ROOM: usize = 256;
+/// How many bytes wait for the writer at the most: some tens of lines.
+const ROOM: usize = 2048;
 
 /// How many bytes are escaped at a time.
 const BLOCK: usize = 64;
@@ -31,48 +31,51 @@ pub(crate) enum Part<'a> {
     Number(&'a [u8], u64),
 }
 
-/// Writes a line of these parts.
-pub(crate) fn write_line<W: Write>(out: &mut Told<W>, parts: &[Part<'_>]) -> Result<(), RunFault>
-    ensures { Sends W.contents out.old (line_shown parts.now) result out.new }
-{
-    let mut line = Line::new();
-    for part in parts {
-        line.put_part(out, *part)?;
-    }
-    line.put(out, b"\n")?;
-    line.drain(out)
-}
-
-/// The bytes of a line that wait for the writer, so that most lines take one write.
+/// The bytes of lines that wait for the writer, so that many lines take one write.
 #[derive(Drop)]
-struct Line {
+pub(crate) struct Lines {
     bytes: [u8; ROOM],
     count: usize,
 }
 
-impl Model for Line {
+impl Model for Lines {
     ghost use Rattle.std.specs.Prelude.{◌≤◌, ℕ, List, take};
     ghost use Rattle.git_client.specs.declared.line.TheConstants.{ROOM};
 
     ghost Value = { List ℕ };
 
-    ghost view = { λ line. take line.count line.bytes };
+    ghost view = { λ lines. take lines.count lines.bytes };
 
-    ghost invariant = { λ line. line.count ≤ ROOM };
+    ghost invariant = { λ lines. lines.count ≤ ROOM };
 }
 
-impl Line {
-    fn new() -> Self
+impl Lines {
+    /// No bytes.
+    pub(crate) fn new() -> Self
         ensures { result ≡ [] }
     {
-        Line {
+        Lines {
             bytes: [0; ROOM],
             count: 0,
         }
     }
 
+    /// Puts a line of these parts after the bytes that wait.
+    pub(crate) fn put_line<W: Write>(
+        &mut self,
+        out: &mut Told<W>,
+        parts: &[Part<'_>],
+    ) -> Result<(), RunFault>
+        ensures { Puts W.contents out.old self.old (line_shown parts.now) result out.new self.new }
+    {
+        for part in parts {
+            self.put_part(out, *part)?;
+        }
+        self.put(out, b"\n")
+    }
+
     /// Sends all that waits.
-    fn drain<W: Write>(&mut self, out: &mut Told<W>) -> Result<(), RunFault>
+    pub(crate) fn drain<W: Write>(&mut self, out: &mut Told<W>) -> Result<(), RunFault>
         ensures sends { Sends W.contents out.old self.old result out.new }
         ensures empty { OnOk result (self.new ≡ []) }
     {

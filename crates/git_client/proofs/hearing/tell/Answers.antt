@@ -1,9 +1,10 @@
 use Rattle.git_client.proofs.Telling.{left_alone, written_by, pack_lines, pack_sent, pack_unreported, pack_counted}
 use Rattle.git_client.proofs.Telling.{progress_lines, progress_unsent, progress_reported, progress_counted}
+use Rattle.git_client.proofs.WaitingLines.{put_by, put_nothing}
 use Rattle.git_client.proofs.hearing.tell.Goals as goal
 
 pub returns-in-Pack-clause-told : goal.returns-in-Pack-clause-told
-returns-in-Pack-clause-told g c = left_alone _ _ _ (pack_lines _ c.in-Pack.bytes c.in-Pack.is _ _)
+returns-in-Pack-clause-told g c = put_nothing _ _ _ _ (pack_lines _ c.in-Pack.bytes c.in-Pack.is _ _)
 
 pub returns-in-Pack-clause-sent : goal.returns-in-Pack-clause-sent
 returns-in-Pack-clause-sent g c = rw (pack_sent c.args.event.now c.in-Pack.bytes c.in-Pack.is)
@@ -16,7 +17,7 @@ pub returns-in-Pack-clause-counts : goal.returns-in-Pack-clause-counts
 returns-in-Pack-clause-counts g c can = pack_counted _ c.in-Pack.bytes c.in-Pack.is c.args.counts.now _ c.saturating_add-counts.ensures can
 
 pub returns-in-Progress-clause-told : goal.returns-in-Progress-clause-told
-returns-in-Progress-clause-told g c = left_alone _ _ _ (progress_lines _ c.in-Progress.bytes c.in-Progress.is _ _)
+returns-in-Progress-clause-told g c = put_nothing _ _ _ _ (progress_lines _ c.in-Progress.bytes c.in-Progress.is _ _)
 
 pub returns-in-Progress-clause-sent : goal.returns-in-Progress-clause-sent
 returns-in-Progress-clause-sent g c = left_alone _ _ _ (progress_unsent _ c.in-Progress.bytes c.in-Progress.is)
@@ -28,3 +29,6 @@ returns-in-Progress-clause-reported g c = rw (progress_reported c.args.event.now
 pub returns-in-Progress-clause-counts : goal.returns-in-Progress-clause-counts
 returns-in-Progress-clause-counts g c can =
     progress_counted _ c.in-Progress.bytes c.in-Progress.is c.args.counts.now _ c.saturating_add-counts-in-Progress.ensures can
+
+pub returns-in_default-clause-told : goal.returns-in_default-clause-told
+returns-in_default-clause-told g c = put_by c.put_event.result c.put_event.ensures
