@@ -1,7 +1,11 @@
 -- A line that is written part after part.
 use Rattle.std.proofs.Common.{Bool, true, false, ◌||◌, ◌≡◌, ℕ, ◌+◌, ◌-◌, ◌<◌, ◌≤◌, List, [], ◌∷◌, ◌++◌, take, drop, length, map, codes, slice_index_or, Option}
 use Rattle.std.proofs.Common.{Result, Ok, Err, IsErrAnd, refl, ap, ap₂, sym, ◌∙◌, subst, append_assoc, append-nil}
+use Rattle.std.proofs.Common.{arith, take-add, take-take, take_at, drop_at}
 use Rattle.std.proofs.lemmas.List.{drop_more, drop_all}
+use Rattle.git_names.specs.ObjectFormat.{digits_of}
+use Rattle.git_names.specs.declared.object_format.Format.{Format}
+use Rattle.git_names.specs.declared.object_format.Format.TheVariants.{Sha1, Sha256}
 use Rattle.git_pkt.specs.Escape.{escaped_of}
 use Rattle.git_pkt.specs.Sends.{Puts, Sends}
 use Rattle.git_pkt.specs.declared.fault.RunFault.{RunFault}
@@ -131,3 +135,14 @@ module _ {W : Type 0} {contents : W → Option (List ℕ)} (bytes : List ℕ) (d
   block_stopped {result = result} one two answered =
       subst (λ (l : List ℕ). Puts contents a s l result c x) (escaped-parts bytes (done + count))
       (puts_front (escaped_of (drop (done + count) bytes)) (block_put one two) answered)
+
+-- bytes were written over a place, and the first of them count
+pub take_placed : (bytes new placed : List ℕ) (at k n : ℕ) → take (at + k) placed ≡ take at bytes ++ new → length (take at bytes) ≡ at → n ≤ k
+    → take (at + n) placed ≡ take at bytes ++ take n new
+take_placed bytes new placed at k n is front few =
+    sym (take-take (at + n) (at + k) placed (omega arith)) ∙ ap (take (at + n)) is ∙ take-add at n (take at bytes ++ new)
+    ∙ ap₂ (λ (l m : List ℕ). l ++ take n m) (take_at (take at bytes) new at front) (drop_at (take at bytes) new at front)
+
+pub digits_within : (format : Format) → digits_of format ≤ 64
+digits_within Sha1 = omega arith
+digits_within Sha256 = omega arith

@@ -20,11 +20,15 @@ use git_msg::{Caps, is_error};
 use git_names::{Format, Steps};
 use git_pkt::{Band, Kind, Packet, split_band, text};
 
+// Of the judges those of a text line are inlined into the client, and the others are not: so for a reference what was noted of the
+// advertisement is not taken apart and put together again.
+
 // The most bytes that a word has which is a line.
 const LONGEST_WORD: usize = 15;
 
 /// What the packet means where this is due, and `caps` was noted before it, or why it is refused. What it contains is written to
 /// `said`: it has room for two object names, and is not moved. In the packfile section it is a packet of which no byte passes.
+#[inline(always)]
 pub(crate) fn judge(
     format: Format,
     ending: Ending,
@@ -47,6 +51,7 @@ pub(crate) fn judge(
     }
 }
 
+#[inline(always)]
 fn judge_payload(
     format: Format,
     due: Due,
@@ -76,6 +81,7 @@ fn judge_payload(
 }
 
 /// A text line that is no error packet. Most lines are references: for these no room is made ready for what another line has.
+#[inline(always)]
 fn judge_line(
     format: Format,
     due: Due,
@@ -98,6 +104,7 @@ fn judge_line(
 }
 
 /// A text line that is no error packet, where no references are due.
+#[inline(never)]
 fn judge_other_line(
     format: Format,
     due: Due,
@@ -174,6 +181,7 @@ fn refused_on_band(payload: &[u8]) -> Kind
     }
 }
 
+#[inline(never)]
 fn judge_flush(
     format: Format,
     ending: Ending,
@@ -209,6 +217,7 @@ fn judge_flush(
     }
 }
 
+#[inline(never)]
 fn judge_delimiter(due: Due, caps: Caps, said: &mut Said) -> Result<Turn, Kind>
     ensures turn { (format : Format) (ending : Ending) → MatchResult result (IsTurn format ending due caps delim said.new)
         (Refuses format ending (place_due caps format due) delim) }
@@ -228,6 +237,7 @@ fn judge_delimiter(due: Due, caps: Caps, said: &mut Said) -> Result<Turn, Kind>
     }
 }
 
+#[inline(never)]
 fn judge_response_end(due: Due, caps: Caps, said: &mut Said) -> Result<Turn, Kind>
     ensures turn { (format : Format) (ending : Ending) → MatchResult result (IsTurn format ending due caps resp_end said.new)
         (Refuses format ending (place_due caps format due) resp_end) }

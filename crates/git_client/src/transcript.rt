@@ -50,6 +50,12 @@ pub(crate) fn put_event<W: Write>(
         }
         Event::Offered => lines.put_line(out, &[Part::Word(b"offered")]),
         Event::Reference {
+            id: Some(id),
+            name,
+            target: None,
+            peeled: None,
+        } => lines.put_reference(out, id, name),
+        Event::Reference {
             id,
             name,
             target,
