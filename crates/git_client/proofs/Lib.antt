@@ -3,6 +3,7 @@ pub mod PlacePackets
 pub mod PartSteps
 pub mod SectionSteps
 pub mod Judged
+pub mod JudgedLines
 pub mod Refusals
 pub mod Sequences
 pub mod Questions

@@ -1,7 +1,6 @@
 -- Lines that wait for their writer while a piece is received.
-use Rattle.std.proofs.Common.{◌≡◌, ℕ, Bool, true, false, List, [], ◌++◌, length, take, Option, Some, None, Result, Ok, Err, OnOk, IfErr}
+use Rattle.std.proofs.Common.{◌≡◌, ℕ, Bool, true, false, List, [], ◌++◌, take, Option, Some, None, Result, Ok, Err, OnOk, IfErr}
 use Rattle.std.proofs.Common.{refl, sym, ap, ◌∙◌, subst, append_assoc, append-nil}
-use Rattle.git_pkt.specs.PacketReader.{ShownByFeed}
 use Rattle.git_pkt.specs.Sends.{Puts}
 use Rattle.git_pkt.specs.Streams.{Flow, flow, is_broken, WrittenAs}
 use Rattle.git_pkt.specs.Told.{inner_of}

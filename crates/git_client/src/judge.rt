@@ -5,7 +5,10 @@ ghost use Rattle.git_names.specs.declared.object_format.Format.{Format};
 ghost use Rattle.git_names.specs.Steps.{TakesAtMost};
 ghost use Rattle.git_pkt.specs.Packets.{body_of, flush, delim, resp_end, payload as payload_of, seen};
 ghost use Rattle.git_client.specs.Events.{IsLineFault, Refuses, band_says};
-ghost use Rattle.git_client.specs.Turns.{IsLineTurn, IsTurn, TakesLines, place_due, said_after_flush, turn_after_flush};
+ghost use Rattle.git_client.specs.Turns.{IsLineTurn, IsTurn, TakesLines, place_due, said_after_flush, turn_after_flush, listed_turn};
+ghost use Rattle.git_client.specs.Places.{references};
+ghost use Rattle.git_msg.specs.declared.offers.Caps.{Caps};
+ghost use Rattle.git_client.specs.declared.phase.Due.{Due};
 ghost use Rattle.git_pkt.specs.Passed.{begins_band, is_on_band};
 ghost use Rattle.git_client.specs.declared.events.Ending.{Ending};
 
@@ -20,15 +23,11 @@ use git_msg::{Caps, is_error};
 use git_names::{Format, Steps};
 use git_pkt::{Band, Kind, Packet, split_band, text};
 
-// Of the judges those of a text line are inlined into the client, and the others are not: so for a reference what was noted of the
-// advertisement is not taken apart and put together again.
-
 // The most bytes that a word has which is a line.
 const LONGEST_WORD: usize = 15;
 
 /// What the packet means where this is due, and `caps` was noted before it, or why it is refused. What it contains is written to
 /// `said`: it has room for two object names, and is not moved. In the packfile section it is a packet of which no byte passes.
-#[inline(always)]
 pub(crate) fn judge(
     format: Format,
     ending: Ending,
@@ -51,7 +50,6 @@ pub(crate) fn judge(
     }
 }
 
-#[inline(always)]
 fn judge_payload(
     format: Format,
     due: Due,
@@ -80,8 +78,29 @@ fn judge_payload(
     }
 }
 
-/// A text line that is no error packet. Most lines are references: for these no room is made ready for what another line has.
+/// A data packet where references are due. Nothing but `said` changes with it: so what was noted of the advertisement is not moved for a
+/// reference, of which there are many.
 #[inline(always)]
+pub(crate) fn judge_listed(
+    format: Format,
+    payload: &[u8],
+    said: &mut Said,
+    steps: &mut Steps,
+) -> Result<(), Kind>
+    ensures turn { (ending : Ending) (caps : Caps)
+        → MatchResult (listed_turn caps result) (IsTurn format ending Due.References caps (payload_of payload.now) said.new)
+        (Refuses format ending references (payload_of payload.now)) }
+    ensures cost { TakesAtMost (48 * (length payload.now + 1)) steps.old steps.new }
+{
+    let line = text(payload);
+    steps.tick(5 * (line.len().min(LONGEST_WORD) + 1));
+    if is_error(line) {
+        return Err(Kind::RemoteError);
+    }
+    judge_reference(format, line, said, steps)
+}
+
+/// A text line that is no error packet. Most lines are references: for these no room is made ready for what another line has.
 fn judge_line(
     format: Format,
     due: Due,
@@ -104,7 +123,6 @@ fn judge_line(
 }
 
 /// A text line that is no error packet, where no references are due.
-#[inline(never)]
 fn judge_other_line(
     format: Format,
     due: Due,
@@ -181,7 +199,6 @@ fn refused_on_band(payload: &[u8]) -> Kind
     }
 }
 
-#[inline(never)]
 fn judge_flush(
     format: Format,
     ending: Ending,
@@ -217,7 +234,6 @@ fn judge_flush(
     }
 }
 
-#[inline(never)]
 fn judge_delimiter(due: Due, caps: Caps, said: &mut Said) -> Result<Turn, Kind>
     ensures turn { (format : Format) (ending : Ending) → MatchResult result (IsTurn format ending due caps delim said.new)
         (Refuses format ending (place_due caps format due) delim) }
@@ -237,7 +253,6 @@ fn judge_delimiter(due: Due, caps: Caps, said: &mut Said) -> Result<Turn, Kind>
     }
 }
 
-#[inline(never)]
 fn judge_response_end(due: Due, caps: Caps, said: &mut Said) -> Result<Turn, Kind>
     ensures turn { (format : Format) (ending : Ending) → MatchResult result (IsTurn format ending due caps resp_end said.new)
         (Refuses format ending (place_due caps format due) resp_end) }

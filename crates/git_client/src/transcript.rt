@@ -44,17 +44,33 @@ pub(crate) fn put_event<W: Write>(
     ensures { Puts W.contents out.old lines.old (lines_of (values_of event.now) pack progress) result out.new lines.new }
 {
     match event {
-        Event::Capability(capability) => {
-            let key = Part::Text(b"capability ", capability.key);
-            lines.put_line(out, &[key, text_part(b"=", capability.value)])
-        }
-        Event::Offered => lines.put_line(out, &[Part::Word(b"offered")]),
         Event::Reference {
             id: Some(id),
             name,
             target: None,
             peeled: None,
         } => lines.put_reference(out, id, name),
+        _ => put_parts(lines, out, event, pack, progress),
+    }
+}
+
+/// Puts the line of any event, part after part.
+#[inline(never)]
+fn put_parts<W: Write>(
+    lines: &mut Lines,
+    out: &mut Told<W>,
+    event: &Event<'_>,
+    pack: u64,
+    progress: u64,
+) -> Result<(), RunFault>
+    ensures { Puts W.contents out.old lines.old (lines_of (values_of event.now) pack progress) result out.new lines.new }
+{
+    match event {
+        Event::Capability(capability) => {
+            let key = Part::Text(b"capability ", capability.key);
+            lines.put_line(out, &[key, text_part(b"=", capability.value)])
+        }
+        Event::Offered => lines.put_line(out, &[Part::Word(b"offered")]),
         Event::Reference {
             id,
             name,

@@ -8,7 +8,7 @@ use Rattle.git_client.specs.Events.{pack, progress}
 use Rattle.git_client.specs.Transcript.{size_shown, target_shown, value_shown}
 use Rattle.git_client.specs.LineParts.{part_shown}
 use Rattle.git_client.proofs.Writing.{no_lines, puts_line, puts_as}
-use Rattle.git_client.proofs.transcript.put_event.Goals as goal
+use Rattle.git_client.proofs.transcript.put_parts.Goals as goal
 
 pub returns-in-Capability : goal.returns-in-Capability
 returns-in-Capability g c =
