@@ -31,7 +31,8 @@ line_turn format ending due caps bytes said turn takes no_error line =
       next = line.next;
     }
 
-line_refused : (format : Format) (ending : Ending) (due : Due) (caps : Caps) (bytes : List ℕ) (kind : Kind) → TakesLines due → ¬ IsErrorText (text_of bytes)
+line_refused : (format : Format) (ending : Ending) (due : Due) (caps : Caps) (bytes : List ℕ) (kind : Kind) → TakesLines due → ¬ IsErrorText (text_of
+    bytes)
     → IsLineFault (place_due caps format due) format (text_of bytes) kind → Refuses format ending (place_due caps format due) (payload bytes) kind
 line_refused format ending Packfile caps bytes kind takes no_error fault = absurd takes
 line_refused format ending ResponseEnd caps bytes kind takes no_error fault = absurd takes
@@ -46,7 +47,8 @@ line_judged format ending due caps bytes said (Ok turn) takes no_error judged = 
 line_judged format ending due caps bytes said (Err kind) takes no_error judged = line_refused format ending due caps bytes kind takes no_error judged
 
 -- a line where references are due
-pub listed : {T : Type 0} (format : Format) (ending : Ending) (caps : Caps) (bytes : List ℕ) (said : Said) (result : Result T Kind) → ¬ IsErrorText (text_of bytes)
+pub listed : {T : Type 0} (format : Format) (ending : Ending) (caps : Caps) (bytes : List ℕ) (said : Said) (result : Result T Kind) → ¬ IsErrorText
+    (text_of bytes)
     → MatchResult result (λ _. Says references format (text_of bytes) said) (IsLineFault references format (text_of bytes))
     → MatchResult (listed_turn caps result) (IsTurn format ending References caps (payload bytes) said) (Refuses format ending references (payload bytes))
 listed format ending caps bytes said (Ok done) no_error says =

@@ -57,14 +57,16 @@ put_then {broken = broken} {before = before} {held = held} {after = after} {s = 
 }
 
 -- all that waits was written, or a front of it
-pub put_out : (broken : Bool) {before held : Option (List ℕ)} {lines waiting : List ℕ} (after : Option (List ℕ)) → PutAs false (flow before held) [] lines waiting
+pub put_out : (broken : Bool) {before held : Option (List ℕ)} {lines waiting : List ℕ} (after : Option (List ℕ)) → PutAs false (flow before held) []
+    lines waiting
     → WrittenAs broken (flow held after) waiting → WrittenAs broken (flow before after) lines
 put_out broken {before = before} {held = held} after put written =
     subst (WrittenAs broken (flow before after)) (sym put.all)
     (written_then broken before held after put.sent put.rest put.written (subst (WrittenAs broken (flow held after)) (put.waits refl) written))
 
 -- all that waits was written, and the writer was flushed
-pub flushed_out : {before held : Option (List ℕ)} {lines waiting : List ℕ} (middle after : Option (List ℕ)) → PutAs false (flow before held) [] lines waiting
+pub flushed_out : {before held : Option (List ℕ)} {lines waiting : List ℕ} (middle after : Option (List ℕ)) → PutAs false (flow before held) [] lines
+    waiting
     → WrittenAs false (flow held middle) waiting → WrittenAs false (flow middle after) [] → WrittenAs false (flow before after) lines
 flushed_out {held = held} {waiting = waiting} middle after put written flushed =
     put_out false after put

@@ -10,7 +10,8 @@ use Rattle.git_client.specs.Turns.{values_of}
 use Rattle.git_client.proofs.Phases.{not_ready_where_due, sound_where_due}
 use Rattle.git_client.proofs.HearingSteps.{heard_all, heard_failed, heard_failed_unflushed}
 use Rattle.git_client.proofs.HearingSteps.{heard_event, heard_event_front, heard_sound, heard_some, heard_to_question, used_within}
-use Rattle.git_client.proofs.WaitingLines.{broken_by, broken_unwritten, fault_written, flushed_out, no_lines_yet, piece_unwritten, piece_written, put_front, put_out, put_then}
+use Rattle.git_client.proofs.WaitingLines.{broken_by, broken_unwritten, fault_written, flushed_out, no_lines_yet}
+use Rattle.git_client.proofs.WaitingLines.{piece_unwritten, piece_written, put_front, put_out, put_then}
 use Rattle.git_client.proofs.hearing.hear_piece.Goals as goal
 
 pub loop-used-init : goal.loop-used-init
@@ -50,7 +51,8 @@ returns-in_err-drain-in-Failed-clause-heard g c =
     let waits : wants_input c.loop-used.client ≡ true = sym c.wants_input.ensures.value ∙ c.if-wants_input.true in
     let named : c.in_err-drain-in-Failed.field-0.0 ≡ WriteFault = c.in_err-drain-in-Failed.ensures.sends.fault in
     let so_far = c.loop-used.invariant.hears in
-    at_fault c.from_residual-in_err-drain-in-Failed.result _ WriteFault (λ result. HearsPieceTo result c.args.client.now c.feed-heard.follows.lender-at-none c.args.counts.now
+    at_fault c.from_residual-in_err-drain-in-Failed.result _ WriteFault (λ result. HearsPieceTo result c.args.client.now
+    c.feed-heard.follows.lender-at-none c.args.counts.now
     c.loop-used.counts c.args.piece.now
     (flow (g.O.Write.contents (inner_of c.args.out.now)) (g.O.Write.contents (inner_of c.drain-in-Failed.new.out)))
     (flow (g.P.Output.contents c.args.pack.now) (g.P.Output.contents c.loop-used.pack))
@@ -65,11 +67,13 @@ returns-in_err-flush_all-in-Failed-clause-heard g c =
     let waits : wants_input c.loop-used.client ≡ true = sym c.wants_input.ensures.value ∙ c.if-wants_input.true in
     let named : c.in_err-flush_all-in-Failed.field-0.0 ≡ WriteFault = search rules in
     let so_far = c.loop-used.invariant.hears in
-    at_fault c.from_residual-in_err-flush_all-in-Failed.result _ WriteFault (λ result. HearsPieceTo result c.args.client.now c.feed-heard.follows.lender-at-none c.args.counts.now
+    at_fault c.from_residual-in_err-flush_all-in-Failed.result _ WriteFault (λ result. HearsPieceTo result c.args.client.now
+    c.feed-heard.follows.lender-at-none c.args.counts.now
     c.loop-used.counts c.args.piece.now
     (flow (g.O.Write.contents (inner_of c.args.out.now)) (g.O.Write.contents (inner_of c.flush_all.new.out)))
     (flow (g.P.Output.contents c.args.pack.now) (g.P.Output.contents c.flush_all.new.pack))
-    (flow (g.E.Output.contents c.args.progress.now) (g.E.Output.contents c.flush_all.new.progress))) named c.from_residual-in_err-flush_all-in-Failed.ensures.1
+    (flow (g.E.Output.contents c.args.progress.now) (g.E.Output.contents c.flush_all.new.progress))) named
+    c.from_residual-in_err-flush_all-in-Failed.ensures.1
     (broken_unwritten (heard_failed_unflushed c.args.piece.now c.loop-used.used waits c.loop-used.invariant.within c.loop-used.invariant.hears.bytes
     c.feed-heard.follows.holds-at-none.0
     _ (Some so_far.lines) _ _ c.in-Failed.is (written_nothing (Some so_far.lines)) c.flush_all.ensures.sent c.flush_all.ensures.reported)
@@ -90,7 +94,8 @@ returns-in_err-tell-in-Event-clause-heard g c =
     let named : c.in_err-tell-in-Event.field-0.0 ≡ WriteFault = search rules in
     let so_far = c.loop-used.invariant.hears in
     let line = lines_of (values_of c.in-Event.event) c.loop-used.counts.pack c.loop-used.counts.progress in
-    at_fault c.from_residual-in_err-tell-in-Event.result _ WriteFault (λ result. HearsPieceTo result c.args.client.now c.feed-heard.follows.lender-at-none c.args.counts.now
+    at_fault c.from_residual-in_err-tell-in-Event.result _ WriteFault (λ result. HearsPieceTo result c.args.client.now
+    c.feed-heard.follows.lender-at-none c.args.counts.now
     c.tell.new.counts c.args.piece.now
     (flow (g.O.Write.contents (inner_of c.args.out.now)) (g.O.Write.contents (inner_of c.tell.new.out)))
     (flow (g.P.Output.contents c.args.pack.now) (g.P.Output.contents c.tell.new.pack))

@@ -60,7 +60,8 @@ pub returns-in-Pack : goal.returns-in-Pack
 returns-in-Pack g c = rw (c.in-Pack.is, no_lines pack c.args.pack c.args.progress (λ byte. refl) c.in-Pack.field-0.now) (puts_waiting (sym (append-nil _)))
 
 pub returns-in-Progress : goal.returns-in-Progress
-returns-in-Progress g c = rw (c.in-Progress.is, no_lines progress c.args.pack c.args.progress (λ byte. refl) c.in-Progress.field-0.now) (puts_waiting (sym (append-nil _)))
+returns-in-Progress g c = rw (c.in-Progress.is, no_lines progress c.args.pack c.args.progress (λ byte. refl) c.in-Progress.field-0.now) (puts_waiting
+    (sym (append-nil _)))
 
 pub returns-in-Ended : goal.returns-in-Ended
 returns-in-Ended g c =

@@ -25,10 +25,13 @@ returns-in-More-clause-takes g c =
 pub returns-in-Packet-Payload-default-clause-takes : goal.returns-in-Packet-Payload-default-clause-takes
 returns-in-Packet-Payload-default-clause-takes g c =
     let packet : c.in-Packet-Payload-default.field-0 ≡ Payload c.in-Packet-Payload-default.payload = search rules in
-    settled c.args.self.now _ c.settle_listed-outcome.new.self References c.args.piece.now c.feed-fed.result.used _ (listed_turn (caps_of c.args.self.now) c.judge_listed-judged.result)
+    settled c.args.self.now _ c.settle_listed-outcome.new.self References c.args.piece.now c.feed-fed.result.used _ (listed_turn (caps_of
+    c.args.self.now) c.judge_listed-judged.result)
     c.settle_listed-outcome.result
-    (fed_packet c.args.self.now _ References c.args.piece.now c.feed-fed.result (Payload c.in-Packet-Payload-default.payload) c.in-Packet-Payload-default.offset c.requires.hears
-    (λ e. cc e) c.feed-fed.ensures.used c.feed-fed.follows.holds-at-none (subst (λ (p : Packet). c.feed-fed.result.got ≡ PacketGot p c.in-Packet-Payload-default.offset) packet c.in-Packet-Payload-default.is)) c.feed-fed.ensures.used (c.judge_listed-judged.ensures.turn _ _) refl
+    (fed_packet c.args.self.now _ References c.args.piece.now c.feed-fed.result (Payload c.in-Packet-Payload-default.payload)
+    c.in-Packet-Payload-default.offset c.requires.hears
+    (λ e. cc e) c.feed-fed.ensures.used c.feed-fed.follows.holds-at-none (subst (λ (p : Packet). c.feed-fed.result.got ≡ PacketGot p
+    c.in-Packet-Payload-default.offset) packet c.in-Packet-Payload-default.is)) c.feed-fed.ensures.used (c.judge_listed-judged.ensures.turn _ _) refl
     refl refl c.settle_listed-outcome.ensures
 
 pub returns-in-Packet-clause-takes : goal.returns-in-Packet-clause-takes
