@@ -1,7 +1,7 @@
 -- Lines that wait for their writer while a piece is received.
-use Rattle.std.proofs.Common.{◌≡◌, ℕ, Bool, true, false, List, [], ◌++◌, take, Option, Some, None, Result, Ok, Err, OnOk, IfErr}
+use Rattle.std.proofs.Common.{◌≡◌, ℕ, Bool, true, false, List, [], ◌++◌, take, Option, Some, None, Result, Ok, Err, OnOk, IfErr, IsErrAnd}
 use Rattle.std.proofs.Common.{refl, sym, ap, ◌∙◌, subst, append_assoc, append-nil}
-use Rattle.git_pkt.specs.Sends.{Puts}
+use Rattle.git_pkt.specs.Sends.{Puts, Sends}
 use Rattle.git_pkt.specs.Streams.{Flow, flow, is_broken, WrittenAs}
 use Rattle.git_pkt.specs.Told.{inner_of}
 use Rattle.git_pkt.specs.declared.fault.Fault.{Fault}
@@ -34,6 +34,39 @@ put_by {contents = contents} {a = a} {c = c} result puts = record {
   written = written_by result (contents (inner_of a)) (contents (inner_of c)) puts.sent puts.sends.ok puts.sends.err puts.sends.fault;
   waits = put_whole result puts.sends.fault puts.waits;
 }
+
+-- all that waits was sent
+pub put_drained : {W : Type 0} {contents : W → Option (List ℕ)} {a c : Told W} {s t : List ℕ} (broken : Bool) → Sends {T = Unit {0}} contents a s (Ok tt) c
+    → t ≡ [] → PutAs broken (flow (contents (inner_of a)) (contents (inner_of c))) s [] t
+put_drained {contents = contents} {a = a} {c = c} {s = s} broken sends none = record {
+  sent = s;
+  rest = [];
+  all = refl;
+  written = written_whole broken (flow (contents (inner_of a)) (contents (inner_of c))) s sends.ok;
+  waits = λ whole. none;
+}
+
+-- a call that answers the fault of a failing write has failed by it
+broken_answer : {T : Type 0} (result : Result T RunFault) {met : RunFault} → met ≡ WriteFault → IsErrAnd result (λ e. e ≡ met) → is_broken result ≡ true
+broken_answer (Ok x) named answered = absurd answered
+broken_answer (Err WriteFault) named answered = refl
+broken_answer (Err fault) named answered = absurd (cc)
+
+-- a front of what waits was sent
+pub put_undrained : {S T W : Type 0} {contents : W → Option (List ℕ)} {a c : Told W} {s t : List ℕ} {met : RunFault} (result : Result T RunFault)
+    → Sends {T = S} contents a s (Err met) c → IsErrAnd result (λ e. e ≡ met)
+    → PutAs (is_broken result) (flow (contents (inner_of a)) (contents (inner_of c))) s [] t
+put_undrained {contents = contents} {a = a} {c = c} {s = s} {t = t} result sends answered =
+    subst (λ (broken : Bool). PutAs broken (flow (contents (inner_of a)) (contents (inner_of c))) s [] t) (sym (broken_answer result sends.fault answered))
+    (record { sent = s; rest = []; all = refl; written = sends.err; waits = λ whole. absurd (cc) })
+
+-- and nothing was written to another stream
+pub unwritten : {S T W : Type 0} {contents : W → Option (List ℕ)} {a c : Told W} {s : List ℕ} {met : RunFault} (result : Result T RunFault)
+    (held : Option (List ℕ)) (bytes : List ℕ) → Sends {T = S} contents a s (Err met) c → IsErrAnd result (λ e. e ≡ met)
+    → WrittenAs (is_broken result) (flow held held) bytes
+unwritten result held bytes sends answered =
+    subst (λ (broken : Bool). WrittenAs broken (flow held held) bytes) (sym (broken_answer result sends.fault answered))
+    (AppendsFront-longer held held [] bytes (written_whole true (flow held held) [] (written_nothing held)))
 
 -- no bytes were put
 pub put_nothing : (broken : Bool) (held : Option (List ℕ)) (waiting bytes : List ℕ) → bytes ≡ [] → PutAs broken (flow held held) waiting bytes waiting

@@ -1,6 +1,7 @@
 //! A response, received over a reader: its transcript, its pack and its progress are written.
 
 ghost use Rattle.std.specs.Prelude.{[], ◌≡◌, ◌≤◌, ◌<◌, ◌||◌, length, true, false, IsTrue, OnOk, IfErr, is_err};
+ghost use Rattle.std.specs.Io.KnownBytes.{Appends};
 ghost use Rattle.git_pkt.specs.Told.{inner_of, reads_of, has_failed, has_ended, has_wasted};
 ghost use Rattle.git_pkt.specs.Engine.{FailsAs, IsShownBy, IsSpent};
 ghost use Rattle.git_pkt.specs.Streams.{flow, is_broken, WrittenAs};
@@ -183,14 +184,31 @@ fn tell<O: Write, P: Output, E: Output>(
     match event {
         Event::Pack(bytes) => {
             counts.pack = packed.saturating_add(bytes.len() as u64);
-            pack.send(bytes)
+            send_after(lines, out, pack, bytes)
         }
         Event::Progress(bytes) => {
             counts.progress = told.saturating_add(bytes.len() as u64);
-            progress.send(bytes)
+            send_after(lines, out, progress, bytes)
         }
         event => put_event(lines, out, event, packed, told),
     }
+}
+
+/// Sends bytes to another stream, after all lines that wait: none of these is lost where the bytes cannot be written.
+fn send_after<O: Write, P: Output>(
+    waiting: &mut Lines,
+    out: &mut Told<O>,
+    to: &mut P,
+    bytes: &[u8],
+) -> Result<(), RunFault>
+    ensures told { PutAs (is_broken result) (flow (O.contents (inner_of out.old)) (O.contents (inner_of out.new))) waiting.old [] waiting.new }
+    ensures first { has_failed out.new ≡ false → Appends (O.contents (inner_of out.old)) (O.contents (inner_of out.new)) waiting.old }
+    ensures sent { WrittenAs (is_broken result) (flow (P.contents to.old) (P.contents to.new)) bytes.now }
+    ensures fault { IfErr result (λ fault. fault ≡ RunFault.WriteFault) }
+    ensures failed { (has_failed out.new || P.failed to.new) ≡ ((has_failed out.old || P.failed to.old) || is_err result) }
+{
+    waiting.drain(out)?;
+    to.send(bytes)
 }
 
 /// Flushes the three writers, up to the first that fails: the progress first, so that the line at a response's end is seen after it.
