@@ -3,6 +3,7 @@ pub mod PlacePackets
 pub mod PartSteps
 pub mod SectionSteps
 pub mod Judged
+pub mod JudgedLines
 pub mod Refusals
 pub mod Sequences
 pub mod Questions
@@ -29,6 +30,7 @@ pub mod EventCounts
 pub mod Alongs
 pub mod HeardBytes
 pub mod Telling
+pub mod WaitingLines
 pub mod HearingSteps
 pub mod SayingSteps
 pub mod HearingBytes

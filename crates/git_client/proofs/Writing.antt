@@ -1,56 +1,68 @@
 -- A line that is written part after part.
 use Rattle.std.proofs.Common.{Bool, true, false, ◌||◌, ◌≡◌, ℕ, ◌+◌, ◌-◌, ◌<◌, ◌≤◌, List, [], ◌∷◌, ◌++◌, take, drop, length, map, codes, slice_index_or, Option}
 use Rattle.std.proofs.Common.{Result, Ok, Err, IsErrAnd, refl, ap, ap₂, sym, ◌∙◌, subst, append_assoc, append-nil}
+use Rattle.std.proofs.Common.{arith, take-add, take-take, take_at, drop_at}
 use Rattle.std.proofs.lemmas.List.{drop_more, drop_all}
+use Rattle.git_names.specs.ObjectFormat.{digits_of}
+use Rattle.git_names.specs.declared.object_format.Format.{Format}
+use Rattle.git_names.specs.declared.object_format.Format.TheVariants.{Sha1, Sha256}
 use Rattle.git_pkt.specs.Escape.{escaped_of}
 use Rattle.git_pkt.specs.Sends.{Puts, Sends}
 use Rattle.git_pkt.specs.declared.fault.RunFault.{RunFault}
 use Rattle.git_pkt.specs.declared.told.Told.{Told}
 use Rattle.git_pkt.proofs.Escapes.{escaped-append, escaped-parts}
 use Rattle.git_pkt.proofs.EngineLemmas.{take-next}
-use Rattle.git_pkt.proofs.Sends.{puts_then, puts_front, sends_stopped}
+use Rattle.git_pkt.proofs.Sends.{puts_then, puts_front, sends_all, sends_stopped}
 use Rattle.git_client.specs.Events.{EventValue}
 use Rattle.git_client.specs.Transcript.{line_of, lines_of}
 use Rattle.git_client.specs.LineParts.{part_shown, line_shown}
 use Rattle.git_client.specs.declared.line.Part.{Part}
 
 -- the parts before a place were put, and those of the line from there on are left
-pub record PutsSome {W : Type 0} (contents : W → Option (List ℕ)) (old : Told W) (parts : List Part) (at : ℕ) (new : Told W)
+pub record PutsSome {W : Type 0} (contents : W → Option (List ℕ)) (old : Told W) (before : List ℕ) (parts : List Part) (at : ℕ) (new : Told W)
     (waiting : List ℕ) : Type 0 where
   pub put : List ℕ
-  pub puts : Puts {T = Unit {0}} contents old [] put (Ok tt) new waiting
+  pub puts : Puts {T = Unit {0}} contents old before put (Ok tt) new waiting
   pub left : line_shown parts ≡ put ++ line_shown (drop at parts)
 
 module _ {W : Type 0} {contents : W → Option (List ℕ)} where
-  module _ {old mid : Told W} {parts : List Part} {at : ℕ} {waiting : List ℕ} (part : Part) (some : PutsSome contents old parts at mid waiting)
-      (within : at < length parts) (is : part ≡ slice_index_or parts at part) where
+  module _ {old mid : Told W} {before : List ℕ} {parts : List Part} {at : ℕ} {waiting : List ℕ} (part : Part)
+      (some : PutsSome contents old before parts at mid waiting) (within : at < length parts) (is : part ≡ slice_index_or parts at part) where
     -- this part, and those after it
-    left_from : line_shown parts ≡ some.put ++ (part_shown part ++ line_shown (drop (at + 1) parts))
+    left_from : line_shown parts ≡ (some.put ++ part_shown part) ++ line_shown (drop (at + 1) parts)
     left_from =
         some.left ∙ ap (λ (l : List Part). some.put ++ line_shown l) (drop_more parts at part within)
         ∙ ap (λ (p : Part). some.put ++ (part_shown p ++ line_shown (drop (at + 1) parts))) (sym is)
+        ∙ sym (append_assoc some.put (part_shown part) (line_shown (drop (at + 1) parts)))
 
     pub puts_part : {new : Told W} {after : List ℕ} → Puts {T = Unit {0}} contents mid waiting (part_shown part) (Ok tt) new after
-        → PutsSome contents old parts (at + 1) new after
-    puts_part puts = record {
-      put = some.put ++ part_shown part;
-      puts = puts_then some.puts puts;
-      left = left_from ∙ sym (append_assoc some.put (part_shown part) (line_shown (drop (at + 1) parts)));
-    }
+        → PutsSome contents old before parts (at + 1) new after
+    puts_part puts = record { put = some.put ++ part_shown part; puts = puts_then some.puts puts; left = left_from }
 
     -- this part could not be put
-    pub part_stopped : {S : Type 0} {new : Told W} {after : List ℕ} {met : RunFault} {result : Result (Unit {0}) RunFault}
+    pub part_stopped : {S : Type 0} {new : Told W} {after last : List ℕ} {met : RunFault} {result : Result (Unit {0}) RunFault}
         → Puts {T = S} contents mid waiting (part_shown part) (Err met) new after
-        → IsErrAnd result (λ e. e ≡ met) → Sends contents old (line_shown parts) result new
-    part_stopped {new = new} {after = after} {met = met} {result = result} stopped answered =
-        subst (λ (l : List ℕ). Sends contents old l result new) (sym left_from) (sends_stopped {S = Unit {0}} {t = after}
-        (puts_then some.puts (puts_front {T = Unit {0}} {x = after} {result = Err met} (line_shown (drop (at + 1) parts)) stopped refl)) answered)
+        → IsErrAnd result (λ e. e ≡ met) → Puts contents old before (line_shown parts) result new last
+    part_stopped {new = new} {last = last} {result = result} stopped answered =
+        subst (λ (l : List ℕ). Puts contents old before l result new last) (sym left_from)
+        (puts_front (line_shown (drop (at + 1) parts)) (puts_then some.puts stopped) answered)
 
   -- all parts were put, and what is left is the line's end
-  pub all_put : {old new : Told W} {parts : List Part} {at : ℕ} {waiting : List ℕ} (some : PutsSome contents old parts at new waiting)
+  pub all_put : {old new : Told W} {before : List ℕ} {parts : List Part} {at : ℕ} {waiting : List ℕ} (some : PutsSome contents old before parts at new waiting)
       → length parts ≤ at → some.put ++ codes "\n" ≡ line_shown parts
   all_put {parts = parts} some end =
       sym (some.left ∙ ap (λ (l : List Part). some.put ++ line_shown l) (drop_all _ parts end))
+
+  -- nothing waited before, and at last all that waits is sent
+  pub sends_lines : {S T : Type 0} {a b c : Told W} {s u t : List ℕ} {x : S} {result : Result T RunFault} → s ≡ [] → Puts contents a s u (Ok x) b t
+      → Sends contents b t result c → Sends contents a u result c
+  sends_lines {a = a} {b = b} {u = u} {t = t} {x = x} none puts sends =
+      sends_all (subst (λ (l : List ℕ). Puts contents a l u (Ok x) b t) none puts) sends
+
+  pub lines_stopped : {S T : Type 0} {a c : Told W} {s u t : List ℕ} {met : RunFault} {result : Result T RunFault} → s ≡ []
+      → Puts {T = S} contents a s u (Err met) c t → IsErrAnd result (λ e. e ≡ met) → Sends contents a u result c
+  lines_stopped {S = S} {a = a} {c = c} {u = u} {t = t} {met = met} none puts answered =
+      sends_stopped (subst (λ (l : List ℕ). Puts {T = S} contents a l u (Err met) c t) none puts) answered
 
 -- bytes one after another, from the first and from the last
 abbrev pub after_all : List ℕ → List (List ℕ) → List ℕ
@@ -81,13 +93,14 @@ line_same (bytes ∷ more) (others ∷ rest) (same, all) = ap₂ (λ (l m : List
 line_same [] (others ∷ rest) same = absurd same
 line_same (bytes ∷ more) [] same = absurd same
 
-module _ {W T : Type 0} {contents : W → Option (List ℕ)} {a c : Told W} {result : Result T RunFault} where
-  pub sends_line : (so_far : List ℕ) (parts : List (List ℕ)) → Sends contents a (so_far ++ joined parts) result c
-      → Sends contents a (after_all so_far parts) result c
-  sends_line so_far parts sends = subst (λ (l : List ℕ). Sends contents a l result c) (one_line so_far parts) sends
+module _ {W T : Type 0} {contents : W → Option (List ℕ)} {a c : Told W} {s t : List ℕ} {result : Result T RunFault} where
+  pub puts_line : (so_far : List ℕ) (parts : List (List ℕ)) → Puts contents a s (so_far ++ joined parts) result c t
+      → Puts contents a s (after_all so_far parts) result c t
+  puts_line so_far parts puts = subst (λ (l : List ℕ). Puts contents a s l result c t) (one_line so_far parts) puts
 
-  pub sends_as : (given shown : List (List ℕ)) → AreSame given shown → Sends contents a (line_by given) result c → Sends contents a (line_by shown) result c
-  sends_as given shown same sends = subst (λ (l : List ℕ). Sends contents a l result c) (line_same given shown same) sends
+  pub puts_as : (given shown : List (List ℕ)) → AreSame given shown → Puts contents a s (line_by given) result c t
+      → Puts contents a s (line_by shown) result c t
+  puts_as given shown same puts = subst (λ (l : List ℕ). Puts contents a s l result c t) (line_same given shown same) puts
 
 -- events of which each has no line have none
 pub no_lines : (say : ℕ → EventValue) (packed told : ℕ) → ((byte : ℕ) → line_of (say byte) packed told ≡ []) → (bytes : List ℕ)
@@ -122,3 +135,14 @@ module _ {W : Type 0} {contents : W → Option (List ℕ)} (bytes : List ℕ) (d
   block_stopped {result = result} one two answered =
       subst (λ (l : List ℕ). Puts contents a s l result c x) (escaped-parts bytes (done + count))
       (puts_front (escaped_of (drop (done + count) bytes)) (block_put one two) answered)
+
+-- bytes were written over a place, and the first of them count
+pub take_placed : (bytes new placed : List ℕ) (at k n : ℕ) → take (at + k) placed ≡ take at bytes ++ new → length (take at bytes) ≡ at → n ≤ k
+    → take (at + n) placed ≡ take at bytes ++ take n new
+take_placed bytes new placed at k n is front few =
+    sym (take-take (at + n) (at + k) placed (omega arith)) ∙ ap (take (at + n)) is ∙ take-add at n (take at bytes ++ new)
+    ∙ ap₂ (λ (l m : List ℕ). l ++ take n m) (take_at (take at bytes) new at front) (drop_at (take at bytes) new at front)
+
+pub digits_within : (format : Format) → digits_of format ≤ 64
+digits_within Sha1 = omega arith
+digits_within Sha256 = omega arith

@@ -1,7 +1,8 @@
--- The parts that a line of text is written in.
-use Rattle.std.specs.Prelude.{ℕ, List, [], ◌∷◌, ◌++◌, codes, decimal}
+-- The parts that a line of text is written in, and lines that wait for their writer.
+use Rattle.std.specs.Prelude.{◌≡◌, ℕ, Bool, false, List, [], ◌∷◌, ◌++◌, codes, decimal}
 use Rattle.git_names.specs.ObjectName.{hex_of}
 use Rattle.git_pkt.specs.Escape.{escaped_of}
+use Rattle.git_pkt.specs.Streams.{Flow, WrittenAs}
 use Rattle.git_client.specs.declared.line.Part.{Part}
 use Rattle.git_client.specs.declared.line.Part.TheVariants.{Word, Text, Name, Number}
 
@@ -16,3 +17,12 @@ part_shown (Number word number) = word.now ++ decimal number
 abbrev pub line_shown : List Part → List ℕ
 line_shown [] = codes "\n"
 line_shown (part ∷ parts) = part_shown part ++ line_shown parts
+
+-- The bytes came to those that waited for the writer: of all these the first were written, and the others wait. Where a write failed, a
+-- front of the first was written.
+pub record PutAs (broken : Bool) (stream : Flow) (before bytes after : List ℕ) : Type 0 where
+  pub sent : List ℕ
+  pub rest : List ℕ
+  pub all : before ++ bytes ≡ sent ++ rest
+  pub written : WrittenAs broken stream sent
+  pub waits : broken ≡ false → after ≡ rest

@@ -1,5 +1,5 @@
 -- What the judge of packets answers by what is due, without the packets before.
-use Rattle.std.specs.Prelude.{◌≡◌, ℕ, ◌+◌, ◌<◌, ◌≤◌, Bool, true, false, List, [], ◌∷◌, length, take, drop, Option, Some, None, map}
+use Rattle.std.specs.Prelude.{◌≡◌, ℕ, ◌+◌, ◌<◌, ◌≤◌, Bool, true, false, List, [], ◌∷◌, length, take, drop, Option, Some, None, map, Result, Ok, Err}
 use Rattle.std.specs.Prelude.{if◌then◌else◌}
 use Rattle.std.specs.Option.{option_copied}
 use Rattle.git_names.specs.ObjectFormat.{digits_of}
@@ -33,6 +33,7 @@ use Rattle.git_client.specs.declared.sections.Section.{Section}
 use Rattle.git_client.specs.declared.sections.Section.TheVariants.{Acknowledgments as AcknowledgmentsSection, ShallowInfo as ShallowInfoSection}
 use Rattle.git_client.specs.declared.sections.Section.TheVariants.{WantedRefs as WantedRefsSection, Packfile as PackfileSection}
 use Rattle.git_client.specs.declared.sections.Allowed.{Allowed}
+use Rattle.git_pkt.specs.declared.fault.Kind.{Kind}
 use Rattle.git_client.specs.declared.phase.Phase.{Phase}
 use Rattle.git_client.specs.declared.phase.Phase.TheVariants.{Hearing, Ready as ReadyPhase, Asking, Leaving, Left, Failed}
 use Rattle.git_client.specs.declared.phase.Due.{Due}
@@ -180,6 +181,11 @@ pub record IsTurn (format : Format) (ending : Ending) (due : Due) (caps : Caps) 
   pub fits : Fits said (body_of p)
   pub notes : NotesAfter due caps p turn.caps
   pub next : turn.next ≡ phase_after ending due p
+
+-- what a line changes where references are due: nothing
+abbrev pub listed_turn : {T : Type 0} → Caps → Result T Kind → Result Turn Kind
+listed_turn caps (Ok said) = Ok (record { caps = caps; next = Hearing References })
+listed_turn caps (Err kind) = Err kind
 
 -- what it found of a text line
 pub record IsLineTurn (format : Format) (due : Due) (caps : Caps) (text : List ℕ) (said : Said) (turn : Turn) : Type 0 where

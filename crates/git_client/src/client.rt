@@ -30,7 +30,7 @@ ghost use Rattle.git_pkt.specs.PacketReader.{fault_of as reader_fault_of, held_o
 ghost use Rattle.git_client.specs.Parts.{Terms, terms_of};
 ghost use Rattle.git_client.specs.Turns.{takes_packets, fault_in, is_asking, left_in, Fits, LiesIn, events_at, value_at, values_of, capability_value};
 ghost use Rattle.git_client.specs.HandedOut.{HandsOut, HasPart, IsLent, Shows};
-ghost use Rattle.git_client.specs.Turns.{takes_bands, wanted_at};
+ghost use Rattle.git_client.specs.Turns.{listed_turn, takes_bands, wanted_at};
 ghost use Rattle.git_client.specs.Events.{turns_of, all_parts_length, capability, reference, wanted_ref};
 ghost use Rattle.git_names.specs.ObjectFormat.{digits_of};
 ghost use Rattle.git_msg.specs.References.{FitsIn, reference_at};
@@ -38,11 +38,11 @@ ghost use Rattle.git_client.specs.Conversation.{HasNoted};
 ghost use Rattle.git_client.specs.declared.events.Ending.{Ending};
 
 use crate::events::{Ending, Event, Heard, HeardGot};
-use crate::judge::judge;
+use crate::judge::{judge, judge_listed};
 use crate::phase::{CapabilityPlaces, Due, Phase, Said, Turn};
 use git_msg::{Capability, Caps, ReferencePlaces, Request, error_message};
 use git_names::{Format, Oid, Steps};
-use git_pkt::{Band, BandGot, Fault, Got, Kind, PacketReader, text};
+use git_pkt::{Band, BandGot, Fault, Got, Kind, Packet, PacketReader, text};
 use std::alloc::Allocator;
 
 /// What came of some bytes of a piece.
@@ -303,6 +303,7 @@ impl<A: Allocator + Copy> Client<A> {
         };
         match due {
             Due::Packfile => self.take_band(piece, steps),
+            Due::References => self.take_listed(piece, steps),
             _ => self.take_packet(due, piece, steps),
         }
     }
@@ -332,6 +333,51 @@ impl<A: Allocator + Copy> Client<A> {
                     self.format,
                     self.ending,
                     due,
+                    self.caps,
+                    packet,
+                    &mut self.said,
+                    steps,
+                );
+                let outcome = self.settle(judged, offset);
+                Advance { used, outcome }
+            }
+            Got::Failed(fault) => {
+                self.phase = Phase::Failed(fault);
+                Advance {
+                    used,
+                    outcome: Outcome::Failed(fault),
+                }
+            }
+        }
+    }
+
+    /// The same where references are due, of which a line changes nothing but what the last packet contained.
+    fn take_listed(&mut self, piece: &[u8], steps: &mut Steps) -> Advance
+        requires hears { phase_of self.old ≡ Phase.Hearing Due.References }
+        ensures cost { Pays result.used steps.old steps.new (credit_of (reader_of self.old)) (credit_of (reader_of self.new)) }
+        ensures paid { result.outcome ≡ Outcome.More → result.used < length piece.now
+            → steps.new + credit_of (reader_of self.new) ≤ steps.old + credit_of (reader_of self.old) + 64 * result.used }
+        ensures used { result.used ≤ length piece.now }
+        ensures takes { Takes self.old piece.now result self.new }
+    {
+        steps.tick(1);
+        let fed = self.reader.feed(piece, steps);
+        let used = fed.used;
+        match fed.got {
+            Got::More => Advance {
+                used,
+                outcome: Outcome::More,
+            },
+            Got::Packet(Packet::Payload(payload), offset) => {
+                let judged = judge_listed(self.format, payload, &mut self.said, steps);
+                let outcome = self.settle_listed(judged, offset);
+                Advance { used, outcome }
+            }
+            Got::Packet(packet, offset) => {
+                let judged = judge(
+                    self.format,
+                    self.ending,
+                    Due::References,
                     self.caps,
                     packet,
                     &mut self.said,
@@ -414,6 +460,21 @@ impl<A: Allocator + Copy> Client<A> {
                     _ => Outcome::Event,
                 }
             }
+            Err(kind) => self.fail(kind, offset),
+        }
+    }
+
+    /// The same after a line where references are due.
+    fn settle_listed(&mut self, judged: Result<(), Kind>, offset: u64) -> Outcome
+        requires whole { is_open (reader_of self.old) ≡ false }
+        requires hears { phase_of self.old ≡ Phase.Hearing Due.References }
+        ensures { Settles self.old (listed_turn (caps_of self.old) judged) offset result self.new }
+    {
+        match judged {
+            Ok(()) => match self.said {
+                Said::Nothing => Outcome::More,
+                _ => Outcome::Event,
+            },
             Err(kind) => self.fail(kind, offset),
         }
     }

@@ -1,18 +1,21 @@
 //! A response, received over a reader: its transcript, its pack and its progress are written.
 
 ghost use Rattle.std.specs.Prelude.{[], ◌≡◌, ◌≤◌, ◌<◌, ◌||◌, length, true, false, IsTrue, OnOk, IfErr, is_err};
+ghost use Rattle.std.specs.Io.KnownBytes.{Appends};
 ghost use Rattle.git_pkt.specs.Told.{inner_of, reads_of, has_failed, has_ended, has_wasted};
 ghost use Rattle.git_pkt.specs.Engine.{FailsAs, IsShownBy, IsSpent};
 ghost use Rattle.git_pkt.specs.Streams.{flow, is_broken, WrittenAs};
 ghost use Rattle.git_client.specs.Client.{wants_input};
 ghost use Rattle.git_client.specs.Events.{pack_bytes, progress_bytes};
+ghost use Rattle.git_client.specs.LineParts.{PutAs};
 ghost use Rattle.git_client.specs.RunSteps.{counts_with, window_of, CanCount, HearsPieceTo, HearsTo};
 ghost use Rattle.git_client.specs.Transcript.{lines_of};
 ghost use Rattle.git_client.specs.Turns.{values_of};
 
 use crate::client::Client;
 use crate::events::{Event, HeardGot};
-use crate::transcript::write_event;
+use crate::line::Lines;
+use crate::transcript::put_event;
 use git_names::Steps;
 use git_pkt::{Output, RunFault, Told, flush, receive};
 use std::alloc::Allocator;
@@ -129,34 +132,41 @@ pub fn hear_piece<O: Write, P: Output, E: Output, A: Allocator + Copy>(
     ensures fault { IfErr result (IsShownBy ⊥ (IsTrue (has_failed out.new || (P.failed pack.new || E.failed progress.new))) ⊥) }
     ensures told { FailsAs result false (has_failed out.new || (P.failed pack.new || E.failed progress.new)) }
 {
+    let mut lines = Lines::new();
     let mut used = 0;
     let mut steps = Steps::new();
     while used < piece.len() && client.wants_input() {
         let heard = client.feed(&piece[used..], &mut steps);
         match heard.got {
-            HeardGot::More => return Ok(piece.len()),
+            HeardGot::More => {
+                lines.drain(out)?;
+                return Ok(piece.len());
+            }
             HeardGot::Failed(fault) => {
+                lines.drain(out)?;
                 flush_all(out, pack, progress)?;
                 return Err(RunFault::Refused(fault));
             }
-            HeardGot::Event(event) => tell(&event, counts, out, pack, progress)?,
+            HeardGot::Event(event) => tell(&event, counts, &mut lines, out, pack, progress)?,
         }
         used += heard.used;
     }
+    lines.drain(out)?;
     Ok(used)
 }
 
-/// Writes what an event contains: its line, which is that of the counts so far, and its bytes of the pack and of the progress. Counts its
-/// bytes.
+/// Writes what an event contains: its bytes of the pack and of the progress, and its line, which is that of the counts so far and may wait
+/// with those before it. Counts its bytes.
 fn tell<O: Write, P: Output, E: Output>(
     event: &Event<'_>,
     counts: &mut Counts,
+    lines: &mut Lines,
     out: &mut Told<O>,
     pack: &mut P,
     progress: &mut E,
 ) -> Result<(), RunFault>
-    ensures told { WrittenAs (is_broken result) (flow (O.contents (inner_of out.old)) (O.contents (inner_of out.new)))
-        (lines_of (values_of event.now) counts.old.pack counts.old.progress) }
+    ensures told { PutAs (is_broken result) (flow (O.contents (inner_of out.old)) (O.contents (inner_of out.new))) lines.old
+        (lines_of (values_of event.now) counts.old.pack counts.old.progress) lines.new }
     ensures sent { WrittenAs (is_broken result) (flow (P.contents pack.old) (P.contents pack.new))
         (pack_bytes (values_of event.now)) }
     ensures reported { WrittenAs (is_broken result) (flow (E.contents progress.old) (E.contents progress.new))
@@ -174,14 +184,31 @@ fn tell<O: Write, P: Output, E: Output>(
     match event {
         Event::Pack(bytes) => {
             counts.pack = packed.saturating_add(bytes.len() as u64);
-            pack.send(bytes)
+            send_after(lines, out, pack, bytes)
         }
         Event::Progress(bytes) => {
             counts.progress = told.saturating_add(bytes.len() as u64);
-            progress.send(bytes)
+            send_after(lines, out, progress, bytes)
         }
-        event => write_event(out, event, packed, told),
+        event => put_event(lines, out, event, packed, told),
     }
+}
+
+/// Sends bytes to another stream, after all lines that wait: none of these is lost where the bytes cannot be written.
+fn send_after<O: Write, P: Output>(
+    waiting: &mut Lines,
+    out: &mut Told<O>,
+    to: &mut P,
+    bytes: &[u8],
+) -> Result<(), RunFault>
+    ensures told { PutAs (is_broken result) (flow (O.contents (inner_of out.old)) (O.contents (inner_of out.new))) waiting.old [] waiting.new }
+    ensures first { has_failed out.new ≡ false → Appends (O.contents (inner_of out.old)) (O.contents (inner_of out.new)) waiting.old }
+    ensures sent { WrittenAs (is_broken result) (flow (P.contents to.old) (P.contents to.new)) bytes.now }
+    ensures fault { IfErr result (λ fault. fault ≡ RunFault.WriteFault) }
+    ensures failed { (has_failed out.new || P.failed to.new) ≡ ((has_failed out.old || P.failed to.old) || is_err result) }
+{
+    waiting.drain(out)?;
+    to.send(bytes)
 }
 
 /// Flushes the three writers, up to the first that fails: the progress first, so that the line at a response's end is seen after it.

@@ -5,7 +5,10 @@ ghost use Rattle.git_names.specs.declared.object_format.Format.{Format};
 ghost use Rattle.git_names.specs.Steps.{TakesAtMost};
 ghost use Rattle.git_pkt.specs.Packets.{body_of, flush, delim, resp_end, payload as payload_of, seen};
 ghost use Rattle.git_client.specs.Events.{IsLineFault, Refuses, band_says};
-ghost use Rattle.git_client.specs.Turns.{IsLineTurn, IsTurn, TakesLines, place_due, said_after_flush, turn_after_flush};
+ghost use Rattle.git_client.specs.Turns.{IsLineTurn, IsTurn, TakesLines, place_due, said_after_flush, turn_after_flush, listed_turn};
+ghost use Rattle.git_client.specs.Places.{references};
+ghost use Rattle.git_msg.specs.declared.offers.Caps.{Caps};
+ghost use Rattle.git_client.specs.declared.phase.Due.{Due};
 ghost use Rattle.git_pkt.specs.Passed.{begins_band, is_on_band};
 ghost use Rattle.git_client.specs.declared.events.Ending.{Ending};
 
@@ -73,6 +76,28 @@ fn judge_payload(
             judge_line(format, due, caps, line, said, steps)
         }
     }
+}
+
+/// A data packet where references are due. Nothing but `said` changes with it: so what was noted of the advertisement is not moved for a
+/// reference, of which there are many.
+#[inline(always)]
+pub(crate) fn judge_listed(
+    format: Format,
+    payload: &[u8],
+    said: &mut Said,
+    steps: &mut Steps,
+) -> Result<(), Kind>
+    ensures turn { (ending : Ending) (caps : Caps)
+        → MatchResult (listed_turn caps result) (IsTurn format ending Due.References caps (payload_of payload.now) said.new)
+        (Refuses format ending references (payload_of payload.now)) }
+    ensures cost { TakesAtMost (48 * (length payload.now + 1)) steps.old steps.new }
+{
+    let line = text(payload);
+    steps.tick(5 * (line.len().min(LONGEST_WORD) + 1));
+    if is_error(line) {
+        return Err(Kind::RemoteError);
+    }
+    judge_reference(format, line, said, steps)
 }
 
 /// A text line that is no error packet. Most lines are references: for these no room is made ready for what another line has.

@@ -48,6 +48,7 @@ pub(crate) fn judge_capability(
 }
 
 /// A line of the response to `ls-refs`.
+#[inline(always)]
 pub(crate) fn judge_reference(
     format: Format,
     line: &[u8],

@@ -1,6 +1,6 @@
-//! A line of text on its way to a writer, part after part.
+//! Lines of text on their way to a writer, part after part.
 
-ghost use Rattle.std.specs.Prelude.{◌≡◌, ◌+◌, ◌≤◌, ◌++◌, [], decimal, length, OnOk};
+ghost use Rattle.std.specs.Prelude.{◌≡◌, ◌+◌, ◌≤◌, ◌++◌, [], codes, decimal, length, OnOk};
 ghost use Rattle.git_names.specs.ObjectName.{hex_of};
 ghost use Rattle.git_pkt.specs.Escape.{escaped_of};
 ghost use Rattle.git_pkt.specs.Sends.{Puts, Sends};
@@ -12,8 +12,11 @@ use itoa::Buffer;
 use std::io::Write;
 use std::marker::Model;
 
-/// How many bytes wait for the writer at the most: few lines have more.
-const ROOM: usize = 256;
+/// How many bytes wait for the writer at the most: some tens of lines.
+const ROOM: usize = 2048;
+
+/// How many bytes the line of a reference has at the most besides its name: a word, 64 digits, a space and the line's end.
+const BESIDES: usize = 4 + 64 + 1 + 1;
 
 /// How many bytes are escaped at a time.
 const BLOCK: usize = 64;
@@ -31,48 +34,72 @@ pub(crate) enum Part<'a> {
     Number(&'a [u8], u64),
 }
 
-/// Writes a line of these parts.
-pub(crate) fn write_line<W: Write>(out: &mut Told<W>, parts: &[Part<'_>]) -> Result<(), RunFault>
-    ensures { Sends W.contents out.old (line_shown parts.now) result out.new }
-{
-    let mut line = Line::new();
-    for part in parts {
-        line.put_part(out, *part)?;
-    }
-    line.put(out, b"\n")?;
-    line.drain(out)
-}
-
-/// The bytes of a line that wait for the writer, so that most lines take one write.
+/// The bytes of lines that wait for the writer, so that many lines take one write.
 #[derive(Drop)]
-struct Line {
+pub(crate) struct Lines {
     bytes: [u8; ROOM],
     count: usize,
 }
 
-impl Model for Line {
+impl Model for Lines {
     ghost use Rattle.std.specs.Prelude.{◌≤◌, ℕ, List, take};
     ghost use Rattle.git_client.specs.declared.line.TheConstants.{ROOM};
 
     ghost Value = { List ℕ };
 
-    ghost view = { λ line. take line.count line.bytes };
+    ghost view = { λ lines. take lines.count lines.bytes };
 
-    ghost invariant = { λ line. line.count ≤ ROOM };
+    ghost invariant = { λ lines. lines.count ≤ ROOM };
 }
 
-impl Line {
-    fn new() -> Self
+impl Lines {
+    /// No bytes.
+    pub(crate) fn new() -> Self
         ensures { result ≡ [] }
     {
-        Line {
+        Lines {
             bytes: [0; ROOM],
             count: 0,
         }
     }
 
+    /// Puts a line of these parts after the bytes that wait.
+    pub(crate) fn put_line<W: Write>(
+        &mut self,
+        out: &mut Told<W>,
+        parts: &[Part<'_>],
+    ) -> Result<(), RunFault>
+        ensures { Puts W.contents out.old self.old (line_shown parts.now) result out.new self.new }
+    {
+        for part in parts {
+            self.put_part(out, *part)?;
+        }
+        self.put(out, b"\n")
+    }
+
+    /// Puts the line of a reference that is no symbolic one and no tag, as most are: at once, where there is room for it and each byte of
+    /// the name is its own escape.
+    pub(crate) fn put_reference<W: Write>(
+        &mut self,
+        out: &mut Told<W>,
+        id: &Oid,
+        name: &[u8],
+    ) -> Result<(), RunFault>
+        ensures { Puts W.contents out.old self.old (codes "ref " ++ hex_of id.now ++ codes " " ++ escaped_of name.now ++ codes "\n") result out.new self.new }
+    {
+        if name.len() + BESIDES <= ROOM - self.count && is_plain(name) {
+            self.append(b"ref ");
+            self.append_name(id);
+            self.append(b" ");
+            self.append(name);
+            self.append(b"\n");
+            return Ok(());
+        }
+        self.put_line(out, &[Part::Name(b"ref ", id), Part::Text(b" ", name)])
+    }
+
     /// Sends all that waits.
-    fn drain<W: Write>(&mut self, out: &mut Told<W>) -> Result<(), RunFault>
+    pub(crate) fn drain<W: Write>(&mut self, out: &mut Told<W>) -> Result<(), RunFault>
         ensures sends { Sends W.contents out.old self.old result out.new }
         ensures empty { OnOk result (self.new ≡ []) }
     {
@@ -101,6 +128,18 @@ impl Line {
         let end = self.count + bytes.len();
         self.bytes[self.count..end].copy_from_slice(bytes);
         self.count = end;
+    }
+
+    /// Puts the digits of a name for which there is room after those that wait. What is after the last of them means nothing.
+    fn append_name(&mut self, id: &Oid)
+        requires { length self.old + 64 ≤ ROOM }
+        ensures name { self.new ≡ self.old ++ hex_of id.now }
+        ensures within { length self.new ≤ length self.old + 64 }
+    {
+        let mut digits = [0; 64];
+        let count = id.write(&mut digits);
+        self.bytes[self.count..self.count + 64].copy_from_slice(&digits);
+        self.count += count;
     }
 
     fn put_part<W: Write>(&mut self, out: &mut Told<W>, part: Part<'_>) -> Result<(), RunFault>

@@ -2,14 +2,14 @@
 
 ghost use Rattle.std.specs.Prelude.{◌≡◌, ◌++◌, codes};
 ghost use Rattle.std.specs.Option.{option_copied};
-ghost use Rattle.git_pkt.specs.Sends.{Sends};
+ghost use Rattle.git_pkt.specs.Sends.{Puts, Sends};
 ghost use Rattle.git_msg.specs.References.{id_text, peeled_text};
 ghost use Rattle.git_client.specs.Turns.{values_of};
 ghost use Rattle.git_client.specs.Transcript.{lines_of, shown_after, size_shown, asked_line};
 ghost use Rattle.git_client.specs.LineParts.{part_shown};
 
 use crate::events::Event;
-use crate::line::{Part, write_line};
+use crate::line::{Lines, Part};
 use git_msg::Command;
 use git_names::Oid;
 use git_pkt::{RunFault, Told};
@@ -28,12 +28,49 @@ pub fn write_event<W: Write>(
 ) -> Result<(), RunFault>
     ensures { Sends W.contents out.old (lines_of (values_of event.now) pack progress) result out.new }
 {
+    let mut lines = Lines::new();
+    put_event(&mut lines, out, event, pack, progress)?;
+    lines.drain(out)
+}
+
+/// Puts the line of an event after the bytes that wait for the writer, as [`write_event`] writes it.
+pub(crate) fn put_event<W: Write>(
+    lines: &mut Lines,
+    out: &mut Told<W>,
+    event: &Event<'_>,
+    pack: u64,
+    progress: u64,
+) -> Result<(), RunFault>
+    ensures { Puts W.contents out.old lines.old (lines_of (values_of event.now) pack progress) result out.new lines.new }
+{
+    match event {
+        Event::Reference {
+            id: Some(id),
+            name,
+            target: None,
+            peeled: None,
+        } => lines.put_reference(out, id, name),
+        _ => put_parts(lines, out, event, pack, progress),
+    }
+}
+
+/// Puts the line of any event, part after part.
+#[inline(never)]
+fn put_parts<W: Write>(
+    lines: &mut Lines,
+    out: &mut Told<W>,
+    event: &Event<'_>,
+    pack: u64,
+    progress: u64,
+) -> Result<(), RunFault>
+    ensures { Puts W.contents out.old lines.old (lines_of (values_of event.now) pack progress) result out.new lines.new }
+{
     match event {
         Event::Capability(capability) => {
             let key = Part::Text(b"capability ", capability.key);
-            write_line(out, &[key, text_part(b"=", capability.value)])
+            lines.put_line(out, &[key, text_part(b"=", capability.value)])
         }
-        Event::Offered => write_line(out, &[Part::Word(b"offered")]),
+        Event::Offered => lines.put_line(out, &[Part::Word(b"offered")]),
         Event::Reference {
             id,
             name,
@@ -41,7 +78,7 @@ pub fn write_event<W: Write>(
             peeled,
         } => {
             let target = text_part(b" symref-target:", *target);
-            write_line(
+            lines.put_line(
                 out,
                 &[
                     object_part(*id),
@@ -51,19 +88,22 @@ pub fn write_event<W: Write>(
                 ],
             )
         }
-        Event::Ack(id) => write_line(out, &[Part::Name(b"ack ", id)]),
-        Event::Nak => write_line(out, &[Part::Word(b"nak")]),
-        Event::Ready => write_line(out, &[Part::Word(b"ready")]),
-        Event::Shallow(id) => write_line(out, &[Part::Name(b"shallow ", id)]),
-        Event::Unshallow(id) => write_line(out, &[Part::Name(b"unshallow ", id)]),
-        Event::WantedRef { id, name } => write_line(
+        Event::Ack(id) => lines.put_line(out, &[Part::Name(b"ack ", id)]),
+        Event::Nak => lines.put_line(out, &[Part::Word(b"nak")]),
+        Event::Ready => lines.put_line(out, &[Part::Word(b"ready")]),
+        Event::Shallow(id) => lines.put_line(out, &[Part::Name(b"shallow ", id)]),
+        Event::Unshallow(id) => lines.put_line(out, &[Part::Name(b"unshallow ", id)]),
+        Event::WantedRef { id, name } => lines.put_line(
             out,
             &[Part::Name(b"wanted-ref ", id), Part::Text(b" ", name)],
         ),
-        Event::Info { id, size } => write_line(out, &[Part::Name(b"info ", id), size_part(*size)]),
+        Event::Info { id, size } => lines.put_line(
+            out,
+            &[Part::Name(b"info ", id), size_part(*size)],
+        ),
         Event::Pack(_) => Ok(()),
         Event::Progress(_) => Ok(()),
-        Event::Ended => write_line(
+        Event::Ended => lines.put_line(
             out,
             &[Part::Number(b"end ", pack), Part::Number(b" ", progress)],
         ),
@@ -74,13 +114,15 @@ pub fn write_event<W: Write>(
 pub fn write_asked<W: Write>(out: &mut Told<W>, command: Command) -> Result<(), RunFault>
     ensures { Sends W.contents out.old (asked_line command) result out.new }
 {
-    write_line(
+    let mut lines = Lines::new();
+    lines.put_line(
         out,
         &[
             Part::Word(b"request "),
             Part::Word(command.name().as_bytes()),
         ],
-    )
+    )?;
+    lines.drain(out)
 }
 
 /// The object that a reference points to, or that it is unborn.

@@ -37,6 +37,7 @@ pub fn read_reference<'a>(
 }
 
 /// Reads the text of a reference line as [`read_reference`] does, and returns where its parts are.
+#[inline(always)]
 pub fn locate_reference(
     format: Format,
     text: &[u8],

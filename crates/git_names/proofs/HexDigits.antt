@@ -1,5 +1,5 @@
 -- What holds of hexadecimal digits.
-use Rattle.std.proofs.Common.{◌≡◌, ℕ, ◌<◌, ◌==◌, Bool, true, not, ◌||◌, false, refl, arith}
+use Rattle.std.proofs.Common.{◌≡◌, ℕ, ◌+◌, ◌<◌, ◌==◌, Bool, true, not, ◌||◌, false, refl, arith}
 use Rattle.std.proofs.lemmas.Bool.{eqb-true}
 use Rattle.git_names.specs.Digits.{digit_value, is_lower_digit, lower_digit}
 use Rattle.git_names.proofs.Tables.{all_pass, all_pass-at}
@@ -40,3 +40,18 @@ lower_digit-digit_value c h =
     let small : c < 103 = grind arith in
     eqb-true (lower_digit (digit_value c)) c
     (own_if_lower (is_lower_digit c) (lower_digit (digit_value c) == c) (all_pass-at is_own_digit 103 c all_own small) h)
+
+-- the digits of values below ten, and of the others
+all_are_numbers : all_pass (λ (d : ℕ). lower_digit d == d + 48) 10 ≡ true
+unfolding lower_digit
+all_are_numbers = refl
+
+pub lower_digit-number : (d : ℕ) → d < 10 → lower_digit d ≡ d + 48
+lower_digit-number d lt = eqb-true (lower_digit d) (d + 48) (all_pass-at (λ (k : ℕ). lower_digit k == k + 48) 10 d all_are_numbers lt)
+
+all_are_letters : all_pass (λ (d : ℕ). lower_digit (d + 10) == d + 97) 6 ≡ true
+unfolding lower_digit
+all_are_letters = refl
+
+pub lower_digit-letter : (d : ℕ) → d < 6 → lower_digit (d + 10) ≡ d + 97
+lower_digit-letter d lt = eqb-true (lower_digit (d + 10)) (d + 97) (all_pass-at (λ (k : ℕ). lower_digit (k + 10) == k + 97) 6 d all_are_letters lt)

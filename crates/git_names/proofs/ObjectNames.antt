@@ -133,28 +133,27 @@ unfolding hex_text
 length-hex_text [] = refl
 length-hex_text (byte ∷ bytes) = let more = length-hex_text bytes in omega arith
 
--- room for the digits
-pub write_fits : (format : Format) (out bytes : List ℕ) (d w : ℕ) → d ≡ digits_of format → w ≡ width_of format
-    → length out ≡ 64 → length bytes ≡ 32 → length (take d out) ≡ 2 * length (take w bytes)
-write_fits format out bytes d w count wide room size =
-    let within = width_of-within format in
-    let digits = digits_of-width format in
-    let front = length-take-le d out (omega arith) in
-    let part = length-take-le w bytes (omega arith) in
-    omega arith
+-- the digits of the first bytes
+pub take-hex_text : (w : ℕ) (bytes : List ℕ) → take (2 * w) (hex_text bytes) ≡ hex_text (take w bytes)
+unfolding hex_text
+take-hex_text zero bytes = refl
+take-hex_text (suc w) [] = let none : 2 * suc w ≡ suc (suc (2 * w)) = omega arith in rw none refl
+take-hex_text (suc w) (byte ∷ bytes) =
+    let more : 2 * suc w ≡ suc (suc (2 * w)) = omega arith in
+    rw more (ap (λ (s : List ℕ). lower_digit (byte / 16) ∷ lower_digit (byte % 16) ∷ s) (take-hex_text w bytes))
 
 -- the written digits are at the front
-pub written : (format : Format) (bytes new rest : List ℕ) (d w : ℕ) → d ≡ digits_of format → w ≡ width_of format → length bytes ≡ 32
-    → new ≡ hex_text (take w bytes) → take d (new ++ rest) ≡ hex_text (take (width_of format) bytes)
-written format bytes new rest d w count wide size is =
+pub written : (format : Format) (bytes digits new rest : List ℕ) (d : ℕ) → d ≡ digits_of format → length bytes ≡ 32 → digits ≡ hex_text bytes
+    → new ≡ take d digits → take d (new ++ rest) ≡ hex_text (take (width_of format) bytes)
+written format bytes digits new rest d count size are is =
     let within = width_of-within format in
-    let digits = digits_of-width format in
-    let part = length-take-le w bytes (omega arith) in
-    let long = length-hex_text (take w bytes) in
-    let same : length new ≡ length (hex_text (take w bytes)) = ap (λ (s : List ℕ). length s) is in
+    let twice : d ≡ 2 * width_of format = count ∙ digits_of-width format in
+    let all : new ≡ hex_text (take (width_of format) bytes) = is ∙ rw (are, twice) (take-hex_text (width_of format) bytes) in
+    let part = length-take-le (width_of format) bytes (omega arith) in
+    let long = length-hex_text (take (width_of format) bytes) in
+    let same : length new ≡ length (hex_text (take (width_of format) bytes)) = ap (λ (s : List ℕ). length s) all in
     let exact : length new ≡ d = omega arith in
-    let front : take d (new ++ rest) ≡ new = rw (sym exact) (take-append_seam new rest) in
-    front ∙ is ∙ ap (λ (n : ℕ). hex_text (take n bytes)) wide
+    rw (sym exact) (take-append_seam new rest) ∙ all
 
 -- ---- the values
 

@@ -1,8 +1,5 @@
--- Pairs of digits, and the texts of the crate `hex`.
-use Rattle.std.proofs.Common.{◌≡◌, ℕ, zero, suc, ◌+◌, ◌*◌, ◌<◌, List, [], ◌∷◌, length, slice_index, Result, Ok, Err, refl, arith}
-use Rattle.std.specs.Prelude.{IsOk, OnOk}
-use Rattle.hex.specs.Hex.{encode_with, lower_digits}
-use Rattle.hex.specs.declared.error.FromHexError.{FromHexError}
+-- Pairs of digits.
+use Rattle.std.proofs.Common.{◌≡◌, ℕ, zero, suc, ◌+◌, ◌*◌, ◌/◌, ◌%◌, ◌<◌, List, [], ◌∷◌, length, slice_index, refl, ap, ap₂, ◌∙◌, arith}
 use Rattle.git_names.specs.Digits.{lower_digit}
 use Rattle.git_names.specs.ObjectName.{ArePairs, IsPair, hex_text}
 
@@ -59,13 +56,20 @@ spells_none-length text n other bytes long h =
     let twice = length-pairs text bytes h in
     other (omega arith)
 
--- the lower case text of `hex`
-pub encode_lower-text : (bytes : List ℕ) → encode_with lower_digits bytes ≡ hex_text bytes
-unfolding encode_with hex_text lower_digit
-encode_lower-text [] = refl
-encode_lower-text (byte ∷ bytes) = rw (encode_lower-text bytes) refl
-
--- what holds of an answer that is Ok
-pub at_ok : (r : Result Unit FromHexError) (P : Type 0) → IsOk r → OnOk r P → P
-at_ok (Ok t) P ok h = h
-at_ok (Err e) P ok h = absurd (cc ok)
+-- the digits of each byte
+pub hex_text_from : (text bytes : List ℕ) → length text ≡ 2 * length bytes
+    → ((k : ℕ) → k < length bytes → slice_index text (2 * k) ≡ lower_digit (slice_index bytes k / 16))
+    → ((k : ℕ) → k < length bytes → slice_index text (2 * k + 1) ≡ lower_digit (slice_index bytes k % 16))
+    → text ≡ hex_text bytes
+unfolding hex_text
+hex_text_from [] [] long high low = refl
+hex_text_from [] (byte ∷ bytes) long high low = absurd (omega arith)
+hex_text_from (first ∷ []) [] long high low = absurd (omega arith)
+hex_text_from (first ∷ []) (byte ∷ bytes) long high low = absurd (omega arith)
+hex_text_from (first ∷ second ∷ text) [] long high low = absurd (omega arith)
+hex_text_from (first ∷ second ∷ text) (byte ∷ bytes) long high low =
+    let more = hex_text_from text bytes (omega arith)
+    (λ k lt. let next : 2 * suc k ≡ suc (suc (2 * k)) = omega arith in rw next at (high (suc k) (omega arith)))
+    (λ k lt. let next : 2 * suc k + 1 ≡ suc (suc (2 * k + 1)) = omega arith in rw next at (low (suc k) (omega arith))) in
+    ap₂ (λ (a b : ℕ). a ∷ b ∷ text) (high 0 (omega arith)) (low 0 (omega arith))
+    ∙ ap (λ (s : List ℕ). lower_digit (byte / 16) ∷ lower_digit (byte % 16) ∷ s) more

@@ -132,10 +132,26 @@ fn joined(values: &[u8; 64]) -> [u8; 32]
     (high * u8x32::splat(16) + low).to_array()
 }
 
-// Writes the bytes as pairs of lower case digits.
-pub(crate) fn write_pairs(bytes: &[u8], out: &mut [u8])
-    requires { length out.old ≡ 2 * length bytes.now }
-    ensures { out.new ≡ hex_text bytes.now }
+// The bytes as pairs of lower case digits. Each step of the loop is the same, so that the compiler makes one of many.
+pub(crate) fn pairs_of(bytes: &[u8; 32]) -> [u8; 64]
+    ensures { result ≡ hex_text bytes.now }
 {
-    let _ = hex::encode_to_slice(bytes, out);
+    let mut digits = [0; 64];
+    for i in 0..32 {
+        digits[2 * i] = lower_of(bytes[i] / 16);
+        digits[2 * i + 1] = lower_of(bytes[i] % 16);
+    }
+    digits
+}
+
+// The same as `lower_digit`, by a comparison.
+fn lower_of(value: u8) -> u8
+    requires { value < 16 }
+    ensures { result ≡ lower_digit value }
+{
+    if value < 10 {
+        value + b'0'
+    } else {
+        value - 10 + b'a'
+    }
 }

@@ -6,7 +6,7 @@ ghost use Rattle.git_names.specs.ObjectName.{IsObjectName, IsNoObjectName, IsOid
 ghost use Rattle.git_names.specs.Steps.{TakesAtMost};
 
 use crate::counter::Steps;
-use crate::digits::{read_pairs, write_pairs};
+use crate::digits::{pairs_of, read_pairs};
 use crate::fault::NameFault;
 use crate::object_format::Format;
 use std::marker::Model;
@@ -58,7 +58,7 @@ impl Oid {
         ensures reads_back { IsObjectName self.now.format (hex_of self.now) self.now }
     {
         let digits = self.format.digits();
-        write_pairs(&self.bytes[..self.format.width()], &mut out[..digits]);
+        out[..digits].copy_from_slice(&pairs_of(&self.bytes)[..digits]);
         digits
     }
 

@@ -1,14 +1,17 @@
-use Rattle.std.proofs.Common.{rules, ◌≡◌, true, false, sym, ◌∙◌}
+use Rattle.std.proofs.Common.{rules, ◌≡◌, ◌++◌, Some, false, true, refl, sym, ◌∙◌}
 use Rattle.git_pkt.specs.Told.{inner_of}
 use Rattle.git_pkt.specs.declared.fault.RunFault.TheVariants.{WriteFault}
-use Rattle.git_client.specs.Client.{wants_input}
 use Rattle.git_pkt.specs.Streams.{flow}
+use Rattle.git_pkt.proofs.EngineLemmas.{at_fault, written_nothing, written_whole}
+use Rattle.git_client.specs.Client.{wants_input}
 use Rattle.git_client.specs.RunSteps.{HearsPieceTo}
-use Rattle.git_pkt.proofs.EngineLemmas.{at_fault}
+use Rattle.git_client.specs.Transcript.{lines_of}
+use Rattle.git_client.specs.Turns.{values_of}
 use Rattle.git_client.proofs.Phases.{not_ready_where_due, sound_where_due}
-use Rattle.git_client.proofs.HeardBytes.{nothing_heard}
 use Rattle.git_client.proofs.HearingSteps.{heard_all, heard_failed, heard_failed_unflushed}
 use Rattle.git_client.proofs.HearingSteps.{heard_event, heard_event_front, heard_sound, heard_some, heard_to_question, used_within}
+use Rattle.git_client.proofs.WaitingLines.{broken_by, broken_unwritten, fault_written, flushed_out, no_lines_yet}
+use Rattle.git_client.proofs.WaitingLines.{piece_unwritten, piece_written, put_front, put_out, put_then}
 use Rattle.git_client.proofs.hearing.hear_piece.Goals as goal
 
 pub loop-used-init : goal.loop-used-init
@@ -20,63 +23,134 @@ loop-used-init g c = record {
   out_stays = search rules;
   pack_stays = search rules;
   progress_stays = search rules;
-  hears = nothing_heard _ _ _ _ _ (not_ready_where_due _ c.requires.waits);
+  hears = no_lines_yet _ _ _ _ _ _ (not_ready_where_due _ c.requires.waits) c.new-lines.ensures;
 }
+
+pub returns-in_err-drain-in-More-clause-heard : goal.returns-in_err-drain-in-More-clause-heard
+returns-in_err-drain-in-More-clause-heard g c =
+    let waits : wants_input c.loop-used.client ≡ true = sym c.wants_input.ensures.value ∙ c.if-wants_input.true in
+    let named : c.in_err-drain-in-More.field-0.0 ≡ WriteFault = c.in_err-drain-in-More.ensures.sends.fault in
+    let piece = heard_all c.args.piece.now c.loop-used.used waits c.loop-used.invariant.within c.loop-used.invariant.hears.bytes
+    c.feed-heard.follows.holds-at-none.0 c.in-More.is in
+    at_fault c.from_residual.result _ WriteFault (λ result. HearsPieceTo result c.args.client.now c.feed-heard.follows.lender-at-none c.args.counts.now
+    c.loop-used.counts c.args.piece.now
+    (flow (g.O.Write.contents (inner_of c.args.out.now)) (g.O.Write.contents (inner_of c.drain.new.out)))
+    (flow (g.P.Output.contents c.args.pack.now) (g.P.Output.contents c.loop-used.pack))
+    (flow (g.E.Output.contents c.args.progress.now) (g.E.Output.contents c.loop-used.progress))) named c.from_residual.ensures.1
+    (piece_unwritten _ piece.hears piece.sound (put_out true _ c.loop-used.invariant.hears.put c.in_err-drain-in-More.ensures.sends.err))
 
 pub returns-in-More-clause-heard : goal.returns-in-More-clause-heard
 returns-in-More-clause-heard g c =
     let waits : wants_input c.loop-used.client ≡ true = sym c.wants_input.ensures.value ∙ c.if-wants_input.true in
-    heard_all c.args.piece.now c.loop-used.used waits c.loop-used.invariant.within c.loop-used.invariant.hears c.feed-heard.follows.holds-at-none.0 c.in-More.is
+    piece_written (heard_all c.args.piece.now c.loop-used.used waits c.loop-used.invariant.within c.loop-used.invariant.hears.bytes
+    c.feed-heard.follows.holds-at-none.0 c.in-More.is)
+    (put_out false _ c.loop-used.invariant.hears.put c.in_ok-drain-in-More.ensures.sends.ok)
 
-pub returns-in_err-flush_all-in-Failed-clause-heard :
-    goal.returns-in_err-flush_all-in-Failed-clause-heard
+pub returns-in_err-drain-in-Failed-clause-heard : goal.returns-in_err-drain-in-Failed-clause-heard
+returns-in_err-drain-in-Failed-clause-heard g c =
+    let waits : wants_input c.loop-used.client ≡ true = sym c.wants_input.ensures.value ∙ c.if-wants_input.true in
+    let named : c.in_err-drain-in-Failed.field-0.0 ≡ WriteFault = c.in_err-drain-in-Failed.ensures.sends.fault in
+    let so_far = c.loop-used.invariant.hears in
+    at_fault c.from_residual-in_err-drain-in-Failed.result _ WriteFault (λ result. HearsPieceTo result c.args.client.now
+    c.feed-heard.follows.lender-at-none c.args.counts.now
+    c.loop-used.counts c.args.piece.now
+    (flow (g.O.Write.contents (inner_of c.args.out.now)) (g.O.Write.contents (inner_of c.drain-in-Failed.new.out)))
+    (flow (g.P.Output.contents c.args.pack.now) (g.P.Output.contents c.loop-used.pack))
+    (flow (g.E.Output.contents c.args.progress.now) (g.E.Output.contents c.loop-used.progress))) named c.from_residual-in_err-drain-in-Failed.ensures.1
+    (broken_unwritten (heard_failed_unflushed c.args.piece.now c.loop-used.used waits c.loop-used.invariant.within c.loop-used.invariant.hears.bytes
+    c.feed-heard.follows.holds-at-none.0
+    _ (Some so_far.lines) _ _ c.in-Failed.is (written_nothing (Some so_far.lines)) (written_nothing _) (written_nothing _))
+    (put_out true _ so_far.put c.in_err-drain-in-Failed.ensures.sends.err))
+
+pub returns-in_err-flush_all-in-Failed-clause-heard : goal.returns-in_err-flush_all-in-Failed-clause-heard
 returns-in_err-flush_all-in-Failed-clause-heard g c =
     let waits : wants_input c.loop-used.client ≡ true = sym c.wants_input.ensures.value ∙ c.if-wants_input.true in
     let named : c.in_err-flush_all-in-Failed.field-0.0 ≡ WriteFault = search rules in
-    at_fault c.from_residual.result _ WriteFault (λ result. HearsPieceTo result c.args.client.now c.feed-heard.follows.lender-at-none c.args.counts.now
+    let so_far = c.loop-used.invariant.hears in
+    at_fault c.from_residual-in_err-flush_all-in-Failed.result _ WriteFault (λ result. HearsPieceTo result c.args.client.now
+    c.feed-heard.follows.lender-at-none c.args.counts.now
     c.loop-used.counts c.args.piece.now
     (flow (g.O.Write.contents (inner_of c.args.out.now)) (g.O.Write.contents (inner_of c.flush_all.new.out)))
     (flow (g.P.Output.contents c.args.pack.now) (g.P.Output.contents c.flush_all.new.pack))
-    (flow (g.E.Output.contents c.args.progress.now) (g.E.Output.contents c.flush_all.new.progress))) named c.from_residual.ensures.1
-    (heard_failed_unflushed c.args.piece.now c.loop-used.used waits c.loop-used.invariant.within c.loop-used.invariant.hears
-    c.feed-heard.follows.holds-at-none.0 _ _ _ _ c.in-Failed.is c.flush_all.ensures.told c.flush_all.ensures.sent c.flush_all.ensures.reported)
+    (flow (g.E.Output.contents c.args.progress.now) (g.E.Output.contents c.flush_all.new.progress))) named
+    c.from_residual-in_err-flush_all-in-Failed.ensures.1
+    (broken_unwritten (heard_failed_unflushed c.args.piece.now c.loop-used.used waits c.loop-used.invariant.within c.loop-used.invariant.hears.bytes
+    c.feed-heard.follows.holds-at-none.0
+    _ (Some so_far.lines) _ _ c.in-Failed.is (written_nothing (Some so_far.lines)) c.flush_all.ensures.sent c.flush_all.ensures.reported)
+    (written_whole true _ _ (flushed_out _ _ so_far.put c.in_ok-drain-in-Failed.ensures.sends.ok c.flush_all.ensures.told)))
 
 pub returns-in-Failed-clause-heard : goal.returns-in-Failed-clause-heard
 returns-in-Failed-clause-heard g c =
     let waits : wants_input c.loop-used.client ≡ true = sym c.wants_input.ensures.value ∙ c.if-wants_input.true in
-    heard_failed c.args.piece.now c.loop-used.used waits c.loop-used.invariant.within c.loop-used.invariant.hears c.feed-heard.follows.holds-at-none.0
-    _ _ _ _ c.in-Failed.is c.flush_all.ensures.told c.flush_all.ensures.sent c.flush_all.ensures.reported
+    let so_far = c.loop-used.invariant.hears in
+    fault_written (heard_failed c.args.piece.now c.loop-used.used waits c.loop-used.invariant.within c.loop-used.invariant.hears.bytes
+    c.feed-heard.follows.holds-at-none.0
+    _ (Some so_far.lines) _ _ c.in-Failed.is (written_nothing (Some so_far.lines)) c.flush_all.ensures.sent c.flush_all.ensures.reported)
+    (flushed_out _ _ so_far.put c.in_ok-drain-in-Failed.ensures.sends.ok c.flush_all.ensures.told)
 
 pub returns-in_err-tell-in-Event-clause-heard : goal.returns-in_err-tell-in-Event-clause-heard
 returns-in_err-tell-in-Event-clause-heard g c =
     let waits : wants_input c.loop-used.client ≡ true = sym c.wants_input.ensures.value ∙ c.if-wants_input.true in
     let named : c.in_err-tell-in-Event.field-0.0 ≡ WriteFault = search rules in
+    let so_far = c.loop-used.invariant.hears in
+    let line = lines_of (values_of c.in-Event.event) c.loop-used.counts.pack c.loop-used.counts.progress in
     at_fault c.from_residual-in_err-tell-in-Event.result _ WriteFault (λ result. HearsPieceTo result c.args.client.now
-    c.feed-heard.follows.lender-at-none c.args.counts.now c.tell.new.counts c.args.piece.now
+    c.feed-heard.follows.lender-at-none c.args.counts.now
+    c.tell.new.counts c.args.piece.now
     (flow (g.O.Write.contents (inner_of c.args.out.now)) (g.O.Write.contents (inner_of c.tell.new.out)))
     (flow (g.P.Output.contents c.args.pack.now) (g.P.Output.contents c.tell.new.pack))
-    (flow (g.E.Output.contents c.args.progress.now) (g.E.Output.contents c.tell.new.progress))) named
-    c.from_residual-in_err-tell-in-Event.ensures.1
-    (heard_event_front c.args.piece.now c.loop-used.used waits c.loop-used.invariant.within c.loop-used.invariant.hears
-    c.feed-heard.follows.holds-at-none.0 _ c.in-Event.is c.tell.result _ _ _ _ _ c.in_err-tell-in-Event.was named
-    c.tell.ensures.counts c.tell.ensures.told c.tell.ensures.sent c.tell.ensures.reported)
+    (flow (g.E.Output.contents c.args.progress.now) (g.E.Output.contents c.tell.new.progress))) named c.from_residual-in_err-tell-in-Event.ensures.1
+    (broken_unwritten (heard_event_front c.args.piece.now c.loop-used.used waits c.loop-used.invariant.within c.loop-used.invariant.hears.bytes
+    c.feed-heard.follows.holds-at-none.0
+    _ c.in-Event.is c.tell.result _ _ (Some (so_far.lines ++ line)) _ _ c.in_err-tell-in-Event.was named c.tell.ensures.counts
+    (written_whole _ _ _ refl) c.tell.ensures.sent c.tell.ensures.reported)
+    (put_front (broken_by c.in_err-tell-in-Event.was named (put_then {v = line} so_far.put c.tell.ensures.told))))
 
 pub loop-used-preserved : goal.loop-used-preserved
 loop-used-preserved g c =
     let waits : wants_input c.loop-used.client ≡ true = sym c.wants_input.ensures.value ∙ c.if-wants_input.true in
+    let so_far = c.loop-used.invariant.hears in
+    let line = lines_of (values_of c.in-Event.event) c.loop-used.counts.pack c.loop-used.counts.progress in
     record {
-      within = used_within c.args.piece.now c.loop-used.used waits c.loop-used.invariant.within c.loop-used.invariant.hears c.feed-heard.follows.holds-at-none.0
-          c.feed-heard.ensures.used;
-      sound = heard_sound c.args.piece.now c.loop-used.used waits c.loop-used.invariant.within c.loop-used.invariant.hears c.feed-heard.follows.holds-at-none.0
-          _ c.in-Event.is;
-      stands = heard_to_question c.args.piece.now c.loop-used.used waits c.loop-used.invariant.within c.loop-used.invariant.hears
+      within = used_within c.args.piece.now c.loop-used.used waits c.loop-used.invariant.within c.loop-used.invariant.hears.bytes
+          c.feed-heard.follows.holds-at-none.0 c.feed-heard.ensures.used;
+      sound = heard_sound c.args.piece.now c.loop-used.used waits c.loop-used.invariant.within c.loop-used.invariant.hears.bytes
           c.feed-heard.follows.holds-at-none.0 _ c.in-Event.is;
-      moves = λ none. heard_some c.args.piece.now c.loop-used.used waits c.loop-used.invariant.within c.loop-used.invariant.hears
+      stands = heard_to_question c.args.piece.now c.loop-used.used waits c.loop-used.invariant.within c.loop-used.invariant.hears.bytes
+          c.feed-heard.follows.holds-at-none.0 _ c.in-Event.is;
+      moves = λ none. heard_some c.args.piece.now c.loop-used.used waits c.loop-used.invariant.within c.loop-used.invariant.hears.bytes
           c.feed-heard.follows.holds-at-none.0 _ c.in-Event.is;
       out_stays = search rules;
       pack_stays = search rules;
       progress_stays = search rules;
-      hears = heard_event c.args.piece.now c.loop-used.used waits c.loop-used.invariant.within c.loop-used.invariant.hears c.feed-heard.follows.holds-at-none.0
-          _ c.in-Event.is false _ _ _ _ c.in_ok-tell-in-Event.ensures.counts c.in_ok-tell-in-Event.ensures.told c.in_ok-tell-in-Event.ensures.sent
-          c.in_ok-tell-in-Event.ensures.reported;
+      hears = record {
+        lines = so_far.lines ++ line;
+        bytes = heard_event c.args.piece.now c.loop-used.used waits c.loop-used.invariant.within c.loop-used.invariant.hears.bytes
+            c.feed-heard.follows.holds-at-none.0 _ c.in-Event.is false _ (Some (so_far.lines ++ line)) _ _
+            c.in_ok-tell-in-Event.ensures.counts refl c.in_ok-tell-in-Event.ensures.sent c.in_ok-tell-in-Event.ensures.reported;
+        put = put_then {broken = false} {v = line} so_far.put c.in_ok-tell-in-Event.ensures.told;
+      };
     }
+
+pub returns-in_err-drain-clause-heard : goal.returns-in_err-drain-clause-heard
+returns-in_err-drain-clause-heard g c =
+    let named : c.in_err-drain.field-0.0 ≡ WriteFault = c.in_err-drain.ensures.sends.fault in
+    let so_far = c.loop-used.invariant.hears in
+    at_fault c.from_residual-in_err-drain.result _ WriteFault (λ result. HearsPieceTo result c.args.client.now c.loop-used.client c.args.counts.now
+    c.loop-used.counts c.args.piece.now
+    (flow (g.O.Write.contents (inner_of c.args.out.now)) (g.O.Write.contents (inner_of c.drain-2.new.out)))
+    (flow (g.P.Output.contents c.args.pack.now) (g.P.Output.contents c.loop-used.pack))
+    (flow (g.E.Output.contents c.args.progress.now) (g.E.Output.contents c.loop-used.progress))) named c.from_residual-in_err-drain.ensures.1
+    (piece_unwritten _ so_far.bytes c.loop-used.invariant.sound (put_out true _ so_far.put c.in_err-drain.ensures.sends.err))
+
+pub returns-clause-heard : goal.returns-clause-heard
+returns-clause-heard g c =
+    let so_far = c.loop-used.invariant.hears in
+    piece_written (record {
+      hears = so_far.bytes;
+      within = c.loop-used.invariant.within;
+      all = search rules;
+      sound = c.loop-used.invariant.sound;
+      whole = c.loop-used.invariant.stands;
+      moves = search rules;
+    }) (put_out false _ so_far.put c.in_ok-drain.ensures.sends.ok)

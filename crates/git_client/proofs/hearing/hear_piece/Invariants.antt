@@ -2,10 +2,10 @@ use Rattle.std.proofs.Common.{◌≡◌, ◌-◌, ◌≤◌, ◌<◌, length, ta
 use Rattle.git_pkt.specs.Told.{inner_of, has_failed}
 use Rattle.git_pkt.specs.Streams.{flow}
 use Rattle.git_client.specs.Client.{fault_of, can_ask, wants_input}
-use Rattle.git_client.specs.RunSteps.{HearsBytes}
+use Rattle.git_client.proofs.WaitingLines.{HeardLines}
 use Rattle.git_client.proofs.hearing.hear_piece.Given as goal
 
--- the client waits for input or can ask, and no writer has failed; what the bytes used contain was written
+-- the client waits for input or can ask, and no writer has failed; what the bytes used contain was written, but for lines that wait
 abbrev pub invariant-loop-used : goal.invariant-loop-used
 invariant-loop-used g l = record {
   within : l.used ≤ length l.piece;
@@ -15,8 +15,8 @@ invariant-loop-used g l = record {
   out_stays : has_failed l.out ≡ false;
   pack_stays : g.P.Output.failed l.pack ≡ false;
   progress_stays : g.E.Output.failed l.progress ≡ false;
-  hears : HearsBytes false l.fn.client l.client l.fn.counts l.counts (take l.used l.piece)
-      (flow (g.O.Write.contents (inner_of l.fn.out)) (g.O.Write.contents (inner_of l.out)))
+  hears : HeardLines l.fn.client l.client l.fn.counts l.counts (take l.used l.piece)
+      (flow (g.O.Write.contents (inner_of l.fn.out)) (g.O.Write.contents (inner_of l.out))) l.lines
       (flow (g.P.Output.contents l.fn.pack) (g.P.Output.contents l.pack))
       (flow (g.E.Output.contents l.fn.progress) (g.E.Output.contents l.progress));
 }

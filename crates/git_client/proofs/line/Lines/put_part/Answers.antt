@@ -2,7 +2,7 @@ use Rattle.std.proofs.Common.{decimal}
 use Rattle.git_names.specs.ObjectName.{hex_of}
 use Rattle.git_pkt.specs.Escape.{escaped_of}
 use Rattle.git_pkt.proofs.Sends.{puts_front, puts_then}
-use Rattle.git_client.proofs.line.Line.put_part.Goals as goal
+use Rattle.git_client.proofs.line.Lines.put_part.Goals as goal
 
 pub returns-in_err-put-in-Text : goal.returns-in_err-put-in-Text
 returns-in_err-put-in-Text g c = rw c.in-Text.is (puts_front (escaped_of c.in-Text.text.now) c.in_err-put-in-Text.ensures c.from_residual.ensures.1)

@@ -1,6 +1,6 @@
 use Rattle.std.proofs.Common.{arith}
 use Rattle.git_client.proofs.Writing.{block_put, block_stopped}
-use Rattle.git_client.proofs.line.Line.put_text.Goals as goal
+use Rattle.git_client.proofs.line.Lines.put_text.Goals as goal
 
 pub returns-in_err-put_block : goal.returns-in_err-put_block
 returns-in_err-put_block g c =

@@ -1,0 +1,197 @@
+-- Lines that wait for their writer while a piece is received.
+use Rattle.std.proofs.Common.{◌≡◌, ℕ, Bool, true, false, List, [], ◌++◌, take, Option, Some, None, Result, Ok, Err, OnOk, IfErr, IsErrAnd}
+use Rattle.std.proofs.Common.{refl, sym, ap, ◌∙◌, subst, append_assoc, append-nil}
+use Rattle.git_pkt.specs.Sends.{Puts, Sends}
+use Rattle.git_pkt.specs.Streams.{Flow, flow, is_broken, WrittenAs}
+use Rattle.git_pkt.specs.Told.{inner_of}
+use Rattle.git_pkt.specs.declared.fault.Fault.{Fault}
+use Rattle.git_pkt.specs.declared.fault.RunFault.{RunFault}
+use Rattle.git_pkt.specs.declared.fault.RunFault.TheVariants.{WriteFault}
+use Rattle.git_pkt.specs.declared.told.Told.{Told}
+use Rattle.git_pkt.proofs.EngineLemmas.{AppendsFront-longer, written_nothing, written_then, written_whole}
+use Rattle.git_client.specs.Events.{pack_bytes, progress_bytes}
+use Rattle.git_client.specs.LineParts.{PutAs}
+use Rattle.git_client.specs.RunSteps.{HearsBytes, HearsInPiece, HearsToFault, HearsPieceBroken}
+use Rattle.git_client.specs.Client.{can_ask, fault_of}
+use Rattle.git_client.specs.declared.client.Client.{Client}
+use Rattle.git_client.specs.declared.hearing.Counts.{Counts}
+use Rattle.git_client.proofs.HeardBytes.{nothing_heard}
+use Rattle.git_client.proofs.Telling.{written_by}
+
+-- ---- bytes that are put after those that wait
+
+put_whole : {T P : Type 0} (result : Result T RunFault) → IfErr result (λ fault. fault ≡ WriteFault) → OnOk result P → is_broken result ≡ false → P
+put_whole (Ok done) named p whole = p
+put_whole (Err WriteFault) named p whole = absurd (cc)
+put_whole (Err fault) named p whole = absurd (cc)
+
+pub put_by : {T W : Type 0} {contents : W → Option (List ℕ)} {a c : Told W} {s u t : List ℕ} (result : Result T RunFault) → Puts contents a s u result c t
+    → PutAs (is_broken result) (flow (contents (inner_of a)) (contents (inner_of c))) s u t
+put_by {contents = contents} {a = a} {c = c} result puts = record {
+  sent = puts.sent;
+  rest = puts.rest;
+  all = puts.all;
+  written = written_by result (contents (inner_of a)) (contents (inner_of c)) puts.sent puts.sends.ok puts.sends.err puts.sends.fault;
+  waits = put_whole result puts.sends.fault puts.waits;
+}
+
+-- all that waits was sent
+pub put_drained : {W : Type 0} {contents : W → Option (List ℕ)} {a c : Told W} {s t : List ℕ} (broken : Bool) → Sends {T = Unit {0}} contents a s (Ok tt) c
+    → t ≡ [] → PutAs broken (flow (contents (inner_of a)) (contents (inner_of c))) s [] t
+put_drained {contents = contents} {a = a} {c = c} {s = s} broken sends none = record {
+  sent = s;
+  rest = [];
+  all = refl;
+  written = written_whole broken (flow (contents (inner_of a)) (contents (inner_of c))) s sends.ok;
+  waits = λ whole. none;
+}
+
+-- a call that answers the fault of a failing write has failed by it
+broken_answer : {T : Type 0} (result : Result T RunFault) {met : RunFault} → met ≡ WriteFault → IsErrAnd result (λ e. e ≡ met) → is_broken result ≡ true
+broken_answer (Ok x) named answered = absurd answered
+broken_answer (Err WriteFault) named answered = refl
+broken_answer (Err fault) named answered = absurd (cc)
+
+-- a front of what waits was sent
+pub put_undrained : {S T W : Type 0} {contents : W → Option (List ℕ)} {a c : Told W} {s t : List ℕ} {met : RunFault} (result : Result T RunFault)
+    → Sends {T = S} contents a s (Err met) c → IsErrAnd result (λ e. e ≡ met)
+    → PutAs (is_broken result) (flow (contents (inner_of a)) (contents (inner_of c))) s [] t
+put_undrained {contents = contents} {a = a} {c = c} {s = s} {t = t} result sends answered =
+    subst (λ (broken : Bool). PutAs broken (flow (contents (inner_of a)) (contents (inner_of c))) s [] t) (sym (broken_answer result sends.fault answered))
+    (record { sent = s; rest = []; all = refl; written = sends.err; waits = λ whole. absurd (cc) })
+
+-- and nothing was written to another stream
+pub unwritten : {S T W : Type 0} {contents : W → Option (List ℕ)} {a c : Told W} {s : List ℕ} {met : RunFault} (result : Result T RunFault)
+    (held : Option (List ℕ)) (bytes : List ℕ) → Sends {T = S} contents a s (Err met) c → IsErrAnd result (λ e. e ≡ met)
+    → WrittenAs (is_broken result) (flow held held) bytes
+unwritten result held bytes sends answered =
+    subst (λ (broken : Bool). WrittenAs broken (flow held held) bytes) (sym (broken_answer result sends.fault answered))
+    (AppendsFront-longer held held [] bytes (written_whole true (flow held held) [] (written_nothing held)))
+
+-- no bytes were put
+pub put_nothing : (broken : Bool) (held : Option (List ℕ)) (waiting bytes : List ℕ) → bytes ≡ [] → PutAs broken (flow held held) waiting bytes waiting
+put_nothing broken held waiting bytes none = record {
+  sent = [];
+  rest = waiting;
+  all = ap (λ (l : List ℕ). waiting ++ l) none ∙ append-nil waiting;
+  written = written_whole broken (flow held held) [] (written_nothing held);
+  waits = λ whole. refl;
+}
+
+pub put_then : {broken : Bool} {before held after : Option (List ℕ)} {s t x u v : List ℕ} → PutAs false (flow before held) s u t
+    → PutAs broken (flow held after) t v x → PutAs broken (flow before after) s (u ++ v) x
+put_then {broken = broken} {before = before} {held = held} {after = after} {s = s} {t = t} {u = u} {v = v} one two = record {
+  sent = one.sent ++ two.sent;
+  rest = two.rest;
+  all = sym (append_assoc s u v) ∙ ap (λ (l : List ℕ). l ++ v) (one.all ∙ ap (λ (l : List ℕ). one.sent ++ l) (sym (one.waits refl)))
+      ∙ append_assoc one.sent t v ∙ ap (λ (l : List ℕ). one.sent ++ l) two.all ∙ sym (append_assoc one.sent two.sent two.rest);
+  written = written_then broken before held after one.sent two.sent one.written two.written;
+  waits = two.waits;
+}
+
+-- all that waits was written, or a front of it
+pub put_out : (broken : Bool) {before held : Option (List ℕ)} {lines waiting : List ℕ} (after : Option (List ℕ)) → PutAs false (flow before held) []
+    lines waiting
+    → WrittenAs broken (flow held after) waiting → WrittenAs broken (flow before after) lines
+put_out broken {before = before} {held = held} after put written =
+    subst (WrittenAs broken (flow before after)) (sym put.all)
+    (written_then broken before held after put.sent put.rest put.written (subst (WrittenAs broken (flow held after)) (put.waits refl) written))
+
+-- all that waits was written, and the writer was flushed
+pub flushed_out : {before held : Option (List ℕ)} {lines waiting : List ℕ} (middle after : Option (List ℕ)) → PutAs false (flow before held) [] lines
+    waiting
+    → WrittenAs false (flow held middle) waiting → WrittenAs false (flow middle after) [] → WrittenAs false (flow before after) lines
+flushed_out {held = held} {waiting = waiting} middle after put written flushed =
+    put_out false after put
+    (subst (WrittenAs false (flow held after)) (append-nil waiting) (written_then false held middle after waiting [] written flushed))
+
+-- what waits stays unwritten
+pub put_front : {stream : Flow} {lines waiting : List ℕ} → PutAs true stream [] lines waiting → WrittenAs true stream lines
+put_front {stream = stream} put =
+    subst (WrittenAs true stream) (sym put.all) (AppendsFront-longer stream.before stream.after put.sent put.rest put.written)
+
+-- a failing write is what failed
+pub broken_by : {T : Type 0} {result : Result T RunFault} {fault : RunFault} {stream : Flow} {before bytes after : List ℕ} → result ≡ Err fault
+    → fault ≡ WriteFault → PutAs (is_broken result) stream before bytes after → PutAs true stream before bytes after
+broken_by {T = T} {stream = stream} {before = before} {bytes = bytes} {after = after} failed named put =
+    subst (λ (broken : Bool). PutAs broken stream before bytes after) (ap (is_broken {T = T}) (failed ∙ ap Err named)) put
+
+-- ---- a piece, whose lines were put
+
+-- a writer that held nothing, and holds these lines
+abbrev pub held : List ℕ → Flow
+held lines = flow (Some []) (Some lines)
+
+module _ {A : Type 0} where
+  -- bytes of a piece were received: the lines of the transcript for them were put, and of these some wait
+  pub record HeardLines (old new : Client A) (counts after : Counts) (used : List ℕ) (out : Flow) (waiting : List ℕ) (packs progress : Flow) : Type 0 where
+    pub lines : List ℕ
+    pub bytes : HearsBytes false old new counts after used (held lines) packs progress
+    pub put : PutAs false out [] lines waiting
+
+  pub no_lines_yet : (c : Client A) (counts : Counts) (told sent reported : Option (List ℕ)) (waiting : List ℕ) → can_ask c ≡ false → waiting ≡ []
+      → HeardLines c c counts counts [] (flow told told) waiting (flow sent sent) (flow reported reported)
+  no_lines_yet c counts told sent reported waiting quiet none = record {
+    lines = [];
+    bytes = nothing_heard c counts (Some []) sent reported quiet;
+    put = record { sent = []; rest = []; all = refl; written = written_nothing told; waits = λ whole. none };
+  }
+
+  module _ {old new : Client A} {counts after : Counts} {lines : List ℕ} {out packs progress : Flow} where
+    -- the lines were written
+    lines_written : {broken : Bool} {used : List ℕ} → HearsBytes false old new counts after used (held lines) packs progress → WrittenAs broken out lines
+        → HearsBytes broken old new counts after used out packs progress
+    lines_written {broken = broken} bytes written = record {
+      events = bytes.events;
+      hears = bytes.hears;
+      one_turn = bytes.one_turn;
+      counted = bytes.counted;
+      told = λ can. subst (WrittenAs broken out) (bytes.told can) written;
+      sent = written_whole broken packs (pack_bytes bytes.events) bytes.sent;
+      reported = written_whole broken progress (progress_bytes bytes.events) bytes.reported;
+    }
+
+    -- a front of them was
+    front_written : {used : List ℕ} → HearsBytes true old new counts after used (held lines) packs progress → WrittenAs true out lines
+        → HearsBytes true old new counts after used out packs progress
+    front_written bytes written = record {
+      events = bytes.events;
+      hears = bytes.hears;
+      one_turn = bytes.one_turn;
+      counted = bytes.counted;
+      told = λ can.
+          let (front, rest, all, whole) = bytes.told can in
+          subst (WrittenAs true out) (ap (λ (l : List ℕ). l ++ rest) whole ∙ sym all) (AppendsFront-longer out.before out.after lines rest written);
+      sent = bytes.sent;
+      reported = bytes.reported;
+    }
+
+    module _ {piece : List ℕ} where
+      pub piece_written : {used : ℕ} → HearsInPiece old new counts after piece used (held lines) packs progress → WrittenAs false out lines
+          → HearsInPiece old new counts after piece used out packs progress
+      piece_written piece written = record {
+        hears = lines_written piece.hears written;
+        within = piece.within;
+        all = piece.all;
+        sound = piece.sound;
+        whole = piece.whole;
+        moves = piece.moves;
+      }
+
+      pub fault_written : {fault : Fault} → HearsToFault fault old new counts after piece (held lines) packs progress → WrittenAs false out lines
+          → HearsToFault fault old new counts after piece out packs progress
+      fault_written fault written =
+          record { used = fault.used; hears = lines_written fault.hears written; told = fault.told; shown = fault.shown }
+
+      -- the lines could not be written
+      pub piece_unwritten : (used : ℕ) → HearsBytes false old new counts after (take used piece) (held lines) packs progress → fault_of new ≡ None
+          → WrittenAs true out lines → HearsPieceBroken old new counts after piece out packs progress
+      piece_unwritten used bytes sound written = record {
+        used = used;
+        hears = lines_written bytes written;
+        shown = λ fault met. absurd (cc);
+      }
+
+      pub broken_unwritten : HearsPieceBroken old new counts after piece (held lines) packs progress → WrittenAs true out lines
+          → HearsPieceBroken old new counts after piece out packs progress
+      broken_unwritten broken written = record { used = broken.used; hears = front_written broken.hears written; shown = broken.shown }
