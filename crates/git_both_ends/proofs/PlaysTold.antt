@@ -13,7 +13,8 @@ use Rattle.git_msg.specs.declared.arguments.Command.TheVariants.{LsRefs, Fetch, 
 use Rattle.git_msg.specs.declared.offers.Caps.{Caps}
 use Rattle.git_msg.specs.declared.requests.Request.{Request}
 use Rattle.git_msg.specs.Advertisement.{everything, noted_of, takes_command}
-use Rattle.git_msg.specs.Arguments.{Arg, IsNameIn, IsValue, MayFollow, Value, Word, have, id_value, is_offered, object_id, row}
+use Rattle.git_msg.specs.Arguments.{Arg, IsNameIn, IsValue, MayFollow, Value, Word, have, id_value, is_offered, object_id, of_flag, row}
+use Rattle.git_msg.specs.declared.flags.Flag.{Flag}
 use Rattle.git_msg.specs.Asked.{Asked, HasValues, arguments_in, fetch, haves_of, id_in, ls_refs, object_info, oids_of}
 use Rattle.git_msg.specs.HeldRequest.{asked_of, format_of}
 use Rattle.git_msg.specs.Lines.{IsFormatMeant}
@@ -46,11 +47,13 @@ use Rattle.git_both_ends.proofs.SpelledPackets.{are_spelled, fit_both, fit_front
 have_named : (format : Format) (word : Word) (value : Value) → MayFollow (row word).shape format value
     → IfSome (id_in have (record { word = word; value = value })) (IsNameIn format)
 have_named format have (id_value name) fits = fits
+have_named format (of_flag Flag.Size) value fits = tt
 have_named format word value fits = tt
 
 object_named : (format : Format) (word : Word) (value : Value) → MayFollow (row word).shape format value
     → IfSome (id_in object_id (record { word = word; value = value })) (IsNameIn format)
 object_named format object_id (id_value name) fits = fits
+object_named format (of_flag Flag.Size) value fits = tt
 object_named format word value fits = tt
 
 -- the values that are object names of the format
@@ -77,7 +80,7 @@ takes_all format Fetch = refl
 takes_all format ObjectInfo = refl
 
 offers_word : (format : Format) (word : Word) → (row word).offered (everything format) ≡ true
-offers_word format have = refl
+offers_word format (of_flag Flag.Size) = refl
 offers_word format word = refl
 
 offers_all : (format : Format) (arg : Arg) → is_offered (everything format) arg ≡ true

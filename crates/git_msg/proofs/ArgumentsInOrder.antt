@@ -7,12 +7,13 @@ use Rattle.git_msg.specs.declared.arguments.Command.{Command}
 use Rattle.git_msg.proofs.LineLists.{filter_map_snoc, list_any_snoc}
 use Rattle.git_msg.specs.declared.arguments.Command.TheVariants.{LsRefs}
 use Rattle.git_msg.specs.Texts.{last_of}
-use Rattle.git_msg.specs.Arguments.{Word, symrefs, peel, ref_prefix, want, have, done, thin_pack, no_progress, include_tag, ofs_delta}
-use Rattle.git_msg.specs.Arguments.{shallow, deepen, deepen_relative, deepen_since, deepen_not, want_ref, size, object_id, unborn, wait_for_done, filter_spec}
+use Rattle.git_msg.specs.declared.flags.Flag.{Flag}
+use Rattle.git_msg.specs.Flags.{Flags, flags_where, pack_flags}
+use Rattle.git_msg.specs.Arguments.{Word, of_flag, ref_prefix, want, have, filter_spec, shallow, deepen, deepen_since, deepen_not, want_ref, object_id}
 use Rattle.git_msg.specs.Arguments.{Arg, alone, with_id, with_number, with_text}
 use Rattle.git_msg.specs.Asked.{Asked, ls_refs, fetch, object_info, LsRefsAsked, FetchAsked, ObjectInfoAsked}
 use Rattle.git_msg.specs.Asked.{command_asked, nothing_asked, asked_by, ls_refs_by, fetch_by, object_info_by}
-use Rattle.git_msg.specs.Asked.{and_then, later, with_argument, where_asked, where_given}
+use Rattle.git_msg.specs.Asked.{and_then, joined, later, with_argument, where_asked, where_given}
 use Rattle.git_msg.specs.Asked.{arguments_in}
 
 pub same_command : (asked : Asked) (arg : Arg) → command_asked (with_argument asked arg) ≡ command_asked asked
@@ -53,11 +54,35 @@ pub asked_in_turn : (c : Command) (args : List Arg) → fold with_argument (noth
 asked_in_turn c args = turn_by_turn c [] args
 
 -- a flag, which its argument sets, and then others
-flag_then : (with_flag : Bool → Asked) (word : Word) (flag : Bool) (others : List Arg) (asked : Asked)
-    → with_argument (with_flag false) (alone word) ≡ with_flag true → fold with_argument (with_flag flag) others ≡ asked
-    → fold with_argument (with_flag false) (where_asked flag word ++ others) ≡ asked
-flag_then with_flag word true others asked sets rest = ap (λ (a : Asked). fold with_argument a others) sets ∙ rest
-flag_then with_flag word false others asked sets rest = rest
+flag_then : (with_flag : Bool → Asked) (flag : Flag) (set : Bool) (others : List Arg) (asked : Asked)
+    → with_argument (with_flag false) (alone (of_flag flag)) ≡ with_flag true → fold with_argument (with_flag set) others ≡ asked
+    → fold with_argument (with_flag false) (where_asked set flag ++ others) ≡ asked
+flag_then with_flag flag true others asked sets rest = ap (λ (a : Asked). fold with_argument a others) sets ∙ rest
+flag_then with_flag flag false others asked sets rest = rest
+
+-- these flags, of which none is set, and their arguments
+abbrev none_of : (flags : List Flag) → Flags flags
+none_of flags = flags_where flags (λ flag. false)
+
+abbrev arguments_of : (flags : List Flag) → Flags flags → List (List Arg)
+arguments_of [] set = []
+arguments_of (flag ∷ flags) set = where_asked set.0 flag ∷ arguments_of flags set.1
+
+-- each of them is set by its argument, whichever of those before it are set
+abbrev AreSet : (flags : List Flag) → (Flags flags → Asked) → Type 0
+AreSet [] with_flags = Unit {0}
+AreSet (flag ∷ flags) with_flags =
+    (with_argument (with_flags (false, none_of flags)) (alone (of_flag flag)) ≡ with_flags (true, none_of flags))
+    × ((b : Bool) → AreSet flags (λ set. with_flags (b, set)))
+
+-- flags, which their arguments set, and then others
+flags_then : (flags : List Flag) (with_flags : Flags flags → Asked) (set : Flags flags) (others : List Arg) (asked : Asked)
+    → AreSet flags with_flags → fold with_argument (with_flags set) others ≡ asked
+    → fold with_argument (with_flags (none_of flags)) (joined (arguments_of flags set) others) ≡ asked
+flags_then [] with_flags set others asked sets rest = rest
+flags_then (flag ∷ flags) with_flags set others asked sets rest =
+    flag_then (λ b. with_flags (b, none_of flags)) flag set.0 (joined (arguments_of flags set.1) others) asked sets.0
+    (flags_then flags (λ later. with_flags (set.0, later)) set.1 others asked (sets.1 set.0) rest)
 
 -- a value, which its argument gives, and then others
 value_then : (with_value : Option ℕ → Asked) (word : Word) (value : Option ℕ) (others : List Arg) (asked : Asked)
@@ -91,18 +116,14 @@ in_turn (ls_refs q) =
     let peeled : LsRefsAsked = record none { peel = q.peel } in
     let named : LsRefsAsked = record peeled { symrefs = q.symrefs } in
     let flags : LsRefsAsked = record named { unborn = q.unborn } in
-    flag_then (λ b. ls_refs (record none { peel = b })) peel q.peel _ (ls_refs q) refl
-    (flag_then (λ b. ls_refs (record peeled { symrefs = b })) symrefs q.symrefs _ (ls_refs q) refl
-    (flag_then (λ b. ls_refs (record named { unborn = b })) unborn q.unborn _ (ls_refs q) refl
+    flag_then (λ b. ls_refs (record none { peel = b })) Flag.Peel q.peel _ (ls_refs q) refl
+    (flag_then (λ b. ls_refs (record peeled { symrefs = b })) Flag.Symrefs q.symrefs _ (ls_refs q) refl
+    (flag_then (λ b. ls_refs (record named { unborn = b })) Flag.Unborn q.unborn _ (ls_refs q) refl
     (list_added (λ (ps : List (List ℕ)). ls_refs (record flags { ref_prefixes = ps })) (with_text ref_prefix) [] q.ref_prefixes (λ ps p. refl))))
 in_turn (fetch q) =
     let none = fetch_by [] in
-    let thin : FetchAsked = record none { thin_pack = q.thin_pack } in
-    let quiet : FetchAsked = record thin { no_progress = q.no_progress } in
-    let tagged : FetchAsked = record quiet { include_tag = q.include_tag } in
-    let based : FetchAsked = record tagged { ofs_delta = q.ofs_delta } in
-    let waiting : FetchAsked = record based { wait_for_done = q.wait_for_done } in
-    let filtered : FetchAsked = record waiting { filters = q.filters } in
+    let sent : FetchAsked = record none { flags = q.flags } in
+    let filtered : FetchAsked = record sent { filters = q.filters } in
     let listed : FetchAsked = record filtered { shallows = q.shallows } in
     let deep : FetchAsked = record listed { deepen = q.deepen } in
     let since : FetchAsked = record deep { deepen_since = q.deepen_since } in
@@ -111,26 +132,23 @@ in_turn (fetch q) =
     let wanting : FetchAsked = record relative { wants = q.wants } in
     let naming : FetchAsked = record wanting { want_refs = q.want_refs } in
     let having : FetchAsked = record naming { haves = q.haves } in
-    flag_then (λ b. fetch (record none { thin_pack = b })) thin_pack q.thin_pack _ (fetch q) refl
-    (flag_then (λ b. fetch (record thin { no_progress = b })) no_progress q.no_progress _ (fetch q) refl
-    (flag_then (λ b. fetch (record quiet { include_tag = b })) include_tag q.include_tag _ (fetch q) refl
-    (flag_then (λ b. fetch (record tagged { ofs_delta = b })) ofs_delta q.ofs_delta _ (fetch q) refl
-    (flag_then (λ b. fetch (record based { wait_for_done = b })) wait_for_done q.wait_for_done _ (fetch q) refl
-    (list_then (λ specs. fetch (record waiting { filters = specs })) (with_text filter_spec) q.filters _ (fetch q) (λ specs spec. refl)
+    flags_then pack_flags (λ set. fetch (record none { flags = set })) q.flags _ (fetch q)
+    (refl, λ a. (refl, λ b. (refl, λ c. (refl, λ d. (refl, λ e. tt)))))
+    (list_then (λ specs. fetch (record sent { filters = specs })) (with_text filter_spec) q.filters _ (fetch q) (λ specs spec. refl)
     (list_then (λ ids. fetch (record filtered { shallows = ids })) (with_id shallow) q.shallows _ (fetch q) (λ ids id. refl)
     (value_then (λ v. fetch (record listed { deepen = v })) deepen q.deepen _ (fetch q) (λ depth. refl)
     (value_then (λ v. fetch (record deep { deepen_since = v })) deepen_since q.deepen_since _ (fetch q) (λ time. refl)
     (list_then (λ texts. fetch (record since { deepen_nots = texts })) (with_text deepen_not) q.deepen_nots _ (fetch q) (λ texts text. refl)
-    (flag_then (λ b. fetch (record apart { deepen_relative = b })) deepen_relative q.deepen_relative _ (fetch q) refl
+    (flag_then (λ b. fetch (record apart { deepen_relative = b })) Flag.DeepenRelative q.deepen_relative _ (fetch q) refl
     (list_then (λ ids. fetch (record relative { wants = ids })) (with_id want) q.wants _ (fetch q) (λ ids id. refl)
     (list_then (λ names. fetch (record wanting { want_refs = names })) (with_text want_ref) q.want_refs _ (fetch q) (λ names name. refl)
     (list_then (λ ids. fetch (record naming { haves = ids })) (with_id have) q.haves _ (fetch q) (λ ids id. refl)
-    (ap (fold with_argument (fetch having)) (sym (append-nil (where_asked q.done done)))
-    ∙ flag_then (λ b. fetch (record having { done = b })) done q.done [] (fetch q) refl refl))))))))))))))
+    (ap (fold with_argument (fetch having)) (sym (append-nil (where_asked q.done Flag.Done)))
+    ∙ flag_then (λ b. fetch (record having { done = b })) Flag.Done q.done [] (fetch q) refl refl))))))))))
 in_turn (object_info q) =
     let none = object_info_by [] in
     let sized : ObjectInfoAsked = record none { size = q.size } in
-    flag_then (λ b. object_info (record none { size = b })) size q.size _ (object_info q) refl
+    flag_then (λ b. object_info (record none { size = b })) Flag.Size q.size _ (object_info q) refl
     (list_added (λ ids. object_info (record sized { oids = ids })) (with_id object_id) [] q.oids (λ ids id. refl))
 
 -- the arguments of a request ask for it

@@ -15,14 +15,15 @@ use Rattle.git_pkt.proofs.FaultTexts.{decimal_fits}
 use Rattle.git_msg.specs.declared.arguments.Argument.{Argument}
 use Rattle.git_msg.specs.declared.arguments.Command.{Command}
 use Rattle.git_msg.specs.declared.arguments.Command.TheVariants.{LsRefs, Fetch, ObjectInfo}
-use Rattle.git_msg.specs.Arguments.{Word, symrefs, peel, ref_prefix, want, have, done, thin_pack, no_progress, include_tag, ofs_delta}
-use Rattle.git_msg.specs.Arguments.{shallow, deepen, deepen_relative, deepen_since, deepen_not, want_ref, size, object_id, unborn, wait_for_done, filter_spec}
+use Rattle.git_msg.specs.declared.flags.Flag.{Flag}
+use Rattle.git_msg.specs.Arguments.{Word, of_flag, ref_prefix, want, have, filter_spec, shallow, deepen, deepen_since, deepen_not, want_ref, object_id}
 use Rattle.git_msg.specs.Arguments.{Shape, flag_word, object_name, depth_number, time_number, prefix_text, kept_text, reference_name, Row, row, MayFollow}
 use Rattle.git_msg.specs.Arguments.{Arg, Value, no_value, id_value, number_value, text_value, alone, with_id, with_number, with_text, shown}
 use Rattle.git_msg.specs.Arguments.{most_text, IsInRange, IsValue, stored_in, stored_value, written_text, written_value}
 use Rattle.git_msg.specs.Asked.{Asked, LsRefsAsked, FetchAsked, ObjectInfoAsked, ls_refs, fetch, object_info, command_asked, with_ls_refs}
 use Rattle.git_msg.specs.Asked.{with_fetch, with_object_info, with_argument, where_asked, where_given, joined, flags_in, packs_in, shallows_in}
-use Rattle.git_msg.specs.Asked.{objects_in, object_arguments, arguments_in, bytes_of}
+use Rattle.git_msg.specs.Asked.{flag_arguments, objects_in, object_arguments, arguments_in, bytes_of}
+use Rattle.git_msg.specs.Flags.{is_set, pack_flags}
 use Rattle.git_msg.specs.Kept.{Kept, IsCounted, IsWithin}
 use Rattle.git_msg.proofs.ArgumentsInOrder.{same_command}
 use Rattle.git_msg.proofs.WrittenNames.{hex_of-at_least, hex_of-at_most}
@@ -56,12 +57,12 @@ adds_before others old arg new h = record {
   is = ap (λ (l : List Arg). l ++ others) h.is ∙ append_assoc h.front (arg ∷ h.back) others;
 }
 
-adds_flag : (flag : Bool) (word : Word) (back : List Arg) → Adds (where_asked flag word ++ back) (alone word) (where_asked true word ++ back)
-adds_flag flag word back = record { front = []; gone = where_asked flag word; back = back; was = refl; is = refl }
+adds_flag : (set : Bool) (flag : Flag) (back : List Arg) → Adds (where_asked set flag ++ back) (alone (of_flag flag)) (where_asked true flag ++ back)
+adds_flag set flag back = record { front = []; gone = where_asked set flag; back = back; was = refl; is = refl }
 
-adds_last_flag : (flag : Bool) (word : Word) → Adds (where_asked flag word) (alone word) (where_asked true word)
-adds_last_flag flag word =
-    record { front = []; gone = where_asked flag word; back = []; was = sym (append-nil (where_asked flag word)); is = refl }
+adds_last_flag : (set : Bool) (flag : Flag) → Adds (where_asked set flag) (alone (of_flag flag)) (where_asked true flag)
+adds_last_flag set flag =
+    record { front = []; gone = where_asked set flag; back = []; was = sym (append-nil (where_asked set flag)); is = refl }
 
 adds_number : (word : Word) (old : Option ℕ) (number : ℕ) (back : List Arg)
     → Adds (where_given word old ++ back) (with_number word number) (where_given word (Some number) ++ back)
@@ -83,21 +84,21 @@ behind (args ∷ lists) old arg new h = adds_after args _ arg _ (behind lists ol
 -- so is the list of what is asked for with one more: a row for each word
 adds_ls_refs : (q : LsRefsAsked) (format : Format) (word : Word) (value : Value) → (row word).command ≡ LsRefs → MayFollow (row word).shape format value
     → Adds (arguments_in (ls_refs q)) (record { word = word; value = value }) (arguments_in (ls_refs (with_ls_refs q (record { word = word; value = value }))))
-adds_ls_refs q format peel no_value of fits = adds_flag q.peel peel _
-adds_ls_refs q format symrefs no_value of fits = behind (take 1 (flags_in q)) _ _ _ (adds_flag q.symrefs symrefs _)
-adds_ls_refs q format unborn no_value of fits = behind (take 2 (flags_in q)) _ _ _ (adds_flag q.unborn unborn _)
+adds_ls_refs q format (of_flag Flag.Peel) no_value of fits = adds_flag q.peel Flag.Peel _
+adds_ls_refs q format (of_flag Flag.Symrefs) no_value of fits = behind (take 1 (flags_in q)) _ _ _ (adds_flag q.symrefs Flag.Symrefs _)
+adds_ls_refs q format (of_flag Flag.Unborn) no_value of fits = behind (take 2 (flags_in q)) _ _ _ (adds_flag q.unborn Flag.Unborn _)
 adds_ls_refs q format ref_prefix (text_value text) of fits = behind (flags_in q) _ _ _ (adds_last (with_text ref_prefix) q.ref_prefixes text)
 adds_ls_refs q format word value of fits = absurd (first_of (assumption, cc))
 
 adds_fetch : (q : FetchAsked) (format : Format) (word : Word) (value : Value) → (row word).command ≡ Fetch → MayFollow (row word).shape format value
     → Adds (arguments_in (fetch q)) (record { word = word; value = value }) (arguments_in (fetch (with_fetch q (record { word = word; value = value }))))
-adds_fetch q format thin_pack no_value of fits = adds_flag q.thin_pack thin_pack _
-adds_fetch q format no_progress no_value of fits = behind (take 1 (packs_in q)) _ _ _ (adds_flag q.no_progress no_progress _)
-adds_fetch q format include_tag no_value of fits = behind (take 2 (packs_in q)) _ _ _ (adds_flag q.include_tag include_tag _)
-adds_fetch q format ofs_delta no_value of fits = behind (take 3 (packs_in q)) _ _ _ (adds_flag q.ofs_delta ofs_delta _)
-adds_fetch q format wait_for_done no_value of fits = behind (take 4 (packs_in q)) _ _ _ (adds_flag q.wait_for_done wait_for_done _)
+adds_fetch q format (of_flag Flag.ThinPack) no_value of fits = adds_flag _ Flag.ThinPack _
+adds_fetch q format (of_flag Flag.NoProgress) no_value of fits = behind (take 1 (packs_in q)) _ _ _ (adds_flag _ Flag.NoProgress _)
+adds_fetch q format (of_flag Flag.IncludeTag) no_value of fits = behind (take 2 (packs_in q)) _ _ _ (adds_flag _ Flag.IncludeTag _)
+adds_fetch q format (of_flag Flag.OfsDelta) no_value of fits = behind (take 3 (packs_in q)) _ _ _ (adds_flag _ Flag.OfsDelta _)
+adds_fetch q format (of_flag Flag.WaitForDone) no_value of fits = behind (take 4 (packs_in q)) _ _ _ (adds_flag _ Flag.WaitForDone _)
 adds_fetch q format filter_spec (text_value text) of fits =
-    behind (take 5 (packs_in q)) _ _ _ (adds_to_list (with_text filter_spec) q.filters text _)
+    behind (flag_arguments (is_set pack_flags q.flags) pack_flags) _ _ _ (adds_to_list (with_text filter_spec) q.filters text _)
 adds_fetch q format shallow (id_value id) of fits = behind (packs_in q) _ _ _ (adds_to_list (with_id shallow) q.shallows id _)
 adds_fetch q format deepen (number_value depth) of fits =
     behind (packs_in q ++ take 1 (shallows_in q)) _ _ _ (adds_number deepen q.deepen depth _)
@@ -105,21 +106,22 @@ adds_fetch q format deepen_since (number_value time) of fits =
     behind (packs_in q ++ take 2 (shallows_in q)) _ _ _ (adds_number deepen_since q.deepen_since time _)
 adds_fetch q format deepen_not (text_value text) of fits =
     behind (packs_in q ++ take 3 (shallows_in q)) _ _ _ (adds_to_list (with_text deepen_not) q.deepen_nots text _)
-adds_fetch q format deepen_relative no_value of fits =
-    behind (packs_in q ++ take 4 (shallows_in q)) _ _ _ (adds_flag q.deepen_relative deepen_relative _)
+adds_fetch q format (of_flag Flag.DeepenRelative) no_value of fits =
+    behind (packs_in q ++ take 4 (shallows_in q)) _ _ _ (adds_flag q.deepen_relative Flag.DeepenRelative _)
 adds_fetch q format want (id_value id) of fits = behind (packs_in q ++ shallows_in q) _ _ _ (adds_to_list (with_id want) q.wants id _)
 adds_fetch q format want_ref (text_value text) of fits =
     behind (packs_in q ++ (shallows_in q ++ take 1 (objects_in q))) _ _ _ (adds_to_list (with_text want_ref) q.want_refs text _)
 adds_fetch q format have (id_value id) of fits =
     behind (packs_in q ++ (shallows_in q ++ take 2 (objects_in q))) _ _ _ (adds_to_list (with_id have) q.haves id _)
-adds_fetch q format done no_value of fits = behind (packs_in q ++ (shallows_in q ++ objects_in q)) _ _ _ (adds_last_flag q.done done)
+adds_fetch q format (of_flag Flag.Done) no_value of fits =
+    behind (packs_in q ++ (shallows_in q ++ objects_in q)) _ _ _ (adds_last_flag q.done Flag.Done)
 adds_fetch q format word value of fits = absurd (first_of (assumption, cc))
 
 adds_object_info : (q : ObjectInfoAsked) (format : Format) (word : Word) (value : Value) → (row word).command ≡ ObjectInfo
     → MayFollow (row word).shape format value → Adds (arguments_in (object_info q)) (record { word = word; value = value })
     (arguments_in (object_info (with_object_info q (record { word = word; value = value }))))
-adds_object_info q format size no_value of fits = adds_flag q.size size _
-adds_object_info q format object_id (id_value id) of fits = adds_after (where_asked q.size size) _ _ _ (adds_last (with_id object_id) q.oids id)
+adds_object_info q format (of_flag Flag.Size) no_value of fits = adds_flag q.size Flag.Size _
+adds_object_info q format object_id (id_value id) of fits = adds_after (where_asked q.size Flag.Size) _ _ _ (adds_last (with_id object_id) q.oids id)
 adds_object_info q format word value of fits = absurd (first_of (assumption, cc))
 
 adds : (asked : Asked) (format : Format) (arg : Arg) → IsValue (command_asked asked) format arg
@@ -183,7 +185,7 @@ record IsKeyword (r : Row) : Type 0 where
   short : length r.keyword ≤ 15
 
 is_keyword : (word : Word) → IsKeyword (row word)
-is_keyword symrefs = record { long_enough = omega arith; some_text = omega arith; short = omega arith }
+is_keyword (of_flag Flag.Size) = record { long_enough = omega arith; some_text = omega arith; short = omega arith }
 is_keyword word = record { long_enough = omega arith; some_text = omega arith; short = omega arith }
 
 -- no more is stored of a value than is written of it and of its keyword, and it fits into a packet beside any

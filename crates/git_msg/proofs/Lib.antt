@@ -15,6 +15,7 @@ pub mod ReferenceLaws
 pub mod LinesLeft
 pub mod RoundTrip
 pub mod FaultLaws
+pub mod HeldFlags
 pub mod KeptBytes
 pub mod AddedArguments
 pub mod ArgumentsInOrder

@@ -9,7 +9,8 @@ use Rattle.std.proofs.lemmas.List.Sums.{sum_by-append, sum_by-cons}
 use Rattle.std.proofs.lemmas.List.Filters.{All-dedup}
 use Rattle.std.proofs.lemmas.List.Sorted.{All-permutation, IsPermutation-map, sum_by-IsPermutation}
 use Rattle.git_names.specs.declared.object_format.Format.{Format}
-use Rattle.git_msg.specs.Arguments.{Arg, IsValue, peel, symrefs, unborn, ref_prefix, with_text, written_text}
+use Rattle.git_msg.specs.declared.flags.Flag.{Flag}
+use Rattle.git_msg.specs.Arguments.{Arg, IsValue, ref_prefix, with_text, written_text}
 use Rattle.git_msg.specs.Asked.{LsRefsAsked, arguments_in, bytes_of, command_asked, ls_refs, where_asked}
 use Rattle.git_msg.specs.Kept.{IsCounted}
 use Rattle.git_msg.specs.Prefixes.{Prunes, begins}
@@ -80,14 +81,14 @@ module _ (P : Arg → Type 0) (make : List ℕ → Arg) where
 
 -- the prefixes of an ls-refs request come after its flags
 flags : LsRefsAsked → List Arg
-flags q = where_asked q.peel peel ++ (where_asked q.symrefs symrefs ++ where_asked q.unborn unborn)
+flags q = where_asked q.peel Flag.Peel ++ (where_asked q.symrefs Flag.Symrefs ++ where_asked q.unborn Flag.Unborn)
 
 after_flags : (q : LsRefsAsked) (ps : List (List ℕ)) → arguments_in (ls_refs (record q { ref_prefixes = ps })) ≡ flags q ++ map (with_text ref_prefix) ps
 unfolding flags
 after_flags q ps =
     let prefixes : List Arg = map (with_text ref_prefix) ps in
-    sym (append_assoc (where_asked q.peel peel) (where_asked q.symrefs symrefs ++ where_asked q.unborn unborn) prefixes
-    ∙ ap (λ (args : List Arg). where_asked q.peel peel ++ args) (append_assoc (where_asked q.symrefs symrefs) (where_asked q.unborn unborn) prefixes))
+    sym (append_assoc (where_asked q.peel Flag.Peel) (where_asked q.symrefs Flag.Symrefs ++ where_asked q.unborn Flag.Unborn) prefixes
+    ∙ ap (λ (args : List Arg). where_asked q.peel Flag.Peel ++ args) (append_assoc (where_asked q.symrefs Flag.Symrefs) (where_asked q.unborn Flag.Unborn) prefixes))
 
 pub counted_pruned : (format : Format) (q : LsRefsAsked) (ps : List (List ℕ)) (kept : ℕ) → Prunes q.ref_prefixes ps → IsCounted format (ls_refs q) kept
     → IsCounted format (ls_refs (record q { ref_prefixes = ps })) kept

@@ -17,10 +17,11 @@ use Rattle.git_pkt.specs.Splits.{Given}
 use Rattle.git_msg.specs.declared.offers.Offer.{Offer}
 use Rattle.git_msg.specs.declared.arguments.Command.{Command}
 use Rattle.git_msg.specs.declared.arguments.Command.TheVariants.{LsRefs, Fetch, ObjectInfo}
+use Rattle.git_msg.specs.declared.flags.Flag.{Flag}
 use Rattle.git_msg.specs.declared.capability_key.Key.TheVariants.{CommandKey, AgentKey, ObjectFormatKey}
 use Rattle.git_msg.specs.Texts.{Follows, IsErrorText}
 use Rattle.git_msg.specs.Arguments.{Shape, flag_word, object_name, depth_number, time_number, prefix_text, kept_text, reference_name, row, MayFollow}
-use Rattle.git_msg.specs.Arguments.{Word, symrefs, Arg, Value, no_value, id_value, number_value, text_value, SaysValue}
+use Rattle.git_msg.specs.Arguments.{Word, of_flag, Arg, Value, no_value, id_value, number_value, text_value, SaysValue}
 use Rattle.git_msg.specs.Arguments.{SaysArgument, IsDepth, IsTime, IsNumberIn, IsInRange, IsNameIn, IsValue, is_offered, name_of, written_text, written_value}
 use Rattle.git_msg.specs.Capability.{is_value}
 use Rattle.git_msg.specs.Advertisement.{takes_command}
@@ -126,7 +127,7 @@ not_error text h e = h (ap (λ (xs : List ℕ). slice_index xs 0) e.spelled)
 
 -- what is written of an argument is no error
 no_error_word : (word : Word) (rest : List ℕ) → ¬ IsErrorText ((row word).keyword ++ rest)
-no_error_word symrefs rest = not_error (codes "symrefs" ++ rest) (λ e. omega arith)
+no_error_word (of_flag Flag.Size) rest = not_error (codes "size" ++ rest) (λ e. omega arith)
 no_error_word word rest = not_error ((row word).keyword ++ rest) (λ e. omega arith)
 
 written_clean : (arg : Arg) → ¬ IsErrorText (written_text arg)

@@ -13,10 +13,11 @@ use Rattle.git_names.proofs.ObjectNames.{one_object_name}
 use Rattle.git_pkt.specs.declared.fault.Kind.{Kind}
 use Rattle.git_msg.specs.declared.offers.Offer.{Offer}
 use Rattle.git_msg.specs.declared.arguments.Command.{Command}
-use Rattle.git_msg.specs.declared.arguments.Command.TheVariants.{LsRefs, Fetch, ObjectInfo}
+use Rattle.git_msg.specs.declared.arguments.Command.TheVariants.{Fetch}
+use Rattle.git_msg.specs.declared.flags.Flag.{Flag}
 use Rattle.git_msg.specs.declared.capability_key.Key.{Key}
 use Rattle.git_msg.specs.declared.capability_key.Key.TheVariants.{CommandKey, OtherKey}
-use Rattle.git_msg.specs.Arguments.{Word, symrefs, want, size, words}
+use Rattle.git_msg.specs.Arguments.{Word, of_flag, want, words}
 use Rattle.git_msg.specs.Arguments.{Shape, flag_word, object_name, depth_number, time_number, prefix_text, kept_text, reference_name, Row, row}
 use Rattle.git_msg.specs.Arguments.{Arg, Value, no_value, id_value, number_value, text_value, refusal_of, SaysValue, IsNoValue, IsNamed}
 use Rattle.git_msg.specs.Arguments.{command_with, most_text, IsDepth, IsTime, IsNumberIn, IsNoNumberIn, IsKeptText, IsNoKeptText}
@@ -75,7 +76,7 @@ pub record IsHeaded (r : Row) (line : List ℕ) : Type 0 where
   pub is : line ≡ line_of r.shape r.keyword rest
 
 word_heads : (word : Word) (rest : List ℕ) → word_of (line_of (row word).shape (row word).keyword rest) ≡ Some word
-word_heads symrefs rest = refl
+word_heads (of_flag Flag.Size) rest = refl
 word_heads word rest = refl
 
 -- it is one word
@@ -196,12 +197,10 @@ by_row c format text a kind word h k =
 
 -- nor is it none
 none_headed : (c : Command) (word : Word) (text : List ℕ) → IsNoArgument c text → (row word).command ≡ c → IsHeaded (row word) text → ⊥
-none_headed LsRefs symrefs text (f, k) of h = f.0 h.is
-none_headed LsRefs word text ((a, (b, (c, _))), (k, _)) of h = first_of (cc, search (h.is))
+none_headed c (of_flag flag) text (f, k) of h = f flag of h.is
 none_headed Fetch want text (f, k) of h = k.0 h.rest h.is
-none_headed Fetch word text ((a, (b, (c, (d, (e, (f, (g, _))))))), (k, (l, (m, (n, (o, (p, (q, (r, _))))))))) of h = first_of (cc, search (h.is))
-none_headed ObjectInfo size text (f, k) of h = f.0 h.is
-none_headed ObjectInfo word text ((a, _), (k, _)) of h = first_of (cc, search (h.is))
+none_headed Fetch word text (f, (k, (l, (m, (n, (o, (p, (q, (r, _))))))))) of h = first_of (cc, search (h.is))
+none_headed c word text (f, (k, _)) of h = first_of (cc, search (h.is))
 
 none_or_argument : (c : Command) (format : Format) (text : List ℕ) (a : Arg) → IsNoArgument c text → command_with a ≡ c → SaysArgument format text a → ⊥
 none_or_argument c format text a u of h = none_headed c a.word text u of (headed format text a h)

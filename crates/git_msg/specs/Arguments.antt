@@ -1,5 +1,5 @@
 -- The argument lines of requests, by gitprotocol-v2(5).
-use Rattle.std.specs.Prelude.{◌≡◌, ◌≢◌, ◌⊎◌, ℕ, ◌+◌, ◌<◌, ◌≤◌, Bool, true, false, not, ◌&&◌, List, [], ◌∷◌, ◌++◌, length, codes, decimal, if◌then◌else◌}
+use Rattle.std.specs.Prelude.{◌≡◌, ◌≢◌, ◌⊎◌, ℕ, ◌+◌, ◌<◌, ◌≤◌, Bool, true, false, List, [], ◌∷◌, ◌++◌, length, map, codes, decimal, if◌then◌else◌}
 use Rattle.git_names.specs.ObjectName.{ObjectName, IsObjectName, IsNoObjectName, IsOid, hex_of}
 use Rattle.git_names.specs.RefName.{IsRefName}
 use Rattle.git_names.specs.declared.object_format.Format.{Format}
@@ -8,35 +8,26 @@ use Rattle.git_pkt.specs.declared.fault.Kind.TheVariants.{UnknownArgument, BadLi
 use Rattle.git_msg.specs.declared.arguments.Command.{Command}
 use Rattle.git_msg.specs.declared.arguments.Command.TheVariants.{LsRefs, Fetch, ObjectInfo}
 use Rattle.git_msg.specs.declared.arguments.Argument.{Argument}
-use Rattle.git_msg.specs.declared.arguments.Argument.TheVariants.{Symrefs, Peel, RefPrefix, Want, Have, IsDone, ThinPack, NoProgress, IncludeTag, OfsDelta}
-use Rattle.git_msg.specs.declared.arguments.Argument.TheVariants.{Shallow, Deepen, DeepenRelative, DeepenSince, DeepenNot, WantRef, Size, ObjectId}
-use Rattle.git_msg.specs.declared.arguments.Argument.TheVariants.{Unborn, WaitForDone, Filter}
+use Rattle.git_msg.specs.declared.arguments.Argument.TheVariants.{RefPrefix, Want, Have, Filter}
+use Rattle.git_msg.specs.declared.arguments.Argument.TheVariants.{Shallow, Deepen, DeepenSince, DeepenNot, WantRef, ObjectId}
+use Rattle.git_msg.specs.declared.flags.Flag.{Flag}
 use Rattle.git_msg.specs.declared.offers.Offer.{Offer}
+use Rattle.git_msg.specs.Flags.{IsNoFlagOf, all_flags, always, flag_row}
 use Rattle.git_msg.specs.Numbers.{IsNumber}
-use Rattle.git_msg.specs.Texts.{Follows, IsNoneOf, BeginsWithNone}
+use Rattle.git_msg.specs.Texts.{Follows, BeginsWithNone}
 
--- a word at the head of an argument's line
+-- a word at the head of an argument's line: a flag, or what comes before a value
 pub data Word : Type 0 where
-  symrefs : Word
-  peel : Word
-  unborn : Word
+  of_flag : Flag → Word
   ref_prefix : Word
   want : Word
   have : Word
-  done : Word
-  thin_pack : Word
-  no_progress : Word
-  include_tag : Word
-  ofs_delta : Word
-  wait_for_done : Word
   filter_spec : Word
   shallow : Word
   deepen : Word
-  deepen_relative : Word
   deepen_since : Word
   deepen_not : Word
   want_ref : Word
-  size : Word
   object_id : Word
 
 -- what may come after a word
@@ -60,38 +51,27 @@ pub record Row : Type 0 where
 abbrev pub entry : List ℕ → Command → Shape → (Offer → Bool) → Row
 entry keyword command shape offered = record { keyword = keyword; command = command; shape = shape; offered = offered }
 
-abbrev pub always : Offer → Bool
-always offer = true
-
 -- the table of arguments
 abbrev pub row : Word → Row
-row symrefs = entry (codes "symrefs") LsRefs flag_word always
-row peel = entry (codes "peel") LsRefs flag_word always
-row unborn = entry (codes "unborn") LsRefs flag_word (λ offer. offer.unborn)
+row (of_flag flag) = entry (flag_row flag).text (flag_row flag).command flag_word (flag_row flag).offered
 row ref_prefix = entry (codes "ref-prefix ") LsRefs prefix_text always
 row want = entry (codes "want ") Fetch object_name always
 row have = entry (codes "have ") Fetch object_name always
-row done = entry (codes "done") Fetch flag_word always
-row thin_pack = entry (codes "thin-pack") Fetch flag_word always
-row no_progress = entry (codes "no-progress") Fetch flag_word always
-row include_tag = entry (codes "include-tag") Fetch flag_word always
-row ofs_delta = entry (codes "ofs-delta") Fetch flag_word always
-row wait_for_done = entry (codes "wait-for-done") Fetch flag_word (λ offer. offer.wait_for_done)
 row filter_spec = entry (codes "filter ") Fetch kept_text (λ offer. offer.filter)
 row shallow = entry (codes "shallow ") Fetch object_name (λ offer. offer.shallow)
 row deepen = entry (codes "deepen ") Fetch depth_number (λ offer. offer.shallow)
-row deepen_relative = entry (codes "deepen-relative") Fetch flag_word (λ offer. offer.shallow)
 row deepen_since = entry (codes "deepen-since ") Fetch time_number (λ offer. offer.shallow)
 row deepen_not = entry (codes "deepen-not ") Fetch kept_text (λ offer. offer.shallow)
 row want_ref = entry (codes "want-ref ") Fetch reference_name (λ offer. offer.ref_in_want)
-row size = entry (codes "size") ObjectInfo flag_word always
 row object_id = entry (codes "oid ") ObjectInfo object_name always
+
+-- its words before a value
+abbrev pub value_words : List Word
+value_words = ref_prefix ∷ want ∷ have ∷ filter_spec ∷ shallow ∷ deepen ∷ deepen_since ∷ deepen_not ∷ want_ref ∷ object_id ∷ []
 
 -- all of its words
 abbrev pub words : List Word
-words =
-    symrefs ∷ peel ∷ unborn ∷ ref_prefix ∷ want ∷ have ∷ done ∷ thin_pack ∷ no_progress ∷ include_tag ∷ ofs_delta ∷ wait_for_done
-    ∷ filter_spec ∷ shallow ∷ deepen ∷ deepen_relative ∷ deepen_since ∷ deepen_not ∷ want_ref ∷ size ∷ object_id ∷ []
+words = map of_flag all_flags ++ value_words
 
 -- what comes after a word
 pub data Value : Type 0 where
@@ -119,27 +99,32 @@ with_text word text = record { word = word; value = text_value text }
 
 -- the argument that a borrowed one shows
 abbrev pub shown : Argument → Arg
-shown Symrefs = alone symrefs
-shown Peel = alone peel
-shown Unborn = alone unborn
+shown Argument.Symrefs = alone (of_flag Flag.Symrefs)
+shown Argument.Peel = alone (of_flag Flag.Peel)
+shown Argument.Unborn = alone (of_flag Flag.Unborn)
+shown Argument.IsDone = alone (of_flag Flag.Done)
+shown Argument.ThinPack = alone (of_flag Flag.ThinPack)
+shown Argument.NoProgress = alone (of_flag Flag.NoProgress)
+shown Argument.IncludeTag = alone (of_flag Flag.IncludeTag)
+shown Argument.OfsDelta = alone (of_flag Flag.OfsDelta)
+shown Argument.WaitForDone = alone (of_flag Flag.WaitForDone)
+shown Argument.DeepenRelative = alone (of_flag Flag.DeepenRelative)
+shown Argument.Size = alone (of_flag Flag.Size)
 shown (RefPrefix prefix) = with_text ref_prefix prefix.now
 shown (Want id) = with_id want id
 shown (Have id) = with_id have id
-shown IsDone = alone done
-shown ThinPack = alone thin_pack
-shown NoProgress = alone no_progress
-shown IncludeTag = alone include_tag
-shown OfsDelta = alone ofs_delta
-shown WaitForDone = alone wait_for_done
 shown (Filter spec) = with_text filter_spec spec.now
 shown (Shallow id) = with_id shallow id
 shown (Deepen depth) = with_number deepen depth
-shown DeepenRelative = alone deepen_relative
 shown (DeepenSince time) = with_number deepen_since time
 shown (DeepenNot revision) = with_text deepen_not revision.now
 shown (WantRef name) = with_text want_ref name.now
-shown Size = alone size
 shown (ObjectId id) = with_id object_id id
+
+-- a value comes after the word
+abbrev pub TakesValue : Word → Type 0
+TakesValue (of_flag flag) = ⊥
+TakesValue word = Unit {0}
 
 -- the command's key, as it is after `command=`
 abbrev pub name_of : Command → List ℕ
@@ -280,22 +265,15 @@ is_command Fetch Fetch = true
 is_command ObjectInfo ObjectInfo = true
 is_command _ _ = false
 
-abbrev pub is_flag_word : Shape → Bool
-is_flag_word flag_word = true
-is_flag_word _ = false
+-- the keywords of the command's words
+abbrev pub keywords_among : Command → List Word → List (List ℕ)
+keywords_among command [] = []
+keywords_among command (word ∷ others) =
+    if is_command (row word).command command then (row word).keyword ∷ keywords_among command others else keywords_among command others
 
--- the keywords of the rows that meet the test
-abbrev pub keywords_where : (Row → Bool) → List Word → List (List ℕ)
-keywords_where test [] = []
-keywords_where test (word ∷ others) = if test (row word) then (row word).keyword ∷ keywords_where test others else keywords_where test others
-
--- the arguments of the command that are a word alone
-abbrev pub flags_of : Command → List (List ℕ)
-flags_of command = keywords_where (λ r. is_command r.command command && is_flag_word r.shape) words
-
--- what comes before a value in the command's other arguments
+-- what comes before a value in the command's arguments
 abbrev pub keywords_of : Command → List (List ℕ)
-keywords_of command = keywords_where (λ r. is_command r.command command && not (is_flag_word r.shape)) words
+keywords_of command = keywords_among command value_words
 
 -- what follows the word is no value that is allowed there
 abbrev pub IsNoValue : Shape → Format → List ℕ → Type 0
@@ -313,9 +291,14 @@ pub record IsRowFault (command : Command) (format : Format) (word : Word) (text 
   pub follows : Follows (row word).keyword (IsNoValue (row word).shape format) text
   pub named : kind ≡ refusal_of (row word).shape
 
+-- the text begins with no word of the command that a value follows, or with one whose value is not allowed there
+abbrev pub IsNoValueOf : Command → Format → List ℕ → Kind → Type 0
+IsNoValueOf command format text kind =
+    (BeginsWithNone (keywords_of command) text × (kind ≡ UnknownArgument)) ⊎ ((word : Word) × IsRowFault command format word text kind)
+
 -- the text is no argument of the command
 abbrev pub IsNoArgument : Command → List ℕ → Type 0
-IsNoArgument command text = IsNoneOf (flags_of command) text × BeginsWithNone (keywords_of command) text
+IsNoArgument command text = IsNoFlagOf command text × BeginsWithNone (keywords_of command) text
 
 -- the text is no argument of the command, or one whose value is not allowed there
 abbrev pub IsTextFault : Command → Format → List ℕ → Kind → Type 0

@@ -8,8 +8,9 @@ use Rattle.git_names.specs.declared.object_format.Format.{Format}
 use Rattle.git_msg.specs.declared.offers.Offer.{Offer}
 use Rattle.git_msg.specs.declared.arguments.Command.{Command}
 use Rattle.git_msg.specs.declared.arguments.Command.TheVariants.{LsRefs, Fetch, ObjectInfo}
-use Rattle.git_msg.specs.Arguments.{Word, symrefs, peel, ref_prefix, want, have, done, thin_pack, no_progress, include_tag, ofs_delta}
-use Rattle.git_msg.specs.Arguments.{shallow, deepen, deepen_relative, deepen_since, deepen_not, want_ref, size, object_id, unborn, wait_for_done, filter_spec}
+use Rattle.git_msg.specs.declared.flags.Flag.{Flag}
+use Rattle.git_msg.specs.Flags.{Flags, flags_where, is_set, pack_flags}
+use Rattle.git_msg.specs.Arguments.{Word, of_flag, ref_prefix, want, have, filter_spec, shallow, deepen, deepen_since, deepen_not, want_ref, object_id}
 use Rattle.git_msg.specs.Arguments.{Arg, Value, alone, with_id, with_number, with_text, id_value, number_value, text_value, row}
 use Rattle.git_msg.specs.Arguments.{IsValue, is_offered, written_text}
 use Rattle.git_msg.specs.Texts.{last_of}
@@ -34,6 +35,14 @@ abbrev pub text_of : Value → Option (List ℕ)
 text_of (text_value text) = Some text
 text_of _ = None
 
+-- whether the argument is the flag
+abbrev pub is_flag_of : Flag → Arg → Bool
+is_flag_of flag arg = is_of (of_flag flag) arg
+
+-- whether the flag is among the arguments
+abbrev pub flag_among : List Arg → Flag → Bool
+flag_among args flag = list_any (is_flag_of flag) args
+
 -- the argument's value, where it is of the word
 abbrev pub id_in : Word → Arg → Option ObjectName
 id_in word arg = if is_of word arg then id_of arg.value else None
@@ -55,12 +64,8 @@ pub record LsRefsAsked : Type 0 where
 pub record FetchAsked : Type 0 where
   pub wants : List ObjectName
   pub haves : List ObjectName
+  pub flags : Flags pack_flags
   pub done : Bool
-  pub thin_pack : Bool
-  pub no_progress : Bool
-  pub include_tag : Bool
-  pub ofs_delta : Bool
-  pub wait_for_done : Bool
   pub filters : List (List ℕ)
   pub shallows : List ObjectName
   pub deepen : Option ℕ
@@ -89,9 +94,9 @@ command_asked (object_info q) = ObjectInfo
 -- what the arguments ask for: each list is the values of its kind in their order, and a flag is set where one sets it
 abbrev pub ls_refs_by : List Arg → LsRefsAsked
 ls_refs_by args = record {
-  symrefs = list_any (is_of symrefs) args;
-  peel = list_any (is_of peel) args;
-  unborn = list_any (is_of unborn) args;
+  symrefs = flag_among args Flag.Symrefs;
+  peel = flag_among args Flag.Peel;
+  unborn = flag_among args Flag.Unborn;
   ref_prefixes = filter_map (text_in ref_prefix) args;
 }
 
@@ -99,23 +104,19 @@ abbrev pub fetch_by : List Arg → FetchAsked
 fetch_by args = record {
   wants = filter_map (id_in want) args;
   haves = filter_map (id_in have) args;
-  done = list_any (is_of done) args;
-  thin_pack = list_any (is_of thin_pack) args;
-  no_progress = list_any (is_of no_progress) args;
-  include_tag = list_any (is_of include_tag) args;
-  ofs_delta = list_any (is_of ofs_delta) args;
-  wait_for_done = list_any (is_of wait_for_done) args;
+  flags = flags_where pack_flags (flag_among args);
+  done = flag_among args Flag.Done;
   filters = filter_map (text_in filter_spec) args;
   shallows = filter_map (id_in shallow) args;
   deepen = last_of (filter_map (number_in deepen) args);
-  deepen_relative = list_any (is_of deepen_relative) args;
+  deepen_relative = flag_among args Flag.DeepenRelative;
   deepen_since = last_of (filter_map (number_in deepen_since) args);
   deepen_nots = filter_map (text_in deepen_not) args;
   want_refs = filter_map (text_in want_ref) args;
 }
 
 abbrev pub object_info_by : List Arg → ObjectInfoAsked
-object_info_by args = record { size = list_any (is_of size) args; oids = filter_map (id_in object_id) args }
+object_info_by args = record { size = flag_among args Flag.Size; oids = filter_map (id_in object_id) args }
 
 abbrev pub asked_by : Command → List Arg → Asked
 asked_by LsRefs args = ls_refs (ls_refs_by args)
@@ -139,9 +140,9 @@ later first (Some x) = Some x
 -- what ls-refs is asked for with one more argument after the others; that of another command changes nothing
 abbrev pub with_ls_refs : LsRefsAsked → Arg → LsRefsAsked
 with_ls_refs q arg = record {
-  symrefs = is_of symrefs arg || q.symrefs;
-  peel = is_of peel arg || q.peel;
-  unborn = is_of unborn arg || q.unborn;
+  symrefs = is_flag_of Flag.Symrefs arg || q.symrefs;
+  peel = is_flag_of Flag.Peel arg || q.peel;
+  unborn = is_flag_of Flag.Unborn arg || q.unborn;
   ref_prefixes = and_then q.ref_prefixes (text_in ref_prefix arg);
 }
 
@@ -150,16 +151,12 @@ abbrev pub with_fetch : FetchAsked → Arg → FetchAsked
 with_fetch q arg = record {
   wants = and_then q.wants (id_in want arg);
   haves = and_then q.haves (id_in have arg);
-  done = is_of done arg || q.done;
-  thin_pack = is_of thin_pack arg || q.thin_pack;
-  no_progress = is_of no_progress arg || q.no_progress;
-  include_tag = is_of include_tag arg || q.include_tag;
-  ofs_delta = is_of ofs_delta arg || q.ofs_delta;
-  wait_for_done = is_of wait_for_done arg || q.wait_for_done;
+  flags = flags_where pack_flags (λ flag. is_flag_of flag arg || is_set pack_flags q.flags flag);
+  done = is_flag_of Flag.Done arg || q.done;
   filters = and_then q.filters (text_in filter_spec arg);
   shallows = and_then q.shallows (id_in shallow arg);
   deepen = later q.deepen (number_in deepen arg);
-  deepen_relative = is_of deepen_relative arg || q.deepen_relative;
+  deepen_relative = is_flag_of Flag.DeepenRelative arg || q.deepen_relative;
   deepen_since = later q.deepen_since (number_in deepen_since arg);
   deepen_nots = and_then q.deepen_nots (text_in deepen_not arg);
   want_refs = and_then q.want_refs (text_in want_ref arg);
@@ -167,7 +164,7 @@ with_fetch q arg = record {
 
 -- what object-info is asked for with one more argument after the others
 abbrev pub with_object_info : ObjectInfoAsked → Arg → ObjectInfoAsked
-with_object_info q arg = record { size = is_of size arg || q.size; oids = and_then q.oids (id_in object_id arg) }
+with_object_info q arg = record { size = is_flag_of Flag.Size arg || q.size; oids = and_then q.oids (id_in object_id arg) }
 
 -- what is asked for with one more argument after the others
 abbrev pub with_argument : Asked → Arg → Asked
@@ -175,20 +172,50 @@ with_argument (ls_refs q) arg = ls_refs (with_ls_refs q arg)
 with_argument (fetch q) arg = fetch (with_fetch q arg)
 with_argument (object_info q) arg = object_info (with_object_info q arg)
 
--- the flag `symrefs` of an ls-refs request
+-- whether the request has the flag; one of another command it has not
+abbrev pub has_flag : Flag → Asked → Bool
+has_flag Flag.Peel (ls_refs q) = q.peel
+has_flag Flag.Symrefs (ls_refs q) = q.symrefs
+has_flag Flag.Unborn (ls_refs q) = q.unborn
+has_flag Flag.Done (fetch q) = q.done
+has_flag Flag.DeepenRelative (fetch q) = q.deepen_relative
+has_flag flag (fetch q) = is_set pack_flags q.flags flag
+has_flag Flag.Size (object_info q) = q.size
+has_flag flag asked = false
+
+-- the flags by their names
 abbrev pub symrefs_of : Asked → Bool
-symrefs_of (ls_refs q) = q.symrefs
-symrefs_of _ = false
+symrefs_of = has_flag Flag.Symrefs
 
--- the flag `peel` of an ls-refs request
 abbrev pub peel_of : Asked → Bool
-peel_of (ls_refs q) = q.peel
-peel_of _ = false
+peel_of = has_flag Flag.Peel
 
--- the flag `unborn` of an ls-refs request
 abbrev pub unborn_of : Asked → Bool
-unborn_of (ls_refs q) = q.unborn
-unborn_of _ = false
+unborn_of = has_flag Flag.Unborn
+
+abbrev pub done_of : Asked → Bool
+done_of = has_flag Flag.Done
+
+abbrev pub thin_pack_of : Asked → Bool
+thin_pack_of = has_flag Flag.ThinPack
+
+abbrev pub no_progress_of : Asked → Bool
+no_progress_of = has_flag Flag.NoProgress
+
+abbrev pub include_tag_of : Asked → Bool
+include_tag_of = has_flag Flag.IncludeTag
+
+abbrev pub ofs_delta_of : Asked → Bool
+ofs_delta_of = has_flag Flag.OfsDelta
+
+abbrev pub wait_for_done_of : Asked → Bool
+wait_for_done_of = has_flag Flag.WaitForDone
+
+abbrev pub deepen_relative_of : Asked → Bool
+deepen_relative_of = has_flag Flag.DeepenRelative
+
+abbrev pub size_of : Asked → Bool
+size_of = has_flag Flag.Size
 
 -- the prefixes of an ls-refs request
 abbrev pub ref_prefixes_of : Asked → List (List ℕ)
@@ -205,36 +232,6 @@ abbrev pub haves_of : Asked → List ObjectName
 haves_of (fetch q) = q.haves
 haves_of _ = []
 
--- the flag `done` of a fetch request
-abbrev pub done_of : Asked → Bool
-done_of (fetch q) = q.done
-done_of _ = false
-
--- the flag `thin-pack` of a fetch request
-abbrev pub thin_pack_of : Asked → Bool
-thin_pack_of (fetch q) = q.thin_pack
-thin_pack_of _ = false
-
--- the flag `no-progress` of a fetch request
-abbrev pub no_progress_of : Asked → Bool
-no_progress_of (fetch q) = q.no_progress
-no_progress_of _ = false
-
--- the flag `include-tag` of a fetch request
-abbrev pub include_tag_of : Asked → Bool
-include_tag_of (fetch q) = q.include_tag
-include_tag_of _ = false
-
--- the flag `ofs-delta` of a fetch request
-abbrev pub ofs_delta_of : Asked → Bool
-ofs_delta_of (fetch q) = q.ofs_delta
-ofs_delta_of _ = false
-
--- the flag `wait-for-done` of a fetch request
-abbrev pub wait_for_done_of : Asked → Bool
-wait_for_done_of (fetch q) = q.wait_for_done
-wait_for_done_of _ = false
-
 -- which objects a fetch request wants to be left out, each as a filter-spec
 abbrev pub filters_of : Asked → List (List ℕ)
 filters_of (fetch q) = q.filters
@@ -249,11 +246,6 @@ shallows_of _ = []
 abbrev pub deepen_of : Asked → Option ℕ
 deepen_of (fetch q) = q.deepen
 deepen_of _ = None
-
--- the flag `deepen-relative` of a fetch request
-abbrev pub deepen_relative_of : Asked → Bool
-deepen_relative_of (fetch q) = q.deepen_relative
-deepen_relative_of _ = false
 
 -- the time from which on a fetch request wants the history
 abbrev pub deepen_since_of : Asked → Option ℕ
@@ -270,11 +262,6 @@ abbrev pub want_refs_of : Asked → List (List ℕ)
 want_refs_of (fetch q) = q.want_refs
 want_refs_of _ = []
 
--- the flag `size` of an object-info request
-abbrev pub size_of : Asked → Bool
-size_of (object_info q) = q.size
-size_of _ = false
-
 -- the objects of an object-info request
 abbrev pub oids_of : Asked → List ObjectName
 oids_of (object_info q) = q.oids
@@ -282,7 +269,7 @@ oids_of _ = []
 
 -- whether a fetch request negotiates alone: it has `wait-for-done`, by which no pack is sent before `done`, and not `done`
 abbrev pub only_negotiates : FetchAsked → Bool
-only_negotiates q = q.wait_for_done && not q.done
+only_negotiates q = wait_for_done_of (fetch q) && not q.done
 
 -- a fetch request wants an object or a reference, or negotiates alone
 abbrev pub HasWants : FetchAsked → Type 0
@@ -302,9 +289,13 @@ abbrev pub has_deepen_conflict : FetchAsked → Bool
 has_deepen_conflict q = is_given q.deepen && (is_given q.deepen_since || not (is_empty q.deepen_nots))
 
 -- a flag's argument, where it is set
-abbrev pub where_asked : Bool → Word → List Arg
-where_asked true word = alone word ∷ []
-where_asked false word = []
+abbrev pub where_asked : Bool → Flag → List Arg
+where_asked true flag = alone (of_flag flag) ∷ []
+where_asked false flag = []
+
+-- the arguments of these flags
+abbrev pub flag_arguments : (Flag → Bool) → List Flag → List (List Arg)
+flag_arguments test flags = map (λ flag. where_asked (test flag) flag) flags
 
 -- a number's argument, where it is given
 abbrev pub where_given : Word → Option ℕ → List Arg
@@ -321,29 +312,27 @@ abbrev pub objects_in : FetchAsked → List (List Arg)
 objects_in q = map (with_id want) q.wants ∷ map (with_text want_ref) q.want_refs ∷ map (with_id have) q.haves ∷ []
 
 abbrev pub object_arguments : FetchAsked → List Arg
-object_arguments q = joined (objects_in q) (where_asked q.done done)
+object_arguments q = joined (objects_in q) (where_asked q.done Flag.Done)
 
 -- how a fetch cuts the history off
 abbrev pub shallows_in : FetchAsked → List (List Arg)
 shallows_in q =
     map (with_id shallow) q.shallows ∷ where_given deepen q.deepen ∷ where_given deepen_since q.deepen_since
-    ∷ map (with_text deepen_not) q.deepen_nots ∷ where_asked q.deepen_relative deepen_relative ∷ []
+    ∷ map (with_text deepen_not) q.deepen_nots ∷ where_asked q.deepen_relative Flag.DeepenRelative ∷ []
 
 -- how the pack of a fetch is to be sent
 abbrev pub packs_in : FetchAsked → List (List Arg)
-packs_in q =
-    where_asked q.thin_pack thin_pack ∷ where_asked q.no_progress no_progress ∷ where_asked q.include_tag include_tag
-    ∷ where_asked q.ofs_delta ofs_delta ∷ where_asked q.wait_for_done wait_for_done ∷ map (with_text filter_spec) q.filters ∷ []
+packs_in q = flag_arguments (is_set pack_flags q.flags) pack_flags ++ map (with_text filter_spec) q.filters ∷ []
 
 -- the flags of an ls-refs request
 abbrev pub flags_in : LsRefsAsked → List (List Arg)
-flags_in q = where_asked q.peel peel ∷ where_asked q.symrefs symrefs ∷ where_asked q.unborn unborn ∷ []
+flags_in q = where_asked q.peel Flag.Peel ∷ where_asked q.symrefs Flag.Symrefs ∷ where_asked q.unborn Flag.Unborn ∷ []
 
 -- the arguments of a request, in the order in which they are written
 abbrev pub arguments_in : Asked → List Arg
 arguments_in (ls_refs q) = joined (flags_in q) (map (with_text ref_prefix) q.ref_prefixes)
 arguments_in (fetch q) = joined (packs_in q) (joined (shallows_in q) (object_arguments q))
-arguments_in (object_info q) = joined (where_asked q.size size ∷ []) (map (with_id object_id) q.oids)
+arguments_in (object_info q) = joined (where_asked q.size Flag.Size ∷ []) (map (with_id object_id) q.oids)
 
 -- how many bytes the texts of the lines of these arguments have, as they are written
 abbrev pub bytes_of : List Arg → ℕ

@@ -4,41 +4,44 @@ use Rattle.git_msg.specs.declared.fetch.Fetch.TheInside.{Inside as FetchInside}
 use Rattle.git_msg.specs.declared.ls_refs.LsRefs.TheInside.{Inside as LsRefsInside}
 use Rattle.git_msg.specs.declared.object_info.ObjectInfo.TheInside.{Inside as ObjectInfoInside}
 use Rattle.std.specs.Prelude.{ℕ, ◌+◌, ◌*◌, length}
+use Rattle.git_msg.specs.declared.flags.Flag.{Flag}
+use Rattle.git_msg.specs.Flags.{flags_where, is_held, pack_flags}
 use Rattle.git_msg.specs.HeldTexts.{texts_of, texts_stored}
 use Rattle.git_msg.specs.Asked.{LsRefsAsked, FetchAsked, ObjectInfoAsked}
 
 module _ {A : Type 0} where
   abbrev pub ls_refs_inside : LsRefsInside A → LsRefsAsked
-  ls_refs_inside q = record { symrefs = q.symrefs; peel = q.peel; unborn = q.unborn; ref_prefixes = texts_of q.ref_prefixes }
+  ls_refs_inside q = record {
+    symrefs = is_held q.flags Flag.Symrefs;
+    peel = is_held q.flags Flag.Peel;
+    unborn = is_held q.flags Flag.Unborn;
+    ref_prefixes = texts_of q.ref_prefixes;
+  }
 
   abbrev pub fetch_inside : FetchInside A → FetchAsked
   fetch_inside q = record {
     wants = q.wants.items;
     haves = q.haves.items;
-    done = q.done;
-    thin_pack = q.thin_pack;
-    no_progress = q.no_progress;
-    include_tag = q.include_tag;
-    ofs_delta = q.ofs_delta;
-    wait_for_done = q.wait_for_done;
+    flags = flags_where pack_flags (is_held q.flags);
+    done = is_held q.flags Flag.Done;
     filters = texts_of q.filters;
     shallows = q.shallows.items;
     deepen = q.deepen;
-    deepen_relative = q.deepen_relative;
+    deepen_relative = is_held q.flags Flag.DeepenRelative;
     deepen_since = q.deepen_since;
     deepen_nots = texts_of q.deepen_nots;
     want_refs = texts_of q.want_refs;
   }
 
   abbrev pub object_info_inside : ObjectInfoInside A → ObjectInfoAsked
-  object_info_inside q = record { size = q.size; oids = q.oids.items }
+  object_info_inside q = record { size = is_held q.flags Flag.Size; oids = q.oids.items }
 
   abbrev pub ls_refs_stored : LsRefsInside A → ℕ
   ls_refs_stored q = texts_stored q.ref_prefixes
 
   abbrev pub ls_refs_stored_by_fields : LsRefsInside A → ℕ
   ls_refs_stored_by_fields q =
-      let record { format = format; budget = budget; symrefs = symrefs; peel = peel; unborn = unborn; ref_prefixes = ref_prefixes } = q in
+      let record { format = format; budget = budget; flags = flags; ref_prefixes = ref_prefixes } = q in
       texts_stored ref_prefixes
 
   abbrev pub fetch_stored : FetchInside A → ℕ
@@ -53,16 +56,10 @@ module _ {A : Type 0} where
         budget = budget;
         wants = wants;
         haves = haves;
-        done = done;
-        thin_pack = thin_pack;
-        no_progress = no_progress;
-        include_tag = include_tag;
-        ofs_delta = ofs_delta;
-        wait_for_done = wait_for_done;
+        flags = flags;
         filters = filters;
         shallows = shallows;
         deepen = deepen;
-        deepen_relative = deepen_relative;
         deepen_since = deepen_since;
         deepen_nots = deepen_nots;
         want_refs = want_refs;
@@ -75,5 +72,5 @@ module _ {A : Type 0} where
 
   abbrev pub object_info_stored_by_fields : ObjectInfoInside A → ℕ
   object_info_stored_by_fields q =
-      let record { format = format; budget = budget; size = size; oids = oids } = q in
+      let record { format = format; budget = budget; flags = flags; oids = oids } = q in
       33 * length oids.items

@@ -4,6 +4,7 @@ pub mod Asked
 pub mod Capability
 pub mod Checks
 pub mod Features
+pub mod Flags
 pub mod HeldRequest
 pub mod HeldTexts
 pub mod Insides

@@ -1,19 +1,19 @@
 //! The argument lines of requests, gitprotocol-v2(5).
-ghost use Rattle.std.specs.Prelude.{◌≡◌, ◌+◌, ◌*◌, ◌⊎◌, IfErr, MatchBool, MatchOption, MatchResult, OnOk, length};
+ghost use Rattle.std.specs.Prelude.{◌≡◌, ◌+◌, ◌*◌, IfErr, MatchBool, MatchOption, MatchResult, OnOk, length};
 ghost use Rattle.git_names.specs.ObjectName.{IsNoObjectName, IsObjectName};
 ghost use Rattle.git_names.specs.RefName.{IsRefName};
 ghost use Rattle.git_names.specs.Steps.{TakesAtMost};
 ghost use Rattle.git_names.specs.declared.object_format.Format.{Format};
 ghost use Rattle.git_msg.specs.Arguments.{IsArgument, IsArgumentFault, IsDepth, IsKeptText, IsNoKeptText, IsNoNumberIn, IsNumberIn};
-ghost use Rattle.git_msg.specs.Arguments.{IsRowFault, IsTextFault, IsTime, ReadsAs, Word};
-ghost use Rattle.git_msg.specs.Arguments.{command_with as command_of, flags_of, keywords_of, is_offered as offers, name_of, shown};
-ghost use Rattle.git_msg.specs.Arguments.{HasName, IsValue, IsValueFault};
-ghost use Rattle.git_msg.specs.Texts.{BeginsWithNone, IsNoneOf};
+ghost use Rattle.git_msg.specs.Arguments.{IsNoValueOf, IsTextFault, IsTime, ReadsAs};
+ghost use Rattle.git_msg.specs.Arguments.{command_with as command_of, is_offered as offers, name_of, shown};
+ghost use Rattle.git_msg.specs.Arguments.{HasName, IsValue, IsValueFault, TakesValue, alone, of_flag};
 
+use crate::flags::Flag;
 use crate::numbers::read_number;
 use crate::offers::Offer;
 use crate::parts::check_id;
-use crate::texts::{after, is_word};
+use crate::texts::after;
 use git_names::{Format, Oid, RefName, Steps};
 use git_pkt::Kind;
 
@@ -132,6 +132,28 @@ impl Command {
     }
 }
 
+impl<'a> Argument<'a> {
+    /// The flag that the argument is, if it is a word alone.
+    pub fn flag(&self) -> Option<Flag>
+        ensures { MatchOption result (TakesValue (shown self.now).word) (λ flag. shown self.now ≡ alone (of_flag flag)) }
+    {
+        match self {
+            Argument::Symrefs => Some(Flag::Symrefs),
+            Argument::Peel => Some(Flag::Peel),
+            Argument::Unborn => Some(Flag::Unborn),
+            Argument::IsDone => Some(Flag::Done),
+            Argument::ThinPack => Some(Flag::ThinPack),
+            Argument::NoProgress => Some(Flag::NoProgress),
+            Argument::IncludeTag => Some(Flag::IncludeTag),
+            Argument::OfsDelta => Some(Flag::OfsDelta),
+            Argument::WaitForDone => Some(Flag::WaitForDone),
+            Argument::DeepenRelative => Some(Flag::DeepenRelative),
+            Argument::Size => Some(Flag::Size),
+            _ => None,
+        }
+    }
+}
+
 /// Reads the text of an argument line: `UnknownArgument` where the command has no such argument, then what is wrong
 /// with the value: `BadLine` for a text of a wrong length, `BadObjectName` for what is no object name of the format,
 /// `BadRefName` for what is no reference name, `BadNumber` for what is no number in its range. Then `NotAdvertised`
@@ -167,29 +189,30 @@ fn read_text<'a>(
     ensures argument { MatchResult result (λ argument. IsArgument command format text.now (shown argument)) (IsTextFault command format text.now) }
     ensures cost { TakesAtMost (40 * (length text.now + 1)) steps.old steps.new }
 {
+    // The command's flags.
+    steps.tick(command.flags().len() * (text.len().min(LONGEST_WORD) + 1));
+    if let Some(flag) = command.flag(text) {
+        return Ok(flag.argument());
+    }
     match command {
-        Command::LsRefs => read_ls_refs(format, text, steps),
-        Command::Fetch => read_fetch(format, text, steps),
-        Command::ObjectInfo => read_object_info(format, text, steps),
+        Command::LsRefs => read_ls_refs_value(format, text, steps),
+        Command::Fetch => read_fetch_value(format, text, steps),
+        Command::ObjectInfo => read_object_info_value(format, text, steps),
     }
 }
 
-fn read_ls_refs<'a>(format: Format, text: &'a [u8], steps: &mut Steps) -> Result<Argument<'a>, Kind>
+// The argument of `ls-refs` that is a word and a value.
+fn read_ls_refs_value<'a>(
+    format: Format,
+    text: &'a [u8],
+    steps: &mut Steps,
+) -> Result<Argument<'a>, Kind>
     ensures argument { MatchResult result (λ argument. IsArgument Command.LsRefs format text.now (shown argument))
-        (IsTextFault Command.LsRefs format text.now) }
-    ensures cost { TakesAtMost (40 * (length text.now + 1)) steps.old steps.new }
+        (IsNoValueOf Command.LsRefs format text.now) }
+    ensures cost { TakesAtMost (24 * (length text.now + 1)) steps.old steps.new }
 {
-    // Four words.
-    steps.tick(4 * (text.len().min(LONGEST_WORD) + 1));
-    if is_word(text, b"symrefs") {
-        return Ok(Argument::Symrefs);
-    }
-    if is_word(text, b"peel") {
-        return Ok(Argument::Peel);
-    }
-    if is_word(text, b"unborn") {
-        return Ok(Argument::Unborn);
-    }
+    // One word.
+    steps.tick(text.len().min(LONGEST_WORD) + 1);
     let Some(prefix) = after(text, b"ref-prefix ") else {
         return Err(Kind::UnknownArgument);
     };
@@ -199,48 +222,6 @@ fn read_ls_refs<'a>(format: Format, text: &'a [u8], steps: &mut Steps) -> Result
     Ok(Argument::RefPrefix(prefix))
 }
 
-fn read_fetch<'a>(format: Format, text: &'a [u8], steps: &mut Steps) -> Result<Argument<'a>, Kind>
-    ensures argument { MatchResult result (λ argument. IsArgument Command.Fetch format text.now (shown argument))
-        (IsTextFault Command.Fetch format text.now) }
-    ensures cost { TakesAtMost (40 * (length text.now + 1)) steps.old steps.new }
-{
-    // Seven flags, and eight words with a value.
-    steps.tick(15 * (text.len().min(LONGEST_WORD) + 1));
-    match fetch_flag(text) {
-        Some(flag) => Ok(flag),
-        None => read_fetch_value(format, text, steps),
-    }
-}
-
-// The argument of `fetch` that is this word alone.
-fn fetch_flag(text: &[u8]) -> Option<Argument<'_>>
-    ensures flag { MatchOption result (IsNoneOf (flags_of Command.Fetch) text.now)
-        (λ argument. (format : Format) → IsArgument Command.Fetch format text.now (shown argument)) }
-{
-    if is_word(text, b"done") {
-        return Some(Argument::IsDone);
-    }
-    if is_word(text, b"thin-pack") {
-        return Some(Argument::ThinPack);
-    }
-    if is_word(text, b"no-progress") {
-        return Some(Argument::NoProgress);
-    }
-    if is_word(text, b"include-tag") {
-        return Some(Argument::IncludeTag);
-    }
-    if is_word(text, b"ofs-delta") {
-        return Some(Argument::OfsDelta);
-    }
-    if is_word(text, b"deepen-relative") {
-        return Some(Argument::DeepenRelative);
-    }
-    if is_word(text, b"wait-for-done") {
-        return Some(Argument::WaitForDone);
-    }
-    None
-}
-
 // The argument of `fetch` that is a word and a value.
 fn read_fetch_value<'a>(
     format: Format,
@@ -248,10 +229,11 @@ fn read_fetch_value<'a>(
     steps: &mut Steps,
 ) -> Result<Argument<'a>, Kind>
     ensures argument { MatchResult result (λ argument. IsArgument Command.Fetch format text.now (shown argument))
-        (λ kind. (BeginsWithNone (keywords_of Command.Fetch) text.now × (kind ≡ Kind.UnknownArgument))
-        ⊎ ((word : Word) × IsRowFault Command.Fetch format word text.now kind)) }
-    ensures cost { TakesAtMost (16 * (length text.now + 1)) steps.old steps.new }
+        (IsNoValueOf Command.Fetch format text.now) }
+    ensures cost { TakesAtMost (24 * (length text.now + 1)) steps.old steps.new }
 {
+    // Eight words.
+    steps.tick(8 * (text.len().min(LONGEST_WORD) + 1));
     if let Some(name) = after(text, b"want ") {
         let id = read_id(format, name, steps)?;
         return Ok(Argument::Want(id));
@@ -293,20 +275,18 @@ fn read_fetch_value<'a>(
     Err(Kind::UnknownArgument)
 }
 
-fn read_object_info<'a>(
+// The argument of `object-info` that is a word and a value.
+fn read_object_info_value<'a>(
     format: Format,
     text: &'a [u8],
     steps: &mut Steps,
 ) -> Result<Argument<'a>, Kind>
     ensures argument { MatchResult result (λ argument. IsArgument Command.ObjectInfo format text.now (shown argument))
-        (IsTextFault Command.ObjectInfo format text.now) }
-    ensures cost { TakesAtMost (40 * (length text.now + 1)) steps.old steps.new }
+        (IsNoValueOf Command.ObjectInfo format text.now) }
+    ensures cost { TakesAtMost (24 * (length text.now + 1)) steps.old steps.new }
 {
-    // Two words.
-    steps.tick(2 * (text.len().min(LONGEST_WORD) + 1));
-    if is_word(text, b"size") {
-        return Ok(Argument::Size);
-    }
+    // One word.
+    steps.tick(text.len().min(LONGEST_WORD) + 1);
     let Some(name) = after(text, b"oid ") else {
         return Err(Kind::UnknownArgument);
     };

@@ -5,6 +5,7 @@ ghost use Rattle.git_names.specs.RefName.{IsRefName};
 ghost use Rattle.git_msg.specs.Arguments.{shown, written_text};
 
 use crate::arguments::{Argument, Command};
+use crate::flags::{Flag, FlagSet, PACK_FLAGS};
 use crate::limits::{Budget, Limits};
 use crate::parts::{Texts, keep_id, number_at, past_flag};
 use git_names::{Format, Oid};
@@ -19,16 +20,10 @@ pub struct Fetch<A: Allocator + Copy> {
     budget: Budget,
     wants: Vec<Oid, A>,
     haves: Vec<Oid, A>,
-    done: bool,
-    thin_pack: bool,
-    no_progress: bool,
-    include_tag: bool,
-    ofs_delta: bool,
-    wait_for_done: bool,
+    flags: FlagSet,
     filters: Texts<A>,
     shallows: Vec<Oid, A>,
     deepen: Option<u64>,
-    deepen_relative: bool,
     deepen_since: Option<u64>,
     deepen_nots: Texts<A>,
     want_refs: Texts<A>,
@@ -48,8 +43,9 @@ impl<A: Allocator + Copy> Model for Fetch<A> {
 }
 
 impl<A: Allocator + Copy> Fetch<A> {
-    ghost use Rattle.git_msg.specs.Arguments.{done, deepen_not, deepen_relative, filter_spec, have, with_id, with_text, IsValue};
+    ghost use Rattle.git_msg.specs.Arguments.{deepen_not, filter_spec, have, with_id, with_text, IsValue};
     ghost use Rattle.git_msg.specs.Asked.{HasWants, arguments_in, fetch, has_deepen_conflict, joined, object_arguments, shallows_in, where_asked};
+    ghost use Rattle.git_msg.specs.Asked.{has_flag, thin_pack_of, no_progress_of, include_tag_of, ofs_delta_of, wait_for_done_of};
     ghost use Rattle.git_msg.specs.Kept.{IsNew, IsUnkept, IsWithin, KeepsArgument, kept_as};
 
     /// The objects that the client wants to retrieve, in the order of their lines.
@@ -66,39 +62,46 @@ impl<A: Allocator + Copy> Fetch<A> {
         &self.haves
     }
 
+    /// Whether the request has the flag; one of another command it has not.
+    pub(crate) fn has(&self, flag: Flag) -> bool
+        ensures { result ≡ has_flag flag (fetch self.now.asked) }
+    {
+        flag.command() == Command::Fetch && self.flags.has(flag)
+    }
+
     /// Whether negotiation is over, or not even to begin: the pack is to be made of what the request contains.
     pub fn done(&self) -> bool
         ensures { result ≡ self.now.asked.done }
     {
-        self.done
+        self.flags.has(Flag::Done)
     }
 
     /// Whether a thin pack may be sent, which has deltas against objects that are not in it.
     pub fn thin_pack(&self) -> bool
-        ensures { result ≡ self.now.asked.thin_pack }
+        ensures { result ≡ thin_pack_of (fetch self.now.asked) }
     {
-        self.thin_pack
+        self.flags.has(Flag::ThinPack)
     }
 
     /// Whether the progress that is sent beside the pack is to be left out.
     pub fn no_progress(&self) -> bool
-        ensures { result ≡ self.now.asked.no_progress }
+        ensures { result ≡ no_progress_of (fetch self.now.asked) }
     {
-        self.no_progress
+        self.flags.has(Flag::NoProgress)
     }
 
     /// Whether annotated tags are to be sent with the objects that they point to.
     pub fn include_tag(&self) -> bool
-        ensures { result ≡ self.now.asked.include_tag }
+        ensures { result ≡ include_tag_of (fetch self.now.asked) }
     {
-        self.include_tag
+        self.flags.has(Flag::IncludeTag)
     }
 
     /// Whether the client can read deltas that name their base by its place in the pack.
     pub fn ofs_delta(&self) -> bool
-        ensures { result ≡ self.now.asked.ofs_delta }
+        ensures { result ≡ ofs_delta_of (fetch self.now.asked) }
     {
-        self.ofs_delta
+        self.flags.has(Flag::OfsDelta)
     }
 
     /// The commits that the client has without their parents, in the order of their lines.
@@ -119,7 +122,7 @@ impl<A: Allocator + Copy> Fetch<A> {
     pub fn deepen_relative(&self) -> bool
         ensures { result ≡ self.now.asked.deepen_relative }
     {
-        self.deepen_relative
+        self.flags.has(Flag::DeepenRelative)
     }
 
     /// The time at which the history is to be cut off, in seconds since 1970, if it was given: of several the last.
@@ -147,9 +150,9 @@ impl<A: Allocator + Copy> Fetch<A> {
 
     /// Whether no pack is to be sent before the request contains `done`.
     pub fn wait_for_done(&self) -> bool
-        ensures { result ≡ self.now.asked.wait_for_done }
+        ensures { result ≡ wait_for_done_of (fetch self.now.asked) }
     {
-        self.wait_for_done
+        self.flags.has(Flag::WaitForDone)
     }
 
     /// The filter-spec of the `filter` line at place `i`, as it came: which objects are to be left out.
@@ -165,7 +168,7 @@ impl<A: Allocator + Copy> Fetch<A> {
     {
         !self.wants.is_empty()
             || self.want_refs.get(0).is_some()
-            || (self.wait_for_done && !self.done)
+            || (self.wait_for_done() && !self.done())
     }
 
     /// Whether the history is cut off by a depth and by something else, which exclude each other.
@@ -183,16 +186,10 @@ impl<A: Allocator + Copy> Fetch<A> {
             budget: Budget::new(limits),
             wants: Vec::new(alloc),
             haves: Vec::new(alloc),
-            done: false,
-            thin_pack: false,
-            no_progress: false,
-            include_tag: false,
-            ofs_delta: false,
-            wait_for_done: false,
+            flags: FlagSet::new(),
             filters: Texts::new(alloc),
             shallows: Vec::new(alloc),
             deepen: None,
-            deepen_relative: false,
             deepen_since: None,
             deepen_nots: Texts::new(alloc),
             want_refs: Texts::new(alloc),
@@ -223,22 +220,10 @@ impl<A: Allocator + Copy> Fetch<A> {
         ensures value { option_map shown result ≡ slice_get (arguments_in (fetch self.now.asked)) i }
         ensures within { IsWithin (kept_as fetch self.now) }
     {
-        let Some(i) = past_flag(self.thin_pack, i) else {
-            return Some(Argument::ThinPack);
-        };
-        let Some(i) = past_flag(self.no_progress, i) else {
-            return Some(Argument::NoProgress);
-        };
-        let Some(i) = past_flag(self.include_tag, i) else {
-            return Some(Argument::IncludeTag);
-        };
-        let Some(i) = past_flag(self.ofs_delta, i) else {
-            return Some(Argument::OfsDelta);
-        };
-        let Some(i) = past_flag(self.wait_for_done, i) else {
-            return Some(Argument::WaitForDone);
-        };
-        self.filter_argument(i)
+        match self.flags.at(PACK_FLAGS, i) {
+            Ok(flag) => Some(flag.argument()),
+            Err(next) => self.filter_argument(next),
+        }
     }
 
     // The argument at place `i` after the flags for how the pack is to be sent.
@@ -274,13 +259,13 @@ impl<A: Allocator + Copy> Fetch<A> {
     // The argument at place `i` after the depth and the time.
     fn revision_argument(&self, i: usize) -> Option<Argument<'_>>
         ensures { option_map shown result ≡ slice_get (map (with_text deepen_not) self.now.asked.deepen_nots
-            ++ (where_asked self.now.asked.deepen_relative deepen_relative ++ object_arguments self.now.asked)) i }
+            ++ (where_asked self.now.asked.deepen_relative Flag.DeepenRelative ++ object_arguments self.now.asked)) i }
     {
         if let Some(revision) = self.deepen_nots.get(i) {
             return Some(Argument::DeepenNot(revision));
         }
         let i = i - self.deepen_nots.len();
-        let Some(i) = past_flag(self.deepen_relative, i) else {
+        let Some(i) = past_flag(self.deepen_relative(), i) else {
             return Some(Argument::DeepenRelative);
         };
         self.object_argument(i)
@@ -302,12 +287,12 @@ impl<A: Allocator + Copy> Fetch<A> {
 
     // The argument at place `i` among those for what the client has, and whether it is done.
     fn have_argument(&self, i: usize) -> Option<Argument<'_>>
-        ensures { option_map shown result ≡ slice_get (map (with_id have) self.now.asked.haves ++ where_asked self.now.asked.done done) i }
+        ensures { option_map shown result ≡ slice_get (map (with_id have) self.now.asked.haves ++ where_asked self.now.asked.done Flag.Done) i }
     {
         if let Some(id) = self.haves.get(i) {
             return Some(Argument::Have(*id));
         }
-        if self.done && i == self.haves.len() {
+        if self.done() && i == self.haves.len() {
             return Some(Argument::IsDone);
         }
         None
@@ -324,21 +309,19 @@ impl<A: Allocator + Copy> Fetch<A> {
     {
         let mut budget = self.budget;
         budget.charge(text_length)?;
+        if let Some(flag) = argument.flag() {
+            self.flags.add(flag);
+            self.budget = budget;
+            return Ok(());
+        }
         match argument {
             Argument::Want(id) => keep_id(&mut self.wants, *id)?,
             Argument::Have(id) => keep_id(&mut self.haves, *id)?,
-            Argument::IsDone => self.done = true,
-            Argument::ThinPack => self.thin_pack = true,
-            Argument::NoProgress => self.no_progress = true,
-            Argument::IncludeTag => self.include_tag = true,
-            Argument::OfsDelta => self.ofs_delta = true,
             Argument::Shallow(id) => keep_id(&mut self.shallows, *id)?,
             Argument::Deepen(depth) => self.deepen = Some(*depth),
-            Argument::DeepenRelative => self.deepen_relative = true,
             Argument::DeepenSince(time) => self.deepen_since = Some(*time),
             Argument::DeepenNot(revision) => self.deepen_nots.keep(revision)?,
             Argument::WantRef(name) => self.want_refs.keep(name)?,
-            Argument::WaitForDone => self.wait_for_done = true,
             Argument::Filter(spec) => self.filters.keep(spec)?,
             _ => unreachable!(),
         }

@@ -4,8 +4,9 @@ ghost use Rattle.std.specs.Option.{option_copied, option_map};
 ghost use Rattle.git_msg.specs.Arguments.{shown, written_text};
 
 use crate::arguments::{Argument, Command};
+use crate::flags::{Flag, FlagSet, LS_REFS_FLAGS};
 use crate::limits::{Budget, Limits};
-use crate::parts::{Texts, past_flag};
+use crate::parts::Texts;
 use git_names::Format;
 use git_pkt::Kind;
 use std::alloc::Allocator;
@@ -16,9 +17,7 @@ use std::marker::Model;
 pub struct LsRefs<A: Allocator + Copy> {
     format: Format,
     budget: Budget,
-    symrefs: bool,
-    peel: bool,
-    unborn: bool,
+    flags: FlagSet,
     ref_prefixes: Texts<A>,
 }
 
@@ -37,29 +36,36 @@ impl<A: Allocator + Copy> Model for LsRefs<A> {
 
 impl<A: Allocator + Copy> LsRefs<A> {
     ghost use Rattle.git_msg.specs.Arguments.{IsValue, most_text};
-    ghost use Rattle.git_msg.specs.Asked.{arguments_in, ls_refs};
+    ghost use Rattle.git_msg.specs.Asked.{arguments_in, has_flag, ls_refs};
     ghost use Rattle.git_msg.specs.Kept.{IsNew, IsUnkept, IsWithin, KeepsArgument, kept_as};
     ghost use Rattle.git_msg.specs.Prefixes.{IsOrdered, OrdersPrefixes, SplitsAt, is_shown};
+
+    /// Whether the request has the flag; one of another command it has not.
+    pub(crate) fn has(&self, flag: Flag) -> bool
+        ensures { result ≡ has_flag flag (ls_refs self.now.asked) }
+    {
+        flag.command() == Command::LsRefs && self.flags.has(flag)
+    }
 
     /// Whether symbolic references are to be shown with what they point to.
     pub fn symrefs(&self) -> bool
         ensures { result ≡ self.now.asked.symrefs }
     {
-        self.symrefs
+        self.flags.has(Flag::Symrefs)
     }
 
     /// Whether annotated tags are to be shown with what they peel to.
     pub fn peel(&self) -> bool
         ensures { result ≡ self.now.asked.peel }
     {
-        self.peel
+        self.flags.has(Flag::Peel)
     }
 
     /// Whether what `HEAD` points to is to be shown too where that has no commit yet.
     pub fn unborn(&self) -> bool
         ensures { result ≡ self.now.asked.unborn }
     {
-        self.unborn
+        self.flags.has(Flag::Unborn)
     }
 
     /// The prefix at place `i`, in the order of their lines.
@@ -77,9 +83,7 @@ impl<A: Allocator + Copy> LsRefs<A> {
         LsRefs {
             format,
             budget: Budget::new(limits),
-            symrefs: false,
-            peel: false,
-            unborn: false,
+            flags: FlagSet::new(),
             ref_prefixes: Texts::new(alloc),
         }
     }
@@ -108,18 +112,12 @@ impl<A: Allocator + Copy> LsRefs<A> {
         ensures value { option_map shown result ≡ slice_get (arguments_in (ls_refs self.now.asked)) i }
         ensures within { IsWithin (kept_as ls_refs self.now) }
     {
-        let Some(i) = past_flag(self.peel, i) else {
-            return Some(Argument::Peel);
-        };
-        let Some(i) = past_flag(self.symrefs, i) else {
-            return Some(Argument::Symrefs);
-        };
-        let Some(i) = past_flag(self.unborn, i) else {
-            return Some(Argument::Unborn);
-        };
-        match self.ref_prefix(i) {
-            Some(prefix) => Some(Argument::RefPrefix(prefix)),
-            None => None,
+        match self.flags.at(LS_REFS_FLAGS, i) {
+            Ok(flag) => Some(flag.argument()),
+            Err(next) => match self.ref_prefix(next) {
+                Some(prefix) => Some(Argument::RefPrefix(prefix)),
+                None => None,
+            },
         }
     }
 
@@ -159,10 +157,12 @@ impl<A: Allocator + Copy> LsRefs<A> {
     {
         let mut budget = self.budget;
         budget.charge(text_length)?;
+        if let Some(flag) = argument.flag() {
+            self.flags.add(flag);
+            self.budget = budget;
+            return Ok(());
+        }
         match argument {
-            Argument::Symrefs => self.symrefs = true,
-            Argument::Peel => self.peel = true,
-            Argument::Unborn => self.unborn = true,
             Argument::RefPrefix(prefix) => self.ref_prefixes.keep(prefix)?,
             _ => unreachable!(),
         }

@@ -4,8 +4,9 @@ ghost use Rattle.std.specs.Option.{option_map};
 ghost use Rattle.git_msg.specs.Arguments.{shown, written_text};
 
 use crate::arguments::{Argument, Command};
+use crate::flags::{Flag, FlagSet, OBJECT_INFO_FLAGS};
 use crate::limits::{Budget, Limits};
-use crate::parts::{keep_id, past_flag};
+use crate::parts::keep_id;
 use git_names::{Format, Oid};
 use git_pkt::Kind;
 use std::alloc::Allocator;
@@ -16,7 +17,7 @@ use std::marker::Model;
 pub struct ObjectInfo<A: Allocator + Copy> {
     format: Format,
     budget: Budget,
-    size: bool,
+    flags: FlagSet,
     oids: Vec<Oid, A>,
 }
 
@@ -35,14 +36,21 @@ impl<A: Allocator + Copy> Model for ObjectInfo<A> {
 
 impl<A: Allocator + Copy> ObjectInfo<A> {
     ghost use Rattle.git_msg.specs.Arguments.{IsValue};
-    ghost use Rattle.git_msg.specs.Asked.{arguments_in, object_info};
+    ghost use Rattle.git_msg.specs.Asked.{arguments_in, has_flag, object_info};
     ghost use Rattle.git_msg.specs.Kept.{IsNew, IsUnkept, IsWithin, KeepsArgument, kept_as};
+
+    /// Whether the request has the flag; one of another command it has not.
+    pub(crate) fn has(&self, flag: Flag) -> bool
+        ensures { result ≡ has_flag flag (object_info self.now.asked) }
+    {
+        flag.command() == Command::ObjectInfo && self.flags.has(flag)
+    }
 
     /// Whether the sizes of the objects are asked for.
     pub fn size(&self) -> bool
         ensures { result ≡ self.now.asked.size }
     {
-        self.size
+        self.flags.has(Flag::Size)
     }
 
     /// The objects that are asked about, in the order of their lines.
@@ -58,7 +66,7 @@ impl<A: Allocator + Copy> ObjectInfo<A> {
         ObjectInfo {
             format,
             budget: Budget::new(limits),
-            size: false,
+            flags: FlagSet::new(),
             oids: Vec::new(alloc),
         }
     }
@@ -87,12 +95,12 @@ impl<A: Allocator + Copy> ObjectInfo<A> {
         ensures value { option_map shown result ≡ slice_get (arguments_in (object_info self.now.asked)) i }
         ensures within { IsWithin (kept_as object_info self.now) }
     {
-        let Some(i) = past_flag(self.size, i) else {
-            return Some(Argument::Size);
-        };
-        match self.oids.get(i) {
-            Some(id) => Some(Argument::ObjectId(*id)),
-            None => None,
+        match self.flags.at(OBJECT_INFO_FLAGS, i) {
+            Ok(flag) => Some(flag.argument()),
+            Err(next) => match self.oids.get(next) {
+                Some(id) => Some(Argument::ObjectId(*id)),
+                None => None,
+            },
         }
     }
 
@@ -107,8 +115,12 @@ impl<A: Allocator + Copy> ObjectInfo<A> {
     {
         let mut budget = self.budget;
         budget.charge(text_length)?;
+        if let Some(flag) = argument.flag() {
+            self.flags.add(flag);
+            self.budget = budget;
+            return Ok(());
+        }
         match argument {
-            Argument::Size => self.size = true,
             Argument::ObjectId(id) => keep_id(&mut self.oids, *id)?,
             _ => unreachable!(),
         }

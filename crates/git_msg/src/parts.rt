@@ -3,7 +3,8 @@ ghost use Rattle.std.specs.Prelude.{◌≡◌, ◌≢◌, ◌+◌, ◌*◌, ◌^
 ghost use Rattle.std.specs.Prelude.{MatchResult};
 ghost use Rattle.std.specs.Prelude.{true, false, length, map, slice_get, slice_index, All};
 ghost use Rattle.std.specs.Option.{option_copied};
-ghost use Rattle.git_msg.specs.Arguments.{Arg, IsNameIn, Word, alone, with_number};
+ghost use Rattle.git_msg.specs.Arguments.{Arg, IsNameIn, Word, alone, of_flag, with_number};
+ghost use Rattle.git_msg.specs.declared.flags.Flag.{Flag};
 ghost use Rattle.git_msg.specs.Asked.{where_asked, where_given};
 ghost use Rattle.std.proofs.Props.{props};
 ghost use Rattle.std.specs.List.{dedup};
@@ -214,8 +215,8 @@ pub(crate) fn check_id(format: Format, id: &Oid) -> Result<(), Kind>
 /// The place after a flag's argument, if that is among the arguments; none where the place is its own.
 pub(crate) fn past_flag(set: bool, i: usize) -> Option<usize>
     ensures { MatchOption result
-        ((word : Word) (others : List Arg) → slice_get (where_asked set word ++ others) i ≡ Some (alone word))
-        (λ next. (word : Word) (others : List Arg) → slice_get (where_asked set word ++ others) i ≡ slice_get others next) }
+        ((flag : Flag) (others : List Arg) → slice_get (where_asked set flag ++ others) i ≡ Some (alone (of_flag flag)))
+        (λ next. (flag : Flag) (others : List Arg) → slice_get (where_asked set flag ++ others) i ≡ slice_get others next) }
 {
     if !set {
         return Some(i);

@@ -8,6 +8,7 @@ ghost use Rattle.git_msg.specs.Arguments.{HasName, most_text, shown, written_tex
 
 use crate::arguments::{Argument, Command, check_value, is_offered, is_ref_name, put_together};
 use crate::fetch::Fetch;
+use crate::flags::Flag;
 use crate::limits::Limits;
 use crate::ls_refs::LsRefs;
 use crate::numbers::decimal_length;
@@ -30,7 +31,7 @@ pub enum Request<A: Allocator + Copy> {
 
 impl<A: Allocator + Copy> Request<A> {
     ghost use Rattle.git_msg.specs.Arguments.{IsValueFault};
-    ghost use Rattle.git_msg.specs.Asked.{arguments_in, symrefs_of, peel_of, unborn_of, ref_prefixes_of, wants_of, haves_of, done_of, thin_pack_of};
+    ghost use Rattle.git_msg.specs.Asked.{arguments_in, has_flag, symrefs_of, peel_of, unborn_of, ref_prefixes_of, wants_of, haves_of, done_of, thin_pack_of};
     ghost use Rattle.git_msg.specs.Asked.{no_progress_of, include_tag_of, ofs_delta_of, written_bytes, HasValues};
     ghost use Rattle.git_msg.specs.Asked.{AreOffered, shallows_of, deepen_of, deepen_relative_of, deepen_since_of, deepen_nots_of, want_refs_of};
     ghost use Rattle.git_msg.specs.Asked.{size_of, oids_of, wait_for_done_of, filters_of};
@@ -172,25 +173,36 @@ impl<A: Allocator + Copy> Request<A> {
         }
     }
 
+    /// Whether the request has the flag; one of another command it has not.
+    pub fn has(&self, flag: Flag) -> bool
+        ensures { result ≡ has_flag flag (asked_of self.now) }
+    {
+        match self {
+            Request::LsRefs(request) => request.has(flag),
+            Request::Fetch(request) => request.has(flag),
+            Request::ObjectInfo(request) => request.has(flag),
+        }
+    }
+
     /// The flag `symrefs` of `ls-refs`.
     pub fn symrefs(&self) -> bool
         ensures { result ≡ symrefs_of (asked_of self.now) }
     {
-        matches!(self, Request::LsRefs(request) if request.symrefs())
+        self.has(Flag::Symrefs)
     }
 
     /// The flag `peel` of `ls-refs`.
     pub fn peel(&self) -> bool
         ensures { result ≡ peel_of (asked_of self.now) }
     {
-        matches!(self, Request::LsRefs(request) if request.peel())
+        self.has(Flag::Peel)
     }
 
     /// The flag `unborn` of `ls-refs`.
     pub fn unborn(&self) -> bool
         ensures { result ≡ unborn_of (asked_of self.now) }
     {
-        matches!(self, Request::LsRefs(request) if request.unborn())
+        self.has(Flag::Unborn)
     }
 
     /// The text of the `ref-prefix` line at place `i` of `ls-refs`.
@@ -229,42 +241,42 @@ impl<A: Allocator + Copy> Request<A> {
     pub fn done(&self) -> bool
         ensures { result ≡ done_of (asked_of self.now) }
     {
-        matches!(self, Request::Fetch(request) if request.done())
+        self.has(Flag::Done)
     }
 
     /// The flag `thin-pack` of `fetch`.
     pub fn thin_pack(&self) -> bool
         ensures { result ≡ thin_pack_of (asked_of self.now) }
     {
-        matches!(self, Request::Fetch(request) if request.thin_pack())
+        self.has(Flag::ThinPack)
     }
 
     /// The flag `no-progress` of `fetch`.
     pub fn no_progress(&self) -> bool
         ensures { result ≡ no_progress_of (asked_of self.now) }
     {
-        matches!(self, Request::Fetch(request) if request.no_progress())
+        self.has(Flag::NoProgress)
     }
 
     /// The flag `include-tag` of `fetch`.
     pub fn include_tag(&self) -> bool
         ensures { result ≡ include_tag_of (asked_of self.now) }
     {
-        matches!(self, Request::Fetch(request) if request.include_tag())
+        self.has(Flag::IncludeTag)
     }
 
     /// The flag `ofs-delta` of `fetch`.
     pub fn ofs_delta(&self) -> bool
         ensures { result ≡ ofs_delta_of (asked_of self.now) }
     {
-        matches!(self, Request::Fetch(request) if request.ofs_delta())
+        self.has(Flag::OfsDelta)
     }
 
     /// The flag `wait-for-done` of `fetch`.
     pub fn wait_for_done(&self) -> bool
         ensures { result ≡ wait_for_done_of (asked_of self.now) }
     {
-        matches!(self, Request::Fetch(request) if request.wait_for_done())
+        self.has(Flag::WaitForDone)
     }
 
     /// The filter-spec of the `filter` line of `fetch` at place `i`, as it came.
@@ -301,7 +313,7 @@ impl<A: Allocator + Copy> Request<A> {
     pub fn deepen_relative(&self) -> bool
         ensures { result ≡ deepen_relative_of (asked_of self.now) }
     {
-        matches!(self, Request::Fetch(request) if request.deepen_relative())
+        self.has(Flag::DeepenRelative)
     }
 
     /// Since when the history is wanted, in seconds since 1970: the number of the last `deepen-since` line of `fetch`.
@@ -340,7 +352,7 @@ impl<A: Allocator + Copy> Request<A> {
     pub fn size(&self) -> bool
         ensures { result ≡ size_of (asked_of self.now) }
     {
-        matches!(self, Request::ObjectInfo(request) if request.size())
+        self.has(Flag::Size)
     }
 
     /// The objects of the `oid` lines of `object-info`, in their order.
@@ -408,28 +420,21 @@ impl<A: Allocator + Copy> Request<A> {
 pub(crate) fn written_length(argument: &Argument<'_>) -> usize
     ensures { result ≡ length (written_text (shown argument.now)) }
 {
+    if let Some(flag) = argument.flag() {
+        return flag.word().len();
+    }
     match argument {
-        Argument::Symrefs => 7,
-        Argument::Peel => 4,
-        Argument::Unborn => 6,
         Argument::RefPrefix(prefix) => 11 + prefix.len(),
         Argument::Want(id) => name_length(5, id),
         Argument::Have(id) => name_length(5, id),
-        Argument::IsDone => 4,
-        Argument::ThinPack => 9,
-        Argument::NoProgress => 11,
-        Argument::IncludeTag => 11,
-        Argument::OfsDelta => 9,
-        Argument::WaitForDone => 13,
         Argument::Filter(spec) => 7 + spec.len(),
         Argument::Shallow(id) => name_length(8, id),
         Argument::Deepen(depth) => number_length(7, *depth),
-        Argument::DeepenRelative => 15,
         Argument::DeepenSince(time) => number_length(13, *time),
         Argument::DeepenNot(revision) => 11 + revision.len(),
         Argument::WantRef(name) => 9 + name.len(),
-        Argument::Size => 4,
         Argument::ObjectId(id) => name_length(4, id),
+        _ => unreachable!(),
     }
 }
 

@@ -124,7 +124,7 @@ fn put_from<A: Allocator + Copy>(request: &Request<A>, i: usize, hold: &mut Hold
 {
     match request.argument(i) {
         Some(argument) => {
-            put_argument(hold, argument);
+            put_argument(hold, &argument);
             Next::Argument(i + 1)
         }
         None => {

@@ -24,32 +24,26 @@ pub fn put_line(hold: &mut Hold, word: &[u8], value: &[u8])
 }
 
 /// Makes the hold the packet of an argument's line.
-pub(crate) fn put_argument(hold: &mut Hold, argument: Argument<'_>)
-    requires { length (written_text (shown argument)) < longest_payload }
-    ensures { hold.new.items ≡ spelling_of (text_line (written_text (shown argument.entry))) }
+pub(crate) fn put_argument(hold: &mut Hold, argument: &Argument<'_>)
+    requires { length (written_text (shown argument.now)) < longest_payload }
+    ensures { hold.new.items ≡ spelling_of (text_line (written_text (shown argument.now))) }
 {
+    if let Some(flag) = argument.flag() {
+        put_line(hold, flag.word(), b"");
+        return;
+    }
     match argument {
-        Argument::Symrefs => put_line(hold, b"symrefs", b""),
-        Argument::Peel => put_line(hold, b"peel", b""),
-        Argument::Unborn => put_line(hold, b"unborn", b""),
         Argument::RefPrefix(prefix) => put_line(hold, b"ref-prefix ", prefix),
-        Argument::Want(id) => put_name_line(hold, b"want ", &id),
-        Argument::Have(id) => put_name_line(hold, b"have ", &id),
-        Argument::IsDone => put_line(hold, b"done", b""),
-        Argument::ThinPack => put_line(hold, b"thin-pack", b""),
-        Argument::NoProgress => put_line(hold, b"no-progress", b""),
-        Argument::IncludeTag => put_line(hold, b"include-tag", b""),
-        Argument::OfsDelta => put_line(hold, b"ofs-delta", b""),
-        Argument::WaitForDone => put_line(hold, b"wait-for-done", b""),
+        Argument::Want(id) => put_name_line(hold, b"want ", id),
+        Argument::Have(id) => put_name_line(hold, b"have ", id),
         Argument::Filter(spec) => put_line(hold, b"filter ", spec),
-        Argument::Shallow(id) => put_name_line(hold, b"shallow ", &id),
-        Argument::Deepen(depth) => put_number_line(hold, b"deepen ", depth),
-        Argument::DeepenRelative => put_line(hold, b"deepen-relative", b""),
-        Argument::DeepenSince(time) => put_number_line(hold, b"deepen-since ", time),
+        Argument::Shallow(id) => put_name_line(hold, b"shallow ", id),
+        Argument::Deepen(depth) => put_number_line(hold, b"deepen ", *depth),
+        Argument::DeepenSince(time) => put_number_line(hold, b"deepen-since ", *time),
         Argument::DeepenNot(revision) => put_line(hold, b"deepen-not ", revision),
         Argument::WantRef(name) => put_line(hold, b"want-ref ", name),
-        Argument::Size => put_line(hold, b"size", b""),
-        Argument::ObjectId(id) => put_name_line(hold, b"oid ", &id),
+        Argument::ObjectId(id) => put_name_line(hold, b"oid ", id),
+        _ => unreachable!(),
     }
 }
 

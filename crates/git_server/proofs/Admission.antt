@@ -11,7 +11,8 @@ use Rattle.git_pkt.specs.declared.fault.Kind.TheVariants.{NotOurs, TooMuchKept, 
 use Rattle.git_msg.specs.declared.offers.Offer.{Offer}
 use Rattle.git_msg.specs.declared.arguments.Command.{Command}
 use Rattle.git_msg.specs.declared.arguments.Command.TheVariants.{LsRefs, Fetch, ObjectInfo}
-use Rattle.git_msg.specs.Arguments.{Arg, Value, Word, id_value, text_value, want, want_ref}
+use Rattle.git_msg.specs.Arguments.{Arg, Value, Word, id_value, of_flag, text_value, want, want_ref}
+use Rattle.git_msg.specs.declared.flags.Flag.{Flag}
 use Rattle.git_msg.specs.Asked.{Asked, asked_by, id_in, text_in}
 use Rattle.git_msg.specs.Lines.{Line, argument_in, arguments_of, HasFault, HasFaultIn, IsArgumentText, IsLine, IsLineIn}
 use Rattle.git_msg.specs.Requests.{AreLines, Asks, FirstFault, IsPlainLine}
@@ -56,11 +57,13 @@ not_barred repo arg kind other h = value_not_barred repo arg.word arg.value kind
 want_had : (repo : Repository) (word : Word) (value : Value) → barred_value repo word value ≡ None
     → IfSome (id_in want (record { word = word; value = value })) (λ id. repo.has id ≡ true)
 want_had repo want (id_value id) h = had_by (repo.has id) h
+want_had repo (of_flag Flag.Size) value h = tt
 want_had repo word value h = tt
 
 ref_found : (repo : Repository) (word : Word) (value : Value) → barred_value repo word value ≡ None
     → IfSome (text_in want_ref (record { word = word; value = value })) (λ name. found_ref repo.refs name ≢ None)
 ref_found repo want_ref (text_value name) h = found_by (found_ref repo.refs name) h
+ref_found repo (of_flag Flag.Size) value h = tt
 ref_found repo word value h = tt
 
 -- a request of admitted arguments asks for objects and references that the repository has

@@ -5,7 +5,7 @@ use Rattle.std.specs.Option.{option_map}
 use Rattle.git_names.specs.ObjectName.{ObjectName}
 use Rattle.git_pkt.specs.Packets.{Pkt, flush, delim}
 use Rattle.git_msg.specs.declared.Boundary.{Boundary}
-use Rattle.git_msg.specs.Asked.{FetchAsked, is_empty, only_negotiates}
+use Rattle.git_msg.specs.Asked.{FetchAsked, fetch, is_empty, only_negotiates, wait_for_done_of}
 use Rattle.git_msg.specs.ResponseLines.{ack_text, boundary_text, wanted_of, wanted_text}
 use Rattle.git_msg.specs.WrittenRequest.{text_line}
 use Rattle.git_server.specs.Repository.{Repository, found_ref}
@@ -13,7 +13,7 @@ use Rattle.git_server.specs.Packs.{Manner, whole, broken, IsPackfile}
 
 -- whether the request negotiates: it has `have` lines or `wait-for-done`, and not `done`
 abbrev pub negotiates : FetchAsked → Bool
-negotiates q = (not (is_empty q.haves) || q.wait_for_done) && not q.done
+negotiates q = (not (is_empty q.haves) || wait_for_done_of (fetch q)) && not q.done
 
 -- whether the pack follows where the request negotiates: it does not negotiate alone, and the repository is ready for it
 abbrev pub is_ready_for : Repository → FetchAsked → Bool

@@ -4,7 +4,7 @@ use Rattle.git_names.specs.declared.object_format.Format.{Format}
 use Rattle.git_names.specs.declared.object_format.Format.TheVariants.{Sha1, Sha256}
 use Rattle.git_msg.specs.declared.arguments.Command.{Command}
 use Rattle.git_msg.specs.declared.arguments.Command.TheVariants.{LsRefs, Fetch, ObjectInfo}
-use Rattle.gitwire.specs.declared.numbers.Flag.{Flag}
+use Rattle.git_msg.specs.declared.flags.Flag.{Flag}
 use Rattle.gitwire.specs.declared.numbers.Given.{Given}
 use Rattle.gitwire.specs.declared.numbers.ItemList.{ItemList}
 

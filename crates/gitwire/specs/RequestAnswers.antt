@@ -6,9 +6,8 @@ use Rattle.git_names.specs.ObjectName.{hex_of}
 use Rattle.git_pkt.specs.declared.fault.Kind.{Kind}
 use Rattle.git_msg.specs.Advertisement.{everything}
 use Rattle.git_msg.specs.Arguments.{Arg, IsArgumentFault, ReadsAs, most_limit, written_text}
-use Rattle.git_msg.specs.Asked.{Asked, symrefs_of, peel_of, done_of, thin_pack_of, no_progress_of, include_tag_of, ofs_delta_of, deepen_relative_of, size_of}
-use Rattle.git_msg.specs.Asked.{unborn_of, wait_for_done_of, filters_of}
-use Rattle.git_msg.specs.Asked.{deepen_of, deepen_since_of, ref_prefixes_of, wants_of, haves_of, shallows_of, deepen_nots_of, want_refs_of, oids_of}
+use Rattle.git_msg.specs.Asked.{Asked, deepen_of, deepen_since_of, deepen_nots_of, filters_of, has_flag, haves_of, oids_of, ref_prefixes_of, shallows_of}
+use Rattle.git_msg.specs.Asked.{want_refs_of, wants_of}
 use Rattle.git_msg.specs.Checks.{Passes, Refuses}
 use Rattle.git_msg.specs.HeldRequest.{IsEmpty, IsRefused, Keeps, add_checks, command_of, format_of}
 use Rattle.git_msg.specs.Lines.{end_checks}
@@ -18,7 +17,6 @@ use Rattle.gitwire.specs.Rooms.{Fills}
 use Rattle.gitwire.specs.Answers.{answering, answering_fault, answering_packet, what_number}
 use Rattle.gitwire.specs.declared.answer.GitwireAnswer.{GitwireAnswer}
 use Rattle.gitwire.specs.declared.answer.What.TheVariants as What
-use Rattle.gitwire.specs.declared.numbers.Flag.{Flag}
 use Rattle.gitwire.specs.declared.numbers.Given.{Given}
 use Rattle.gitwire.specs.declared.numbers.ItemList.{ItemList}
 
@@ -86,23 +84,9 @@ pub record EndsAnswers (asked : Asked) (answer : GitwireAnswer) : Type 0 where
   pub judges : JudgesEnd asked judged
   pub answer_is : answer ≡ telling_result judged
 
--- whether the flag is set
-abbrev pub flag_of : Flag → Asked → Bool
-flag_of Flag.Symrefs = symrefs_of
-flag_of Flag.Peel = peel_of
-flag_of Flag.Done = done_of
-flag_of Flag.ThinPack = thin_pack_of
-flag_of Flag.NoProgress = no_progress_of
-flag_of Flag.IncludeTag = include_tag_of
-flag_of Flag.OfsDelta = ofs_delta_of
-flag_of Flag.DeepenRelative = deepen_relative_of
-flag_of Flag.Size = size_of
-flag_of Flag.Unborn = unborn_of
-flag_of Flag.WaitForDone = wait_for_done_of
-
 -- whether the flag of this number is set; a number that is no flag's is not
 abbrev pub is_set : ℕ → Asked → Bool
-is_set number asked = unwrap_or (option_map (λ flag. flag_of flag asked) (slice_get flags number)) false
+is_set number asked = unwrap_or (option_map (λ flag. has_flag flag asked) (slice_get flags number)) false
 
 -- the number, if it was given
 abbrev pub given_of : Given → Asked → Option ℕ

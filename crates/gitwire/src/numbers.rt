@@ -3,7 +3,7 @@
 ghost use Rattle.std.specs.Prelude.{◌≡◌, Some, slice_get};
 ghost use Rattle.gitwire.specs.Numbers.{commands, flags, formats, format_number, command_number, item_lists, given_numbers};
 
-use git_msg::Command;
+use git_msg::{Command, Flag};
 use git_names::Format;
 
 /// The format that C means by this number; none where there is no such format.
@@ -52,41 +52,23 @@ pub(crate) fn number_of_command(command: Command) -> u64
     }
 }
 
-/// A flag of a request.
-#[derive(Clone, Copy, Debug)]
-pub(crate) enum Flag {
-    Symrefs,
-    Peel,
-    Done,
-    ThinPack,
-    NoProgress,
-    IncludeTag,
-    OfsDelta,
-    DeepenRelative,
-    Size,
-    Unborn,
-    WaitForDone,
-}
-
-impl Flag {
-    /// The flag of this number.
-    pub(crate) fn numbered(number: u8) -> Option<Flag>
-        ensures { result ≡ slice_get flags number }
-    {
-        match number {
-            0 => Some(Flag::Symrefs),
-            1 => Some(Flag::Peel),
-            2 => Some(Flag::Done),
-            3 => Some(Flag::ThinPack),
-            4 => Some(Flag::NoProgress),
-            5 => Some(Flag::IncludeTag),
-            6 => Some(Flag::OfsDelta),
-            7 => Some(Flag::DeepenRelative),
-            8 => Some(Flag::Size),
-            9 => Some(Flag::Unborn),
-            10 => Some(Flag::WaitForDone),
-            _ => None,
-        }
+/// The flag that C means by this number; none where there is no such flag.
+pub(crate) fn flag_numbered(number: u8) -> Option<Flag>
+    ensures { result ≡ slice_get flags number }
+{
+    match number {
+        0 => Some(Flag::Symrefs),
+        1 => Some(Flag::Peel),
+        2 => Some(Flag::Done),
+        3 => Some(Flag::ThinPack),
+        4 => Some(Flag::NoProgress),
+        5 => Some(Flag::IncludeTag),
+        6 => Some(Flag::OfsDelta),
+        7 => Some(Flag::DeepenRelative),
+        8 => Some(Flag::Size),
+        9 => Some(Flag::Unborn),
+        10 => Some(Flag::WaitForDone),
+        _ => None,
     }
 }
 

@@ -12,7 +12,7 @@ ghost use Rattle.gitwire.specs.RequestAnswers.{is_set, telling_number, telling_r
 use crate::answer::{GitwireAnswer, What};
 use crate::handles::{GitwireRequest, Holds, fill};
 use crate::numbers::{
-    Flag, Given, command_numbered, format_numbered, number_of_command, number_of_format,
+    Given, command_numbered, flag_numbered, format_numbered, number_of_command, number_of_format,
 };
 use crate::request_items::put_item;
 use git_msg::{Limits, Offer, Request, read_argument};
@@ -187,21 +187,9 @@ pub extern "C" fn gitwire_request_flag(
 fn has_flag(request: &Request<Global>, number: u8) -> bool
     ensures { result ≡ is_set number (asked_of request.now) }
 {
-    let Some(flag) = Flag::numbered(number) else {
-        return false;
-    };
-    match flag {
-        Flag::Symrefs => request.symrefs(),
-        Flag::Peel => request.peel(),
-        Flag::Done => request.done(),
-        Flag::ThinPack => request.thin_pack(),
-        Flag::NoProgress => request.no_progress(),
-        Flag::IncludeTag => request.include_tag(),
-        Flag::OfsDelta => request.ofs_delta(),
-        Flag::DeepenRelative => request.deepen_relative(),
-        Flag::Size => request.size(),
-        Flag::Unborn => request.unborn(),
-        Flag::WaitForDone => request.wait_for_done(),
+    match flag_numbered(number) {
+        Some(flag) => request.has(flag),
+        None => false,
     }
 }
 

@@ -1,12 +1,40 @@
-use Rattle.std.proofs.Common.{rules, arith, ◌≡◌, ◌+◌, ◌≤◌, ◌++◌, ◌∷◌, [], codes, sym, length-append}
+use Rattle.std.proofs.Common.{rules, arith, ap, ◌≡◌, ◌+◌, ◌≤◌, ◌++◌, ◌∷◌, [], refl, codes, sym, subst, length-append}
 use Rattle.git_msg.specs.Arguments.{shown, stored_in}
-use Rattle.git_msg.specs.Asked.{LsRefsAsked, ls_refs, with_argument}
+use Rattle.git_msg.specs.Asked.{Asked, LsRefsAsked, ls_refs, with_argument}
 use Rattle.git_msg.specs.Kept.{IsCounted}
 use Rattle.git_msg.specs.Insides.{ls_refs_inside, ls_refs_stored}
 use Rattle.git_msg.specs.HeldTexts.{texts_of}
 use Rattle.git_msg.proofs.KeptBytes.{counted_more, stored_fits}
+use Rattle.git_msg.proofs.HeldFlags.{kept_by_ls_refs}
 use Rattle.git_msg.proofs.ls_refs.LsRefs.keep.Goals as goal
-use Rattle.git_msg.proofs.ls_refs.LsRefs.keep.Goals.{in-Symrefs, in-Peel, in-Unborn, in-RefPrefix+in_ok-keep-in-RefPrefix}
+
+pub invariant_of-self : goal.invariant_of-self
+invariant_of-self g c =
+    let q : Asked = ls_refs (ls_refs_inside c.self.inside) in
+    let charged : c.charge.new.self.kept ≡ c.self.inside.budget.kept + c.args.text_length = search rules in
+    let value = rw (sym c.self.view_is) at c.requires.value in
+    let more : IsCounted c.self.inside.format (with_argument q (shown c.args.argument.now)) c.charge.new.self.kept =
+    rw charged (counted_more c.self.inside.format q (shown c.args.argument.now) c.self.inside.budget.kept c.args.text_length c.self.invariant.counted
+    value c.requires.counted) in
+    let added = kept_by_ls_refs c.in-Some.flag c.self.inside c.add.new.self _ c.in-Some.ensures c.add.ensures in
+    record {
+      counted = subst (λ (a : Asked). IsCounted c.self.inside.format a c.charge.new.self.kept) (sym added) more;
+      covered = omega (arith, charged, c.self.invariant.covered);
+    }
+
+pub returns-in-Some-clause-kept : goal.returns-in-Some-clause-kept
+returns-in-Some-clause-kept g c =
+    let charged : c.charge.new.self.kept ≡ c.self.inside.budget.kept + c.args.text_length = search rules in
+    let limit : c.charge.new.self.limit ≡ c.self.inside.budget.limit = search rules in
+    let none : stored_in (shown c.args.argument.now) ≡ 0 = ap stored_in c.in-Some.ensures in
+    rw (← c.self.view_is) (record {
+      asked = kept_by_ls_refs c.in-Some.flag c.self.inside c.add.new.self _ c.in-Some.ensures c.add.ensures;
+      kept = charged;
+      stored = omega (arith, none);
+      command = refl;
+      format = refl;
+      limit = limit;
+    })
 
 pub invariant_of-self-2 : goal.invariant_of-self-2
 invariant_of-self-2 g c =
@@ -18,17 +46,10 @@ invariant_of-self-2 g c =
     value c.requires.counted) in
     let room : ls_refs_stored c.self.inside + stored_in (shown c.args.argument.now) ≤ c.charge.new.self.kept =
     omega (arith, charged, stored_fits c.self.inside.format (shown c.args.argument.now) value.1, c.requires.counted, c.self.invariant.covered) in
-    let still : ls_refs_stored c.self.inside ≤ c.charge.new.self.kept = omega (arith, room) in
-    elim c.match-argument.branch [
-      | in-Symrefs w ↦ rw w.self-inside-is (record { counted = rw w.in-Symrefs.is at more; covered = still })
-      | in-Peel w ↦ rw w.self-inside-is (record { counted = rw w.in-Peel.is at more; covered = still })
-      | in-Unborn w ↦ rw w.self-inside-is (record { counted = rw w.in-Unborn.is at more; covered = still })
-      | in-RefPrefix+in_ok-keep-in-RefPrefix w ↦
-          let grown : texts_of w.keep.new.self ≡ texts_of c.self.inside.ref_prefixes ++ w.in-RefPrefix.prefix.now ∷ [] = w.in_ok-keep-in-RefPrefix.ensures.ok in
-          let here = rw w.in-RefPrefix.is at more in
-          let fits = rw w.in-RefPrefix.is at room in
-          rw w.self-inside-is (record { counted = rw grown here; covered = omega (arith, fits, w.in_ok-keep-in-RefPrefix.ensures.stored) })
-    ]
+    let grown : texts_of c.keep.new.self ≡ texts_of c.self.inside.ref_prefixes ++ c.in-RefPrefix.prefix.now ∷ [] = c.in_ok-keep-in-RefPrefix.ensures.ok in
+    let here = rw c.in-RefPrefix.is at more in
+    let fits = rw c.in-RefPrefix.is at room in
+    record { counted = rw grown here; covered = omega (arith, fits, c.in_ok-keep-in-RefPrefix.ensures.stored) }
 
 pub keep-requires : goal.keep-requires
 keep-requires g c =

@@ -1,0 +1,194 @@
+//! Flags: the arguments that are a word alone, and which of them a request has.
+ghost use Rattle.std.specs.Prelude.{◌≡◌, ◌<◌, ◌≤◌, ◌==◌, ◌||◌, ℕ, List, Some, MatchOption, MatchResult, false, get_or, length, slice_get};
+ghost use Rattle.git_msg.specs.Arguments.{Arg, alone, of_flag, shown};
+ghost use Rattle.git_msg.specs.Asked.{flag_arguments, joined};
+ghost use Rattle.git_msg.specs.Flags.{IsNoFlagOf, flag_row, flags_of, is_held, place_of};
+
+use crate::arguments::{Argument, Command};
+use crate::parts::past_flag;
+use crate::texts::is_word;
+
+/// An argument that is a word alone; what it asks for is said of each [`Argument`].
+#[derive(Clone, Copy, Debug, PartialEq, Eq, Hash)]
+pub enum Flag {
+    /// `thin-pack` of `fetch`.
+    ThinPack,
+    /// `no-progress` of `fetch`.
+    NoProgress,
+    /// `include-tag` of `fetch`.
+    IncludeTag,
+    /// `ofs-delta` of `fetch`.
+    OfsDelta,
+    /// `wait-for-done` of `fetch`.
+    WaitForDone,
+    /// `deepen-relative` of `fetch`.
+    DeepenRelative,
+    /// `done` of `fetch`.
+    Done,
+    /// `peel` of `ls-refs`.
+    Peel,
+    /// `symrefs` of `ls-refs`.
+    Symrefs,
+    /// `unborn` of `ls-refs`.
+    Unborn,
+    /// `size` of `object-info`.
+    Size,
+}
+
+// No fewer places than there are flags.
+const PLACES: usize = 16;
+
+/// The flags of `fetch` that are written before its other arguments, in their order.
+pub(crate) const PACK_FLAGS: &[Flag] = &[
+    Flag::ThinPack,
+    Flag::NoProgress,
+    Flag::IncludeTag,
+    Flag::OfsDelta,
+    Flag::WaitForDone,
+];
+
+const FETCH_FLAGS: &[Flag] = &[
+    Flag::ThinPack,
+    Flag::NoProgress,
+    Flag::IncludeTag,
+    Flag::OfsDelta,
+    Flag::WaitForDone,
+    Flag::DeepenRelative,
+    Flag::Done,
+];
+
+/// The flags of `ls-refs`, in the order in which they are written.
+pub(crate) const LS_REFS_FLAGS: &[Flag] = &[Flag::Peel, Flag::Symrefs, Flag::Unborn];
+
+/// The flags of `object-info`.
+pub(crate) const OBJECT_INFO_FLAGS: &[Flag] = &[Flag::Size];
+
+impl Flag {
+    /// The flag's text, as it is written.
+    pub fn word(self) -> &'static [u8]
+        ensures { result.now ≡ (flag_row self).text }
+    {
+        match self {
+            Flag::ThinPack => b"thin-pack",
+            Flag::NoProgress => b"no-progress",
+            Flag::IncludeTag => b"include-tag",
+            Flag::OfsDelta => b"ofs-delta",
+            Flag::WaitForDone => b"wait-for-done",
+            Flag::DeepenRelative => b"deepen-relative",
+            Flag::Done => b"done",
+            Flag::Peel => b"peel",
+            Flag::Symrefs => b"symrefs",
+            Flag::Unborn => b"unborn",
+            Flag::Size => b"size",
+        }
+    }
+
+    /// The command that has the flag.
+    pub fn command(self) -> Command
+        ensures { result ≡ (flag_row self).command }
+    {
+        match self {
+            Flag::Peel | Flag::Symrefs | Flag::Unborn => Command::LsRefs,
+            Flag::Size => Command::ObjectInfo,
+            _ => Command::Fetch,
+        }
+    }
+
+    /// The argument that is this flag.
+    pub fn argument(self) -> Argument<'static>
+        ensures { shown result ≡ alone (of_flag self) }
+    {
+        match self {
+            Flag::ThinPack => Argument::ThinPack,
+            Flag::NoProgress => Argument::NoProgress,
+            Flag::IncludeTag => Argument::IncludeTag,
+            Flag::OfsDelta => Argument::OfsDelta,
+            Flag::WaitForDone => Argument::WaitForDone,
+            Flag::DeepenRelative => Argument::DeepenRelative,
+            Flag::Done => Argument::IsDone,
+            Flag::Peel => Argument::Peel,
+            Flag::Symrefs => Argument::Symrefs,
+            Flag::Unborn => Argument::Unborn,
+            Flag::Size => Argument::Size,
+        }
+    }
+
+    // The flag's place in `all_flags`: the variants are in that order.
+    fn place(self) -> usize
+        ensures value { result ≡ place_of self }
+        ensures below { result < PLACES }
+    {
+        self as usize
+    }
+}
+
+impl Command {
+    /// The flags of the command, in the order in which they are written.
+    pub fn flags(self) -> &'static [Flag]
+        ensures flags { result.now ≡ flags_of self }
+        ensures few { length result.now ≤ 16 }
+    {
+        match self {
+            Command::LsRefs => LS_REFS_FLAGS,
+            Command::Fetch => FETCH_FLAGS,
+            Command::ObjectInfo => OBJECT_INFO_FLAGS,
+        }
+    }
+
+    /// The flag of the command that is this word.
+    pub(crate) fn flag(self, text: &[u8]) -> Option<Flag>
+        ensures { MatchOption result (IsNoFlagOf self text.now)
+            (λ flag. ((flag_row flag).command ≡ self) × (text.now ≡ (flag_row flag).text)) }
+    {
+        for flag in self.flags() {
+            if is_word(text, flag.word()) {
+                return Some(*flag);
+            }
+        }
+        None
+    }
+}
+
+/// Which flags a request has.
+#[derive(Clone, Copy, Drop)]
+pub(crate) struct FlagSet {
+    set: [bool; PLACES],
+}
+
+impl FlagSet {
+    pub(crate) fn new() -> FlagSet
+        ensures { (place : ℕ) → get_or result.set place false ≡ false }
+    {
+        FlagSet {
+            set: [false; PLACES],
+        }
+    }
+
+    pub(crate) fn has(&self, flag: Flag) -> bool
+        ensures { result ≡ is_held self.now flag }
+    {
+        self.set[flag.place()]
+    }
+
+    pub(crate) fn add(&mut self, flag: Flag)
+        ensures { (place : ℕ) → get_or self.new.set place false ≡ ((place == place_of flag) || get_or self.old.set place false) }
+    {
+        self.set[flag.place()] = true;
+    }
+
+    /// The flag at place `i` of those of this order that are set; otherwise the place after them.
+    pub(crate) fn at(&self, order: &[Flag], i: usize) -> Result<Flag, usize>
+        ensures { MatchResult result
+            (λ flag. (others : List Arg) → slice_get (joined (flag_arguments (is_held self.now) order.now) others) i ≡ Some (alone (of_flag flag)))
+            (λ next. (others : List Arg) → slice_get (joined (flag_arguments (is_held self.now) order.now) others) i ≡ slice_get others next) }
+    {
+        let mut left = i;
+        for flag in order {
+            match past_flag(self.has(*flag), left) {
+                Some(next) => left = next,
+                None => return Ok(*flag),
+            }
+        }
+        Err(left)
+    }
+}
