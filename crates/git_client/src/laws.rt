@@ -120,7 +120,7 @@ pub fn client_holds_within_its_limit<A: Allocator + Copy>()
     ensures { (t : Terms) (h : History) (client : Client A) → Converses t h client → bytes_held client ≤ 65520 + limit_of client }
 {}
 
-/// What is counted of a client is all that its fields have.
+/// What is counted of a client is what its fields have: its packet reader and the request that it asks. A field more has to be named here.
 pub fn all_fields_are_counted<A: Allocator + Copy>()
     ensures { (client : Client A) → bytes_held_by_fields client ≡ bytes_held client }
 {}

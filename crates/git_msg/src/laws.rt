@@ -259,7 +259,7 @@ pub fn added_arguments_are_asked_for<A: Allocator + Copy>()
         → IsEmpty command format limit empty → AddsAll empty args request → stored_of request ≡ sum_by stored_in args }
 {}
 
-/// What is counted of each part that stores bytes is all that its fields have.
+/// What is counted of each part that stores bytes is what its fields have. A field more has to be named here.
 pub fn all_fields_are_counted<A: Allocator + Copy>()
     ensures texts { (texts : Texts A) → texts_stored_by_fields texts ≡ texts_stored texts }
     ensures ls_refs { (request : LsRefsInside A) → ls_refs_stored_by_fields request ≡ ls_refs_stored request }

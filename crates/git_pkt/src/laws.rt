@@ -80,7 +80,7 @@ pub fn reader_knows_its_rest()
     ensures all { (r : PacketReader) → passes_of r ≡ false → HoldsAll r }
 {}
 
-/// What is counted of a reader is all that its fields have.
+/// What is counted of a reader is what its fields have: its hold. A field more has to be named here.
 pub fn all_fields_are_counted()
     ensures { (r : PacketReader) → bytes_held_by_fields r ≡ bytes_held r }
 {}

@@ -59,7 +59,8 @@ pub fn session_has_one_outcome()
         → IsOfTheBytes outcome → IsOfTheBytes other → outcome ≡ other }
 {}
 
-/// What is counted of a server is all that its fields have.
+/// What is counted of a server is what its fields have: its packet reader, the request that it reads and the one that it answers. Its
+/// repository is the host's, and not counted. A field more has to be named here.
 pub fn all_fields_are_counted<R: Repo, A: Allocator + Copy>()
     ensures { (server : Server R A) → bytes_held_by_fields server ≡ bytes_held server }
 {}
