@@ -1,5 +1,5 @@
 -- Arguments that are added one after the other.
-use Rattle.std.proofs.Common.{arith, ◌≡◌, ℕ, ◌+◌, List, [], ◌∷◌, ap, ◌∙◌, fold, length}
+use Rattle.std.proofs.Common.{arith, ◌≡◌, ℕ, ◌+◌, List, [], ◌∷◌, ap, ◌∙◌, fold, length, rules}
 use Rattle.std.specs.Prelude.{sum_by}
 use Rattle.std.proofs.lemmas.List.Sums.{sum_by-cons}
 use Rattle.git_names.specs.declared.object_format.Format.{Format}
@@ -27,8 +27,7 @@ module _ {A : Type 0} where
   -- what is asked for by a request to which the arguments were added
   pub added_asked : (command : Command) (format : Format) (limit : ℕ) (args : List Arg) (empty request : Request A) → IsEmpty command format limit empty
       → AddsAll empty args request → asked_of request ≡ asked_by command args
-  added_asked command format limit args empty request h adds =
-      all_asked args empty request adds ∙ ap (λ (a : Asked). fold with_argument a args) h.asked ∙ asked_in_turn command args
+  added_asked command format limit args empty request h adds = search (rules, all_asked, asked_in_turn)
 
   -- and how many bytes it counts
   pub added_kept : (command : Command) (format : Format) (limit : ℕ) (args : List Arg) (empty request : Request A) → IsEmpty command format limit empty

@@ -1,5 +1,5 @@
 -- The arguments of a request in their order ask for just what the request asks, and what arguments ask for is what each adds in turn.
-use Rattle.std.proofs.Common.{◌≡◌, Bool, true, false, Option, Some, None, option_to_list, List, [], ◌∷◌, ◌++◌, ℕ, map, fold, refl, sym, ap, ◌∙◌}
+use Rattle.std.proofs.Common.{◌≡◌, Bool, true, false, Option, Some, None, option_to_list, List, [], ◌∷◌, ◌++◌, ℕ, map, fold, refl, sym, ap, ◌∙◌, rules}
 use Rattle.std.proofs.Common.{append_assoc, append-nil}
 use Rattle.std.specs.List.{filter_map}
 use Rattle.std.proofs.lemmas.List.Sums.{fold-append}
@@ -11,10 +11,9 @@ use Rattle.git_msg.specs.declared.flags.Flag.{Flag}
 use Rattle.git_msg.specs.Flags.{Flags, flags_where, pack_flags}
 use Rattle.git_msg.specs.Arguments.{Word, of_flag, ref_prefix, want, have, filter_spec, shallow, deepen, deepen_since, deepen_not, want_ref, object_id}
 use Rattle.git_msg.specs.Arguments.{Arg, alone, with_id, with_number, with_text}
-use Rattle.git_msg.specs.Asked.{Asked, ls_refs, fetch, object_info, LsRefsAsked, FetchAsked, ObjectInfoAsked}
+use Rattle.git_msg.specs.Asked.{Asked, ls_refs, fetch, object_info, LsRefsAsked, FetchAsked, ObjectInfoAsked, arguments_in}
 use Rattle.git_msg.specs.Asked.{command_asked, nothing_asked, asked_by, ls_refs_by, fetch_by, object_info_by}
 use Rattle.git_msg.specs.Asked.{and_then, joined, later, with_argument, where_asked, where_given}
-use Rattle.git_msg.specs.Asked.{arguments_in}
 
 pub same_command : (asked : Asked) (arg : Arg) → command_asked (with_argument asked arg) ≡ command_asked asked
 same_command (ls_refs q) arg = refl
@@ -105,10 +104,7 @@ list_added with_list make before (x ∷ xs) adds =
 list_then : {X : Type 0} (with_list : List X → Asked) (make : X → Arg) (values : List X) (others : List Arg) (asked : Asked)
     → ((xs : List X) (x : X) → with_argument (with_list xs) (make x) ≡ with_list (xs ++ x ∷ []))
     → fold with_argument (with_list values) others ≡ asked → fold with_argument (with_list []) (map make values ++ others) ≡ asked
-list_then with_list make values others asked adds rest =
-    fold-append with_argument (with_list []) (map make values) others
-    ∙ ap (λ (a : Asked). fold with_argument a others) (list_added with_list make [] values adds)
-    ∙ rest
+list_then with_list make values others asked adds rest = search (rules, fold-append, list_added)
 
 in_turn : (asked : Asked) → fold with_argument (nothing_asked (command_asked asked)) (arguments_in asked) ≡ asked
 in_turn (ls_refs q) =

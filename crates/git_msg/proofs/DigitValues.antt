@@ -1,5 +1,5 @@
 -- Digits and their values.
-use Rattle.std.proofs.Common.{arith, ◌≡◌, ◌≢◌, ℕ, ◌+◌, ◌-◌, ◌*◌, ◌^◌, ◌<◌, ◌≤◌, List, [], ◌∷◌, All, refl, sym, ap, ◌∙◌, length, drop, get_or, decimal}
+use Rattle.std.proofs.Common.{arith, ◌≡◌, ◌≢◌, ℕ, ◌+◌, ◌-◌, ◌*◌, ◌^◌, ◌<◌, ◌≤◌, List, [], ◌∷◌, All, refl, sym, ap, ◌∙◌, length, drop, get_or, decimal, rules}
 use Rattle.std.proofs.lemmas.Fmt.{decimal_nonempty, digits_decimal, digits_value-decimal, length-decimal-le}
 use Rattle.std.proofs.lemmas.Grind.{common_steps}
 use Rattle.std.proofs.lemmas.List.Elements.{All-nil, All-cons, All-head, All-tail, All-get_or, All-from_get_or}
@@ -41,11 +41,7 @@ value_grows (d ∷ ds) front = let h = value_grows ds (front * 10 + (d - 48)) in
 
 pub too_large : (text : List ℕ) (at front bound : ℕ) → at < length text → value_behind front (drop at text) ≡ value_behind 0 text
     → bound ≤ front * 10 + (get_or text at 0 - 48) → (number : ℕ) → number < bound → IsNumber text number → ⊥
-too_large text at front bound within same large number low is =
-    let step = value_step text at front within in
-    let grows = value_grows (drop (at + 1) text) (front * 10 + (get_or text at 0 - 48)) in
-    let value = is.value in
-    omega (arith, step, grows, value, from_nothing text, same, large, low)
+too_large text at front bound within same large number low is = search (rules, value_step, value_grows, from_nothing)
 
 pub no_digit : (text : List ℕ) (at : ℕ) → at < length text → (IsDigit (get_or text at 0) → ⊥) → (number : ℕ) → IsNumber text number → ⊥
 no_digit text at within bad number is = bad (All-get_or IsDigit text at 0 within is.digits)
@@ -88,14 +84,8 @@ has_bytes (c ∷ cs) some = omega arith
 
 -- what is written of a number is that number
 pub decimal_reads_back : (n : ℕ) → n < 2 ^ 64 → IsNumber (decimal n) n
-decimal_reads_back n small = record {
-  some = not_empty (decimal n) (decimal_nonempty n small);
-  digits = digits_decimal is_numeral n small;
-  value = sym (digits_value-decimal is_numeral n small);
-}
+decimal_reads_back n small = search (rules, not_empty, decimal_nonempty, digits_decimal, is_numeral, digits_value-decimal)
 
 -- and no text of the number is shorter
 pub decimal_is_shortest : (n : ℕ) (text : List ℕ) → n < 2 ^ 64 → IsNumber text n → length (decimal n) ≤ length text
-decimal_is_shortest n text small is =
-    let fits : n < 10 ^ length text = omega (arith, is.value, digits_value_short is_numeral text (length text) is.digits (omega arith)) in
-    length-decimal-le (length text) n (has_bytes text is.some) fits small
+decimal_is_shortest n text small is = search (rules, digits_value_short, is_numeral, length-decimal-le, has_bytes)

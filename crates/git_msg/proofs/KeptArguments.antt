@@ -1,9 +1,8 @@
 -- A reader of requests that keeps an argument, or does not.
-use Rattle.std.proofs.Common.{arith, ◌≡◌, ℕ, ◌+◌, ◌^◌, ◌<◌, ◌≤◌, Bool, true, Ok, Err, List, [], ◌∷◌, ◌++◌}
+use Rattle.std.proofs.Common.{arith, ◌≡◌, ℕ, ◌+◌, ◌^◌, ◌<◌, ◌≤◌, Bool, true, Ok, Err, List, [], ◌∷◌, ◌++◌, ◌-◌, false, cond, take, rules}
 use Rattle.std.proofs.Common.{refl, ap, sym, ◌∙◌, subst, length, max, inl, inr, decimal, length-append}
-use Rattle.std.proofs.Common.{◌-◌, false, cond, take}
 use Rattle.std.proofs.lemmas.List.{append-nil, length-take}
-use Rattle.git_pkt.specs.Packets.{Pkt, payload, text_of}
+use Rattle.git_pkt.specs.Packets.{text_of}
 use Rattle.git_pkt.specs.Splits.{Given}
 use Rattle.git_pkt.specs.declared.fault.Kind.{Kind}
 use Rattle.git_pkt.specs.declared.fault.Kind.TheVariants.{TooMuchKept, OutOfMemory}
@@ -19,10 +18,9 @@ use Rattle.git_msg.specs.Arguments.{Arg, Value, no_value, id_value, number_value
 use Rattle.git_msg.specs.Arguments.{SaysArgument, IsDepth, IsTime, IsNumberIn, IsArgument, IsValueFault, written_text, TakesMemory}
 use Rattle.git_msg.specs.Texts.{Follows}
 use Rattle.git_msg.proofs.KeptBytes.{stored_fits}
-use Rattle.git_msg.specs.Asked.{asked_by, with_argument}
 use Rattle.git_msg.specs.Checks.{Passes}
 use Rattle.git_msg.specs.HeldRequest.{command_of, format_of, kept_of, limit_of, IsBounded, Keeps, keep_checks, IsRefused}
-use Rattle.git_msg.specs.Lines.{Line, argument, commands_of, arguments_of, IsLine, IsArgumentLine, HasFault, HasFaultIn}
+use Rattle.git_msg.specs.Lines.{Line, argument, IsLine}
 use Rattle.git_msg.specs.Requests.{AreLines, FirstFault, WantsMemory, IsTold}
 use Rattle.git_msg.specs.RequestReader.{WaitsIn, WaitsBehind, InArguments, KeepsOn, limit_in, waiting_at, waiting_bytes}
 use Rattle.git_msg.proofs.ArgumentsInOrder.{asked_snoc}
@@ -36,54 +34,22 @@ use Rattle.git_msg.proofs.LineLists.{commands_snoc, arguments_snoc, delimiter_sn
 waited_line : {A : Type 0} (packets : List Given) (offset long : ℕ) (arg : Arg) (r : RequestReader A)
     → (w : WaitsBehind packets offset long arg r) → kept_of r.request + long ≤ limit_of r.request
     → IsLine r.offer (limit_in r) w.lines w.last.packet (argument arg long)
-waited_line packets offset long arg r w fits =
-    let line : IsArgumentLine r.offer (limit_in r) w.lines (text_of w.bytes) arg long = record {
-      is_text = w.is_text;
-      long_is = w.long_is;
-      fits = omega (arith, fits, w.in_part.kept);
-    } in
-    subst (λ (p : Pkt). IsLine r.offer (limit_in r) w.lines p (argument arg long)) (sym w.data_packet)
-    (argument_is_line r.offer (limit_in r) w.lines w.bytes arg long w.in_part.behind line)
+waited_line packets offset long arg r w fits = search (rules, argument_is_line)
 
 -- the argument part with one argument more
 one_more : {A : Type 0} (lines : List Line) (arg : Arg) (long : ℕ) (r : RequestReader A) (q : Request A) (bounded : IsBounded q)
     → InArguments lines r → Keeps r.request arg long q
     → InArguments (lines ++ argument arg long ∷ []) (record r { part = Arguments; request = q; bounded = bounded })
-one_more lines arg long r q bounded h k = record {
-  behind = delimiter_snoc lines (argument arg long) ∙ h.behind;
-  command = commands_snoc lines (argument arg long) ∙ append-nil (commands_of lines) ∙ h.command ∙ ap (λ c. c ∷ []) (sym k.command);
-  asked = k.asked ∙ ap (λ a. with_argument a arg) h.asked ∙ sym (asked_snoc (command_of r.request) (arguments_of lines) arg)
-      ∙ ap (λ args. asked_by (command_of r.request) args) (sym (arguments_snoc lines (argument arg long)))
-      ∙ ap (λ c. asked_by c (arguments_of (lines ++ argument arg long ∷ []))) (sym k.command);
-  kept = k.kept ∙ ap (λ n. n + long) h.kept ∙ sym (kept_snoc lines (argument arg long));
-  format = k.format ∙ h.format;
-}
+one_more lines arg long r q bounded h k = search (rules, delimiter_snoc, commands_snoc, append-nil, asked_snoc, arguments_snoc, kept_snoc)
 
 -- a line of a word and an object name, or of a word and a number, is not shorter than what is written of it
 name_line : (word : List ℕ) (format : Format) (text : List ℕ) (id : ObjectName) → Follows word (λ name. IsObjectName format name id) text
     → length (word ++ hex_of id) ≤ length text
-name_line word format text id h =
-    let e = ap length h.spelled in
-    omega (
-      arith,
-      e,
-      h.holds.count,
-      length-hex_of format id (named_in format h.value id h.holds),
-      length-append word h.value,
-      length-append word (hex_of id),
-    )
+name_line word format text id h = search (rules, length-hex_of, named_in, length-append)
 
 number_line : (word : List ℕ) (InRange : ℕ → Type 0) (text : List ℕ) (number : ℕ) → number < 2 ^ 64
     → Follows word (λ digits. IsNumberIn InRange digits number) text → length (word ++ decimal number) ≤ length text
-number_line word InRange text number small h =
-    let e = ap length h.spelled in
-    omega (
-      arith,
-      e,
-      decimal_is_shortest number h.value small h.holds.is_number,
-      length-append word h.value,
-      length-append word (decimal number),
-    )
+number_line word InRange text number small h = search (rules, decimal_is_shortest, length-append)
 
 text_line : (word line text : List ℕ) → line ≡ word ++ text → length (word ++ text) ≤ length line
 text_line word line text h = let e = ap length h in omega arith
@@ -115,10 +81,7 @@ text_fits bytes = chosen_fits _ (length bytes - 1) bytes
 
 counted : {A : Type 0} (packets : List Given) (offset long : ℕ) (arg : Arg) (r : RequestReader A)
     → WaitsBehind packets offset long arg r → max long (length (written_text arg)) ≡ long
-counted packets offset long arg r w =
-    let less = as_written r.offer.format (text_of w.bytes) arg w.is_text.reads.is_argument.1 in
-    let same = w.long_is in
-    omega arith
+counted packets offset long arg r w = search (rules, as_written)
 
 pub keeps_ok : {A : Type 0} (r : RequestReader A) (offset long : ℕ) (arg : Arg) (q : Request A) (bounded : IsBounded q)
     → r.part ≡ Waiting offset long → Keeps r.request arg (max long (length (written_text arg))) q
@@ -128,17 +91,14 @@ keeps_ok {A} r offset long arg q bounded part k passes = record {
   settles = λ packets w.
       let waits : WaitsBehind packets offset long arg r = subst (λ (p : Part). WaitsIn p packets arg r) part w.waits in
       let same = counted packets offset long arg r waits in
-      let kept : Keeps r.request arg long q = subst (λ (n : ℕ). Keeps r.request arg n q) same k in
-      let fine : Passes (keep_checks r.request arg long) = subst (λ (n : ℕ). Passes (keep_checks r.request arg n)) same passes in
+      let fine : Passes (keep_checks r.request arg long) = rw same at passes in
       let line = waited_line packets offset long arg r waits fine.1.0 in
-      let all : AreLines r.offer (limit_in r) [] packets (waits.lines ++ argument arg long ∷ []) =
-      subst (λ (gs : List Given). AreLines r.offer (limit_in r) [] gs (waits.lines ++ argument arg long ∷ [])) (sym waits.whole)
-      (lines_snoc r.offer (limit_in r) [] waits.front waits.lines waits.last (argument arg long) waits.taken line) in
+      let all = lines_snoc r.offer (limit_in r) [] waits.front waits.lines waits.last (argument arg long) waits.taken line in
       record {
         stands = record {
           lines = waits.lines ++ argument arg long ∷ [];
-          taken = subst (λ (n : ℕ). AreLines r.offer n [] packets (waits.lines ++ argument arg long ∷ [])) (sym k.limit) all;
-          in_part = one_more waits.lines arg long r q bounded waits.in_part kept;
+          taken = rw k.limit (subst (λ (gs : List Given). AreLines r.offer (limit_in r) [] gs (waits.lines ++ argument arg long ∷ [])) (sym waits.whole) all);
+          in_part = one_more waits.lines arg long r q bounded waits.in_part (rw same at k);
         };
       };
   keeps = subst (λ (p : Part). Keeps r.request arg (max (waiting_bytes p) (length (written_text arg))) q) (sym part) k;
@@ -151,24 +111,7 @@ keeps_ok {A} r offset long arg q bounded part k passes = record {
 -- an argument that the limit refuses
 too_much : {A : Type 0} (packets : List Given) (offset long : ℕ) (arg : Arg) (r : RequestReader A)
     → WaitsBehind packets offset long arg r → limit_of r.request < kept_of r.request + long → FirstFault r.offer (limit_in r) packets TooMuchKept offset
-too_much packets offset long arg r w over =
-    let fault : HasFaultIn true r.offer (limit_in r) w.lines (payload w.bytes) TooMuchKept = record {
-      of = w.is_text.of;
-      asked = w.is_text.asked;
-      refuses = inr (w.is_text.no_error, inr ((arg, w.is_text.reads), inl (omega (arith, over, w.long_is, w.in_part.kept), refl)));
-    } in
-    let there : HasFault r.offer (limit_in r) w.lines (payload w.bytes) TooMuchKept =
-    subst (λ (b : Bool). HasFaultIn b r.offer (limit_in r) w.lines (payload w.bytes) TooMuchKept) (sym w.in_part.behind) fault in
-    record {
-      front = w.front;
-      bad = w.last;
-      back = [];
-      lines = w.lines;
-      whole = w.whole;
-      taken = w.taken;
-      fault = subst (λ (p : Pkt). HasFault r.offer (limit_in r) w.lines p TooMuchKept) (sym w.data_packet) there;
-      at = sym w.at;
-    }
+too_much packets offset long arg r w over = search rules
 
 -- an argument for which there is no memory
 no_memory : {A : Type 0} (packets : List Given) (offset long : ℕ) (arg : Arg) (r : RequestReader A)
@@ -198,12 +141,7 @@ value_or_fault c format text arg kind h (inr fault) = range_apart format arg kin
 
 sound_value : {A : Type 0} (packets : List Given) (offset long : ℕ) (arg : Arg) (r : RequestReader A) (kind : Kind)
     → WaitsBehind packets offset long arg r → IsValueFault (command_of r.request) (format_of r.request) arg kind → ⊥
-sound_value packets offset long arg r kind w fault =
-    let of : w.is_text.of ≡ command_of r.request = same_command (commands_of w.lines) w.is_text.of (command_of r.request) w.is_text.asked w.in_part.command in
-    let is : IsArgument (command_of r.request) r.offer.format (text_of w.bytes) arg =
-    subst (λ (c : Command). IsArgument c r.offer.format (text_of w.bytes) arg) of w.is_text.reads.is_argument in
-    value_or_fault (command_of r.request) r.offer.format (text_of w.bytes) arg kind is
-    (subst (λ (f : Format). IsValueFault (command_of r.request) f arg kind) w.in_part.format fault)
+sound_value packets offset long arg r kind w fault = search (rules, same_command, value_or_fault)
 
 told : {A : Type 0} (packets : List Given) (offset long : ℕ) (arg : Arg) (r : RequestReader A) (kind : Kind)
     → WaitsBehind packets offset long arg r → IsRefused (keep_checks r.request arg long) arg kind
@@ -243,7 +181,4 @@ keeps_err {A} r offset long arg q kind bounded part same refused =
 -- a request stays bounded with an argument that is counted by no less than is written of it, and for which the limit has room
 pub still_bounded : {A : Type 0} (old new : Request A) (arg : Arg) (long : ℕ) → IsBounded old
     → Passes (keep_checks old arg (max long (length (written_text arg)))) → Keeps old arg (max long (length (written_text arg))) new → IsBounded new
-still_bounded old new arg long h passes k = record {
-  covered = omega (arith, h.covered, k.stored, k.kept, stored_fits (format_of old) arg passes.0.1);
-  within = omega (arith, k.kept, k.limit, passes.1.0);
-}
+still_bounded old new arg long h passes k = search (rules, stored_fits)

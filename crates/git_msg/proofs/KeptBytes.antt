@@ -1,5 +1,5 @@
 -- What is kept of a request stays counted with each argument more, and what follows for its arguments in their order.
-use Rattle.std.proofs.Common.{arith, ◌≡◌, ℕ, ◌+◌, ◌<◌, ◌≤◌, ◌^◌, Bool, true, Bor, Option, Some, None, List, [], ◌∷◌, ◌++◌, refl, ap, sym, ◌∙◌, subst}
+use Rattle.std.proofs.Common.{arith, ◌≡◌, ℕ, ◌+◌, ◌<◌, ◌≤◌, ◌^◌, Bool, true, Bor, Option, Some, None, List, [], ◌∷◌, ◌++◌, refl, ap, sym, ◌∙◌, subst, rules}
 use Rattle.std.proofs.Common.{length, map, take, option_map, append_assoc, append-nil, length-append}
 use Rattle.std.specs.Prelude.{All, IfSome, OnSome, slice_get}
 use Rattle.std.specs.Option.{option_copied}
@@ -24,9 +24,10 @@ use Rattle.git_msg.specs.Asked.{Asked, LsRefsAsked, FetchAsked, ObjectInfoAsked,
 use Rattle.git_msg.specs.Asked.{with_fetch, with_object_info, with_argument, where_asked, where_given, joined, flags_in, packs_in, shallows_in}
 use Rattle.git_msg.specs.Asked.{flag_arguments, objects_in, object_arguments, arguments_in, bytes_of}
 use Rattle.git_msg.specs.Flags.{is_set, pack_flags}
-use Rattle.git_msg.specs.Kept.{Kept, IsCounted, IsWithin}
+use Rattle.git_msg.specs.Kept.{Kept, IsCounted, IsCovered, IsWithin, KeepsArgument}
 use Rattle.git_msg.proofs.ArgumentsInOrder.{same_command}
 use Rattle.git_msg.proofs.WrittenNames.{hex_of-at_least, hex_of-at_most}
+use Rattle.std.proofs.lemmas.Grind.{common_steps}
 
 -- a list with an argument more, which may take the place of others
 record Adds (old : List Arg) (arg : Arg) (new : List Arg) : Type 0 where
@@ -113,8 +114,7 @@ adds_fetch q format want_ref (text_value text) of fits =
     behind (packs_in q ++ (shallows_in q ++ take 1 (objects_in q))) _ _ _ (adds_to_list (with_text want_ref) q.want_refs text _)
 adds_fetch q format have (id_value id) of fits =
     behind (packs_in q ++ (shallows_in q ++ take 2 (objects_in q))) _ _ _ (adds_to_list (with_id have) q.haves id _)
-adds_fetch q format (of_flag Flag.Done) no_value of fits =
-    behind (packs_in q ++ (shallows_in q ++ objects_in q)) _ _ _ (adds_last_flag q.done Flag.Done)
+adds_fetch q format (of_flag Flag.Done) no_value of fits = search (rules, behind, adds_last_flag)
 adds_fetch q format word value of fits = absurd (first_of (assumption, cc))
 
 adds_object_info : (q : ObjectInfoAsked) (format : Format) (word : Word) (value : Value) → (row word).command ≡ ObjectInfo
@@ -132,18 +132,7 @@ adds (object_info q) format arg value = adds_object_info q format arg.word arg.v
 
 -- then no more is written than its text
 added_bytes : (old : List Arg) (arg : Arg) (new : List Arg) → Adds old arg new → bytes_of new ≤ bytes_of old + length (written_text arg)
-added_bytes old arg new h =
-    let before = ap bytes_of h.was in
-    let now = ap bytes_of h.is in
-    omega (
-      arith,
-      before,
-      now,
-      sum_by-append (λ a. length (written_text a)) h.front (h.gone ++ h.back),
-      sum_by-append (λ a. length (written_text a)) h.gone h.back,
-      sum_by-append (λ a. length (written_text a)) h.front (arg ∷ h.back),
-      sum_by-cons (λ a. length (written_text a)) arg h.back,
-    )
+added_bytes old arg new h = grind (arith, common_steps, sum_by-append, sum_by-cons)
 
 pub all_front : {X : Type 0} (P : X → Type 0) (xs ys : List X) → All P (xs ++ ys) → All P xs
 all_front P xs ys h = subst (All P) (take-append_seam xs ys) (All-take P (length xs) (xs ++ ys) h)
@@ -206,10 +195,7 @@ measured shape format value fits = absurd fits
 
 -- no more is stored of an argument than its text has
 pub stored_fits : (format : Format) (arg : Arg) → IsInRange format arg → stored_in arg ≤ length (written_text arg)
-stored_fits format arg value =
-    let m = measured (row arg.word).shape format arg.value value in
-    let k = is_keyword arg.word in
-    omega (arith, m.stored, k.long_enough, length-append (row arg.word).keyword (written_value arg.value))
+stored_fits format arg value = search (rules, measured, is_keyword, length-append)
 
 -- there are no more arguments than bytes, since each has a text
 has_text : (arg : Arg) → 1 ≤ length (written_text arg)
@@ -219,26 +205,24 @@ count_at_most : (args : List Arg) → length args ≤ bytes_of args
 count_at_most [] = omega arith
 count_at_most (arg ∷ args) = omega (arith, has_text arg, count_at_most args, sum_by-cons (λ a. length (written_text a)) arg args)
 
+-- what is kept stays covered with an argument more that is allowed there, for which no less is counted than is written of it
+pub stays_covered : (old new : Kept Asked) (arg : Arg) (long : ℕ) → IsCovered old.format old.asked old.kept old.stored
+    → IsValue (command_asked old.asked) old.format arg → length (written_text arg) ≤ long → KeepsArgument old arg long new
+    → IsCovered new.format new.asked new.kept new.stored
+stays_covered old new arg long h value counted keeps = record {
+  counted = rw (keeps.format, keeps.asked, keeps.kept) (counted_more old.format old.asked arg old.kept long h.counted value counted);
+  covered = omega (arith, keeps.kept, keeps.stored, h.covered, counted, stored_fits old.format arg value.1);
+}
+
 -- an argument that is allowed in a request fits into a packet
 pub value_fits : (format : Format) (arg : Arg) → IsInRange format arg → length (written_text arg) < longest_payload
-value_fits format arg value =
-    let m = measured (row arg.word).shape format arg.value value in
-    let k = is_keyword arg.word in
-    omega (arith, m.short, k.short, length-append (row arg.word).keyword (written_value arg.value))
+value_fits format arg value = search (rules, measured, is_keyword, length-append)
 
 -- so what is kept has few arguments, and each of them fits
 pub place_bound : (q : Kept Asked) (i : ℕ) (result : Option Argument) → IsWithin q → option_map shown result ≡ slice_get (arguments_in q.asked) i
     → OnSome result (i + 1 < 2 ^ 64)
 place_bound q i None h same = tt
-place_bound q i (Some argument) h same =
-    omega (
-      arith,
-      slice_get_within (arguments_in q.asked) i (shown argument) (sym same),
-      count_at_most (arguments_in q.asked),
-      h.counted.written,
-      h.room,
-      h.in_range,
-    )
+place_bound q i (Some argument) h same = search (rules, slice_get_within, count_at_most)
 
 pub all_at : {X : Type 0} (P : X → Type 0) (xs : List X) (i : ℕ) (x : X) → All P xs → slice_get xs i ≡ Some x → P x
 all_at P xs i x h at = subst P (get_or_from_slice_get xs i x x at) (h i x (slice_get_within xs i x at))

@@ -1,23 +1,19 @@
 -- The key of a capability line ends at its first `=`.
-use Rattle.std.proofs.Common.{◌≡◌, ℕ, ◌≤◌, ◌+◌, List, [], ◌∷◌, ◌++◌, length, drop, true, false, Bool, ◌&&◌, not, eqb, ap, sym, ◌∙◌, subst, arith, refl}
+use Rattle.std.proofs.Common.{◌≡◌, ℕ, ◌≤◌, ◌+◌, List, [], ◌∷◌, ◌++◌, length, drop, true, false, Bool, ◌&&◌, not, eqb, sym, subst, arith, refl, rules}
 use Rattle.std.proofs.Common.{Option, Some, None, unwrap_or, Bor, suc}
 use Rattle.std.specs.Option.{option_copied}
-use Rattle.std.specs.List.{list_all}
 use Rattle.std.proofs.lemmas.Bool.{and_parts}
 use Rattle.std.proofs.lemmas.Grind.{common_steps}
 use Rattle.std.proofs.lemmas.List.Sums.{AllPass-from_list_all}
 use Rattle.git_names.specs.RefName.{Lacks}
-use Rattle.git_msg.specs.Capability.{is_key_byte, is_key, is_value, IsCapability, IsNoCapability}
+use Rattle.git_msg.specs.Capability.{is_key, is_value, IsCapability, IsNoCapability}
 use Rattle.git_msg.specs.Advertisement.{key_of, value_of}
 use Rattle.git_msg.specs.Texts.{IsCutAt, bytes_left}
 use Rattle.git_msg.proofs.TextParts.{cut_place, one_cut}
 
 -- no byte of a key is `=`
 key_lacks : (key : List ℕ) → is_key key ≡ true → Lacks key 61
-key_lacks key h k within same =
-    let passes = AllPass-from_list_all is_key_byte key (and_parts (not (eqb (length key) 0)) (list_all is_key_byte key) h).1 k 0 within in
-    let none : true ≡ false = sym passes ∙ ap is_key_byte same in
-    cc
+key_lacks key h k within same = search (rules, AllPass-from_list_all, and_parts, eqb)
 
 -- so the key and the value are what comes before the first `=` and after it
 cut_at_equals : (text key : List ℕ) (value : Option (List ℕ)) → IsCapability text key value → IsCutAt 61 text key value
@@ -26,8 +22,7 @@ cut_at_equals text key (Some value) (k, e, v) = record { spelled = e; first = ke
 
 pub one_capability : (text key other : List ℕ) (value other_value : Option (List ℕ))
     → IsCapability text key value → IsCapability text other other_value → (key ≡ other) × (value ≡ other_value)
-one_capability text key other value other_value h k =
-    one_cut 61 text key other value other_value (cut_at_equals text key value h) (cut_at_equals text other other_value k)
+one_capability text key other value other_value h k = search (rules, one_cut, cut_at_equals)
 
 pub is_capability : (text key : List ℕ) (value : Option (List ℕ)) → IsCutAt 61 text key value → is_key key ≡ true → is_value (unwrap_or value []) ≡ true
     → IsCapability text key value

@@ -11,6 +11,7 @@ pub mod ReferenceLines
 pub mod ReferenceWords
 pub mod LastValues
 pub mod LineLaws
+pub mod Cuts
 pub mod ReferenceLaws
 pub mod LinesLeft
 pub mod RoundTrip

@@ -1,63 +1,45 @@
 -- A packet is one line, or has one fault, and not both.
-use Rattle.std.proofs.Common.{arith, ◌≡◌, ◌≢◌, ℕ, ◌+◌, ◌<◌, ◌≤◌, Bool, true, false, Option, Some, List, [], ◌∷◌, ◌++◌}
-use Rattle.std.proofs.Common.{refl, ap, sym, ◌∙◌, subst, length, inl, inr}
-use Rattle.git_names.specs.ObjectFormat.{name_of as format_name}
+use Rattle.std.proofs.Common.{arith, ◌≡◌, ℕ, ◌+◌, ◌<◌, ◌≤◌, Bool, true, false, Option, Some, List, [], ◌∷◌, ◌++◌, refl, ap, sym, ◌∙◌, subst, length, inl, inr}
 use Rattle.git_names.specs.declared.object_format.Format.{Format}
 use Rattle.git_names.specs.declared.object_format.Format.TheVariants.{Sha1, Sha256}
 use Rattle.git_pkt.specs.Packets.{Pkt, flush, delim, resp_end, payload, text_of}
 use Rattle.git_pkt.specs.Splits.{Given}
 use Rattle.git_pkt.specs.declared.fault.Kind.{Kind}
-use Rattle.git_pkt.specs.declared.fault.Kind.TheVariants.{BadCapability, UnknownCommand, TwoCommands, NoCommand}
-use Rattle.git_pkt.specs.declared.fault.Kind.TheVariants.{NotAdvertised, WrongFormat, TooMuchKept, RemoteError, DeepenConflict, NoWants, NoSize}
+use Rattle.git_pkt.specs.declared.fault.Kind.TheVariants.{NotAdvertised, TooMuchKept, RemoteError, NoSize}
 use Rattle.git_msg.specs.declared.offers.Offer.{Offer}
 use Rattle.git_msg.specs.declared.arguments.Command.{Command}
 use Rattle.git_msg.specs.declared.arguments.Command.TheVariants.{LsRefs, Fetch, ObjectInfo}
 use Rattle.git_msg.specs.declared.capability_key.Key.{Key}
 use Rattle.git_msg.specs.declared.capability_key.Key.TheVariants.{CommandKey, AgentKey, ServerOptionKey, ObjectFormatKey, OtherKey}
 use Rattle.git_msg.specs.Texts.{IsErrorText}
-use Rattle.git_msg.specs.Capability.{IsNoCapability}
 use Rattle.git_msg.specs.Advertisement.{takes_command}
-use Rattle.git_msg.specs.Arguments.{Arg, IsArgument, ReadsAs, name_of}
-use Rattle.git_msg.specs.Asked.{Asked, ls_refs, fetch, object_info, HasWants, asked_by, has_deepen_conflict}
+use Rattle.git_msg.specs.Arguments.{Arg, ReadsAs, name_of}
+use Rattle.git_msg.specs.Asked.{Asked, ls_refs, fetch, object_info}
 use Rattle.git_msg.specs.Checks.{Refuses, Passes}
-use Rattle.git_msg.specs.Lines.{Line, command, agent, server_option, object_format, delimiter, argument, argument_in}
-use Rattle.git_msg.specs.Lines.{is_none, commands_of, arguments_of, kept_in}
-use Rattle.git_msg.specs.Lines.{has_format, has_delimiter, IsWordOf, HasKey, IsAnyCapability, NamesCommand}
-use Rattle.git_msg.specs.Lines.{NamesTaken, NamesUntaken, key_checks, by_key, capability_checks}
+use Rattle.git_msg.specs.Lines.{Line, command, agent, server_option, object_format, delimiter, argument, argument_in, is_none, commands_of, kept_in}
+use Rattle.git_msg.specs.Lines.{has_delimiter, HasKey, NamesTaken, key_checks, by_key, capability_checks}
 use Rattle.git_msg.specs.Lines.{IsLineOf, IsCapabilityLine, IsFormatMeant, IsOtherFormatMeant, part_checks, argument_checks, IsArgumentLine}
 use Rattle.git_msg.specs.Lines.{IsArgumentText, IsArgumentRefused, end_checks, at_end, flush_checks_in, IsLine, IsLineIn, HasFault, HasFaultIn}
 use Rattle.git_msg.specs.Requests.{AreLines, Asks}
+use Rattle.git_msg.proofs.Cuts.{same_ends}
 use Rattle.git_msg.proofs.CheckLaws.{IsFair, AllFair, passes_or_refuses, one_name, fair_check}
 use Rattle.git_msg.proofs.Keys.{one_capability}
 use Rattle.git_msg.proofs.Rows.{one_key, one_argument, argument_or_fault, one_argument_fault}
+use Rattle.std.proofs.Common.{rules}
 
 -- the keys of a text
 same_key : (text : List ℕ) (a b : Key) (v w : Option (List ℕ)) → HasKey text a v → HasKey text b w → (a ≡ b) × (v ≡ w)
-same_key text a b v w h k =
-    let same = one_capability text h.word k.word v w h.is_capability k.is_capability in
-    (one_key k.word a b (subst (λ (x : List ℕ). IsWordOf x a) same.0 h.is_word) k.is_word, same.1)
+same_key text a b v w h k = search (rules, one_capability, one_key)
 
 true_false : (b : Bool) → b ≡ true → b ≡ false → ⊥
 true_false b h k = cc
 
 fair_keys : (offer : Offer) (first : Bool) (key : Key) (value : Option (List ℕ)) → AllFair (key_checks offer first key value)
 unfolding AllFair
-fair_keys offer first CommandKey value = (
-  fair_check (first ≡ true) (first ≡ false) TwoCommands (λ p q. true_false first p q),
-  (
-    fair_check (NamesCommand value) (¬ NamesCommand value) UnknownCommand (λ p q. q p),
-    (
-      fair_check (NamesTaken offer value) (NamesUntaken offer value) NotAdvertised
-          (λ p q. true_false (takes_command offer q.0) (p q.0 q.1) q.2),
-      tt,
-    ),
-  ),
-)
+fair_keys offer first CommandKey value = search (rules, fair_check, true_false)
 fair_keys offer first AgentKey value = tt
-fair_keys offer first ServerOptionKey value =
-    (fair_check (offer.server_option ≡ true) (offer.server_option ≡ false) NotAdvertised (λ p q. true_false offer.server_option p q), tt)
-fair_keys offer first ObjectFormatKey value =
-    (fair_check (value ≡ Some (format_name offer.format)) (value ≢ Some (format_name offer.format)) WrongFormat (λ p q. q p), tt)
+fair_keys offer first ServerOptionKey value = search (rules, fair_check, true_false)
+fair_keys offer first ObjectFormatKey value = search (rules, fair_check)
 fair_keys offer first OtherKey value = (fair_check ⊥ (Unit {0}) NotAdvertised (λ p q. p), tt)
 
 fair_by_key : (offer : Offer) (first : Bool) (text : List ℕ) → IsFair (by_key offer first text)
@@ -78,10 +60,7 @@ fair_by_key offer first text = record {
 
 fair_capability : (offer : Offer) (first : Bool) (text : List ℕ) → AllFair (capability_checks offer first text)
 unfolding AllFair
-fair_capability offer first text = (
-  fair_check (¬ IsErrorText text) (IsErrorText text) RemoteError (λ p q. p q),
-  (fair_check (IsAnyCapability text) (IsNoCapability text) BadCapability (λ p q. q p.0 p.1 p.2), (fair_by_key offer first text, tt)),
-)
+fair_capability offer first text = search (rules, fair_check, fair_by_key)
 
 format_or_other : (format : Format) (said : Bool) → IsFormatMeant format said → IsOtherFormatMeant format said → ⊥
 format_or_other Sha1 said p q = q
@@ -89,10 +68,7 @@ format_or_other Sha256 said p q = true_false said p q
 
 fair_part : (offer : Offer) (commands : List Command) (said : Bool) → AllFair (part_checks offer commands said)
 unfolding AllFair
-fair_part offer commands said = (
-  fair_check (is_none commands ≡ false) (is_none commands ≡ true) NoCommand (λ p q. true_false (is_none commands) q p),
-  (fair_check (IsFormatMeant offer.format said) (IsOtherFormatMeant offer.format said) WrongFormat (λ p q. format_or_other offer.format said p q), tt),
-)
+fair_part offer commands said = search (rules, fair_check, true_false, format_or_other)
 
 fair_argument : (offer : Offer) (limit : ℕ) (c : Command) (kept : ℕ) (text : List ℕ) → AllFair (argument_checks offer limit c kept text)
 unfolding AllFair
@@ -113,32 +89,16 @@ same_command cs c d h k = cc
 fair_end_checks : (asked : Asked) → AllFair (end_checks asked)
 unfolding AllFair
 fair_end_checks (ls_refs q) = tt
-fair_end_checks (fetch q) = (
-  fair_check (has_deepen_conflict q ≡ false) (has_deepen_conflict q ≡ true) DeepenConflict (λ p r. true_false (has_deepen_conflict q) r p),
-  (fair_check (HasWants q) (¬ HasWants q) NoWants (λ p r. r p), tt),
-)
+fair_end_checks (fetch q) = search (rules, fair_check, true_false)
 fair_end_checks (object_info q) = (fair_check (q.size ≡ true) (q.size ≡ false) NoSize (λ p r. true_false q.size p r), tt)
 
 fair_at_end : (lines : List Line) → IsFair (at_end lines)
-fair_at_end lines = record {
-  apart = λ kind p r.
-      let same = same_command (commands_of lines) p.0 r.0 p.1 r.1 in
-      let asked : Asked = asked_by r.0 (arguments_of lines) in
-      passes_or_refuses (end_checks asked) (fair_end_checks asked) kind
-      (subst (λ (c : Command). Passes (end_checks (asked_by c (arguments_of lines)))) same p.2) r.2;
-  single = λ kind other r s.
-      let same = same_command (commands_of lines) r.0 s.0 r.1 s.1 in
-      let asked : Asked = asked_by s.0 (arguments_of lines) in
-      one_name (end_checks asked) (fair_end_checks asked) kind other
-      (subst (λ (c : Command). Refuses (end_checks (asked_by c (arguments_of lines))) kind) same r.2) s.2;
-}
+fair_at_end lines = search (rules, same_command, passes_or_refuses, fair_end_checks, one_name)
 
 fair_flush : (part : Bool) (offer : Offer) (lines : List Line) → AllFair (flush_checks_in part offer lines)
 unfolding AllFair
 fair_flush true offer lines = (fair_at_end lines, tt)
-fair_flush false offer lines =
-    let part = fair_part offer (commands_of lines) (has_format lines) in
-    (part.0, (part.1.0, (fair_at_end lines, tt)))
+fair_flush false offer lines = search (rules, fair_part, fair_at_end)
 
 -- a capability line passes all its checks
 line_passes : (offer : Offer) (first : Bool) (text : List ℕ) (line : Line)
@@ -147,10 +107,7 @@ line_passes offer first text line h = (h.no_error, ((h.has_key.word, h.value, h.
 
 argument_passes : (offer : Offer) (limit : ℕ) (before : List Line) (text : List ℕ) (arg : Arg) (long : ℕ)
     → (h : IsArgumentLine offer limit before text arg long) → Passes (argument_checks offer limit h.is_text.of (kept_in before) text)
-argument_passes offer limit before text arg long h =
-    let same = h.long_is in
-    let most = h.fits in
-    (h.is_text.no_error, ((arg, h.is_text.reads), (omega arith, tt)))
+argument_passes offer limit before text arg long h = search rules
 
 argument_line_or_fault : (offer : Offer) (limit : ℕ) (before : List Line) (text : List ℕ) (arg : Arg) (long : ℕ) (kind : Kind)
     → IsArgumentLine offer limit before text arg long → IsArgumentRefused offer limit before text kind → ⊥
@@ -168,12 +125,9 @@ capability_line_or_fault offer first text line kind h r =
 -- in either part
 line_or_fault_in : (part : Bool) (offer : Offer) (limit : ℕ) (before : List Line) (packet : Pkt) (line : Line) (kind : Kind)
     → IsLineIn part offer limit before packet line → HasFaultIn part offer limit before packet kind → ⊥
-line_or_fault_in false offer limit before (payload bytes) line kind h r =
-    capability_line_or_fault offer (is_none (commands_of before)) (text_of bytes) line kind h r
-line_or_fault_in false offer limit before delim delimiter kind h r =
-    passes_or_refuses (part_checks offer (commands_of before) (has_format before)) (fair_part offer (commands_of before) (has_format before)) kind h r
-line_or_fault_in true offer limit before (payload bytes) (argument arg long) kind h r =
-    argument_line_or_fault offer limit before (text_of bytes) arg long kind h r
+line_or_fault_in false offer limit before (payload bytes) line kind h r = search (rules, capability_line_or_fault)
+line_or_fault_in false offer limit before delim delimiter kind h r = search (rules, passes_or_refuses, fair_part)
+line_or_fault_in true offer limit before (payload bytes) (argument arg long) kind h r = search (rules, argument_line_or_fault)
 line_or_fault_in part offer limit before packet line kind h r = absurd h
 
 pub line_or_fault : (offer : Offer) (limit : ℕ) (before : List Line) (packet : Pkt) (line : Line) (kind : Kind)
@@ -205,10 +159,7 @@ one_line_of key value line other h k = absurd assumption
 
 one_capability_line : (offer : Offer) (first : Bool) (text : List ℕ) (line other : Line)
     → IsCapabilityLine offer first text line → IsCapabilityLine offer first text other → line ≡ other
-one_capability_line offer first text line other h k =
-    let same = same_key text h.key k.key h.value k.value h.has_key k.has_key in
-    one_line_of k.key k.value line other
-    (subst (λ (v : Option (List ℕ)). IsLineOf k.key v line) same.1 (subst (λ (x : Key). IsLineOf x h.value line) same.0 h.line_is)) k.line_is
+one_capability_line offer first text line other h k = search (rules, same_key, one_line_of)
 
 -- what an argument's line is: a payload after the delimiter
 pub record IsArgumentPayload (offer : Offer) (part : Bool) (before : List Line) (packet : Pkt) (arg : Arg) : Type 0 where
@@ -243,10 +194,7 @@ payload_argument offer limit before bytes line h = absurd h
 -- a text is one argument
 pub one_argument_text : (offer : Offer) (before : List Line) (text : List ℕ) (a b : Arg)
     → IsArgumentText offer before text a → IsArgumentText offer before text b → a ≡ b
-one_argument_text offer before text a b h k =
-    let c = same_command (commands_of before) h.of k.of h.asked k.asked in
-    let there : IsArgument k.of offer.format text a = subst (λ (x : Command). IsArgument x offer.format text a) c h.reads.is_argument in
-    one_argument k.of offer.format text a b there k.reads.is_argument
+one_argument_text offer before text a b h k = search (rules, same_command, one_argument)
 
 -- an argument's text is refused for the limit alone
 pub refused_for_limit : (offer : Offer) (limit : ℕ) (before : List Line) (text : List ℕ) (arg : Arg) (kind : Kind)
@@ -288,8 +236,7 @@ one_fault_in : (part : Bool) (offer : Offer) (limit : ℕ) (before : List Line) 
 one_fault_in false offer limit before (payload bytes) kind other h k =
     one_name (capability_checks offer (is_none (commands_of before)) (text_of bytes))
     (fair_capability offer (is_none (commands_of before)) (text_of bytes)) kind other h k
-one_fault_in false offer limit before delim kind other h k =
-    one_name (part_checks offer (commands_of before) (has_format before)) (fair_part offer (commands_of before) (has_format before)) kind other h k
+one_fault_in false offer limit before delim kind other h k = search (rules, one_name, fair_part)
 one_fault_in false offer limit before flush kind other h k = one_name (flush_checks_in false offer before) (fair_flush false offer before) kind other h.1 k.1
 one_fault_in false offer limit before resp_end kind other h k = h ∙ sym k
 one_fault_in true offer limit before (payload bytes) kind other h k =
@@ -317,33 +264,14 @@ one_list_of_lines offer limit before (g ∷ gs) (l ∷ ls) (m ∷ ms) h k =
     let rest = one_list_of_lines offer limit (before ++ m ∷ []) gs ls ms (subst (λ (x : Line). AreLines offer limit (before ++ x ∷ []) gs ls) same h.1) k.1 in
     cc
 
--- all but the last
-front_of : List Given → List Given
-front_of [] = []
-front_of (g ∷ []) = []
-front_of (g ∷ h ∷ gs) = g ∷ front_of (h ∷ gs)
-
-front_of_snoc : (gs : List Given) (g : Given) → front_of (gs ++ g ∷ []) ≡ gs
-unfolding front_of
-front_of_snoc [] g = refl
-front_of_snoc (a ∷ []) g = refl
-front_of_snoc (a ∷ b ∷ gs) g = ap (λ (xs : List Given). a ∷ xs) (front_of_snoc (b ∷ gs) g)
-
+-- packets before the last are the same
 pub fronts_same : (xs ys : List Given) (x y : Given) → xs ++ x ∷ [] ≡ ys ++ y ∷ [] → xs ≡ ys
-fronts_same xs ys x y e = sym (front_of_snoc xs x) ∙ ap front_of e ∙ front_of_snoc ys y
+fronts_same xs ys x y e = (same_ends xs ys x y e).0
 
 -- packets are one request
 pub one_request : (offer : Offer) (limit : ℕ) (packets : List Given) (asked other : Asked) (kept other_kept : ℕ)
     → Asks offer limit packets asked kept → Asks offer limit packets other other_kept → (asked ≡ other) × (kept ≡ other_kept)
-one_request offer limit packets asked other kept other_kept h k =
-    let fronts = fronts_same h.front k.front h.last k.last (sym h.whole ∙ k.whole) in
-    let lines : h.lines ≡ k.lines =
-    one_list_of_lines offer limit [] k.front h.lines k.lines
-    (subst (λ (gs : List Given). AreLines offer limit [] gs h.lines) fronts h.taken) k.taken in
-    let c : h.command ≡ k.command = same_command (commands_of h.lines) h.command k.command h.once (ap commands_of lines ∙ k.once) in (
-      h.asked_is ∙ ap (λ x. asked_by x (arguments_of h.lines)) c ∙ ap (λ ls. asked_by k.command (arguments_of ls)) lines ∙ sym k.asked_is,
-      h.kept_is ∙ ap kept_in lines ∙ sym k.kept_is,
-    )
+one_request offer limit packets asked other kept other_kept h k = search (rules, fronts_same, one_list_of_lines, same_command)
 
 -- a flush that passes has no fault
 pub flush_or_fault_in : (part : Bool) (offer : Offer) (limit : ℕ) (before : List Line) (kind : Kind)

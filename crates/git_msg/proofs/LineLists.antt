@@ -1,5 +1,5 @@
 -- Lines, one more after the others.
-use Rattle.std.proofs.Common.{arith, ◌≡◌, ℕ, ◌+◌, Bool, true, false, ◌||◌, Option, Some, None, option_to_list, List, [], ◌∷◌, ◌++◌, refl, ap, sym}
+use Rattle.std.proofs.Common.{arith, ◌≡◌, ℕ, ◌+◌, Bool, true, false, ◌||◌, Option, Some, None, option_to_list, List, [], ◌∷◌, ◌++◌, refl, ap, sym, rules}
 use Rattle.std.proofs.Common.{◌∙◌, subst, append_assoc}
 use Rattle.std.specs.List.{list_any, filter_map}
 use Rattle.std.proofs.lemmas.List.{append-nil}
@@ -11,7 +11,7 @@ use Rattle.git_pkt.specs.Splits.{Given}
 use Rattle.git_msg.specs.declared.offers.Offer.{Offer}
 use Rattle.git_msg.specs.Arguments.{Arg}
 use Rattle.git_msg.specs.Lines.{Line, argument, command_in, argument_in, long_of, is_object_format, is_delimiter, commands_of, arguments_of, kept_in}
-use Rattle.git_msg.specs.Lines.{has_format, has_delimiter, is_none, IsLine, IsLineIn, IsArgumentLine, IsCapabilityLine}
+use Rattle.git_msg.specs.Lines.{has_format, has_delimiter, is_none, IsLine, IsArgumentLine, IsCapabilityLine}
 use Rattle.git_msg.specs.Requests.{AreLines}
 
 or_false : (a b : Bool) → (a || (b || false)) ≡ (b || a)
@@ -89,12 +89,10 @@ last_line offer limit before (h ∷ hs) g (l ∷ ls) are =
 pub argument_is_line : (offer : Offer) (limit : ℕ) (lines : List Line) (bytes : List ℕ) (arg : Arg) (long : ℕ)
     → has_delimiter lines ≡ true → IsArgumentLine offer limit lines (text_of bytes) arg long
     → IsLine offer limit lines (payload bytes) (argument arg long)
-argument_is_line offer limit lines bytes arg long behind h =
-    subst (λ (b : Bool). IsLineIn b offer limit lines (payload bytes) (argument arg long)) (sym behind) h
+argument_is_line offer limit lines bytes arg long behind h = search rules
 
 -- a capability line is a line of the capability part
 pub capability_is_line : (offer : Offer) (limit : ℕ) (lines : List Line) (bytes : List ℕ) (line : Line)
     → has_delimiter lines ≡ false → IsCapabilityLine offer (is_none (commands_of lines)) (text_of bytes) line
     → IsLine offer limit lines (payload bytes) line
-capability_is_line offer limit lines bytes line before h =
-    subst (λ (b : Bool). IsLineIn b offer limit lines (payload bytes) line) (sym before) h
+capability_is_line offer limit lines bytes line before h = search rules

@@ -1,7 +1,7 @@
 -- By which names no packet of a request is refused.
-use Rattle.std.proofs.Common.{◌≡◌, ◌≢◌, ℕ, ◌∙◌, Bool, true, false, Option, List, [], ◌∷◌, subst, sym, inl, inr}
+use Rattle.std.proofs.Common.{◌≡◌, ◌≢◌, ℕ, ◌∙◌, Bool, true, false, Option, List, [], ◌∷◌, subst, sym, inl, inr, rules}
 use Rattle.git_names.specs.declared.object_format.Format.{Format}
-use Rattle.git_pkt.specs.Packets.{Pkt, flush, delim, resp_end, payload, text_of}
+use Rattle.git_pkt.specs.Packets.{Pkt, flush, delim, resp_end, payload}
 use Rattle.git_pkt.specs.Splits.{Given}
 use Rattle.git_pkt.specs.declared.fault.Fault.{Fault}
 use Rattle.git_pkt.specs.declared.fault.Kind.{Kind}
@@ -13,8 +13,8 @@ use Rattle.git_msg.specs.declared.capability_key.Key.TheVariants.{CommandKey, Ag
 use Rattle.git_msg.specs.Arguments.{Word, Shape, flag_word, row, refusal_of, IsArgumentFault, IsRowFault}
 use Rattle.git_msg.specs.Asked.{Asked, ls_refs, fetch, object_info}
 use Rattle.git_msg.specs.Checks.{Check, Refuses}
-use Rattle.git_msg.specs.Lines.{Line, argument_checks, capability_checks, commands_of, end_checks, flush_checks_in, has_delimiter, has_format, by_key}
-use Rattle.git_msg.specs.Lines.{is_none, kept_in, key_checks, part_checks, text_checks, HasFault, HasFaultIn}
+use Rattle.git_msg.specs.Lines.{Line, argument_checks, capability_checks, commands_of, end_checks, flush_checks_in, has_format}
+use Rattle.git_msg.specs.Lines.{key_checks, part_checks, text_checks, HasFaultIn}
 use Rattle.git_msg.specs.Requests.{IsTold}
 
 -- what refuses no packet by itself, but the limit on what is kept, the stream, a repository or the source of a pack
@@ -54,16 +54,13 @@ quiet kind (c ∷ cs) all (inr r) = quiet kind cs all.1 r.1
 module _ (kind : Kind) (strange : NotByItself kind) where
   quiet_keys : (offer : Offer) (first : Bool) (key : Key) (value : Option (List ℕ)) → AllQuiet kind (key_checks offer first key value)
   unfolding AllQuiet
-  quiet_keys offer first CommandKey value =
-      ((λ r. subst NotByItself r.1 strange), ((λ r. subst NotByItself r.1 strange), ((λ r. subst NotByItself r.1 strange), tt)))
+  quiet_keys offer first CommandKey value = search rules
   quiet_keys offer first AgentKey value = tt
   quiet_keys offer first key value = ((λ r. subst NotByItself r.1 strange), tt)
 
   quiet_capability : (offer : Offer) (first : Bool) (text : List ℕ) → AllQuiet kind (capability_checks offer first text)
   unfolding AllQuiet
-  quiet_capability offer first text =
-      let keys : (by_key offer first text).refuses kind → ⊥ = λ r. quiet kind (key_checks offer first r.0 r.1) (quiet_keys offer first r.0 r.1) r.3 in
-      ((λ r. subst NotByItself r.1 strange), ((λ r. subst NotByItself r.1 strange), (keys, tt)))
+  quiet_capability offer first text = search (rules, quiet, quiet_keys)
 
   quiet_part : (offer : Offer) (commands : List Command) (said : Bool) → AllQuiet kind (part_checks offer commands said)
   unfolding AllQuiet
@@ -90,8 +87,7 @@ module _ (kind : Kind) (strange : NotByItself kind) where
   quiet_flush : (part : Bool) (offer : Offer) (lines : List Line) → AllQuiet kind (flush_checks_in part offer lines)
   unfolding AllQuiet
   quiet_flush true offer lines = ((λ r. quiet kind (end_checks _) (quiet_end _) r.2), tt)
-  quiet_flush false offer lines =
-      ((λ r. subst NotByItself r.1 strange), ((λ r. subst NotByItself r.1 strange), ((λ r. quiet kind (end_checks _) (quiet_end _) r.2), tt)))
+  quiet_flush false offer lines = search (rules, quiet, quiet_end)
 
 within_limit : (cs : List Check) → AllQuiet TooMuchKept cs → (kind : Kind) → Refuses cs kind → kind ≢ TooMuchKept
 within_limit cs all kind refuses is = quiet TooMuchKept cs all (subst (λ (k : Kind). Refuses cs k) is refuses)
@@ -113,23 +109,19 @@ module _ (kind : Kind) (strange : NotOfPackets kind) where
 
   quiet_argument : (offer : Offer) (limit : ℕ) (c : Command) (kept : ℕ) (text : List ℕ) → AllQuiet kind (argument_checks offer limit c kept text)
   unfolding AllQuiet
-  quiet_argument offer limit c kept text =
-      let by_text = quiet_text kind itself c offer text in (by_text.0, (by_text.1.0, ((λ r. subst NotOfPackets r.1 strange), tt)))
+  quiet_argument offer limit c kept text = search (rules, quiet_text, itself)
 
   no_such_fault : (part : Bool) (offer : Offer) (limit : ℕ) (before : List Line) (packet : Pkt) → HasFaultIn part offer limit before packet kind → ⊥
-  no_such_fault false offer limit before (payload bytes) r = quiet kind (capability_checks offer (is_none (commands_of before)) (text_of bytes))
-      (quiet_capability kind itself offer _ _) r
+  no_such_fault false offer limit before (payload bytes) r = search (rules, quiet, quiet_capability, itself)
   no_such_fault false offer limit before delim r = quiet kind (part_checks offer (commands_of before) (has_format before)) (quiet_part kind itself offer _ _) r
   no_such_fault false offer limit before flush r = quiet kind (flush_checks_in false offer before) (quiet_flush kind itself false offer before) r.1
   no_such_fault false offer limit before resp_end r = subst NotOfPackets r strange
-  no_such_fault true offer limit before (payload bytes) r =
-      quiet kind (argument_checks offer limit r.of (kept_in before) (text_of bytes)) (quiet_argument offer limit r.of _ _) r.refuses
+  no_such_fault true offer limit before (payload bytes) r = search (rules, quiet, quiet_argument)
   no_such_fault true offer limit before flush r = quiet kind (flush_checks_in true offer before) (quiet_flush kind itself true offer before) r
   no_such_fault true offer limit before delim r = subst NotOfPackets r strange
   no_such_fault true offer limit before resp_end r = subst NotOfPackets r strange
 
   -- a fault of packets has another name
   pub told_of_packets : (offer : Offer) (limit : ℕ) (packets : List Given) (fault : Fault) → IsTold offer limit packets fault → fault.kind ≡ kind → ⊥
-  told_of_packets offer limit packets fault (inl h) is =
-      no_such_fault (has_delimiter h.lines) offer limit h.lines h.bad.packet (subst (λ (k : Kind). HasFault offer limit h.lines h.bad.packet k) is h.fault)
+  told_of_packets offer limit packets fault (inl h) is = search (rules, no_such_fault)
   told_of_packets offer limit packets fault (inr w) is = subst NotOfPackets (sym is ∙ w.name) strange

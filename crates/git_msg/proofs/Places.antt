@@ -1,5 +1,5 @@
 -- The first place of a list where a test passes.
-use Rattle.std.proofs.Common.{◌≡◌, ℕ, ◌<◌, Bool, true, false, List, length, get_or, Option, Some, None, arith, refl}
+use Rattle.std.proofs.Common.{◌≡◌, ℕ, Bool, true, false, List, length, get_or, Option, Some, None, arith, refl, rules}
 use Rattle.std.proofs.lemmas.Grind.{common_steps}
 use Rattle.std.proofs.lemmas.List.Sums.{position_or_len_is}
 use Rattle.std.specs.List.{position, position_or_len}
@@ -15,9 +15,4 @@ first_place test hay None none =
     position_or_len_is test hay (length hay) 0 (omega arith)
     (λ k low. no_pass (test (get_or hay k 0)) (none k (omega arith) low)) (λ below. absurd (omega (arith, below))) in
     grind (arith, common_steps, all)
-first_place test hay (Some k) found =
-    let within : k < length hay = found.0.high in
-    let at : position_or_len test hay ≡ k =
-    position_or_len_is test hay k 0 (omega (arith, within))
-    (λ i low. no_pass (test (get_or hay i 0)) (found.0.before i (omega arith) low)) (λ below. found.1) in
-    grind (arith, common_steps, at, within)
+first_place test hay (Some k) found = search (rules, position_or_len_is, no_pass)

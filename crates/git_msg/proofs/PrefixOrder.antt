@@ -1,5 +1,5 @@
 -- Lists of texts that are put in order, and what they show.
-use Rattle.std.proofs.Common.{◌≡◌, ℕ, zero, suc, ◌-◌, ◌==◌, ◌<◌, ◌≤◌, Bool, true, false, ◌||◌, if◌then◌else◌, inl, inr, List, [], ◌∷◌, All, length}
+use Rattle.std.proofs.Common.{◌≡◌, ℕ, zero, suc, ◌-◌, ◌==◌, ◌<◌, ◌≤◌, Bool, true, false, ◌||◌, if◌then◌else◌, inl, inr, List, [], ◌∷◌, All, length, rules}
 use Rattle.std.proofs.Common.{map, nat_eq, slice_index_or, refl, sym, ap, ◌∙◌, subst, arith}
 use Rattle.std.specs.List.{list_any, starts_with, AllPairs, dedup, dedup_from}
 use Rattle.std.specs.List.Sorted.{IsPermutation, IsSortedBy, IsPartitionedBy, IsPartitionPoint}
@@ -25,11 +25,7 @@ empty_alike (x ∷ xs) (y ∷ ys) e = refl
 module _ {X : Type 0} (f : X → List ℕ) where
   -- the same texts in another order show the same names
   pub alike_moved : (xs ys : List X) → IsPermutation xs ys → ShowAlike (map f xs) (map f ys)
-  alike_moved xs ys h name =
-      let moved = IsPermutation-map f xs ys h in
-      let empty = empty_alike (map f xs) (map f ys) (length_permutation _ _ moved) in
-      let any = list_any-IsPermutation (starts_with nat_eq name) (map f xs) (map f ys) moved in
-      rw (empty, any) refl
+  alike_moved xs ys h name = search (rules, IsPermutation-map, empty_alike, length_permutation, list_any-IsPermutation)
 
   -- a text that begins with another shows no more names than that one
   abbrev pub same : X → X → Bool
@@ -48,8 +44,7 @@ module _ {X : Type 0} (f : X → List ℕ) where
       → shows name (dedup_from same x xs) ≡ (starts_with nat_eq name (f x) || shows name xs)
       → shows name (if b then dedup_from same k xs else k ∷ dedup_from same x xs)
       ≡ (starts_with nat_eq name (f k) || (starts_with nat_eq name (f x) || shows name xs))
-  kept_step name k x xs true e past next =
-      past ∙ or_less (starts_with nat_eq name (f k)) (starts_with nat_eq name (f x)) (shows name xs) (λ h. begins_trans name (f x) (f k) h e)
+  kept_step name k x xs true e past next = search (rules, or_less, begins_trans)
   kept_step name k x xs false e past next = ap (λ (b : Bool). starts_with nat_eq name (f k) || b) next
 
   kept_from : (name : List ℕ) (k : X) (xs : List X) → shows name (dedup_from same k xs) ≡ (starts_with nat_eq name (f k) || shows name xs)

@@ -1,6 +1,5 @@
 -- A request some of whose prefixes are dropped, and the others moved: it is counted as before.
-use Rattle.std.proofs.Common.{◌≡◌, ℕ, ◌+◌, ◌≤◌, ◌<◌, Bool, true, false, if◌then◌else◌, List, [], ◌∷◌, ◌++◌, All, length, map}
-use Rattle.std.proofs.Common.{ap, sym, ◌∙◌, subst, arith, append_assoc}
+use Rattle.std.proofs.Common.{◌≡◌, ℕ, ◌+◌, ◌≤◌, ◌<◌, Bool, true, false, if◌then◌else◌, List, ◌∷◌, ◌++◌, All, length, map, ap, sym, subst, arith, append_assoc}
 use Rattle.std.specs.List.{dedup, dedup_from, sum_by}
 use Rattle.std.specs.List.Sorted.{IsPermutation}
 use Rattle.std.proofs.lemmas.List.{get_or-map, length-map}
@@ -15,6 +14,7 @@ use Rattle.git_msg.specs.Asked.{LsRefsAsked, arguments_in, bytes_of, command_ask
 use Rattle.git_msg.specs.Kept.{IsCounted}
 use Rattle.git_msg.specs.Prefixes.{Prunes, begins}
 use Rattle.git_msg.proofs.KeptBytes.{all_front, all_back}
+use Rattle.std.proofs.Common.{[], rules}
 
 -- fewer prefixes have fewer bytes, and what holds of each argument holds of fewer
 module _ (P : Arg → Type 0) (make : List ℕ → Arg) where
@@ -37,8 +37,7 @@ module _ (P : Arg → Type 0) (make : List ℕ → Arg) where
 
   pub less_pruned : (xs : List (List ℕ)) → sum_by weight (map make (dedup begins xs)) ≤ sum_by weight (map make xs)
   less_pruned [] = omega arith
-  less_pruned (x ∷ xs) =
-      subst (λ (n : ℕ). sum_by weight (map make (dedup begins (x ∷ xs))) ≤ n) (sym (sum_by-cons weight (make x) (map make xs))) (less_from x xs)
+  less_pruned (x ∷ xs) = search (rules, sum_by-cons, less_from)
 
   to_made : (xs : List (List ℕ)) → All P (map make xs) → All (λ p. P (make p)) xs
   to_made [] h = λ k d below. absurd (omega (arith, below))
@@ -85,10 +84,7 @@ flags q = where_asked q.peel Flag.Peel ++ (where_asked q.symrefs Flag.Symrefs ++
 
 after_flags : (q : LsRefsAsked) (ps : List (List ℕ)) → arguments_in (ls_refs (record q { ref_prefixes = ps })) ≡ flags q ++ map (with_text ref_prefix) ps
 unfolding flags
-after_flags q ps =
-    let prefixes : List Arg = map (with_text ref_prefix) ps in
-    sym (append_assoc (where_asked q.peel Flag.Peel) (where_asked q.symrefs Flag.Symrefs ++ where_asked q.unborn Flag.Unborn) prefixes
-    ∙ ap (λ (args : List Arg). where_asked q.peel Flag.Peel ++ args) (append_assoc (where_asked q.symrefs Flag.Symrefs) (where_asked q.unborn Flag.Unborn) prefixes))
+after_flags q ps = search (rules, append_assoc)
 
 pub counted_pruned : (format : Format) (q : LsRefsAsked) (ps : List (List ℕ)) (kept : ℕ) → Prunes q.ref_prefixes ps → IsCounted format (ls_refs q) kept
     → IsCounted format (ls_refs (record q { ref_prefixes = ps })) kept

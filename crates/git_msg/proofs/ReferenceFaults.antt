@@ -1,11 +1,10 @@
 -- A reference line is taken or refused, not both, and refused by one name.
-use Rattle.std.proofs.Common.{arith, ◌≡◌, ℕ, Option, Some, None, List, [], ◌∷◌, ◌++◌, refl, ap, sym, ◌∙◌, subst, slice_index, codes}
+use Rattle.std.proofs.Common.{arith, ◌≡◌, ℕ, Option, Some, None, List, [], ◌∷◌, ◌++◌, refl, ap, sym, ◌∙◌, slice_index, codes, rules}
 use Rattle.git_names.specs.ObjectName.{ObjectName}
-use Rattle.git_names.specs.RefName.{IsRefName}
 use Rattle.git_names.specs.declared.object_format.Format.{Format}
 use Rattle.git_pkt.specs.declared.fault.Kind.{Kind}
 use Rattle.git_pkt.specs.declared.fault.Kind.TheVariants.{BadLine, BadObjectName, BadRefName}
-use Rattle.git_msg.specs.Checks.{Refuses, Passes}
+use Rattle.git_msg.specs.Checks.{Passes}
 use Rattle.git_msg.specs.References.{Ref, IsAttribute, IsAttributeFault, IsIdText, IsNoIdText, IsReferenceLine, IsReferenceFault, attribute_checks}
 use Rattle.git_msg.specs.References.{reference_checks}
 use Rattle.git_msg.proofs.CheckLaws.{AllFair, passes_or_refuses, one_name, fair_check}
@@ -43,10 +42,7 @@ fair_reference : (format : Format) (words : List (List ℕ)) → AllFair (refere
 unfolding AllFair
 fair_reference format [] = (fair_check ⊥ (Unit {0}) BadLine (λ p q. p), tt)
 fair_reference format (word ∷ []) = (fair_check ⊥ (Unit {0}) BadLine (λ p q. p), tt)
-fair_reference format (id ∷ name ∷ attributes) = (
-  fair_check ((named : Option ObjectName) × IsIdText format id named) (IsNoIdText format id) BadObjectName (λ p q. id_or_none format id p.0 p.1 q),
-  (fair_check (IsRefName name) (¬ IsRefName name) BadRefName (λ p q. q p), fair_attributes format attributes),
-)
+fair_reference format (id ∷ name ∷ attributes) = search (rules, fair_check, id_or_none, fair_attributes)
 
 -- a reference line passes its checks
 line_passes : (format : Format) (text : List ℕ) (ref : Ref) → (h : IsReferenceLine format text ref)
@@ -54,10 +50,7 @@ line_passes : (format : Format) (text : List ℕ) (ref : Ref) → (h : IsReferen
 line_passes format text ref h = ((ref.id, h.id_is), (h.name_is, h.attributes_are.passes))
 
 pub reference_or_fault : (format : Format) (text : List ℕ) (ref : Ref) (kind : Kind) → IsReferenceLine format text ref → IsReferenceFault format text kind → ⊥
-reference_or_fault format text ref kind h fault =
-    let words : List (List ℕ) = h.id ∷ ref.name ∷ h.attributes in
-    passes_or_refuses (reference_checks format words) (fair_reference format words) kind (line_passes format text ref h)
-    (subst (λ (ws : List (List ℕ)). Refuses (reference_checks format ws) kind) h.words fault)
+reference_or_fault format text ref kind h fault = search (rules, passes_or_refuses, fair_reference, line_passes)
 
 pub one_reference_fault : (format : Format) (text : List ℕ) (kind other : Kind) → IsReferenceFault format text kind → IsReferenceFault format text other
     → kind ≡ other

@@ -1,11 +1,11 @@
 -- A reference line is one reference.
-use Rattle.std.proofs.Common.{arith, ◌≡◌, ℕ, Option, Some, None, List, ◌∷◌, refl, ap, sym, ◌∙◌, subst, codes}
+use Rattle.std.proofs.Common.{arith, ◌≡◌, ℕ, Option, Some, None, List, ◌∷◌, refl, ap, sym, ◌∙◌, subst, codes, rules}
 use Rattle.git_names.specs.ObjectName.{ObjectName, IsObjectName}
 use Rattle.git_names.specs.declared.object_format.Format.{Format}
 use Rattle.git_names.specs.declared.object_format.Format.TheVariants.{Sha1, Sha256}
 use Rattle.git_names.proofs.ObjectNames.{one_object_name, reads_back-hex_of}
 use Rattle.git_msg.specs.Arguments.{IsNameIn}
-use Rattle.git_msg.specs.References.{Ref, reference_of, IsIdText, IsMaybeObjectName, IsReferenceLine, IsWritable, reference_text, values_of}
+use Rattle.git_msg.specs.References.{Ref, IsIdText, IsMaybeObjectName, IsReferenceLine, IsWritable, reference_text, values_of}
 use Rattle.git_msg.proofs.ReferenceLines.{reads_back}
 use Rattle.git_msg.specs.Texts.{last_of}
 
@@ -18,9 +18,7 @@ pub same_heads : (a b : List ℕ) (more others : List (List ℕ)) → a ∷ more
 same_heads a b more others e = (cc, cc)
 
 same_parts : (a b : Ref) → a.id ≡ b.id → a.name ≡ b.name → a.target ≡ b.target → a.peeled ≡ b.peeled → a ≡ b
-same_parts a b e f g h =
-    ap (λ (x : Option ObjectName). reference_of x a.name a.target a.peeled) e ∙ ap (λ (x : List ℕ). reference_of b.id x a.target a.peeled) f
-    ∙ ap (λ (x : Option (List ℕ)). reference_of b.id b.name x a.peeled) g ∙ ap (λ (x : Option ObjectName). reference_of b.id b.name b.target x) h
+same_parts a b e f g h = search rules
 
 -- `unborn` is no object name
 pub unborn_is_no_name : (format : Format) (id : ObjectName) → IsObjectName format (codes "unborn") id → ⊥

@@ -1,6 +1,6 @@
 -- Reference lines, as they are written.
-use Rattle.std.proofs.Common.{arith, ◌≡◌, ◌≢◌, ℕ, ◌+◌, ◌≤◌, ◌==◌, Bool, true, false, not, ◌&&◌, Option, Some, None, List, [], ◌∷◌, ◌++◌, refl, ap}
-use Rattle.std.proofs.Common.{◌∙◌, subst, append_assoc, length, drop, slice_index, codes, length-append, lit≤}
+use Rattle.std.proofs.Common.{arith, ◌≡◌, ◌≢◌, ℕ, ◌+◌, ◌≤◌, ◌==◌, Bool, true, false, not, ◌&&◌, Option, Some, None, List, [], ◌∷◌, ◌++◌, refl, ap, rules}
+use Rattle.std.proofs.Common.{◌∙◌, subst, append_assoc, length, slice_index, codes, length-append, lit≤}
 use Rattle.std.specs.Prelude.{All}
 use Rattle.std.specs.List.{list_all}
 use Rattle.std.proofs.lemmas.List.{append-nil}
@@ -15,18 +15,16 @@ use Rattle.git_msg.specs.Texts.{spaced_words, last_of}
 use Rattle.git_msg.specs.Checks.{Passes}
 use Rattle.git_msg.proofs.WrittenNames.{digits_at_most}
 use Rattle.git_msg.specs.References.{reference_of, HasFormat, IsAttribute, IsIdText, IsReferenceLine, IsMaybeObjectName, IsWritable, values_of}
-use Rattle.git_msg.specs.References.{attribute_checks}
-use Rattle.git_msg.specs.References.{id_length, id_text, target_text, peeled_text, peeled_count, reference_text}
+use Rattle.git_msg.specs.References.{attribute_checks, id_length, id_text, target_text, peeled_text, peeled_count, reference_text}
 use Rattle.git_msg.proofs.TextParts.{another_byte}
+use Rattle.std.proofs.lemmas.Grind.{common_steps}
 
 pub lacking_is_unspaced : (text : List ℕ) → Lacks text 32 → All (λ c. (c == 32) ≡ false) text
 lacking_is_unspaced text h = All-from_get_or (λ c. (c == 32) ≡ false) text 0 (λ k within. another_byte (slice_index text k) 32 (h k within))
 
 no_digit : (c : ℕ) → IsHexDigit c → c ≢ 32
 unfolding digit_value
-no_digit c h same =
-    let at : IsHexDigit 32 = subst IsHexDigit same h in
-    omega arith
+no_digit c h same = search rules
 
 pub digits_lack_space : (format : Format) (text : List ℕ) (id : ObjectName) → IsObjectName format text id → Lacks text 32
 digits_lack_space format text id h k within = no_digit (slice_index text k) (digits-object_name format text id h k within)
@@ -45,9 +43,7 @@ not_is_true false h = refl
 -- bytes that are tested one by one
 tested : (xs : List ℕ) → list_all (λ c. not (c == 32)) xs ≡ true → All (λ c. (c == 32) ≡ false) xs
 tested [] h = All-nil (λ c. (c == 32) ≡ false)
-tested (x ∷ xs) h =
-    let both = both_true (not (x == 32)) (list_all (λ c. not (c == 32)) xs) h in
-    All-cons (λ c. (c == 32) ≡ false) x xs (not_is_true (x == 32) both.0) (tested xs both.1)
+tested (x ∷ xs) h = grind (arith, common_steps, both_true, All-cons, not_is_true)
 
 -- the words of two parts with a space between
 words_of_two : (a b : List ℕ) → All (λ c. (c == 32) ≡ false) a → spaced_words (a ++ 32 ∷ b) ≡ a ∷ spaced_words b
@@ -62,21 +58,14 @@ target_words (Some name) = (codes "symref-target:" ++ name) ∷ []
 
 -- an attribute of a target that is a reference name
 target_attribute : (format : Format) (name : List ℕ) → IsRefName name → IsAttribute format (codes "symref-target:" ++ name)
-target_attribute format name h = record {
-  target = λ value e. subst (λ (n : List ℕ). IsRefName n) (ap (λ (xs : List ℕ). drop 14 xs) e) h;
-  peeled = λ value e. let first : 115 ≡ 112 = ap (λ (xs : List ℕ). slice_index xs 0) e in absurd (omega arith);
-}
+target_attribute format name h = search rules
 
 -- an attribute of a peeled object
 peeled_attribute : (format : Format) (text : List ℕ) (id : ObjectName) → IsObjectName format text id → IsAttribute format (codes "peeled:" ++ text)
-peeled_attribute format text id h = record {
-  target = λ value e. let first : 112 ≡ 115 = ap (λ (xs : List ℕ). slice_index xs 0) e in absurd (omega arith);
-  peeled = λ value e. (id, subst (λ (n : List ℕ). IsObjectName format n id) (ap (λ (xs : List ℕ). drop 7 xs) e) h);
-}
+peeled_attribute format text id h = search rules
 
 unspaced_target : (name : List ℕ) → IsRefName name → All (λ c. (c == 32) ≡ false) (codes "symref-target:" ++ name)
-unspaced_target name h =
-    All-append (λ c. (c == 32) ≡ false) (codes "symref-target:") name (tested (codes "symref-target:") refl) (lacking_is_unspaced name h.no_space)
+unspaced_target name h = search (rules, All-append, tested, lacking_is_unspaced)
 
 -- the words after the name
 peeled_words : Option ObjectName → List (List ℕ)
@@ -84,8 +73,7 @@ peeled_words None = []
 peeled_words (Some id) = (codes "peeled:" ++ hex_of id) ∷ []
 
 unspaced_peeled : (format : Format) (id : ObjectName) → IsObjectName format (hex_of id) id → All (λ c. (c == 32) ≡ false) (codes "peeled:" ++ hex_of id)
-unspaced_peeled format id h =
-    All-append (λ c. (c == 32) ≡ false) (codes "peeled:") (hex_of id) (tested (codes "peeled:") refl) (digits_are_unspaced format (hex_of id) id h)
+unspaced_peeled format id h = search (rules, All-append, tested, digits_are_unspaced)
 
 behind : List ℕ → List (List ℕ) → List (List ℕ)
 behind word words = word ∷ words
@@ -95,10 +83,7 @@ tail_words : (name : List ℕ) (target : Option (List ℕ)) (peeled : Option Obj
     → spaced_words (name ++ target_text target ++ peeled_text peeled) ≡ name ∷ (target_words target ++ peeled_words peeled)
 unfolding target_words peeled_words
 tail_words name None None h targets names = ap spaced_words (append-nil (name ++ []) ∙ append-nil name) ∙ word_alone name (lacking_is_unspaced name h.no_space)
-tail_words name (Some t) None h targets names =
-    ap spaced_words (append-nil (name ++ 32 ∷ (codes "symref-target:" ++ t)))
-    ∙ words_of_two name (codes "symref-target:" ++ t) (lacking_is_unspaced name h.no_space)
-    ∙ ap (λ (ws : List (List ℕ)). name ∷ ws) (word_alone (codes "symref-target:" ++ t) (unspaced_target t (targets t refl)))
+tail_words name (Some t) None h targets names = search (rules, append-nil, words_of_two, lacking_is_unspaced, word_alone, unspaced_target)
 tail_words name None (Some p) h targets names =
     ap (λ (xs : List ℕ). spaced_words (xs ++ 32 ∷ (codes "peeled:" ++ hex_of p))) (append-nil name)
     ∙ words_of_two name (codes "peeled:" ++ hex_of p) (lacking_is_unspaced name h.no_space)
@@ -136,8 +121,7 @@ unfolding target_words peeled_words
 attributes_pass format None None targets names = tt
 attributes_pass format (Some t) None targets names = (target_attribute format t (targets t refl), tt)
 attributes_pass format None (Some p) targets names = (peeled_attribute format (hex_of p) p (names p refl), tt)
-attributes_pass format (Some t) (Some p) targets names =
-    (target_attribute format t (targets t refl), (peeled_attribute format (hex_of p) p (names p refl), tt))
+attributes_pass format (Some t) (Some p) targets names = grind (arith, common_steps, target_attribute, peeled_attribute)
 
 target_last : (target : Option (List ℕ)) (peeled : Option ObjectName)
     → target ≡ last_of (values_of (codes "symref-target:") (target_words target ++ peeled_words peeled))
@@ -192,18 +176,4 @@ pub room : (id : Option ObjectName) (name : List ℕ) (target : Option (List ℕ
     → IsWritable (reference_of id name target peeled) → length head ≡ 4 → length (id_text id) ≡ id_length id
     → length (peeled_text peeled) ≡ peeled_count peeled → a ≡ head → b ≡ a ++ id_text id → c ≡ b ++ 32 ∷ [] → d ≡ c ++ name → e ≡ d ++ target_text target
     → f ≡ e ++ peeled_text peeled → length f + 1 ≤ 65520
-room id name target peeled a b c d e f head w four first count ha hb hc hd he hf =
-    let most = w.name.at_most in
-    omega (
-      arith,
-      first,
-      id_at_most id,
-      target_fits target w.target,
-      peeled_fits peeled,
-      ap length ha,
-      ap length hb ∙ length-append a (id_text id),
-      ap length hc ∙ length-append b (32 ∷ []),
-      ap length hd ∙ length-append c name,
-      ap length he ∙ length-append d (target_text target),
-      ap length hf ∙ length-append e (peeled_text peeled),
-    )
+room id name target peeled a b c d e f head w four first count ha hb hc hd he hf = search (rules, id_at_most, target_fits, peeled_fits, length-append)

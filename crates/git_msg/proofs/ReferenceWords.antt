@@ -1,7 +1,6 @@
 -- The words of reference lines, one by one.
-use Rattle.std.proofs.Common.{arith, ◌≡◌, ℕ, ◌+◌, ◌-◌, ◌≤◌, ◌==◌}
-use Rattle.std.proofs.Common.{Bool, true, false, Option, Some, None, option_to_list, List, [], ◌∷◌, ◌++◌, refl, ap, sym, ◌∙◌, subst}
-use Rattle.std.proofs.Common.{append_assoc, length, take, drop, codes, inl, inr}
+use Rattle.std.proofs.Common.{[], arith, ◌≡◌, ℕ, ◌+◌, ◌-◌, ◌≤◌, ◌==◌, append_assoc, length, take, drop, codes, inl, inr, rules}
+use Rattle.std.proofs.Common.{Bool, true, false, Option, Some, None, option_to_list, List, ◌∷◌, ◌++◌, refl, ap, sym, ◌∙◌, subst}
 use Rattle.std.specs.Prelude.{if◌then◌else◌}
 use Rattle.std.specs.List.{onto_first}
 use Rattle.std.specs.Str.{bytes_eq}
@@ -11,7 +10,6 @@ use Rattle.std.proofs.lemmas.List.{append-nil, length-append, take-append-drop}
 use Rattle.std.proofs.lemmas.Slice.Eq.{bytes_eq-Decides}
 use Rattle.git_names.specs.ObjectFormat.{digits_of}
 use Rattle.git_names.specs.ObjectName.{ObjectName}
-use Rattle.git_names.specs.RefName.{IsRefName}
 use Rattle.git_names.specs.declared.object_format.Format.{Format}
 use Rattle.git_pkt.specs.declared.fault.Kind.{Kind}
 use Rattle.git_pkt.specs.declared.fault.Kind.TheVariants.{BadObjectName}
@@ -79,9 +77,7 @@ refuses_at format (w ∷ ws) word behind kind h fault = inr (h.0, refuses_at for
 
 values_more : (key : List ℕ) (words : List (List ℕ)) (word : List ℕ) (value : Option (List ℕ)) → value_behind key word ≡ value
     → last_of (values_of key (words ++ word ∷ [])) ≡ later value (last_of (values_of key words))
-values_more key words word value e =
-    ap last_of (filter_map_snoc (value_behind key) words word ∙ ap (λ (o : Option (List ℕ)). values_of key words ++ option_to_list o) e)
-    ∙ last_more (values_of key words) value
+values_more key words word value e = search (rules, filter_map_snoc, last_more)
 
 -- the object name that holds, where one more may have come
 maybe_later : (format : Format) (value last : Option (List ℕ)) (old new : Option ObjectName) → IsPeeledWith format value old new
@@ -118,9 +114,7 @@ left_after text rest word (Some after) h cut = (
 -- a word ends within the text
 pub word_within : (text rest word : List ℕ) (next : Option (List ℕ)) → IsLeftOf text (Some rest) → IsCutAt 32 rest word next
     → (length rest ≤ length text) × (length word ≤ length rest)
-word_within text rest word next h cut =
-    let first = word_first rest word next cut in
-    (omega (arith, ap length h.1 ∙ length-append h.0 rest), omega (arith, ap length first.1 ∙ length-append word first.0))
+word_within text rest word next h cut = search (rules, word_first, length-append)
 
 -- the target that holds, where a word may have one more, which ends with it
 target_later : (text front rest word more : List ℕ) (value : Option (List ℕ)) (end : ℕ) (target : Option Part) → text ≡ front ++ rest → rest ≡ word ++ more
@@ -128,15 +122,12 @@ target_later : (text front rest word more : List ℕ) (value : Option (List ℕ)
     → later value (option_map (part_of text) target) ≡ option_map (part_of text) (target_with value end target)
 unfolding later
 target_later text front rest word more None end target h k at e = refl
-target_later text front rest word more (Some value) end target h k at e =
-    ap Some (part_at_end text front rest word more value end h k at (codes "symref-target:") (value_spelled (codes "symref-target:") word value e))
+target_later text front rest word more (Some value) end target h k at e = search (rules, part_at_end, value_spelled)
 
 target_fits : (word : List ℕ) (value : Option (List ℕ)) (end count : ℕ) (target : Option Part) → length word ≤ end → end ≤ count
     → value_behind (codes "symref-target:") word ≡ value → PartFits count target → PartFits count (target_with value end target)
 target_fits word None end count target h k e fits = fits
-target_fits word (Some value) end count target h k e fits =
-    let spelled = value_spelled (codes "symref-target:") word value e in
-    omega (arith, ap length spelled ∙ length-append (codes "symref-target:") value)
+target_fits word (Some value) end count target h k e fits = search (rules, value_spelled, length-append)
 
 module _ (format : Format) (text : List ℕ) (whole : List (List ℕ)) (rest word : List ℕ) (next : Option (List ℕ)) (old : Found)
     (h : ReadSoFar format text whole (Some rest) old.target old.peeled) (words : spaced_words rest ≡ word ∷ parts_left 32 next) where
@@ -171,9 +162,7 @@ module _ (format : Format) (text : List ℕ) (whole : List (List ℕ)) (rest wor
       }
 
   pub word_refused : (kind : Kind) → IsAttributeFault format word kind → Refuses (attribute_checks format whole) kind
-  word_refused kind fault =
-      subst (λ (ws : List (List ℕ)). Refuses (attribute_checks format ws) kind) (sym (h.whole_is ∙ ap (λ (ws : List (List ℕ)). h.before ++ ws) words))
-      (refuses_at format h.before word (parts_left 32 next) kind h.located.attributes.passes fault)
+  word_refused kind fault = search (rules, refuses_at)
 
 -- a text has a word
 onto_some : (x : ℕ) (ws : List (List ℕ)) → (w : List ℕ) × (rest : List (List ℕ)) × (onto_first x ws ≡ w ∷ rest)
@@ -205,27 +194,7 @@ pub located : (format : Format) (text spelled rest name : List ℕ) (left : Opti
     → BeginsWithName rest name left → places.name_length ≡ length name → AreLocated format text (parts_left 32 left) places.target places.peeled
     → IsReferenceLine format text (reference_at places text) × FitsIn places (length text)
 located format text spelled rest name left places words parted named begins long found =
-    let first = word_first rest name left begins.cut in
-    let digits : length spelled ≡ id_length places.id = id_counted format spelled places.id named in
-    let after_id : drop (id_length places.id + 1) text ≡ rest =
-    ap (λ (n : ℕ). drop (n + 1) text) (sym digits) ∙ ap (λ (xs : List ℕ). drop (length spelled + 1) xs) parted.spelled
-    ∙ drop-append-add spelled (32 ∷ rest) 1 in
-    let name_is : take places.name_length (drop (id_length places.id + 1) text) ≡ name =
-    ap (λ (xs : List ℕ). take places.name_length xs) (after_id ∙ first.1) ∙ ap (λ (n : ℕ). take n (name ++ first.0)) long
-    ∙ take-append_seam name first.0 in (
-      record {
-        id = spelled;
-        attributes = parts_left 32 left;
-        words = words ∙ ap (λ (ws : List (List ℕ)). spelled ∷ ws) (begins.words ∙ ap (λ (n : List ℕ). n ∷ parts_left 32 left) (sym name_is));
-        id_is = named;
-        name_is = subst IsRefName (sym name_is) begins.is_name;
-        attributes_are = found.attributes;
-      },
-      record {
-        name = omega (arith, ap length parted.spelled ∙ length-append spelled (32 ∷ rest), ap length first.1 ∙ length-append name first.0);
-        target = found.fits;
-      },
-    )
+    search (rules, word_first, id_counted, drop-append-add, take-append_seam, length-append)
 
 -- what is left after the object's name and the reference's
 pub left_after_names : (text spelled rest name : List ℕ) (left : Option (List ℕ)) → IsPartedAt 32 text spelled rest → BeginsWithName rest name left

@@ -1,5 +1,5 @@
 -- A line of a response section, or of the response to object-info, is taken or refused, not both, and refused by one name.
-use Rattle.std.proofs.Common.{◌≡◌, ℕ, Option, Some, None, List, ◌∷◌, [], refl, sym, ◌∙◌, subst, codes, inl, inr}
+use Rattle.std.proofs.Common.{◌≡◌, ℕ, Option, Some, None, List, [], ◌∷◌, refl, sym, ◌∙◌, subst, codes, inl, inr, rules}
 use Rattle.std.proofs.lemmas.List.{append_cancel_left}
 use Rattle.git_names.specs.ObjectName.{ObjectName, IsObjectName, IsNoObjectName}
 use Rattle.git_names.specs.RefName.{IsRefName, Lacks}
@@ -89,10 +89,7 @@ fair_unless Q name = fair_check (¬ Q) Q name (λ p q. p q)
 
 fair_line : (format : Format) (P : List ℕ → Type 0) (by_value : Kind) (text : List ℕ) → AllFair (line_checks format P by_value text)
 unfolding AllFair
-fair_line format P by_value text = (
-  fair_unless (Lacks text 32) BadLine,
-  (fair_unless (BeginsWithNoName format text) BadObjectName, (fair_unless (BeginsWithName format P text) by_value, tt)),
-)
+fair_line format P by_value text = search (rules, fair_unless)
 
 -- what begins with a name has a space, and no other name before it
 has_space : (format : Format) (P : List ℕ → Type 0) (text : List ℕ) → BeginsWithName format P text → ¬ Lacks text 32
@@ -124,8 +121,7 @@ line_or_fault format P by_value text named value kind h good fault =
 
 one_line_fault : (format : Format) (P : List ℕ → Type 0) (by_value : Kind) (text : List ℕ) (kind other : Kind)
     → Refuses (line_checks format P by_value text) kind → Refuses (line_checks format P by_value text) other → kind ≡ other
-one_line_fault format P by_value text kind other h k =
-    one_name (line_checks format P by_value text) (fair_line format P by_value text) kind other h k
+one_line_fault format P by_value text kind other h k = search (rules, one_name, fair_line)
 
 by_its_name : (format : Format) (P : List ℕ → Type 0) (by_value : Kind) (text : List ℕ) → BeginsWithNoName format text
     → Refuses (line_checks format P by_value text) BadObjectName
@@ -147,14 +143,11 @@ wanted_refusal format text kind h = absurd h
 
 pub wanted_or_fault : (format : Format) (text : List ℕ) (wanted : Wanted) (kind : Kind) → IsWantedLine format text wanted
     → IsWantedFault format text kind → ⊥
-wanted_or_fault format text wanted kind h fault =
-    line_or_fault format (λ name. ¬ IsRefName name) BadRefName text wanted.id wanted.name kind (wanted_begins format text wanted h) (λ bad. bad h.name_is)
-    (wanted_refusal format text kind fault)
+wanted_or_fault format text wanted kind h fault = search (rules, line_or_fault, wanted_begins, wanted_refusal)
 
 pub one_wanted_fault : (format : Format) (text : List ℕ) (kind other : Kind) → IsWantedFault format text kind → IsWantedFault format text other
     → kind ≡ other
-one_wanted_fault format text kind other h k =
-    one_line_fault format (λ name. ¬ IsRefName name) BadRefName text kind other (wanted_refusal format text kind h) (wanted_refusal format text other k)
+one_wanted_fault format text kind other h k = search (rules, one_line_fault, wanted_refusal)
 
 -- a size, or nothing, after its object
 abbrev info_checks : Format → List ℕ → List Check
@@ -176,5 +169,4 @@ info_or_fault format text info kind h fault =
     (info_refusal format text kind fault)
 
 pub one_info_fault : (format : Format) (text : List ℕ) (kind other : Kind) → IsInfoFault format text kind → IsInfoFault format text other → kind ≡ other
-one_info_fault format text kind other h k =
-    one_line_fault format IsNoSizeText BadNumber text kind other (info_refusal format text kind h) (info_refusal format text other k)
+one_info_fault format text kind other h k = search (rules, one_line_fault, info_refusal)

@@ -1,6 +1,6 @@
 -- The lines of fetch's response sections and of the response to object-info: a text is one of them at most, and what is
 -- written reads back.
-use Rattle.std.proofs.Common.{arith, ◌≡◌, ℕ, Option, Some, None, List, ◌∷◌, ◌++◌, refl, ap, sym, ◌∙◌, subst, drop, slice_index, codes}
+use Rattle.std.proofs.Common.{arith, ◌≡◌, ℕ, Option, Some, None, List, ◌∷◌, ◌++◌, refl, ap, ◌∙◌, subst, slice_index, codes, rules}
 use Rattle.std.proofs.lemmas.List.{append_cancel_left}
 use Rattle.git_names.specs.ObjectName.{ObjectName, IsObjectName, hex_of}
 use Rattle.git_names.specs.RefName.{IsRefName}
@@ -18,9 +18,7 @@ use Rattle.git_msg.proofs.WrittenNames.{hex_of-reads_back}
 
 -- after a word comes one object name
 one_named : (word : List ℕ) (format : Format) (text : List ℕ) (a b : ObjectName) → IsNamed word format text a → IsNamed word format text b → a ≡ b
-one_named word format text a b h k =
-    let same = append_cancel_left word h.value k.value (sym h.spelled ∙ k.spelled) in
-    one_object_name format k.value a b (subst (λ (name : List ℕ). IsObjectName format name a) same h.holds) k.holds
+one_named word format text a b h k = search (rules, append_cancel_left, one_object_name)
 
 -- what is written of an object after a word
 named_reads_back : (word : List ℕ) (format : Format) (id : ObjectName) → IsNameIn format id → IsNamed word format (word ++ hex_of id) id
@@ -58,10 +56,7 @@ pub record BeginsWith (format : Format) (text : List ℕ) (named : ObjectName) (
 -- in one way
 one_beginning : (format : Format) (text : List ℕ) (a b : ObjectName) (value other : List ℕ) → BeginsWith format text a value
     → BeginsWith format text b other → (a ≡ b) × (value ≡ other)
-one_beginning format text a b value other h k =
-    let both = append_cancel_length h.digits k.digits (32 ∷ value) (32 ∷ other) (h.named_is.count ∙ sym k.named_is.count) (sym h.spelled ∙ k.spelled) in
-    let there : IsObjectName format k.digits a = subst (λ (name : List ℕ). IsObjectName format name a) both.0 h.named_is in
-    (one_object_name format k.digits a b there k.named_is, ap (λ (rest : List ℕ). drop 1 rest) both.1)
+one_beginning format text a b value other h k = search (rules, append_cancel_length, one_object_name)
 
 -- what is written of an object, a space, and any value
 beginning_reads_back : (format : Format) (id : ObjectName) (value : List ℕ) → IsNameIn format id → BeginsWith format (hex_of id ++ 32 ∷ value) id value

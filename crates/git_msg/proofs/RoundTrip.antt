@@ -1,24 +1,22 @@
 -- What is written of a request is read again.
-use Rattle.std.proofs.Common.{arith, ◌≡◌, ◌≢◌, ℕ, ◌+◌, ◌-◌, ◌<◌, ◌≤◌, ◌==◌, ◌&&◌, Bool, true, false, Some, None, List, [], ◌∷◌, ◌++◌, refl, ap, sym}
-use Rattle.std.proofs.Common.{◌∙◌, ◌^◌, subst, length, take, slice_index, codes, decimal, length-append}
-use Rattle.std.specs.Prelude.{All, IsTrue, map, nat_lt, if◌then◌else◌}
-use Rattle.std.proofs.lemmas.Grind.{common_steps}
-use Rattle.std.proofs.lemmas.Bool.Decides.{nat_tests}
+use Rattle.std.proofs.Common.{arith, ◌≡◌, ◌≢◌, ℕ, ◌+◌, ◌<◌, ◌≤◌, Bool, true, false, Some, None, List, [], ◌∷◌, ◌++◌, refl, ap, sym, rules}
+use Rattle.std.proofs.Common.{◌∙◌, ◌^◌, subst, length, slice_index, codes, decimal}
+use Rattle.std.specs.Prelude.{All, IsTrue, map}
 use Rattle.std.proofs.lemmas.List.{append-nil}
 use Rattle.std.proofs.lemmas.List.Elements.{All-head, All-tail}
 use Rattle.std.proofs.lemmas.List.Sums.{sum_by-cons}
-use Rattle.std.proofs.Math.Seq.{take-append_seam}
 use Rattle.git_names.specs.ObjectFormat.{name_of as format_name}
 use Rattle.git_names.specs.ObjectName.{ObjectName, IsObjectName, hex_of}
 use Rattle.git_names.specs.declared.object_format.Format.{Format}
 use Rattle.git_names.specs.declared.object_format.Format.TheVariants.{Sha1, Sha256}
-use Rattle.git_pkt.specs.Packets.{Pkt, flush, delim, text_of}
+use Rattle.git_pkt.specs.Packets.{Pkt, flush, delim}
 use Rattle.git_pkt.specs.Splits.{Given}
+use Rattle.git_pkt.proofs.Texts.{text_of-line_end}
 use Rattle.git_msg.specs.declared.offers.Offer.{Offer}
 use Rattle.git_msg.specs.declared.arguments.Command.{Command}
 use Rattle.git_msg.specs.declared.arguments.Command.TheVariants.{LsRefs, Fetch, ObjectInfo}
 use Rattle.git_msg.specs.declared.flags.Flag.{Flag}
-use Rattle.git_msg.specs.declared.capability_key.Key.TheVariants.{CommandKey, AgentKey, ObjectFormatKey}
+use Rattle.git_msg.specs.declared.capability_key.Key.TheVariants.{AgentKey}
 use Rattle.git_msg.specs.Texts.{Follows, IsErrorText}
 use Rattle.git_msg.specs.Arguments.{Shape, flag_word, object_name, depth_number, time_number, prefix_text, kept_text, reference_name, row, MayFollow}
 use Rattle.git_msg.specs.Arguments.{Word, of_flag, Arg, Value, no_value, id_value, number_value, text_value, SaysValue}
@@ -28,7 +26,7 @@ use Rattle.git_msg.specs.Advertisement.{takes_command}
 use Rattle.git_msg.specs.Asked.{Asked, command_asked, asked_by, arguments_in, bytes_of, written_bytes, HasValues, AreOffered}
 use Rattle.git_msg.specs.Lines.{Line, command, agent, object_format, delimiter, argument, is_none, is_delimiter, command_in, argument_in, commands_of}
 use Rattle.git_msg.specs.Lines.{arguments_of, kept_in, has_format, has_delimiter, long_of, end_checks, flush_checks_in, IsCapabilityLine}
-use Rattle.git_msg.specs.Lines.{IsArgumentLine, IsFormatMeant, IsLine, IsLineIn}
+use Rattle.git_msg.specs.Lines.{IsArgumentLine, IsFormatMeant, IsLine}
 use Rattle.git_msg.specs.JudgedLine.{IsText}
 use Rattle.git_msg.specs.Checks.{Passes}
 use Rattle.git_msg.specs.Requests.{AreLines, Asks}
@@ -39,33 +37,6 @@ use Rattle.git_msg.proofs.WrittenNames.{hex_of-reads_back}
 use Rattle.git_msg.proofs.LineLaws.{names_taken}
 use Rattle.git_msg.proofs.LineLists.{commands_snoc, delimiter_snoc, format_snoc, kept_snoc, argument_is_line, capability_is_line}
 
-chosen : (a b : Bool) (x y : List ℕ) → a ≡ true → b ≡ true → (if a && b then x else y) ≡ x
-chosen true true x y h k = refl
-chosen true false x y h k = cc
-chosen false b x y h k = cc
-
-positive : (n : ℕ) → 0 < n → nat_lt 0 n ≡ true
-positive n h = grind (arith, nat_tests)
-
-same_ten : (c : ℕ) → c ≡ 10 → (c == 10) ≡ true
-same_ten c h = grind (arith, nat_tests)
-
-last_byte : (text : List ℕ) (c : ℕ) → slice_index (text ++ c ∷ []) (length text) ≡ c
-last_byte text c = grind (arith, common_steps)
-
--- the text of a line that was written
-text_of_line : (text : List ℕ) → text_of (text ++ 10 ∷ []) ≡ text
-text_of_line text =
-    let n : length (text ++ 10 ∷ []) ≡ length text + 1 = length-append text (10 ∷ []) in
-    let less : length (text ++ 10 ∷ []) - 1 ≡ length text = omega arith in
-    let some : nat_lt 0 (length (text ++ 10 ∷ [])) ≡ true = positive (length (text ++ 10 ∷ [])) (omega arith) in
-    let last : (slice_index (text ++ 10 ∷ []) (length (text ++ 10 ∷ []) - 1) == 10) ≡ true =
-    same_ten (slice_index (text ++ 10 ∷ []) (length (text ++ 10 ∷ []) - 1))
-    (ap (λ (k : ℕ). slice_index (text ++ 10 ∷ []) k) less ∙ last_byte text 10) in
-    chosen (nat_lt 0 (length (text ++ 10 ∷ []))) (slice_index (text ++ 10 ∷ []) (length (text ++ 10 ∷ []) - 1) == 10)
-    (take (length (text ++ 10 ∷ []) - 1) (text ++ 10 ∷ [])) (text ++ 10 ∷ []) some last
-    ∙ ap (λ (k : ℕ). take k (text ++ 10 ∷ [])) less ∙ take-append_seam text (10 ∷ [])
-
 -- the packets end with a flush, and those before it are lines
 record Finishes (offer : Offer) (limit : ℕ) (before : List Line) (gs : List Given) (lines : List Line) : Type 0 where
   front : List Given
@@ -74,53 +45,30 @@ record Finishes (offer : Offer) (limit : ℕ) (before : List Line) (gs : List Gi
   ends : last.packet ≡ flush
   taken : AreLines offer limit before front lines
 
-one_line_more : (offer : Offer) (limit : ℕ) (before : List Line) (g : Given) (gs : List Given) (line : Line) (lines : List Line)
-    → IsLine offer limit before g.packet line → Finishes offer limit (before ++ line ∷ []) gs lines
-    → Finishes offer limit before (g ∷ gs) (line ∷ lines)
-one_line_more offer limit before g gs line lines is h = record {
-  front = g ∷ h.front;
-  last = h.last;
-  whole = ap (λ (xs : List Given). g ∷ xs) h.whole;
-  ends = h.ends;
-  taken = (is, h.taken);
-}
-
 abbrev packets_of : List Given → List Pkt
 packets_of gs = map (λ g. g.packet) gs
-
--- the first of the packets, and the others
-record Splits (gs : List Given) (p : Pkt) (ps : List Pkt) : Type 0 where
-  first : Given
-  others : List Given
-  whole : gs ≡ first ∷ others
-  is_first : first.packet ≡ p
-  are_others : packets_of others ≡ ps
-
-split : (gs : List Given) (p : Pkt) (ps : List Pkt) → packets_of gs ≡ p ∷ ps → Splits gs p ps
-split [] p ps h = cc
-split (g ∷ gs) p ps h = record { first = g; others = gs; whole = refl; is_first = cc; are_others = cc }
 
 -- a packet more in front
 cons_line : (offer : Offer) (limit : ℕ) (before : List Line) (gs : List Given) (p : Pkt) (ps : List Pkt) (line : Line) (lines : List Line)
     → packets_of gs ≡ p ∷ ps → IsLine offer limit before p line
     → ((others : List Given) → packets_of others ≡ ps → Finishes offer limit (before ++ line ∷ []) others lines)
     → Finishes offer limit before gs (line ∷ lines)
-cons_line offer limit before gs p ps line lines h is rest =
-    let s = split gs p ps h in
-    subst (λ (xs : List Given). Finishes offer limit before xs (line ∷ lines)) (sym s.whole)
-    (one_line_more offer limit before s.first s.others line lines
-    (subst (λ (x : Pkt). IsLine offer limit before x line) (sym s.is_first) is) (rest s.others s.are_others))
+cons_line offer limit before [] p ps line lines h is rest = absurd (cc)
+cons_line offer limit before (g ∷ gs) p ps line lines h is rest =
+    let same : g.packet ≡ p = cc in
+    let later = rest gs (cc) in
+    record {
+      front = g ∷ later.front;
+      last = later.last;
+      whole = ap (λ (xs : List Given). g ∷ xs) later.whole;
+      ends = later.ends;
+      taken = (rw same is, later.taken);
+    }
 
 -- the flush alone
 only_flush : (offer : Offer) (limit : ℕ) (before : List Line) (gs : List Given) → packets_of gs ≡ flush ∷ [] → Finishes offer limit before gs []
-only_flush offer limit before gs h =
-    let s = split gs flush [] h in
-    let none : s.others ≡ [] = no_packets s.others s.are_others in
-    record { front = []; last = s.first; whole = s.whole ∙ ap (λ (xs : List Given). s.first ∷ xs) none; ends = s.is_first; taken = tt }
-  where
-    no_packets : (xs : List Given) → packets_of xs ≡ [] → xs ≡ []
-    no_packets [] e = refl
-    no_packets (x ∷ xs) e = cc
+only_flush offer limit before (g ∷ []) h = record { front = []; last = g; whole = refl; ends = cc; taken = tt }
+only_flush offer limit before gs h = absurd (cc)
 
 not_error : (text : List ℕ) → slice_index text 0 ≢ 69 → ¬ IsErrorText text
 not_error text h e = h (ap (λ (xs : List ℕ). slice_index xs 0) e.spelled)
@@ -139,8 +87,7 @@ name_says word format id value = record { value = hex_of id; spelled = refl; hol
 
 number_says : (word : List ℕ) (InRange : ℕ → Type 0) (number : ℕ) → number < 2 ^ 64 → InRange number
     → Follows word (λ digits. IsNumberIn InRange digits number) (word ++ decimal number)
-number_says word InRange number small value =
-    record { value = decimal number; spelled = refl; holds = record { is_number = decimal_reads_back number small; in_range = value } }
+number_says word InRange number small value = search (rules, decimal_reads_back)
 
 -- and contains that argument
 value_says : (shape : Shape) (word : List ℕ) (format : Format) (value : Value) → MayFollow shape format value
@@ -159,8 +106,7 @@ written_says format arg value = value_says (row arg.word).shape (row arg.word).k
 
 argument_reads : (c : Command) (offer : Offer) (arg : Arg) → IsValue c offer.format arg → is_offered offer arg ≡ true
     → IsText c offer (written_text arg) arg
-argument_reads c offer arg value offered =
-    record { no_error = written_clean arg; reads = record { is_argument = (value.0, written_says offer.format arg value.1); offered = offered } }
+argument_reads c offer arg value offered = search (rules, written_clean, written_says)
 
 -- the line of an argument, as it is written
 abbrev written_line : Arg → Line
@@ -182,7 +128,7 @@ argument_line_is : (offer : Offer) (limit : ℕ) (c : Command) (before : List Li
     → kept_in before + length (written_text arg) ≤ limit → IsLine offer limit before (text_line (written_text arg)) (written_line arg)
 argument_line_is offer limit c before arg part text fits =
     argument_is_line offer limit before (written_text arg ++ 10 ∷ []) arg (length (written_text arg)) part.behind
-    (subst (λ (t : List ℕ). IsArgumentLine offer limit before t arg (length (written_text arg))) (sym (text_of_line (written_text arg))) (record {
+    (subst (λ (t : List ℕ). IsArgumentLine offer limit before t arg (length (written_text arg))) (sym (text_of-line_end (written_text arg))) (record {
       is_text = record { no_error = text.no_error; of = c; asked = part.once; reads = text.reads };
       long_is = refl;
       fits = fits;
@@ -197,14 +143,12 @@ arguments_finish : (offer : Offer) (limit : ℕ) (c : Command) (before : List Li
     → Finishes offer limit before gs (map written_line args)
 arguments_finish offer limit c before [] gs part texts fits h = only_flush offer limit before gs h
 arguments_finish offer limit c before (arg ∷ args) gs part texts fits h =
-    let line = written_line arg in
-    let whole : bytes_of (arg ∷ args) ≡ length (written_text arg) + bytes_of args = sum_by-cons (λ a. length (written_text a)) arg args in
-    let more : kept_in (before ++ line ∷ []) ≡ kept_in before + length (written_text arg) = kept_snoc before line in
-    let text : IsText c offer (written_text arg) arg = All-head (λ a. IsText c offer (written_text a) a) arg args texts in
-    let others = All-tail (λ a. IsText c offer (written_text a) a) arg args texts in
-    cons_line offer limit before gs (text_line (written_text arg)) (argument_lines args) line (map written_line args) h
-    (argument_line_is offer limit c before arg part text (omega (arith, whole, fits)))
-    (λ gs1 h1. arguments_finish offer limit c (before ++ line ∷ []) args gs1 (in_part_more c before arg part) others (omega (arith, whole, more, fits)) h1)
+    let whole = sum_by-cons (λ a. length (written_text a)) arg args in
+    let more = kept_snoc before (written_line arg) in
+    cons_line offer limit before gs _ _ _ _ h
+    (argument_line_is offer limit c before arg part (All-head (λ a. IsText c offer (written_text a) a) arg args texts) (omega (arith, whole, fits)))
+    (λ gs1 h1. arguments_finish offer limit c (before ++ written_line arg ∷ []) args gs1 (in_part_more c before arg part)
+    (All-tail (λ a. IsText c offer (written_text a) a) arg args texts) (omega (arith, whole, more, fits)) h1)
 
 -- the lines so far are the capability part of a request of this command
 record InFront (c : Command) (before : List Line) : Type 0 where
@@ -217,32 +161,19 @@ delimiter_finish : (offer : Offer) (limit : ℕ) (c : Command) (before : List Li
     → IsFormatMeant offer.format (has_format before) → AreTexts c offer args → bytes_of args ≤ limit → packets_of gs ≡ delim ∷ argument_lines args
     → Finishes offer limit before gs (delimiter ∷ map written_line args)
 delimiter_finish offer limit c before args gs part meant texts fits h =
-    let line : IsLineIn false offer limit before delim delimiter = (ap is_none part.once, (meant, tt)) in
-    let more : kept_in (before ++ delimiter ∷ []) ≡ kept_in before + 0 = kept_snoc before delimiter in
-    let none = part.none_kept in
-    cons_line offer limit before gs delim (argument_lines args) delimiter (map written_line args) h
-    (subst (λ (b : Bool). IsLineIn b offer limit before delim delimiter) (sym part.in_front) line)
+    cons_line offer limit before gs _ _ _ _ h (rw part.in_front (ap is_none part.once, (meant, tt)))
     (λ gs1 h1. arguments_finish offer limit c (before ++ delimiter ∷ []) args gs1
     (record { behind = delimiter_snoc before delimiter; once = commands_snoc before delimiter ∙ append-nil (commands_of before) ∙ part.once })
-    texts (omega (arith, more, none, fits)) h1)
+    texts (omega (arith, kept_snoc before delimiter, part.none_kept, fits)) h1)
 
 -- a capability line that was written
 capability_written : (offer : Offer) (limit : ℕ) (before : List Line) (text : List ℕ) (line : Line) → has_delimiter before ≡ false
     → IsCapabilityLine offer (is_none (commands_of before)) text line → IsLine offer limit before (text_line text) line
-capability_written offer limit before text line in_front is =
-    capability_is_line offer limit before (text ++ 10 ∷ []) line in_front
-    (subst (λ (t : List ℕ). IsCapabilityLine offer (is_none (commands_of before)) t line) (sym (text_of_line text)) is)
+capability_written offer limit before text line in_front is = search (rules, capability_is_line, text_of-line_end)
 
 command_line : (offer : Offer) (c : Command) → IsTrue (is_value (name_of c)) → takes_command offer c ≡ true
     → IsCapabilityLine offer true (codes "command=" ++ name_of c) (command c)
-command_line offer c fits taken = record {
-  no_error = not_error (codes "command=" ++ name_of c) (λ e. omega arith);
-  key = CommandKey;
-  value = Some (name_of c);
-  has_key = record { word = codes "command"; is_capability = (refl, refl, fits); is_word = refl };
-  allowed = (refl, ((c, refl), (names_taken offer (Some (name_of c)) c refl taken, tt)));
-  line_is = refl;
-}
+command_line offer c fits taken = search (rules, not_error, names_taken)
 
 command_written : (offer : Offer) (c : Command) → takes_command offer c ≡ true
     → IsCapabilityLine offer true (codes "command=" ++ name_of c) (command c)
@@ -262,22 +193,8 @@ agent_written offer = record {
 
 format_written_of : (offer : Offer) (format : Format) → offer.format ≡ format
     → IsCapabilityLine offer false (codes "object-format=" ++ format_name format) object_format
-format_written_of offer Sha1 same = record {
-  no_error = not_error (codes "object-format=sha1") (λ e. omega arith);
-  key = ObjectFormatKey;
-  value = Some (codes "sha1");
-  has_key = record { word = codes "object-format"; is_capability = (refl, refl, refl); is_word = refl };
-  allowed = (ap (λ f. Some (format_name f)) (sym same), tt);
-  line_is = tt;
-}
-format_written_of offer Sha256 same = record {
-  no_error = not_error (codes "object-format=sha256") (λ e. omega arith);
-  key = ObjectFormatKey;
-  value = Some (codes "sha256");
-  has_key = record { word = codes "object-format"; is_capability = (refl, refl, refl); is_word = refl };
-  allowed = (ap (λ f. Some (format_name f)) (sym same), tt);
-  line_is = tt;
-}
+format_written_of offer Sha1 same = search (rules, not_error)
+format_written_of offer Sha256 same = search (rules, not_error)
 
 format_written : (offer : Offer) → IsCapabilityLine offer false (codes "object-format=" ++ format_name offer.format) object_format
 format_written offer = format_written_of offer offer.format refl
@@ -303,18 +220,17 @@ format_finish : (offer : Offer) (limit : ℕ) (c : Command) (before : List Line)
     → Finishes offer limit before gs (where_said says_format object_format (delimiter ∷ map written_line args))
 unfolding where_said
 format_finish offer limit c before true args gs part unsaid meant texts fits h =
-    let line = capability_written offer limit before (codes "object-format=" ++ format_name offer.format) object_format part.in_front
-    (subst (λ (b : Bool). IsCapabilityLine offer b (codes "object-format=" ++ format_name offer.format) object_format) (sym (ap is_none part.once))
-    (format_written offer)) in
     let said : has_format (before ++ object_format ∷ []) ≡ true = format_snoc before object_format in
-    cons_line offer limit before gs (format_line offer.format) (delim ∷ argument_lines args) object_format (delimiter ∷ map written_line args) h line
+    cons_line offer limit before gs _ _ _ _ h
+    (capability_written offer limit before (codes "object-format=" ++ format_name offer.format) object_format part.in_front
+    (rw (ap is_none part.once) (format_written offer)))
     (λ gs1 h1. delimiter_finish offer limit c (before ++ object_format ∷ []) args gs1
     (record {
       in_front = delimiter_snoc before object_format ∙ part.in_front;
       once = commands_snoc before object_format ∙ append-nil (commands_of before) ∙ part.once;
       none_kept = omega (arith, kept_snoc before object_format, part.none_kept);
     })
-    (subst (IsFormatMeant offer.format) (sym said) (meant_when_said offer.format)) texts fits h1)
+    (rw said (meant_when_said offer.format)) texts fits h1)
 format_finish offer limit c before false args gs part unsaid meant texts fits h =
     delimiter_finish offer limit c before args gs part (subst (IsFormatMeant offer.format) (sym unsaid) meant) texts fits h
 
@@ -325,9 +241,7 @@ agent_finish : (offer : Offer) (limit : ℕ) (c : Command) (says_agent says_form
     → Finishes offer limit (command c ∷ []) gs (where_said says_agent agent (where_said says_format object_format (delimiter ∷ map written_line args)))
 unfolding where_said
 agent_finish offer limit c true says_format args gs meant texts fits h =
-    cons_line offer limit (command c ∷ []) gs agent_line (where_set says_format (format_line offer.format) (delim ∷ argument_lines args)) agent
-    (where_said says_format object_format (delimiter ∷ map written_line args)) h
-    (capability_written offer limit (command c ∷ []) (codes "agent=git2/1") agent refl (agent_written offer))
+    cons_line offer limit (command c ∷ []) gs _ _ _ _ h (capability_written offer limit (command c ∷ []) _ agent refl (agent_written offer))
     (λ gs1 h1. format_finish offer limit c (command c ∷ agent ∷ []) says_format args gs1
     (record { in_front = refl; once = refl; none_kept = refl }) refl meant texts fits h1)
 agent_finish offer limit c false says_format args gs meant texts fits h =
@@ -341,11 +255,7 @@ lines_finish : (offer : Offer) (limit : ℕ) (c : Command) (says_agent says_form
     → Finishes offer limit [] gs (lines_read says_agent says_format c args)
 unfolding lines_read
 lines_finish offer limit c says_agent says_format args gs meant taken texts fits h =
-    cons_line offer limit [] gs (text_line (codes "command=" ++ name_of c))
-    (where_set says_agent agent_line (where_set says_format (format_line offer.format) (delim ∷ argument_lines args))) (command c)
-    (where_said says_agent agent (where_said says_format object_format (delimiter ∷ map written_line args))) h
-    (capability_written offer limit [] (codes "command=" ++ name_of c) (command c) refl (command_written offer c taken))
-    (λ gs1 h1. agent_finish offer limit c says_agent says_format args gs1 meant texts fits h1)
+    search (rules, cons_line, capability_written, command_written, agent_finish)
 
 -- what lines contain
 record Says (commands : List Command) (args : List Arg) (kept : ℕ) (delimited : Bool) (lines : List Line) : Type 0 where

@@ -1,5 +1,5 @@
 -- The tables of keys and of arguments by their first words: a text is in one row.
-use Rattle.std.proofs.Common.{arith, ◌≡◌, ◌≢◌, ℕ, ◌≤◌, true, false, List, ◌++◌, refl, ap, sym, ◌∙◌, subst, length, drop, codes, inl, inr}
+use Rattle.std.proofs.Common.{arith, ◌≡◌, ◌≢◌, ℕ, ◌≤◌, false, List, ◌++◌, refl, ap, sym, ◌∙◌, subst, length, drop, inl, inr, rules}
 use Rattle.std.proofs.Math.Seq.{drop-append_seam}
 use Rattle.std.proofs.lemmas.Bool.{false_from_ne_true}
 use Rattle.std.proofs.lemmas.Slice.Eq.{bytes_eq-Decides}
@@ -17,11 +17,10 @@ use Rattle.git_msg.specs.declared.arguments.Command.TheVariants.{Fetch}
 use Rattle.git_msg.specs.declared.flags.Flag.{Flag}
 use Rattle.git_msg.specs.declared.capability_key.Key.{Key}
 use Rattle.git_msg.specs.declared.capability_key.Key.TheVariants.{CommandKey, OtherKey}
-use Rattle.git_msg.specs.Arguments.{Word, of_flag, want, words}
+use Rattle.git_msg.specs.Arguments.{Word, of_flag, want, words, command_with, most_text, IsDepth, IsTime, IsNumberIn, IsNoNumberIn, IsKeptText, IsNoKeptText}
 use Rattle.git_msg.specs.Arguments.{Shape, flag_word, object_name, depth_number, time_number, prefix_text, kept_text, reference_name, Row, row}
 use Rattle.git_msg.specs.Arguments.{Arg, Value, no_value, id_value, number_value, text_value, refusal_of, SaysValue, IsNoValue, IsNamed}
-use Rattle.git_msg.specs.Arguments.{command_with, most_text, IsDepth, IsTime, IsNumberIn, IsNoNumberIn, IsKeptText, IsNoKeptText}
-use Rattle.git_msg.specs.Arguments.{SaysArgument, IsArgument, HasName, is_offered, ReadsAs, IsNoArgument, IsUnoffered, IsArgumentFault, IsRowFault}
+use Rattle.git_msg.specs.Arguments.{SaysArgument, IsArgument, HasName, ReadsAs, IsNoArgument, IsUnoffered, IsArgumentFault, IsRowFault}
 use Rattle.git_msg.specs.Texts.{Follows}
 use Rattle.git_msg.specs.Lines.{IsWordOf, key_by}
 use Rattle.git_msg.proofs.DigitValues.{one_number}
@@ -40,14 +39,7 @@ other_word : (text word : List ℕ) → text ≢ word → bytes_eq text word ≡
 other_word text word differ = false_from_ne_true (bytes_eq text word) (λ e. differ ((bytes_eq-Decides text word).0 e))
 
 in_key : (text : List ℕ) (key : Key) → IsWordOf text key → key_by text ≡ key
-in_key text OtherKey h =
-    rw (
-      other_word text (codes "command") h.0,
-      other_word text (codes "agent") h.1.0,
-      other_word text (codes "server-option") h.1.1.0,
-      other_word text
-          (codes "object-format") h.1.1.1.0,
-    ) refl
+in_key text OtherKey h = search (rules, other_word)
 in_key text CommandKey h = ap key_by h
 in_key text key h = ap key_by h
 
@@ -81,8 +73,7 @@ word_heads word rest = refl
 
 -- it is one word
 pub one_word : (line : List ℕ) (word other : Word) → IsHeaded (row word) line → IsHeaded (row other) line → word ≡ other
-one_word line word other h k =
-    let same : Some word ≡ Some other = sym (word_heads word h.rest) ∙ ap word_of (sym h.is ∙ k.is) ∙ word_heads other k.rest in cc
+one_word line word other h k = search (rules, word_heads)
 
 -- an argument's text has its word at its head
 value_headed : (shape : Shape) (word : List ℕ) (format : Format) (line : List ℕ) (value : Value) → SaysValue shape word format line value
@@ -148,12 +139,7 @@ one_value_said reference_name word format line (text_value p) (text_value q) h k
 one_value_said shape word format line a b h k = absurd assumption
 
 says_one : (format : Format) (text : List ℕ) (a b : Arg) → SaysArgument format text a → SaysArgument format text b → a ≡ b
-says_one format text a b h k =
-    let same : a.word ≡ b.word = one_word text a.word b.word (headed format text a h) (headed format text b k) in
-    let there : SaysValue (row a.word).shape (row a.word).keyword format text b.value =
-    subst (λ (w : Word). SaysValue (row w).shape (row w).keyword format text b.value) (sym same) k in
-    let values = one_value_said (row a.word).shape (row a.word).keyword format text a.value b.value h there in
-    ap (λ (v : Value). record { word = a.word; value = v }) values ∙ ap (λ (w : Word). record { word = w; value = b.value }) same
+says_one format text a b h k = search (rules, one_word, headed, one_value_said)
 
 -- an argument's text is one argument
 pub one_argument : (c : Command) (format : Format) (text : List ℕ) (a b : Arg) → IsArgument c format text a → IsArgument c format text b → a ≡ b
@@ -189,11 +175,7 @@ value_or_fault shape word format line value h k = h
 
 by_row : (c : Command) (format : Format) (text : List ℕ) (a : Arg) (kind : Kind) (word : Word) → SaysArgument format text a
     → IsRowFault c format word text kind → ⊥
-by_row c format text a kind word h k =
-    let same : a.word ≡ word = one_word text a.word word (headed format text a h) (refused_headed c format word text kind k) in
-    let there : SaysValue (row word).shape (row word).keyword format text a.value =
-    subst (λ (w : Word). SaysValue (row w).shape (row w).keyword format text a.value) same h in
-    value_or_fault (row word).shape (row word).keyword format text a.value there k.follows
+by_row c format text a kind word h k = search (rules, one_word, headed, refused_headed, value_or_fault)
 
 -- nor is it none
 none_headed : (c : Command) (word : Word) (text : List ℕ) → IsNoArgument c text → (row word).command ≡ c → IsHeaded (row word) text → ⊥
@@ -218,11 +200,7 @@ rows_agree c format word next text kind other h k =
 
 -- an argument whose feature is offered is not one whose feature is not
 offered_or_not : (c : Command) (offer : Offer) (text : List ℕ) (a : Arg) → ReadsAs c offer text a → IsUnoffered c offer text → ⊥
-offered_or_not c offer text a h k =
-    let same = one_argument c offer.format text a k.arg h.is_argument k.is_argument in
-    let offered : is_offered offer k.arg ≡ true = subst (λ (x : Arg). is_offered offer x ≡ true) same h.offered in
-    let unoffered = k.unoffered in
-    absurd (cc)
+offered_or_not c offer text a h k = search (rules, one_argument)
 
 -- an argument, or its fault
 pub argument_or_fault : (c : Command) (offer : Offer) (text : List ℕ) (a : Arg) (kind : Kind) → ReadsAs c offer text a

@@ -1,5 +1,5 @@
 -- What single packets do, from what the parts of the reader promise.
-use Rattle.std.proofs.Common.{arith, ◌≡◌, ℕ, Bool, true, false, not, Option, Some, None, Ok, Err, option_to_list, List, [], ◌∷◌, ◌++◌, refl, ap, sym}
+use Rattle.std.proofs.Common.{◌≡◌, ℕ, Bool, true, false, not, Option, Some, None, Ok, Err, option_to_list, List, [], ◌∷◌, ◌++◌, refl, ap, sym, rules}
 use Rattle.std.proofs.Common.{◌∙◌, subst, inl, inr}
 use Rattle.std.specs.Prelude.{is_some}
 use Rattle.std.proofs.lemmas.List.{append-nil}
@@ -15,14 +15,14 @@ use Rattle.git_msg.specs.declared.reader.Part.{Part}
 use Rattle.git_msg.specs.declared.reader.Part.TheVariants.{Capabilities, Arguments}
 use Rattle.git_msg.specs.declared.reader.RequestReader.{RequestReader}
 use Rattle.git_msg.specs.declared.reader.Taken.TheVariants.{More, Request as TakenRequest}
-use Rattle.git_msg.specs.Asked.{Asked, asked_by}
+use Rattle.git_msg.specs.Asked.{asked_by}
 use Rattle.git_msg.specs.Checks.{Refuses, Passes}
 use Rattle.git_msg.specs.HeldRequest.{IsBounded, IsEmpty, asked_of, command_of, limit_of}
 use Rattle.git_msg.proofs.LineLaws.{no_argument_of}
 use Rattle.git_msg.proofs.BoundedRequests.{one_bound}
-use Rattle.git_msg.specs.Lines.{Line, command, agent, server_option, object_format, delimiter, argument, is_none, commands_of, arguments_of, kept_in}
-use Rattle.git_msg.specs.Lines.{has_format, is_object_format, command_in, argument_in, long_of, is_delimiter, IsLineOf, key_checks, IsCapabilityLine}
-use Rattle.git_msg.specs.Lines.{argument_checks, text_checks, capability_checks, part_checks, end_checks, flush_checks_in, IsLineIn, HasFaultIn}
+use Rattle.git_msg.specs.Lines.{Line, command, agent, server_option, object_format, delimiter, argument, is_none, commands_of, arguments_of}
+use Rattle.git_msg.specs.Lines.{has_format, argument_in, IsLineOf, key_checks, IsCapabilityLine}
+use Rattle.git_msg.specs.Lines.{argument_checks, text_checks, capability_checks, part_checks, end_checks, IsArgumentRefused, HasFault}
 use Rattle.git_msg.specs.RequestReader.{InCapabilities, InArguments, is_nil, fault_in, waits_in, limit_in, kept_so_far}
 use Rattle.git_msg.specs.RequestReaderSteps.{InLines, IsSame, Advances, StepsOn, Notes, IsDue, is_first, with_line, restarted}
 use Rattle.git_msg.proofs.PacketFaults.{not_for_limit_by_capability, not_for_limit_by_end, not_for_limit_by_text}
@@ -81,61 +81,23 @@ text_refused c offer limit kept text kind (inl h) = inl h
 text_refused c offer limit kept text kind (inr (no_error, inl h)) = inr (no_error, inl h)
 text_refused c offer limit kept text kind (inr (no_error, inr h)) = absurd h.1
 
-module _ {A : Type 0} where
-  -- a line that is neither a command nor a format
-  other_line : (lines : List Line) (line : Line) (r : RequestReader A)
-      → command_in line ≡ None → argument_in line ≡ None → long_of line ≡ 0 → is_object_format line ≡ false
-      → is_delimiter line ≡ false → InCapabilities lines r → InCapabilities (lines ++ line ∷ []) (record r { begun = true })
-  other_line lines line r no_cmd no_arg no_long no_format no_bound h = record {
-    before = delimiter_snoc lines line ∙ rw no_bound h.before;
-    begun = snoc_is_some lines line;
-    command = commands_snoc lines line ∙ rw (no_cmd, append-nil) h.command;
-    format = format_snoc lines line ∙ rw no_format h.format;
-    no_argument = arguments_snoc lines line ∙ rw (no_arg, append-nil) h.no_argument;
-    nothing_kept = omega (arith, kept_snoc lines line, no_long, h.nothing_kept);
-  }
+-- what a list of lines says with one line more
+ruleset line_more = (delimiter_snoc, snoc_is_some, commands_snoc, append-nil, format_snoc, arguments_snoc, kept_snoc)
 
+module _ {A : Type 0} where
   noted_in : (text : List ℕ) (line : Line) (lines : List Line) (r : RequestReader A)
       → IsCapabilityLine r.offer (is_first r) text line → InCapabilities lines r → InCapabilities (lines ++ line ∷ []) (with_line line r)
-  noted_in text (command c) lines r is h =
-      let first = first_command r.offer (is_first r) is.key is.value c is.allowed is.line_is in
-      let none : commands_of lines ≡ [] = no_command_list (commands_of lines) (ap is_none h.command ∙ first) in
-      record {
-        before = delimiter_snoc lines (command c) ∙ h.before;
-        begun = snoc_is_some lines (command c);
-        command = commands_snoc lines (command c) ∙ ap (λ cs. cs ++ c ∷ []) none;
-        format = format_snoc lines (command c) ∙ h.format;
-        no_argument = arguments_snoc lines (command c) ∙ rw append-nil h.no_argument;
-        nothing_kept = omega (arith, kept_snoc lines (command c), h.nothing_kept);
-      }
-  noted_in text agent lines r is h = other_line lines agent r refl refl refl refl refl h
-  noted_in text server_option lines r is h = other_line lines server_option r refl refl refl refl refl h
-  noted_in text object_format lines r is h = record {
-    before = delimiter_snoc lines object_format ∙ h.before;
-    begun = snoc_is_some lines object_format;
-    command = commands_snoc lines object_format ∙ rw append-nil h.command;
-    format = format_snoc lines object_format;
-    no_argument = arguments_snoc lines object_format ∙ rw append-nil h.no_argument;
-    nothing_kept = omega (arith, kept_snoc lines object_format, h.nothing_kept);
-  }
+  noted_in text (command c) lines r is h = search (rules, line_more, first_command, no_command_list)
+  noted_in text agent lines r is h = search (rules, line_more)
+  noted_in text server_option lines r is h = search (rules, line_more)
+  noted_in text object_format lines r is h = search (rules, line_more)
   noted_in text delimiter lines r is h = absurd (no_delimiter is.key is.value is.line_is)
   noted_in text (argument arg long) lines r is h = absurd (no_argument_of is.key is.value arg long is.line_is)
 
-  with_line_part : (line : Line) (r : RequestReader A) → (with_line line r).part ≡ r.part
-  with_line_part (command c) r = refl
-  with_line_part line r = refl
-
-  with_line_offer : (line : Line) (r : RequestReader A) → (with_line line r).offer ≡ r.offer
-  with_line_offer (command c) r = refl
-  with_line_offer line r = refl
-
-  with_line_kept : (line : Line) (r : RequestReader A) → kept_so_far (with_line line r) ≡ kept_so_far r
-  with_line_kept (command c) r = refl
-  with_line_kept line r = refl
-
-  with_line_limit : (line : Line) (r : RequestReader A) → limit_in (with_line line r) ≡ limit_in r
-  with_line_limit (command c) r = refl
-  with_line_limit line r = refl
+  with_line_keeps : (line : Line) (r : RequestReader A) → ((with_line line r).part ≡ r.part) × ((with_line line r).offer ≡ r.offer)
+      × (kept_so_far (with_line line r) ≡ kept_so_far r) × (limit_in (with_line line r) ≡ limit_in r)
+  with_line_keeps (command c) r = (refl, refl, refl, refl)
+  with_line_keeps line r = (refl, refl, refl, refl)
 
   in_capabilities : (lines : List Line) (r : RequestReader A) → r.part ≡ Capabilities → InLines r.part lines r → InCapabilities lines r
   in_capabilities lines r part h = subst (λ (x : Part). InLines x lines r) part h
@@ -148,26 +110,17 @@ module _ {A : Type 0} where
       → r.part ≡ Capabilities → IsCapabilityLine r.offer (is_first r) (text_of bytes) line
       → InCapabilities lines r → Advances lines r (payload bytes) (with_line line r)
   advance r bytes line lines part is h =
-      let same : is_none (commands_of lines) ≡ is_first r = ap is_none h.command in
-      let there : IsCapabilityLine r.offer (is_none (commands_of lines)) (text_of bytes) line =
-      subst (λ (b : Bool). IsCapabilityLine r.offer b (text_of bytes) line) (sym same) is in
       record {
         line = line;
-        is_line = capability_is_line r.offer (limit_in r) lines bytes line h.before there;
+        is_line = capability_is_line r.offer (limit_in r) lines bytes line h.before (rw (ap is_none h.command) is);
         no_argument = no_argument_in is.key is.value line is.line_is;
         in_lines = subst (λ (x : Part). InLines x (lines ++ line ∷ []) (with_line line r))
-            (sym (with_line_part line r ∙ part)) (noted_in (text_of bytes) line lines r is h);
+            (sym ((with_line_keeps line r).0 ∙ part)) (noted_in (text_of bytes) line lines r is h);
       }
 
   noted_plain : (r : RequestReader A) (bytes : List ℕ) (offset : ℕ) (line : Line)
       → r.part ≡ Capabilities → IsCapabilityLine r.offer (is_first r) (text_of bytes) line → StepsOn r (payload bytes) offset (Ok More) (with_line line r)
-  noted_plain r bytes offset line part is = record {
-    goes = λ lines h. advance r bytes line lines part is (in_capabilities lines r part h);
-    leaves = stands_ready (with_line line r).part (with_line_part line r ∙ part);
-    offer = with_line_offer line r;
-    limit = with_line_limit line r;
-    within = λ h. omega (arith, h, with_line_limit line r, with_line_kept line r);
-  }
+  noted_plain r bytes offset line part is = search (rules, with_line_keeps, advance, in_capabilities, stands_ready)
 
   pub noted : (r new : RequestReader A) (bytes : List ℕ) (offset : ℕ)
       → r.part ≡ Capabilities → Notes r (text_of bytes) new → StepsOn r (payload bytes) offset (Ok More) new
@@ -175,35 +128,19 @@ module _ {A : Type 0} where
       subst (λ (n : RequestReader A). StepsOn r (payload bytes) offset (Ok More) n) (sym (same_reader _ _ h.new_is))
       (noted_plain r bytes offset h.line part h.is_line)
 
-  refused_plain : (r : RequestReader A) (bytes : List ℕ) (offset : ℕ) (kind : Kind)
-      → r.part ≡ Capabilities → Refuses (capability_checks r.offer (is_first r) (text_of bytes)) kind → StepsOn r (payload bytes) offset (Err kind) r
-  refused_plain r bytes offset kind part refuses = record {
-    goes = λ lines there.
-        let h = in_capabilities lines r part there in
-        let same : is_none (commands_of lines) ≡ is_first r = ap is_none h.command in
-        let fault : HasFaultIn false r.offer (limit_in r) lines (payload bytes) kind =
-        subst (λ (b : Bool). Refuses (capability_checks r.offer b (text_of bytes)) kind) (sym same) refuses in (
-          subst (λ (b : Bool). HasFaultIn b r.offer (limit_in r) lines (payload bytes) kind) (sym h.before) fault,
-          not_for_limit_by_capability r.offer (is_first r) (text_of bytes) kind refuses,
-        );
-    leaves = tt;
-    offer = refl;
-    limit = refl;
-    within = λ h. h;
-  }
+  capability_refused : (lines : List Line) (r : RequestReader A) (bytes : List ℕ) (kind : Kind) → InCapabilities lines r
+      → Refuses (capability_checks r.offer (is_first r) (text_of bytes)) kind → HasFault r.offer (limit_in r) lines (payload bytes) kind
+  capability_refused lines r bytes kind h refuses = rw (h.before, ap is_none h.command) refuses
 
   pub refused : (r new : RequestReader A) (bytes : List ℕ) (offset : ℕ) (kind : Kind)
       → r.part ≡ Capabilities → new ≡ r → Refuses (capability_checks r.offer (is_first r) (text_of bytes)) kind
       → StepsOn r (payload bytes) offset (Err kind) new
-  refused r new bytes offset kind part same h =
-      subst (λ (n : RequestReader A). StepsOn r (payload bytes) offset (Err kind) n) (sym same) (refused_plain r bytes offset kind part h)
+  refused r new bytes offset kind part same h = rw same (search (rules, in_capabilities, capability_refused, not_for_limit_by_capability))
 
   -- what is judged at the end of the capability part, by the lines
   judged : (lines : List Line) (r : RequestReader A) (c : Command)
       → InCapabilities lines r → IsDue r c → Passes (part_checks r.offer (commands_of lines) (has_format lines))
-  judged lines r c h due =
-      let P : List Command → Bool → Type 0 = λ cs b. Passes (part_checks r.offer cs b) in
-      subst (λ (cs : List Command). P cs (has_format lines)) (sym h.command) (subst (λ (b : Bool). P (option_to_list r.command) b) (sym h.format) due.passes)
+  judged lines r c h due = search rules
 
   commands_due : (lines : List Line) (r : RequestReader A) (c : Command) → InCapabilities lines r → IsDue r c → commands_of lines ≡ c ∷ []
   commands_due lines r c h due = h.command ∙ ap option_to_list due.there
@@ -212,28 +149,8 @@ module _ {A : Type 0} where
   pub delimited : (r : RequestReader A) (offset : ℕ) (c : Command) (q : Request A)
       → (bounded : IsBounded q) → r.part ≡ Capabilities → IsDue r c → IsEmpty c r.offer.format (limit_in r) q
       → StepsOn r delim offset (Ok More) (record r { part = Arguments; request = q; bounded = bounded })
-  delimited r offset c q bounded part due empty = record {
-    goes = λ lines there.
-        let h = in_capabilities lines r part there in
-        let line : IsLineIn false r.offer (limit_in r) lines delim delimiter = judged lines r c h due in
-        record {
-          line = delimiter;
-          is_line = subst (λ (b : Bool). IsLineIn b r.offer (limit_in r) lines delim delimiter) (sym h.before) line;
-          no_argument = refl;
-          in_lines = record {
-            behind = delimiter_snoc lines delimiter;
-            command = commands_snoc lines delimiter ∙ rw append-nil (commands_due lines r c h due) ∙ ap (λ x. x ∷ []) (sym empty.command_is);
-            asked = empty.asked ∙ ap (λ args. asked_by c args) (sym (arguments_snoc lines delimiter ∙ rw append-nil h.no_argument))
-                ∙ ap (λ x. asked_by x (arguments_of (lines ++ delimiter ∷ []))) (sym empty.command_is);
-            kept = omega (arith, empty.kept, kept_snoc lines delimiter, h.nothing_kept);
-            format = empty.format_is;
-          };
-        };
-    leaves = (refl, refl);
-    offer = refl;
-    limit = empty.limit_is;
-    within = λ h. omega (arith, empty.kept);
-  }
+  delimited r offset c q bounded part due empty =
+      search (rules, in_capabilities, judged, delimiter_snoc, commands_snoc, append-nil, commands_due, arguments_snoc, kept_snoc)
 
   empty_lines : (next r : RequestReader A) → InCapabilities [] (restarted next r)
   empty_lines next r = record { before = refl; begun = refl; command = refl; format = refl; no_argument = refl; nothing_kept = refl }
@@ -246,109 +163,29 @@ module _ {A : Type 0} where
   -- that flush, refused for what the request asks for
   pub flush_refused : (r : RequestReader A) (offset : ℕ) (c : Command) (q : Request A) (kind : Kind) → r.part ≡ Capabilities → r.begun ≡ true → IsDue r c
       → IsEmpty c r.offer.format (limit_in r) q → Refuses (end_checks (asked_of q)) kind → StepsOn r flush offset (Err kind) r
-  flush_refused r offset c q kind part begun due empty refuses = record {
-    goes = λ lines there.
-        let h = in_capabilities lines r part there in
-        let once = commands_due lines r c h due in
-        let j = judged lines r c h due in
-        let asked : asked_of q ≡ asked_by c (arguments_of lines) = nothing_but lines r c q h empty in
-        let told : Refuses (flush_checks_in false r.offer lines) kind = inr
-        (j.0, inr (j.1.0, inl (c, once, subst (λ (a : Asked). Refuses (end_checks a) kind) asked refuses))) in
-        let some : is_nil lines ≡ false = h.begun ∙ ap not begun in
-        let fault : HasFaultIn false r.offer (limit_in r) lines flush kind = ((λ e. let none : is_nil lines ≡ true = ap is_nil e in cc), told) in (
-          subst (λ (b : Bool). HasFaultIn b r.offer (limit_in r) lines flush kind) (sym h.before) fault,
-          not_for_limit_by_end (asked_of q) kind refuses,
-        );
-    leaves = tt;
-    offer = refl;
-    limit = refl;
-    within = λ h. h;
-  }
+  flush_refused r offset c q kind part begun due empty refuses = search (rules, in_capabilities, commands_due, judged, nothing_but, not_for_limit_by_end)
 
   -- the flush of a request without delimiter
   pub flushed : (r new : RequestReader A) (offset : ℕ) (c : Command) (q : Request A) → r.part ≡ Capabilities → IsDue r c
       → IsEmpty c r.offer.format (limit_in r) q → Passes (end_checks (asked_of q)) → IsEmpty LsRefs r.offer.format (limit_of q) new.request
       → new ≡ restarted new r → StepsOn r flush offset (Ok (TakenRequest q)) new
-  flushed r new offset c q part due empty passes next same = record {
-    goes = λ lines there.
-        let h = in_capabilities lines r part there in
-        let once = commands_due lines r c h due in
-        let j = judged lines r c h due in
-        let asked : asked_of q ≡ asked_by c (arguments_of lines) = nothing_but lines r c q h empty in
-        let checks : Passes (flush_checks_in false r.offer lines) =
-        (j.0, (j.1.0, ((c, once, subst (λ (a : Asked). Passes (end_checks a)) asked passes), tt))) in
-        record {
-          ends = refl;
-          once = once ∙ ap (λ x. x ∷ []) (sym empty.command_is);
-          checks = subst (λ (b : Bool). Passes (flush_checks_in b r.offer lines)) (sym h.before) checks;
-          asked = asked ∙ ap (λ x. asked_by x (arguments_of lines)) (sym empty.command_is);
-          kept = empty.kept ∙ sym h.nothing_kept;
-          format = empty.format_is ∙ ap (λ (x : RequestReader A). x.offer.format) (sym same);
-          fresh = subst (λ (n : RequestReader A). InCapabilities [] n) (sym same) (empty_lines new r);
-          part = ap (λ (x : RequestReader A). x.part) same;
-        };
-    leaves = (ap (λ (x : RequestReader A). fault_in x.part) same, ap (λ (x : RequestReader A). waits_in x.part) same);
-    offer = ap (λ (x : RequestReader A). x.offer) same;
-    limit = next.limit_is ∙ empty.limit_is;
-    within = λ h. (sym next.limit_is, omega (arith, empty.kept), next.kept);
-  }
+  flushed r new offset c q part due empty passes next same = search (rules, in_capabilities, commands_due, judged, nothing_but, empty_lines)
 
   -- the flush after the arguments
   pub completed : (r new : RequestReader A) (offset : ℕ) → r.part ≡ Arguments → Passes (end_checks (asked_of r.request))
       → IsEmpty LsRefs r.offer.format (limit_in r) new.request → new ≡ restarted new r → StepsOn r flush offset (Ok (TakenRequest r.request)) new
-  completed r new offset part passes next same = record {
-    goes = λ lines there.
-        let h = in_arguments lines r part there in
-        let checks : Passes (flush_checks_in true r.offer lines) =
-        ((command_of r.request, h.command, subst (λ (a : Asked). Passes (end_checks a)) h.asked passes), tt) in
-        record {
-          ends = refl;
-          once = h.command;
-          checks = subst (λ (b : Bool). Passes (flush_checks_in b r.offer lines)) (sym h.behind) checks;
-          asked = h.asked;
-          kept = h.kept;
-          format = h.format ∙ ap (λ (x : RequestReader A). x.offer.format) (sym same);
-          fresh = subst (λ (n : RequestReader A). InCapabilities [] n) (sym same) (empty_lines new r);
-          part = ap (λ (x : RequestReader A). x.part) same;
-        };
-    leaves = (ap (λ (x : RequestReader A). fault_in x.part) same, ap (λ (x : RequestReader A). waits_in x.part) same);
-    offer = ap (λ (x : RequestReader A). x.offer) same;
-    limit = next.limit_is;
-    within = λ h. (sym next.limit_is, omega (arith, h, next.limit_is), next.kept);
-  }
+  completed r new offset part passes next same = search (rules, in_arguments, empty_lines)
 
   -- the flush after the arguments, refused for what the request asks for
   pub end_refused : (r : RequestReader A) (offset : ℕ) (kind : Kind) → r.part ≡ Arguments → Refuses (end_checks (asked_of r.request)) kind
       → StepsOn r flush offset (Err kind) r
-  end_refused r offset kind part refuses = record {
-    goes = λ lines there.
-        let h = in_arguments lines r part there in
-        let fault : HasFaultIn true r.offer (limit_in r) lines flush kind =
-        inl (command_of r.request, h.command, subst (λ (a : Asked). Refuses (end_checks a) kind) h.asked refuses) in (
-          subst (λ (b : Bool). HasFaultIn b r.offer (limit_in r) lines flush kind) (sym h.behind) fault,
-          not_for_limit_by_end (asked_of r.request) kind refuses,
-        );
-    leaves = tt;
-    offer = refl;
-    limit = refl;
-    within = λ h. h;
-  }
+  end_refused r offset kind part refuses = search (rules, in_arguments, not_for_limit_by_end)
+
+  -- and an argument's text that is refused
+  argument_refused : (lines : List Line) (r : RequestReader A) (text : List ℕ) (kind : Kind) → InArguments lines r
+      → Refuses (text_checks (command_of r.request) r.offer text) kind → IsArgumentRefused r.offer (limit_in r) lines text kind
+  argument_refused lines r text kind h refuses = search (rules, text_refused)
 
   pub unread : (r : RequestReader A) (bytes : List ℕ) (offset : ℕ) (kind : Kind)
       → r.part ≡ Arguments → Refuses (text_checks (command_of r.request) r.offer (text_of bytes)) kind → StepsOn r (payload bytes) offset (Err kind) r
-  unread r bytes offset kind part refuses = record {
-    goes = λ lines there.
-        let h = in_arguments lines r part there in
-        let fault : HasFaultIn true r.offer (limit_in r) lines (payload bytes) kind = record {
-          of = command_of r.request;
-          asked = h.command;
-          refuses = text_refused (command_of r.request) r.offer (limit_in r) (kept_in lines) (text_of bytes) kind refuses;
-        } in (
-          subst (λ (b : Bool). HasFaultIn b r.offer (limit_in r) lines (payload bytes) kind) (sym h.behind) fault,
-          not_for_limit_by_text (command_of r.request) r.offer (text_of bytes) kind refuses,
-        );
-    leaves = tt;
-    offer = refl;
-    limit = refl;
-    within = λ h. h;
-  }
+  unread r bytes offset kind part refuses = search (rules, in_arguments, argument_refused, not_for_limit_by_text)

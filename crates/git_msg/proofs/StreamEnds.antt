@@ -1,7 +1,7 @@
 -- A reader of requests from bytes whose input ends.
-use Rattle.std.proofs.Common.{arith, ◌≡◌, ◌≢◌, ◌⊎◌, inl, inr, ℕ, ◌+◌, ◌≤◌, true, false, List, [], ◌++◌, length, None, refl, sym, ap, ◌∙◌, subst, append-nil}
+use Rattle.std.proofs.Common.{[], arith, ◌≡◌, ◌≢◌, ◌⊎◌, ℕ, ◌+◌, ◌≤◌, true, false, List, ◌++◌, length, None, refl, sym, ap, ◌∙◌, subst, append-nil, rules}
 use Rattle.std.proofs.Props.{props}
-use Rattle.git_pkt.specs.Splits.{Given, Splits}
+use Rattle.git_pkt.specs.Splits.{Given}
 use Rattle.git_pkt.specs.PacketReader.{ReadsOn, fault_of as packet_fault, is_open, open_length, passes_of, position_of}
 use Rattle.git_pkt.specs.declared.fault.Fault.{Fault}
 use Rattle.git_pkt.specs.declared.fault.Kind.TheVariants.{Truncated}
@@ -11,12 +11,12 @@ use Rattle.git_msg.specs.declared.offers.Offer.{Offer}
 use Rattle.git_msg.specs.Asked.{Asked}
 use Rattle.git_msg.specs.RequestReader.{fault_of as reader_fault, is_waiting, kept_so_far, limit_in}
 use Rattle.git_msg.specs.StreamStages.{HasTaken, takes_bytes}
-use Rattle.git_msg.specs.WholeRequests.{AreRequests}
-use Rattle.git_msg.specs.RequestStreams.{AreAsked, HasRead, IsLeftIn, IsOne, limit_of, offer_of, wants_input}
+use Rattle.git_msg.specs.RequestStreams.{AreAsked, HasRead, IsLeftIn, limit_of, offer_of, wants_input}
 use Rattle.git_msg.specs.declared.streams.RequestStream.{RequestStream}
 use Rattle.git_msg.specs.declared.streams.Stage.{Stage}
 use Rattle.git_msg.specs.declared.streams.Stage.TheVariants.{Between, Failed, Stopped, Within}
 use Rattle.git_msg.proofs.StreamSteps.{cut_read, rest_behind}
+use Rattle.std.proofs.lemmas.Grind.{common_steps}
 
 module _ {A : Type 0} (s : RequestStream A)
     (open_ended : takes_bytes s.stage ≡ true → reader_fault s.requests ≡ None) (ready : takes_bytes s.stage ≡ true → is_waiting s.requests ≡ false)
@@ -83,17 +83,12 @@ module _ {A : Type 0} (old new : RequestStream A) (fault : Fault) (wants : wants
   -- and inside a packet
   pub closed_open : is_open old.packets ≡ true → fault.offset + open_length old.packets ≡ position_of old.packets
       → (used : List ℕ) (asked : List Asked) → HasRead used asked old → HasRead used asked new
-  closed_open opened at used asked h =
-      let holds = (sound_rest old.packets 0 used h.packets h.rest sound h.reads).0 in
-      closed_read used asked h (omega (arith, at, rest_length old.packets h.rest holds)) (inr (some_inside old.packets h.rest holds opened))
+  closed_open opened at used asked h = grind (arith, common_steps, sound_rest, closed_read, rest_length, some_inside)
 
   -- or between two
   pub closed_within : is_open old.packets ≡ false → (old.stage ≡ Between → ⊥) → fault.offset ≡ position_of old.packets
       → (used : List ℕ) (asked : List Asked) → HasRead used asked old → HasRead used asked new
-  closed_within shut within at used asked h =
-      let none = rest_behind old.packets used h.packets h.rest sound shut h.reads in
-      closed_read used asked h (omega (arith, at, ap length none))
-      (inl (some_begun (offer_of old) (limit_of old) h.left h.rest (length used) old.stage wants within h.left_is))
+  closed_within shut within at used asked h = search (rules, rest_behind, closed_read, some_begun)
 
 -- between two requests, with no packet open, nothing is left
 pub nothing_left : {A : Type 0} (s : RequestStream A) → s.stage ≡ Between → packet_fault s.packets ≡ None → is_open s.packets ≡ false
@@ -106,10 +101,4 @@ nothing_left s is sound shut {used = used} h = (
 -- and all that was read is whole requests
 pub all_whole : {A : Type 0} (s : RequestStream A) → s.stage ≡ Between → packet_fault s.packets ≡ None → is_open s.packets ≡ false
     → (used : List ℕ) (asked : List Asked) → HasRead used asked s → AreAsked (offer_of s) (limit_of s) used asked [] []
-all_whole s is sound shut used asked h =
-    let (none_left, no_rest) = nothing_left s is sound shut h in
-    record {
-      packets = h.packets;
-      splits = subst (λ (l : List ℕ). Splits 0 used h.packets l) no_rest h.reads.splits;
-      requests = subst (λ (gs : List Given). AreRequests (IsOne (offer_of s) (limit_of s)) h.packets asked gs) none_left h.requests;
-    }
+all_whole s is sound shut used asked h = grind (arith, common_steps, nothing_left)

@@ -1,5 +1,5 @@
 -- What the bytes used so far ask for, and what is left after the whole requests, by the stage of a reader of them.
-use Rattle.std.proofs.Common.{◌≡◌, ℕ, true, false, List, [], length, Some, None, refl, subst}
+use Rattle.std.proofs.Common.{[], ◌≡◌, ℕ, true, false, List, length, Some, None, refl, rules}
 use Rattle.git_pkt.specs.Splits.{Given}
 use Rattle.git_pkt.specs.Faults.{IsOpen}
 use Rattle.git_pkt.specs.declared.fault.Fault.{Fault}
@@ -34,8 +34,7 @@ left_stopped offer limit left rest end stage quiet sound h = absurd (cc)
 -- a stage with a fault: what is left is refused by it
 left_refused : (offer : Offer) (limit : ℕ) (left : List Given) (rest : List ℕ) (end : ℕ) (fault : Fault) (stage : Stage)
     → fault_in stage ≡ Some fault → IsLeftIn stage offer limit left rest end → IsRefusedAs offer limit left rest end fault
-left_refused offer limit left rest end fault (Failed other) told h =
-    subst (IsRefusedAs offer limit left rest end) (let same : other ≡ fault = cc in same) h
+left_refused offer limit left rest end fault (Failed other) told h = search rules
 left_refused offer limit left rest end fault stage told h = absurd (cc)
 
 module _ {A : Type 0} {used : List ℕ} {asked : List Asked} {s : RequestStream A} (h : HasRead used asked s) where
@@ -45,10 +44,7 @@ module _ {A : Type 0} {used : List ℕ} {asked : List Asked} {s : RequestStream 
 
   -- where more is read, that is lines that begin a request, and bytes of which a packet may come
   pub begun_so_far : wants_input s ≡ true → AreBegun (offer_of s) (limit_of s) h.left × IsOpen h.rest
-  begun_so_far wants = (
-    left_begins (offer_of s) (limit_of s) h.left h.rest (length used) s.stage wants h.left_is,
-    (sound_rest s.packets 0 used h.packets h.rest (h.onward wants).sound h.reads).1,
-  )
+  begun_so_far wants = search (rules, left_begins, sound_rest)
 
   -- between two requests, where no packet has begun, nothing is left
   pub nothing_begun : is_between s ≡ true → is_within_packet s ≡ false → (h.left ≡ []) × (h.rest ≡ [])

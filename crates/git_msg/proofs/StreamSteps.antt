@@ -1,6 +1,6 @@
 -- A reader of requests from bytes, a packet at a time.
-use Rattle.std.proofs.Common.{◌≡◌, ◌≢◌, ℕ, ◌+◌, ◌-◌, ◌<◌, ◌≤◌, true, false, List, [], ◌∷◌, ◌++◌, length, take, drop, length-drop, Some, None}
-use Rattle.std.proofs.Common.{refl, sym, ap, ◌⊎◌, ◌∙◌, subst, append-nil, append_assoc, zero-add, inl, inr, arith}
+use Rattle.std.proofs.Common.{◌≡◌, ◌≢◌, ℕ, ◌+◌, ◌-◌, ◌<◌, ◌≤◌, true, false, List, [], ◌∷◌, ◌++◌, length, take, drop, length-drop, Some, None, rules}
+use Rattle.std.proofs.Common.{refl, sym, ap, ◌⊎◌, ◌∙◌, subst, append-nil, append_assoc, zero-add, inr, arith}
 use Rattle.std.proofs.Props.{props}
 use Rattle.std.proofs.Math.Logic.{∥∥₁_elim, ∥∥₁_prop}
 use Rattle.git_pkt.specs.Faults.{StopsBy}
@@ -18,12 +18,11 @@ use Rattle.git_pkt.proofs.Pieces.{joined, left_of}
 use Rattle.git_pkt.proofs.Streams.{one_split}
 use Rattle.git_msg.specs.declared.offers.Offer.{Offer}
 use Rattle.git_msg.specs.Asked.{Asked}
-use Rattle.git_msg.specs.HeldRequest.{asked_of, kept_of}
 use Rattle.git_msg.specs.Requests.{IsTold}
 use Rattle.git_msg.specs.RequestReader.{Takes, offer_of as offer_in, limit_in, kept_so_far, fault_of as reader_fault, is_waiting}
 use Rattle.git_msg.specs.WholeRequests.{AreRequests}
 use Rattle.git_msg.specs.StreamStages.{AreBegun, Brings, HasTaken, IsBrought, IsWithin, fault_in, goes_on, stage_brought, takes_bytes, stage_is_between}
-use Rattle.git_msg.specs.RequestStreams.{EndsWith, HasRead, IsLeftIn, IsOne, Leaves, asked_by, fault_of, limit_of, offer_of, wants_input}
+use Rattle.git_msg.specs.RequestStreams.{EndsWith, HasRead, IsLeftIn, IsOne, Leaves, asked_by, limit_of, offer_of, wants_input}
 use Rattle.git_msg.specs.RequestStreamSteps.{StepLeaves, Steps}
 use Rattle.git_msg.specs.declared.reader.RequestReader.{RequestReader}
 use Rattle.git_msg.specs.declared.streams.ReadGot.{ReadGot}
@@ -34,14 +33,14 @@ use Rattle.git_msg.specs.declared.streams.Stage.{Stage}
 use Rattle.git_msg.specs.declared.streams.Stage.TheVariants.{Between, Within, Stopped, Failed as FailedStage}
 use Rattle.git_msg.proofs.PacketFaults.{NotOfPackets, told_of_packets}
 use Rattle.git_msg.proofs.WholeRequests.{left_at_the_end, one_more_request, requests_more}
+use Rattle.std.proofs.lemmas.Grind.{common_steps}
 
 -- ---- the reader of packets
 
 -- what ended the reading of a stream from offset 0
 pub stopped_by : (r : PacketReader) (bytes : List ℕ) (given : List Given) (rest : List ℕ) (f : Fault) → packet_fault r ≡ Some f → Reads r 0 bytes given rest
     → StopsBy (length bytes - length rest) rest (length bytes) f.kind f.offset
-stopped_by r bytes given rest f is h =
-    subst (λ (n : ℕ). StopsBy (n - length rest) rest n f.kind f.offset) (zero-add (length bytes)) (stopped r f 0 bytes given rest h is)
+stopped_by r bytes given rest f is h = search (rules, zero-add, stopped)
 
 -- after a whole packet there is no rest
 pub rest_behind : (r : PacketReader) (bytes : List ℕ) (packets : List Given) (rest : List ℕ)
@@ -72,14 +71,12 @@ reading P between within (FailedStage fault) on = absurd (cc)
 -- what is left then is lines that begin a request, if any
 pub left_begins : (offer : Offer) (limit : ℕ) (left : List Given) (rest : List ℕ) (end : ℕ) (stage : Stage)
     → takes_bytes stage ≡ true → IsLeftIn stage offer limit left rest end → AreBegun offer limit left
-left_begins offer limit left rest end = reading (λ (s : Stage). IsLeftIn s offer limit left rest end → AreBegun offer limit left)
-    (λ none. subst (AreBegun offer limit) (sym none) ([], tt)) (λ (some, begun). begun)
+left_begins offer limit left rest end = search (rules, reading)
 
 -- and the bytes after it have no part in it
 pub left_stays : (offer : Offer) (limit : ℕ) (left : List Given) (rest later : List ℕ) (end further : ℕ) (stage : Stage)
     → takes_bytes stage ≡ true → IsLeftIn stage offer limit left rest end → IsLeftIn stage offer limit left later further
-left_stays offer limit left rest later end further =
-    reading (λ (s : Stage). IsLeftIn s offer limit left rest end → IsLeftIn s offer limit left later further) (λ h. h) (λ h. h)
+left_stays offer limit left rest later end further = search (rules, reading)
 
 some_left : (left : List Given) (g : Given) → left ++ g ∷ [] ≢ []
 some_left [] g e = cc
@@ -155,15 +152,11 @@ module _ {A : Type 0} (old new : RequestStream A) (u : List ℕ) (wants : wants_
     (offer : offer_of new ≡ offer_of old) (limit : limit_of new ≡ limit_of old) (used : List ℕ) (asked : List Asked) (h : HasRead used asked old) where
   -- the requests so far are requests by the new reader's offer and limit
   earlier_requests : AreRequests (IsOne (offer_of new) (limit_of new)) h.packets asked h.left
-  earlier_requests =
-      subst (λ (o : Offer). AreRequests (IsOne o (limit_of new)) h.packets asked h.left) (sym offer)
-      (subst (λ (n : ℕ). AreRequests (IsOne (offer_of old) n) h.packets asked h.left) (sym limit) h.requests)
+  earlier_requests = search rules
 
   -- and what is left of the packets is what it was
   left_before : IsLeftIn old.stage (offer_of new) (limit_of new) h.left h.rest (length used)
-  left_before =
-      subst (λ (o : Offer). IsLeftIn old.stage o (limit_of new) h.left h.rest (length used)) (sym offer)
-      (subst (λ (n : ℕ). IsLeftIn old.stage (offer_of old) n h.left h.rest (length used)) (sym limit) h.left_is)
+  left_before = search rules
 
   begun_before : AreBegun (offer_of new) (limit_of new) h.left
   begun_before = left_begins (offer_of new) (limit_of new) h.left h.rest (length used) old.stage wants left_before
@@ -193,32 +186,16 @@ module _ {A : Type 0} (old new : RequestStream A) (u : List ℕ) (wants : wants_
   bytes_read : (rest : List ℕ) (stage : Stage) → new.stage ≡ stage → Reads new.packets 0 (used ++ u) (h.packets ++ []) rest
       → IsLeftIn stage (offer_of new) (limit_of new) h.left rest (length (used ++ u)) → (takes_bytes stage ≡ true → Takes h.left new.requests)
       → HasRead (used ++ u) (asked ++ []) new
-  bytes_read rest stage is stream left_is takes =
-      has_read h.packets h.left rest (asked ++ []) stage is
-      (subst (λ (gs : List Given). Reads new.packets 0 (used ++ u) gs rest) (append-nil h.packets) stream)
-      (subst (λ (qs : List Asked). AreRequests (IsOne (offer_of new) (limit_of new)) h.packets qs h.left) (sym (append-nil asked)) earlier_requests)
-      left_is takes
+  bytes_read rest stage is stream left_is takes = search (rules, has_read, append-nil, earlier_requests)
 
   -- the bytes end no packet
   pub open_read : new.requests ≡ old.requests → new.stage ≡ old.stage → ReadsOn old.packets u [] new.packets → HasRead (used ++ u) (asked ++ []) new
-  open_read same is reads =
-      let (rest, stream) = reads 0 used h.packets h.rest h.reads in
-      bytes_read rest old.stage is stream
-      (left_stays (offer_of new) (limit_of new) h.left h.rest rest (length used) (length (used ++ u)) old.stage wants left_before)
-      (λ on. subst (Takes h.left) (sym same) (h.onward on).takes)
+  open_read same is reads = search (rules, bytes_read, left_stays, left_before)
 
   -- they are refused
   pub refused_read : (fault : Fault) → new.stage ≡ FailedStage fault → packet_fault new.packets ≡ Some fault → fault.kind ≢ Truncated
       → ReadsOn old.packets u [] new.packets → HasRead (used ++ u) (asked ++ []) new
-  refused_read fault is told other reads =
-      let (rest, stream) = reads 0 used h.packets h.rest h.reads in
-      bytes_read rest (FailedStage fault) is stream
-      (inr (inl (record {
-        begun = begun_before;
-        stops = stopped_by new.packets (used ++ u) (h.packets ++ []) rest fault told stream;
-        not_the_end = other;
-      })))
-      (λ on. absurd (cc))
+  refused_read fault is told other reads = search (rules, bytes_read, begun_before, stopped_by)
 
   -- there are none, and the input ends
   pub cut_read : (fault : Fault) → new.stage ≡ FailedStage fault → fault.kind ≡ Truncated → packet_fault old.packets ≡ None
@@ -255,33 +232,14 @@ module _ {A : Type 0} (old new : RequestStream A) (u : List ℕ) (wants : wants_
       with_packet = requests_more (IsOne (offer_of new) (limit_of new)) h.packets (g ∷ []) asked h.left earlier_requests
 
       none_more : AreRequests (IsOne (offer_of new) (limit_of new)) (h.packets ++ g ∷ []) (asked ++ []) (h.left ++ g ∷ [])
-      none_more =
-          subst (λ (qs : List Asked). AreRequests (IsOne (offer_of new) (limit_of new)) (h.packets ++ g ∷ []) qs (h.left ++ g ∷ []))
-          (sym (append-nil asked)) with_packet
+      none_more = search (rules, append-nil, with_packet)
 
       by : (rest : List ℕ) → Reads new.packets 0 (used ++ u) (h.packets ++ g ∷ []) rest → rest ≡ [] → (got : ReadGot A)
           → Brings old.requests g got new.requests → new.stage ≡ stage_brought got → HasRead (used ++ u) (asked ++ asked_by got) new
-      by rest stream none More brings is =
-          let (taken, begun) = brings.brings h.left takes in
-          has_read (h.packets ++ g ∷ []) (h.left ++ g ∷ []) rest (asked ++ []) Within is stream none_more (some_left h.left g, begun) (λ on. taken)
-      by rest stream none (Request request) brings is =
-          let (taken, asks, format) = brings.brings h.left takes in
-          has_read (h.packets ++ g ∷ []) [] rest (asked ++ asked_of request ∷ []) Between is stream
-          (one_more_request (IsOne (offer_of new) (limit_of new)) (h.packets ++ g ∷ []) asked (h.left ++ g ∷ []) (asked_of request) with_packet
-          (kept_of request, asks)) refl (λ on. taken)
-      by rest stream none Stop brings is =
-          has_read (h.packets ++ g ∷ []) (h.left ++ g ∷ []) rest (asked ++ []) Stopped is stream none_more (brings.brings h.left takes, none)
-          (λ on. absurd (cc))
-      by rest stream none (Failed fault) brings is =
-          has_read (h.packets ++ g ∷ []) (h.left ++ g ∷ []) rest (asked ++ []) (FailedStage fault) is stream none_more
-          (inl (record {
-            front = h.left;
-            last = g;
-            whole = refl;
-            begun = begun_before;
-            told = brings.brings h.left takes;
-            no_rest = none;
-          })) (λ on. absurd (cc))
+      by rest stream none More brings is = search (rules, takes, has_read, none_more, some_left)
+      by rest stream none (Request request) brings is = search (rules, takes, has_read, one_more_request, with_packet)
+      by rest stream none Stop brings is = search (rules, has_read, none_more, takes)
+      by rest stream none (Failed fault) brings is = grind (arith, common_steps, has_read, none_more, begun_before, takes)
 
   -- a request that they end is the last in the bytes
   pub packet_counts : (g : Given) (got : ReadGot A) → Brings old.requests g got new.requests → packet_fault new.packets ≡ None
@@ -314,9 +272,7 @@ module _ {A : Type 0} (old mid new : RequestStream A) (piece : List ℕ) (done :
     (more : ℕ) (got : ReadGot A) (steps : Steps mid (take (length piece - done) (drop done piece)) (record { used = more; got = got }) new) where
   pub reads_further : ((used : List ℕ) (asked : List Asked) → HasRead used asked old → HasRead (used ++ take done piece) asked mid)
       → (used : List ℕ) (asked : List Asked) → HasRead used asked old → HasRead (used ++ take (done + more) piece) (asked ++ asked_by got) new
-  reads_further before used asked h =
-      subst (λ (bytes : List ℕ). HasRead bytes (asked ++ asked_by got) new) (joined used piece done more within)
-      (steps.reads (used ++ take done piece) asked (before used asked h))
+  reads_further before used asked h = search (rules, joined)
 
   -- a request that is handed out then is the last in the bytes
   pub counts_further : ((used : List ℕ) (asked : List Asked) → HasRead used asked old → HasRead (used ++ take done piece) asked mid)
@@ -327,19 +283,12 @@ module _ {A : Type 0} (old mid new : RequestStream A) (piece : List ℕ) (done :
 
   -- a fault that what is left of the piece shows, the piece shows
   pub shows_further : wants_input mid ≡ true → (fault : Fault) → got ≡ Failed fault → ShownByFeed fault (done + more) piece
-  shows_further wants fault is =
-      let none : fault_of mid ≡ None = reading (λ (s : Stage). fault_in s ≡ None) refl refl mid.stage wants in
-      let shown = steps.news fault none is in
-      record {
-        not_the_end = shown.not_the_end;
-        one_more = λ too_long. omega (arith, shown.one_more too_long, ap length (left_of piece done within), length-drop done piece);
-      }
+  shows_further wants fault is = search (rules, reading, left_of, length-drop)
 
 -- how a reader is left after a step that is the last of a call
 pub leaves_further : {A : Type 0} (old mid new : RequestStream A) (piece rest : List ℕ) (done more : ℕ) (got : ReadGot A) → got ≢ More
     → StepLeaves got more rest mid new → Leaves got (done + more) piece old new
 leaves_further old mid new piece rest done more More other leaves = absurd (other refl)
-leaves_further old mid new piece rest done more (Request request) other (some, between, shut, format, kept, limit) =
-    (omega (arith, some), between, shut, format, kept, limit)
+leaves_further old mid new piece rest done more (Request request) other (some, between, shut, format, kept, limit) = search rules
 leaves_further old mid new piece rest done more Stop other (some, quiet, none) = (omega (arith, some), quiet, none)
 leaves_further old mid new piece rest done more (Failed fault) other leaves = leaves

@@ -1,15 +1,13 @@
 -- An argument that a program adds passes the checks, or one name refuses it.
-use Rattle.std.proofs.Common.{arith, ◌≡◌, ◌+◌, ◌<◌, ◌≤◌, length, sym, ◌∙◌, inl, inr}
+use Rattle.std.proofs.Common.{arith, ◌≡◌, sym, ◌∙◌, inl, inr, rules}
 use Rattle.git_names.specs.declared.object_format.Format.{Format}
 use Rattle.git_pkt.specs.declared.fault.Kind.{Kind}
-use Rattle.git_pkt.specs.declared.fault.Kind.TheVariants.{TooMuchKept}
 use Rattle.git_msg.specs.declared.arguments.Command.{Command}
 use Rattle.git_msg.specs.declared.requests.Request.{Request}
 use Rattle.git_msg.specs.Arguments.{Shape, object_name, depth_number, time_number, prefix_text, kept_text, reference_name, row, MayFollow, MayNotFollow}
-use Rattle.git_msg.specs.Arguments.{Arg, Value, id_value, number_value, text_value, IsInRange, IsOutOfRange}
-use Rattle.git_msg.specs.Arguments.{IsValue, IsValueFault, written_text}
+use Rattle.git_msg.specs.Arguments.{Arg, Value, id_value, number_value, text_value, IsInRange, IsOutOfRange, IsValue, IsValueFault}
 use Rattle.git_msg.specs.Checks.{Passes, Refuses}
-use Rattle.git_msg.specs.HeldRequest.{add_checks, kept_of, limit_of, command_of, format_of}
+use Rattle.git_msg.specs.HeldRequest.{add_checks}
 use Rattle.git_msg.proofs.CheckLaws.{AllFair, passes_or_refuses, one_name, fair_check}
 use Rattle.git_msg.proofs.Rows.{kept_text_or_none}
 
@@ -42,11 +40,7 @@ value_single c format arg kind other (inr h) (inr k) = range_single format arg k
 module _ {A : Type 0} where
   fair_adding : (request : Request A) (arg : Arg) → AllFair (add_checks request arg)
   unfolding AllFair
-  fair_adding request arg =
-      let long = length (written_text arg) in (
-        record { apart = value_apart (command_of request) (format_of request) arg; single = value_single (command_of request) (format_of request) arg },
-        (fair_check (kept_of request + long ≤ limit_of request) (limit_of request < kept_of request + long) TooMuchKept (λ p q. omega arith), tt),
-      )
+  fair_adding request arg = search (rules, value_apart, value_single, fair_check)
 
   pub added_or_refused : (request : Request A) (arg : Arg) (kind : Kind) → Passes (add_checks request arg) → Refuses (add_checks request arg) kind → ⊥
   added_or_refused request arg kind p r = passes_or_refuses (add_checks request arg) (fair_adding request arg) kind p r

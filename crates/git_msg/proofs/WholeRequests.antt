@@ -1,21 +1,18 @@
 -- Whole requests, one more or one less at a time; and packets are whole requests in one way.
-use Rattle.std.proofs.Common.{◌≡◌, ◌≢◌, ℕ, Bool, true, false, List, [], ◌∷◌, ◌++◌, refl, sym, ap, ◌∙◌, append_assoc, append-nil, subst}
+use Rattle.std.proofs.Common.{◌≡◌, ◌≢◌, ℕ, Bool, true, false, List, [], ◌∷◌, ◌++◌, refl, sym, ap, ◌∙◌, append_assoc, append-nil, subst, rules, arith, inl, inr}
 use Rattle.git_pkt.specs.Packets.{Pkt, flush}
 use Rattle.git_pkt.specs.Splits.{Given}
 use Rattle.git_msg.specs.declared.offers.Offer.{Offer}
 use Rattle.git_msg.specs.Asked.{Asked}
-use Rattle.git_msg.specs.Lines.{Line, IsLine, IsLineIn, has_delimiter}
+use Rattle.git_msg.specs.Lines.{Line, IsLine, IsLineIn}
 use Rattle.git_msg.specs.Requests.{AreLines, Asks}
 use Rattle.git_msg.specs.WholeRequests.{AreRequests}
+use Rattle.git_msg.proofs.Cuts.{same_ends, two_cuts}
 use Rattle.git_msg.proofs.LineLaws.{one_request}
+use Rattle.std.proofs.lemmas.Grind.{common_steps}
 
 pub last_same : (xs ys : List Given) (x y : Given) → xs ++ x ∷ [] ≡ ys ++ y ∷ [] → x ≡ y
-last_same [] [] x y e = cc
-last_same [] (b ∷ []) x y e = absurd (let t : [] ≡ y ∷ [] = cc in cc)
-last_same [] (b ∷ c ∷ ys) x y e = absurd (let t : [] ≡ c ∷ (ys ++ y ∷ []) = cc in cc)
-last_same (a ∷ []) [] x y e = absurd (let t : x ∷ [] ≡ [] = cc in cc)
-last_same (a ∷ c ∷ xs) [] x y e = absurd (let t : c ∷ (xs ++ x ∷ []) ≡ [] = cc in cc)
-last_same (a ∷ xs) (b ∷ ys) x y e = last_same xs ys x y (cc)
+last_same xs ys x y e = (same_ends xs ys x y e).1
 
 module _ (IsOne : List Given → Asked → Type 0) where
   -- further packets after what is left
@@ -83,8 +80,7 @@ flush_is_no_line_in true offer limit before line h = h
 flush_is_no_line_in false offer limit before line h = h
 
 pub flush_is_no_line : (offer : Offer) (limit : ℕ) (before : List Line) (packet : Pkt) (line : Line) → IsLine offer limit before packet line → packet ≢ flush
-flush_is_no_line offer limit before packet line h is =
-    flush_is_no_line_in (has_delimiter before) offer limit before line (subst (λ (p : Pkt). IsLine offer limit before p line) is h)
+flush_is_no_line offer limit before packet line h is = search (rules, flush_is_no_line_in)
 
 pub lines_have_no_flush : (offer : Offer) (limit : ℕ) (before : List Line) (gs : List Given) (lines : List Line) → AreLines offer limit before gs lines
     → NoFlush gs
@@ -106,17 +102,11 @@ record SameFront (xs ys more others : List Given) (l m : Given) : Type 0 where
 
 same_front : (xs ys more others : List Given) (l m : Given) → NoFlush xs → NoFlush ys → l.packet ≡ flush → m.packet ≡ flush
     → xs ++ l ∷ more ≡ ys ++ m ∷ others → SameFront xs ys more others l m
-same_front [] [] more others l m none clear l_ends m_ends e =
-    let same : l ≡ m = cc in record { front = ap (λ (g : Given). g ∷ []) same; back = cc }
-same_front [] (y ∷ ys) more others l m none clear l_ends m_ends e =
-    let same : l ≡ y = cc in absurd (clear.0 (ap (λ (g : Given). g.packet) (sym same) ∙ l_ends))
-same_front (x ∷ xs) [] more others l m none clear l_ends m_ends e =
-    let same : x ≡ m = cc in absurd (none.0 (ap (λ (g : Given). g.packet) same ∙ m_ends))
-same_front (x ∷ xs) (y ∷ ys) more others l m none clear l_ends m_ends e =
-    let tails : xs ++ l ∷ more ≡ ys ++ m ∷ others = cc in
-    let same : x ≡ y = cc in
-    let later = same_front xs ys more others l m none.1 clear.1 l_ends m_ends tails in
-    record { front = ap (λ (g : Given). g ∷ (xs ++ l ∷ [])) same ∙ ap (λ (gs : List Given). y ∷ gs) later.front; back = later.back }
+same_front xs ys more others l m none clear l_ends m_ends e = elim (two_cuts xs ys l m more others e) [
+  | inl here ↦ record { front = cc; back = here.2 }
+  | inr (inl (mid, is, left)) ↦ absurd (flush_inside ys mid xs m none m_ends is)
+  | inr (inr (mid, is, left)) ↦ absurd (flush_inside xs mid ys l clear l_ends is)
+]
 
 -- a whole request is its lines and a flush
 pub whole_then : (offer : Offer) (limit : ℕ) (front more packets : List Given) (q : Asked) (kept : ℕ) (a : Asks offer limit front q kept)
@@ -126,9 +116,7 @@ whole_then offer limit front more packets q kept a e = e ∙ ap (λ (gs : List G
 module _ (offer : Offer) (limit : ℕ) (IsOne : List Given → Asked → Type 0)
     (asks : (front : List Given) (q : Asked) → IsOne front q → (kept : ℕ) × Asks offer limit front q kept) where
   pub none_without_flush : (left : List Given) → NoFlush left → NoRequest IsOne left
-  none_without_flush left none front more q e is =
-      let (kept, a) = asks front q is in
-      flush_inside a.front more left a.last none a.ends (whole_then offer limit front more left q kept a e)
+  none_without_flush left none front more q e is = grind (arith, common_steps, flush_inside, whole_then)
 
   -- packets are one list of requests, and one thing is left after them
   pub one_list_of_requests : (packets : List Given) (asked others : List Asked) (left rest : List Given) → NoRequest IsOne left → NoRequest IsOne rest

@@ -1,4 +1,4 @@
-use Rattle.std.proofs.Common.{rules, Bool, Option, List, ℕ, Result, Ok, Err, inl, inr}
+use Rattle.std.proofs.Common.{rules, Bool, Option, List, ℕ, Result, Ok, Err}
 use Rattle.std.specs.Prelude.{MatchResult}
 use Rattle.std.specs.Option.{option_copied}
 use Rattle.git_pkt.specs.declared.fault.Kind.{Kind}
@@ -15,10 +15,8 @@ by_its_key : (offer : Offer) (first : Bool) (text : List ℕ) (key : Key) (value
     → ¬ IsErrorText text → HasKey text key value
     → MatchResult result (λ noted. Passes (key_checks offer first key value) × IsLineOf key value (line_of noted)) (Refuses (key_checks offer first key value))
     → MatchResult result (λ noted. IsCapabilityLine offer first text (line_of noted)) (Refuses (capability_checks offer first text))
-by_its_key offer first text key value (Ok noted) clean has h =
-    record { no_error = clean; key = key; value = value; has_key = has; allowed = h.0; line_is = h.1 }
-by_its_key offer first text key value (Err kind) clean has h =
-    inr (clean, inr ((has.word, value, has.is_capability), inl (key, value, has, h)))
+by_its_key offer first text key value (Ok noted) clean has h = search rules
+by_its_key offer first text key value (Err kind) clean has h = search rules
 
 pub returns-clause-line : goal.returns-clause-line
 returns-clause-line c =

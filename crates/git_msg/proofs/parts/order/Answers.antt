@@ -1,4 +1,4 @@
-use Rattle.std.proofs.Common.{◌∙◌, arith}
+use Rattle.std.proofs.Common.{◌∙◌, rules}
 use Rattle.std.proofs.lemmas.List.Filters.{All-dedup}
 use Rattle.std.proofs.lemmas.List.Sorted.{All-permutation, length_permutation}
 use Rattle.git_msg.specs.TextPools.{IsEnd, text_at}
@@ -14,10 +14,7 @@ returns-clause-alike g c name =
     (alike_moved (text_at c.args.bytes.now) _ _ c.sort.ensures.permutation name ∙ alike_pruned (text_at c.args.bytes.now) _ name)
 
 pub returns-clause-fewer : goal.returns-clause-fewer
-returns-clause-fewer g c =
-    let fewer = c.prune.ensures.fewer in
-    let moved = length_permutation _ _ c.sort.ensures.permutation in
-    omega (arith, fewer, moved)
+returns-clause-fewer g c = search (rules, length_permutation)
 
 pub returns-clause-sound : goal.returns-clause-sound
 returns-clause-sound g c sound =

@@ -1,8 +1,8 @@
-use Rattle.std.proofs.Common.{arith, refl}
 use Rattle.std.specs.Option.{option_copied}
 use Rattle.git_msg.specs.Texts.{parts_left}
 use Rattle.git_msg.proofs.ReferenceWords.{one_more_word, word_refused}
 use Rattle.git_msg.proofs.reference_lines.read_attributes.Goals as goal
+use Rattle.std.proofs.Common.{rules}
 
 pub returns-in-Err-clause-values : goal.returns-in-Err-clause-values
 returns-in-Err-clause-values c =
@@ -11,13 +11,4 @@ returns-in-Err-clause-values c =
     (option_copied c.split_at_first.result.1) c.words.found h c.split_at_first.ensures.parts c.in-Err.kind c.in-Err.ensures.attribute)
 
 pub words-preserved : goal.words-preserved
-words-preserved c =
-    let h = rw c.in-Some.is at c.words.invariant.read in
-    let spent = rw c.in-Some.is at c.words.invariant.within in
-    record {
-      read = one_more_word c.args.format c.args.text.now (parts_left 32 (option_copied c.args.words)) c.in-Some.rest.now c.split_at_first.result.0.now
-          (option_copied c.split_at_first.result.1) c.words.found h c.split_at_first.ensures.parts _ c.in-Ok.more c.split_at_first.ensures.cut refl
-          c.in-Ok.ensures.attribute;
-      rises = omega arith;
-      within = omega (arith, spent, c.split_at_first.ensures.whole);
-    }
+words-preserved c = search (rules, one_more_word)

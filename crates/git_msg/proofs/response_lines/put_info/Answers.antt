@@ -4,6 +4,4 @@ use Rattle.git_msg.proofs.WrittenNames.{named_in}
 use Rattle.git_msg.proofs.response_lines.put_info.Goals as goal
 
 pub returns-clause-reads_back : goal.returns-clause-reads_back
-returns-clause-reads_back c =
-    let id = c.args.info.now.id in
-    info_reads_back id.format c.args.info.now (named_in id.format _ id c.append_id.ensures.reads_back) (λ size e. search rules)
+returns-clause-reads_back c = search (rules, info_reads_back, named_in)

@@ -1,7 +1,6 @@
-use Rattle.std.proofs.Common.{◌≡◌, ◌∙◌, ap, refl, sym, List, [], ℕ, Bor, unwrap_or}
+use Rattle.std.proofs.Common.{[], ◌≡◌, ◌∙◌, ap, refl, List, ℕ, Bor, unwrap_or, rules}
 use Rattle.std.specs.Option.{option_copied}
 use Rattle.git_msg.specs.Advertisement.{noted_with}
-use Rattle.git_pkt.specs.Packets.{text_of}
 use Rattle.git_msg.proofs.Keys.{key_is, value_is, value_there}
 use Rattle.git_msg.proofs.Noted.{noted_with_is}
 use Rattle.git_msg.proofs.offers.Caps.with.Goals as goal
@@ -13,9 +12,4 @@ pub returns-clause-exact : goal.returns-clause-exact
 returns-clause-exact c = c.with_line.ensures.exact ∙ ap (λ (v : List ℕ). noted_with c.args.self c.args.capability.now.key.now v) (value_at c)
 
 pub returns-clause-notes : goal.returns-clause-notes
-returns-clause-notes c =
-    λ packets line same is.
-    let value = option_copied c.args.capability.now.value in
-    c.with_line.ensures.exact
-    ∙ noted_with_is c.args.self packets line c.args.capability.now.key.now c.unwrap_or-value.result.now same
-    (key_is (text_of line) c.args.capability.now.key.now value is) (value_at c ∙ sym (value_is (text_of line) c.args.capability.now.key.now value is))
+returns-clause-notes c = search (rules, noted_with_is, key_is, value_at, value_is)

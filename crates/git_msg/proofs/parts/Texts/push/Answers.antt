@@ -1,9 +1,6 @@
-use Rattle.std.proofs.Common.{rules, ◌/◌, ◌%◌, length, arith}
+use Rattle.std.proofs.Common.{rules}
 use Rattle.git_msg.proofs.PooledTexts.{texts_more}
 use Rattle.git_msg.proofs.parts.Texts.push.Goals as goal
 
 pub returns-clause-ok : goal.returns-clause-ok
-returns-clause-ok g c =
-    let more = texts_more c.args.self.now.bytes.items c.args.text.now c.args.self.now.ends.items (length c.args.text.now % 256)
-    (length c.args.text.now / 256) c.args.self.now.sound (omega arith) in
-    search (rules, more)
+returns-clause-ok g c = search (rules, texts_more)

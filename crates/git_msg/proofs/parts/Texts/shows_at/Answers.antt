@@ -1,16 +1,10 @@
-use Rattle.std.proofs.Common.{rules, ◌<◌, List, ℕ, subst, ◌∙◌, arith}
-use Rattle.git_msg.specs.HeldTexts.{texts_of}
+use Rattle.std.proofs.Common.{rules, ◌<◌, ◌∙◌, arith}
 use Rattle.git_msg.specs.TextPools.{text_at}
-use Rattle.git_msg.specs.Prefixes.{SplitsAt}
 use Rattle.git_msg.proofs.PrefixOrder.{none_shown, none_counted, last_held}
 use Rattle.git_msg.proofs.parts.Texts.shows_at.Goals as goal
 
 pub returns-then-split-eq0 : goal.returns-then-split-eq0
-returns-then-split-eq0 g c =
-    let texts : List (List ℕ) = texts_of c.args.self.now in
-    let none = none_shown texts c.args.name.now (subst (SplitsAt texts c.args.name.now) c.if-split-eq0.true c.requires.split) in
-    let counted = none_counted texts in
-    search (rules, none, counted)
+returns-then-split-eq0 g c = search (rules, none_shown, none_counted)
 
 pub returns : goal.returns
 returns g c =

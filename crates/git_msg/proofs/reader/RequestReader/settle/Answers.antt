@@ -1,4 +1,4 @@
-use Rattle.std.proofs.Common.{◌≡◌, ◌∙◌, ℕ, ap, length, max, subst}
+use Rattle.std.proofs.Common.{◌≡◌, ◌∙◌, ℕ, ap, length, max, subst, rules}
 use Rattle.git_msg.specs.Arguments.{shown, written_text}
 use Rattle.git_msg.specs.Checks.{Passes}
 use Rattle.git_msg.specs.HeldRequest.{Keeps, IsRefused, keep_checks}
@@ -24,11 +24,4 @@ returns-in-Err-clause-keeps g c =
     c.in-Err.ensures.refused))
 
 pub invariant_of-self : goal.invariant_of-self
-invariant_of-self g c =
-    let same : c.max-length.result ≡ max c.in-Waiting.length (length (written_text (shown c.args.argument.now))) =
-    c.max-length.ensures ∙ ap (λ (n : ℕ). max c.in-Waiting.length n) c.written_length.ensures in
-    record {
-      bounded = still_bounded c.args.self.now.request c.keep.new.self (shown c.args.argument.now) c.in-Waiting.length c.args.self.now.bounded
-          (subst (λ (n : ℕ). Passes (keep_checks c.args.self.now.request (shown c.args.argument.now) n)) same c.in-Ok.ensures.passes)
-          (subst (λ (n : ℕ). Keeps c.args.self.now.request (shown c.args.argument.now) n c.keep.new.self) same c.in-Ok.ensures.kept);
-    }
+invariant_of-self g c = search (rules, still_bounded)

@@ -1,6 +1,6 @@
-use Rattle.std.proofs.Common.{◌≡◌, ap, length, Ok, Err, None}
-use Rattle.git_pkt.specs.Packets.{body_of, seen}
-use Rattle.git_msg.specs.RequestReader.{GivesKeepable, fault_of, fault_in}
+use Rattle.std.proofs.Common.{◌≡◌, ap, Ok, Err, None, rules}
+use Rattle.git_pkt.specs.Packets.{seen}
+use Rattle.git_msg.specs.RequestReader.{fault_of, fault_in}
 use Rattle.git_msg.specs.RequestReaderSteps.{StepsOn}
 use Rattle.git_msg.proofs.TakenPackets.{takes_ok, takes_err}
 use Rattle.git_msg.proofs.reader.RequestReader.take.Goals as goal
@@ -34,9 +34,4 @@ returns-in-Err-clause-takes g c =
     rw (c.refuse.ensures.ends, c.refuse.ensures.fault) (h)
 
 pub returns-in-Ok-clause-keepable : goal.returns-in-Ok-clause-keepable
-returns-in-Ok-clause-keepable g c =
-    let keepable : GivesKeepable (length (body_of (seen c.args.packet))) c.match-self.step c.match-self.self = elim c.match-self.branch [
-      | in-Capabilities w ↦ rw (w.step-is, w.self-is) w.take_capability-step.ensures.keepable
-      | in-Arguments w ↦ rw (w.step-is, w.self-is) w.take_argument-step.ensures.keepable
-    ] in
-    rw c.in-Ok.is at keepable
+returns-in-Ok-clause-keepable g c = search rules

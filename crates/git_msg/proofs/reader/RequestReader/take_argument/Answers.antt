@@ -1,10 +1,9 @@
-use Rattle.std.proofs.Common.{arith, ap, length}
-use Rattle.git_msg.specs.Arguments.{shown}
 use Rattle.git_msg.proofs.KeptArguments.{as_written, text_fits}
 use Rattle.std.proofs.lemmas.Result.{err_from_is_err_and}
 use Rattle.git_msg.proofs.Rows.{argument_has_name}
 use Rattle.git_msg.proofs.StepFacts.{unread, completed, end_refused}
 use Rattle.git_msg.proofs.reader.RequestReader.take_argument.Goals as goal
+use Rattle.std.proofs.Common.{rules}
 
 pub returns-in-Err-clause-goes_on : goal.returns-in-Err-clause-goes_on
 returns-in-Err-clause-goes_on g c =
@@ -13,10 +12,7 @@ returns-in-Err-clause-goes_on g c =
     (unread c.args.self.now c.in-Payload.payload.now c.args.offset c.in-Err.kind c.requires (rw (c.command.ensures, c.text-text.ensures) at h))
 
 pub returns-in_ok-check_end-in-Flush-clause-goes_on : goal.returns-in_ok-check_end-in-Flush-clause-goes_on
-returns-in_ok-check_end-in-Flush-clause-goes_on g c =
-    rw (c.in-Flush.is, c.restart.ensures.given)
-    (completed c.args.self.now c.restart.new.self c.args.offset c.requires c.in_ok-check_end-in-Flush.ensures c.restart.ensures.next
-    c.restart.ensures.new)
+returns-in_ok-check_end-in-Flush-clause-goes_on g c = search (rules, completed)
 
 pub returns-in_err-check_end-in-Flush-clause-goes_on : goal.returns-in_err-check_end-in-Flush-clause-goes_on
 returns-in_err-check_end-in-Flush-clause-goes_on g c =
@@ -25,9 +21,4 @@ returns-in_err-check_end-in-Flush-clause-goes_on g c =
     (end_refused c.args.self.now c.args.offset c.in_err-check_end-in-Flush.field-0.0 c.requires c.in_err-check_end-in-Flush.ensures)
 
 pub returns-in-Ok-clause-keepable : goal.returns-in-Ok-clause-keepable
-returns-in-Ok-clause-keepable g c =
-    let says = c.in-Ok.ensures.argument.reads.is_argument.1 in
-    let written = as_written c.args.self.now.offer.format c.text-text.result.now (shown c.in-Ok.argument) says in
-    let fits = text_fits c.in-Payload.payload.now in
-    let whole = ap length c.text-text.ensures in
-    rw c.in-Payload.is (argument_has_name c.args.self.now.offer.format _ _ says, omega (arith, written, fits, whole))
+returns-in-Ok-clause-keepable g c = search (rules, as_written, text_fits, argument_has_name)

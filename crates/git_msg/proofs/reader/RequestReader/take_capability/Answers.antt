@@ -25,16 +25,7 @@ returns-in_ok-command-in-Delim-clause-goes_on g c =
     c.empty_request.result _ c.requires c.in_ok-command-in-Delim.ensures.command c.empty_request.ensures)
 
 pub returns-in_ok-check_end-in-Flush-clause-goes_on : goal.returns-in_ok-check_end-in-Flush-clause-goes_on
-returns-in_ok-check_end-in-Flush-clause-goes_on g c =
-    rw (c.in-Flush.is, c.restart.ensures.given)
-    (flushed c.args.self.now c.restart.new.self c.args.offset c.in_ok-command-in-Flush.command
-    c.empty_request-request.result c.requires c.in_ok-command-in-Flush.ensures.command
-    c.empty_request-request.ensures c.in_ok-check_end-in-Flush.ensures c.restart.ensures.next c.restart.ensures.new)
+returns-in_ok-check_end-in-Flush-clause-goes_on g c = search (rules, flushed)
 
 pub returns-in_err-check_end-in-Flush-clause-goes_on : goal.returns-in_err-check_end-in-Flush-clause-goes_on
-returns-in_err-check_end-in-Flush-clause-goes_on g c =
-    let p = err_from_is_err_and c.from_residual-in_err-check_end-in-Flush.result c.from_residual-in_err-check_end-in-Flush.ensures.1 in
-    rw (p.1, p.2, c.in-Flush.is)
-    (flush_refused c.args.self.now c.args.offset c.in_ok-command-in-Flush.command
-    c.empty_request-request.result c.in_err-check_end-in-Flush.field-0.0 c.requires (search rules)
-    c.in_ok-command-in-Flush.ensures.command c.empty_request-request.ensures c.in_err-check_end-in-Flush.ensures)
+returns-in_err-check_end-in-Flush-clause-goes_on g c = search (rules, err_from_is_err_and, flush_refused)

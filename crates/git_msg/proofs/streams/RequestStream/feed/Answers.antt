@@ -1,8 +1,6 @@
-use Rattle.std.proofs.Common.{◌≡◌, ◌+◌, ◌++◌, true, false, List, length, take, append-nil, length-drop, arith, ap, sym, ◌∙◌, subst}
+use Rattle.std.proofs.Common.{◌≡◌, true, false, length, append-nil, length-drop, arith, ap, sym, ◌∙◌, rules}
 use Rattle.git_pkt.proofs.Pieces.{left_of}
-use Rattle.git_msg.specs.Asked.{Asked}
-use Rattle.git_msg.specs.RequestStreams.{HasRead, wants_input}
-use Rattle.git_msg.specs.declared.streams.ReadGot.TheVariants.{More}
+use Rattle.git_msg.specs.RequestStreams.{wants_input}
 use Rattle.git_msg.proofs.StreamSteps.{counts_further, leaves_further, reads_further, shows_further, steps_with}
 use Rattle.git_msg.proofs.streams.RequestStream.feed.Goals as goal
 
@@ -10,24 +8,7 @@ true_not_false : true ≡ false → ⊥
 true_not_false e = cc
 
 pub loop-used-preserved : goal.loop-used-preserved
-loop-used-preserved g c =
-    let done = c.loop-used.used in
-    let piece = c.args.piece.now in
-    let more = c.step-step.result.used in
-    let new = c.step-step.new.self in
-    let was = c.loop-used.invariant in
-    let loud : wants_input c.loop-used.self ≡ true = sym c.wants_input.ensures ∙ c.if-wants_input.true in
-    let steps = steps_with c.loop-used.self new _ c.step-step.result More c.in-More.is c.step-step.ensures.steps in
-    record {
-      within = omega (arith, c.step-step.ensures.used, ap length (left_of piece done was.within), length-drop done piece);
-      reads = λ used asked h.
-          subst (λ (qs : List Asked). HasRead (used ++ take (done + more) piece) qs new) (append-nil asked)
-          (reads_further c.args.self.now c.loop-used.self new piece done was.within more More steps was.reads used asked h);
-      same = steps.leaves.1 ∙ sym loud ∙ was.same;
-      nothing = λ quiet. absurd (true_not_false (sym loud ∙ was.same ∙ quiet));
-      offer = steps.offer ∙ was.offer;
-      limit = steps.limit ∙ was.limit;
-    }
+loop-used-preserved g c = search (rules, steps_with, left_of, length-drop, append-nil, reads_further, true_not_false)
 
 pub returns-in_default-got : goal.returns-in_default-got
 returns-in_default-got g c =

@@ -67,16 +67,4 @@ returns-in-Failed-clause-steps g c =
     }
 
 pub returns-in-More-clause-steps : goal.returns-in-More-clause-steps
-returns-in-More-clause-steps g c =
-    let old = c.args.self.now in
-    let piece = c.args.piece.now in
-    let fed = c.feed-fed.result in
-    let feeds = feeds_with old.packets c.feed-fed.follows.lender-at-none piece fed _ c.in-More.is c.feed-fed.follows.holds-at-none in
-    record {
-      reads = λ used asked h. open_read old _ (take fed.used piece) c.requires.waits refl refl used asked h refl refl feeds.reads;
-      counts = λ used asked h. tt;
-      leaves = (search rules, c.requires.waits);
-      news = λ fault none is. absurd (cc);
-      offer = refl;
-      limit = refl;
-    }
+returns-in-More-clause-steps g c = search (rules, feeds_with, open_read)
