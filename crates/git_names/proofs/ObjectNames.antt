@@ -4,14 +4,13 @@ use Rattle.std.proofs.Common.{sym, ap, ◌∙◌, inl, inr, arith}
 use Rattle.std.proofs.lemmas.Bool.{cases_lt}
 use Rattle.std.proofs.lemmas.List.{ext_get_or, get_or-take, take-append-drop, length-append, length-replicate}
 use Rattle.std.proofs.lemmas.List.{length-take, length-take-le, get_or_past, get_or-replicate}
-use Rattle.std.proofs.Math.Seq.{take-append_seam, drop-append_seam}
 use Rattle.git_names.specs.declared.object_format.Format.{Format}
 use Rattle.git_names.specs.declared.object_format.Format.TheVariants.{Sha1, Sha256}
 use Rattle.git_names.specs.ObjectFormat.{width_of, digits_of}
 use Rattle.git_names.specs.Digits.{lower_digit}
-use Rattle.git_names.specs.ObjectName.{ArePairs, IsNoObjectName, IsObjectName, IsOid, IsPair, ObjectName, hex_of, hex_text, name_bytes}
+use Rattle.git_names.specs.ObjectName.{ArePairs, IsObjectName, IsOid, IsPair, ObjectName, hex_of, hex_text, name_bytes}
 use Rattle.git_names.proofs.HexDigits.{digit_value-lower_digit}
-use Rattle.git_names.proofs.Pairs.{SpellsNone, length-pairs, pair_at}
+use Rattle.git_names.proofs.Pairs.{length-pairs, pair_at}
 
 -- two digits for each byte of the format
 digits_of-width : (format : Format) → digits_of format ≡ 2 * width_of format
@@ -22,31 +21,6 @@ width_of-within : (format : Format) → width_of format ≤ 32
 width_of-within Sha1 = omega arith
 width_of-within Sha256 = omega arith
 
--- the zeros after the width
-drop-zeros : (format : Format) → drop {A = ℕ} (width_of format) (replicate 32 0) ≡ replicate (32 - width_of format) 0
-drop-zeros Sha1 = refl
-drop-zeros Sha256 = refl
-
--- room for the bytes of the format
-pub length-room : (format : Format) (w : ℕ) → w ≡ width_of format → length (take {A = ℕ} w (replicate 32 0)) ≡ w
-length-room format w wide = let within = width_of-within format in length-take-le {A = ℕ} w (replicate 32 0) (omega arith)
-
--- pairs with zeros after them are an object name
-pub read_name : (format : Format) (text out : List ℕ) (w : ℕ) → w ≡ width_of format → length out ≡ w → ArePairs text out
-    → IsObjectName format text (record { format = format; bytes = out ++ drop w (replicate 32 0) })
-read_name format text out w wide long pairs =
-    let twice = length-pairs text out pairs in
-    let digits = digits_of-width format in
-    let fits : length out ≡ width_of format = omega arith in
-    let front : take (width_of format) (out ++ drop w (replicate 32 0)) ≡ out = rw (sym fits) (take-append_seam out _) in
-    let back : drop (width_of format) (out ++ drop w (replicate 32 0)) ≡ drop w (replicate 32 0) = rw (sym fits) (drop-append_seam out _) in
-    record {
-      count = omega arith;
-      of_format = refl;
-      pairs = rw front pairs;
-      padded = back ∙ rw wide (drop-zeros format);
-    }
-
 -- the bytes of an object name are as many as its format has
 length-name_bytes : (format : Format) (text : List ℕ) (id : ObjectName) → IsObjectName format text id → length (name_bytes id) ≡ width_of format
 length-name_bytes format text id h =
@@ -54,10 +28,6 @@ length-name_bytes format text id h =
     let digits = digits_of-width format in
     let count = h.count in
     omega arith
-
--- where no bytes are spelled there is no object name
-pub read_none : (format : Format) (text : List ℕ) (w : ℕ) → w ≡ width_of format → SpellsNone text w → IsNoObjectName format text
-read_none format text w wide none id h = none (name_bytes id) (length-name_bytes format text id h ∙ sym wide) h.pairs
 
 -- ---- one text, one object name
 
@@ -142,18 +112,9 @@ take-hex_text (suc w) (byte ∷ bytes) =
     let more : 2 * suc w ≡ suc (suc (2 * w)) = omega arith in
     rw more (ap (λ (s : List ℕ). lower_digit (byte / 16) ∷ lower_digit (byte % 16) ∷ s) (take-hex_text w bytes))
 
--- the written digits are at the front
-pub written : (format : Format) (bytes digits new rest : List ℕ) (d : ℕ) → d ≡ digits_of format → length bytes ≡ 32 → digits ≡ hex_text bytes
-    → new ≡ take d digits → take d (new ++ rest) ≡ hex_text (take (width_of format) bytes)
-written format bytes digits new rest d count size are is =
-    let within = width_of-within format in
-    let twice : d ≡ 2 * width_of format = count ∙ digits_of-width format in
-    let all : new ≡ hex_text (take (width_of format) bytes) = is ∙ rw (are, twice) (take-hex_text (width_of format) bytes) in
-    let part = length-take-le (width_of format) bytes (omega arith) in
-    let long = length-hex_text (take (width_of format) bytes) in
-    let same : length new ≡ length (hex_text (take (width_of format) bytes)) = ap (λ (s : List ℕ). length s) all in
-    let exact : length new ≡ d = omega arith in
-    rw (sym exact) (take-append_seam new rest) ∙ all
+-- the digits of a name are the first of all
+pub hex_of-front : (id : ObjectName) → take (digits_of id.format) (hex_text id.bytes) ≡ hex_of id
+hex_of-front id = rw (digits_of-width id.format) (take-hex_text (width_of id.format) id.bytes)
 
 -- ---- the values
 
@@ -196,8 +157,3 @@ IsOid-of_text format text id h =
       in_range = rw whole at (in_range-padded (name_bytes id) (32 - width_of id.format) (in_range-pairs text (name_bytes id) h.pairs));
       padded = h.padded;
     }
-
--- the value that pairs give
-pub IsOid-read : (format : Format) (text out : List ℕ) (w : ℕ) → w ≡ width_of format → length out ≡ w → ArePairs text out
-    → IsOid (record { format = format; bytes = out ++ drop w (replicate 32 0) })
-IsOid-read format text out w wide long pairs = IsOid-of_text format text _ (read_name format text out w wide long pairs)

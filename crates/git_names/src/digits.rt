@@ -1,10 +1,12 @@
 //! Hexadecimal digits, and bytes as pairs of them.
-ghost use Rattle.std.specs.Prelude.{◌≡◌, ◌+◌, ◌-◌, ◌*◌, ◌<◌, ◌≤◌, ◌++◌, List, ℕ, length, replicate, slice_index, MatchBool, MatchOption};
+ghost use Rattle.std.specs.Prelude.{◌≡◌, ◌+◌, ◌*◌, ◌<◌, ◌≤◌, ◌++◌, ℕ, length, replicate, slice_index, take, drop, MatchOption};
+ghost use Rattle.git_names.specs.declared.object_format.Format.{Format};
 ghost use Rattle.git_names.specs.Digits.{AreDigits, HaveValues, digit_value, lower_digit};
-ghost use Rattle.git_names.specs.ObjectName.{ArePairs, hex_text};
+ghost use Rattle.git_names.specs.ObjectName.{IsNoObjectName, IsObjectName, hex_text};
 ghost use Rattle.git_names.specs.Steps.{TakesAtMost};
 
 use crate::counter::Steps;
+use crate::object_format::Format;
 use std::simd::prelude::*;
 
 // The value of each byte as a digit of either case, and 16 where it is none; a row has 16 bytes.
@@ -48,34 +50,51 @@ pub fn lower_digit(value: usize) -> u8
     LOWER_DIGITS[value]
 }
 
-// Reads a pair of digits for each byte of `out`. Where `text` is something else the answer is
-// false, and `out` is of no use.
-pub(crate) fn read_pairs(text: &[u8], out: &mut [u8], steps: &mut Steps) -> bool
-    requires fits { length out.old ≤ 32 }
-    requires least { 20 ≤ length out.old }
-    ensures pairs { MatchBool result (ArePairs text.now out.new)
-        ((bytes : List ℕ) → length bytes ≡ length out.old → ¬ ArePairs text.now bytes) }
+// The bytes of a SHA-1 name, and zeros after them: each is a pair of digits. None where `text` is something else.
+pub(crate) fn read_20(text: &[u8], steps: &mut Steps) -> Option<[u8; 32]>
+    ensures name { MatchOption result (IsNoObjectName Format.Sha1 text.now)
+        (λ bytes. IsObjectName Format.Sha1 text.now (record { format = Format.Sha1; bytes = bytes })) }
     ensures cost { TakesAtMost (16 * (length text.now + 1)) steps.old steps.new }
 {
-    if text.len() != 2 * out.len() {
-        return false;
+    if text.len() != 40 {
+        return None;
     }
     steps.tick(text.len() + 1);
-    let Some(values) = digit_values(&with_zeros(text), steps) else {
-        return false;
+    let Some(values) = digit_values(&laid_out(text), steps) else {
+        return None;
     };
-    steps.tick(PAIRING + out.len() + 1);
-    out.copy_from_slice(&joined(&values)[..out.len()]);
-    true
+    steps.tick(PAIRING);
+    Some(joined_20(&values))
 }
 
-// The text, and the digit 0 up to 64 bytes.
-fn with_zeros(text: &[u8]) -> [u8; 64]
-    requires { length text.now ≤ 64 }
-    ensures value { result ≡ text.now ++ replicate (64 - length text.now) 48 }
+// The same of a SHA-256 name.
+pub(crate) fn read_32(text: &[u8], steps: &mut Steps) -> Option<[u8; 32]>
+    ensures name { MatchOption result (IsNoObjectName Format.Sha256 text.now)
+        (λ bytes. IsObjectName Format.Sha256 text.now (record { format = Format.Sha256; bytes = bytes })) }
+    ensures cost { TakesAtMost (16 * (length text.now + 1)) steps.old steps.new }
+{
+    if text.len() != 64 {
+        return None;
+    }
+    let mut digits = [0; 64];
+    steps.tick(text.len() + 1);
+    digits.copy_from_slice(text);
+    let Some(values) = digit_values(&digits, steps) else {
+        return None;
+    };
+    steps.tick(PAIRING);
+    Some(joined_32(&values))
+}
+
+// The forty digits where vectors of 16 are loaded as they were stored, which is much faster: the last sixteen begin at the place 32.
+// After them comes the digit 0.
+fn laid_out(text: &[u8]) -> [u8; 64]
+    requires { length text.now ≡ 40 }
+    ensures value { result ≡ (take 32 text.now ++ drop 24 text.now) ++ replicate 16 48 }
 {
     let mut digits = [b'0'; 64];
-    digits[..text.len()].copy_from_slice(text);
+    digits[..32].copy_from_slice(&text[..32]);
+    digits[32..48].copy_from_slice(&text[24..]);
     digits
 }
 
@@ -114,8 +133,8 @@ fn value_of(byte: u8) -> u8
     }
 }
 
-// The bytes of pairs of digits that have these values.
-fn joined(values: &[u8; 64]) -> [u8; 32]
+// The 32 bytes of pairs of digits that have these values.
+fn joined_32(values: &[u8; 64]) -> [u8; 32]
     requires { (k : ℕ) → k < 64 → slice_index values.now k < 16 }
     ensures size { length result ≡ 32 }
     ensures value { (k : ℕ) → k < 32 → slice_index result k ≡ slice_index values.now (2 * k) * 16 + slice_index values.now (2 * k + 1) }
@@ -128,6 +147,27 @@ fn joined(values: &[u8; 64]) -> [u8; 32]
     let low: u8x32 = values.swizzle([
         1, 3, 5, 7, 9, 11, 13, 15, 17, 19, 21, 23, 25, 27, 29, 31, 33, 35, 37, 39, 41, 43, 45, 47,
         49, 51, 53, 55, 57, 59, 61, 63,
+    ]);
+    (high * u8x32::splat(16) + low).to_array()
+}
+
+// The 20 bytes of pairs of digits that have these values, of which the last four are from the place 40 on, and after them twelve times
+// the byte of the pair after those.
+fn joined_20(values: &[u8; 64]) -> [u8; 32]
+    requires { (k : ℕ) → k < 64 → slice_index values.now k < 16 }
+    ensures size { length result ≡ 32 }
+    ensures front { (k : ℕ) → k < 16 → slice_index result k ≡ slice_index values.now (2 * k) * 16 + slice_index values.now (2 * k + 1) }
+    ensures back { (k : ℕ) → k < 20 → 16 ≤ k → slice_index result k ≡ slice_index values.now (2 * k + 8) * 16 + slice_index values.now (2 * k + 8 + 1) }
+    ensures after { (k : ℕ) → k < 32 → 20 ≤ k → slice_index result k ≡ slice_index values.now 48 * 16 + slice_index values.now 49 }
+{
+    let values = u8x64::from_array(*values);
+    let high: u8x32 = values.swizzle([
+        0, 2, 4, 6, 8, 10, 12, 14, 16, 18, 20, 22, 24, 26, 28, 30, 40, 42, 44, 46, 48, 48, 48, 48,
+        48, 48, 48, 48, 48, 48, 48, 48,
+    ]);
+    let low: u8x32 = values.swizzle([
+        1, 3, 5, 7, 9, 11, 13, 15, 17, 19, 21, 23, 25, 27, 29, 31, 41, 43, 45, 47, 49, 49, 49, 49,
+        49, 49, 49, 49, 49, 49, 49, 49,
     ]);
     (high * u8x32::splat(16) + low).to_array()
 }

@@ -6,7 +6,7 @@ ghost use Rattle.git_names.specs.ObjectName.{IsObjectName, IsNoObjectName, IsOid
 ghost use Rattle.git_names.specs.Steps.{TakesAtMost};
 
 use crate::counter::Steps;
-use crate::digits::{pairs_of, read_pairs};
+use crate::digits::{pairs_of, read_20, read_32};
 use crate::fault::NameFault;
 use crate::object_format::Format;
 use std::marker::Model;
@@ -15,9 +15,9 @@ use std::marker::Model;
 /// names are equal where their formats and bytes are; those of one format are in order of bytes.
 #[derive(Clone, Copy, Debug, Hash, PartialEq, Eq, PartialOrd, Ord)]
 pub struct Oid {
-    format: Format,
-    // After the format's width these are zero.
+    // After the format's width these are zero. They come first: a copy loads 16 bytes at a time, as they were stored.
     bytes: [u8; 32],
+    format: Format,
 }
 
 impl Model for Oid {
@@ -42,11 +42,21 @@ impl Oid {
             (λ fault. (fault ≡ NameFault.BadObjectName) × IsNoObjectName format text.now) }
         ensures cost { TakesAtMost (16 * (length text.now + 1)) steps.old steps.new }
     {
-        let mut bytes = [0; 32];
-        if !read_pairs(text, &mut bytes[..format.width()], steps) {
-            return Err(NameFault::BadObjectName);
+        let read = match format {
+            Format::Sha1 => read_20(text, steps),
+            Format::Sha256 => read_32(text, steps),
+        };
+        match read {
+            Some(bytes) => Ok(Oid { bytes, format }),
+            None => Err(NameFault::BadObjectName),
         }
-        Ok(Oid { format, bytes })
+    }
+
+    /// The name in lower case digits, at the front: as many as its format has. What comes after them means nothing.
+    pub fn hex(&self) -> [u8; 64]
+        ensures text { take (digits_of self.now.format) result ≡ hex_of self.now }
+    {
+        pairs_of(&self.bytes)
     }
 
     /// Writes the name in lower case digits to the front of `out`, and returns how many there are.
@@ -58,7 +68,7 @@ impl Oid {
         ensures reads_back { IsObjectName self.now.format (hex_of self.now) self.now }
     {
         let digits = self.format.digits();
-        out[..digits].copy_from_slice(&pairs_of(&self.bytes)[..digits]);
+        out[..digits].copy_from_slice(&self.hex()[..digits]);
         digits
     }
 
