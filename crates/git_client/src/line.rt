@@ -136,10 +136,8 @@ impl Lines {
         ensures name { self.new ≡ self.old ++ hex_of id.now }
         ensures within { length self.new ≤ length self.old + 64 }
     {
-        let mut digits = [0; 64];
-        let count = id.write(&mut digits);
-        self.bytes[self.count..self.count + 64].copy_from_slice(&digits);
-        self.count += count;
+        self.bytes[self.count..self.count + 64].copy_from_slice(&id.hex());
+        self.count += id.format().digits();
     }
 
     fn put_part<W: Write>(&mut self, out: &mut Told<W>, part: Part<'_>) -> Result<(), RunFault>
@@ -165,9 +163,7 @@ impl Lines {
     fn put_name<W: Write>(&mut self, out: &mut Told<W>, id: &Oid) -> Result<(), RunFault>
         ensures { Puts W.contents out.old self.old (hex_of id.now) result out.new self.new }
     {
-        let mut digits = [0; 64];
-        let count = id.write(&mut digits);
-        self.put(out, &digits[..count])
+        self.put(out, &id.hex()[..id.format().digits()])
     }
 
     fn put_number<W: Write>(&mut self, out: &mut Told<W>, number: u64) -> Result<(), RunFault>

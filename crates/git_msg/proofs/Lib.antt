@@ -9,6 +9,7 @@ pub mod StepFacts
 pub mod TextParts
 pub mod ReferenceLines
 pub mod ReferenceWords
+pub mod ReferenceIds
 pub mod LastValues
 pub mod LineLaws
 pub mod Cuts

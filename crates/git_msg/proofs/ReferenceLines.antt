@@ -29,7 +29,7 @@ no_digit c h same = search rules
 pub digits_lack_space : (format : Format) (text : List ℕ) (id : ObjectName) → IsObjectName format text id → Lacks text 32
 digits_lack_space format text id h k within = no_digit (slice_index text k) (digits-object_name format text id h k within)
 
-digits_are_unspaced : (format : Format) (text : List ℕ) (id : ObjectName) → IsObjectName format text id → All (λ c. (c == 32) ≡ false) text
+pub digits_are_unspaced : (format : Format) (text : List ℕ) (id : ObjectName) → IsObjectName format text id → All (λ c. (c == 32) ≡ false) text
 digits_are_unspaced format text id h = lacking_is_unspaced text (digits_lack_space format text id h)
 
 both_true : (a b : Bool) → (a && b) ≡ true → (a ≡ true) × (b ≡ true)
@@ -46,7 +46,7 @@ tested [] h = All-nil (λ c. (c == 32) ≡ false)
 tested (x ∷ xs) h = grind (arith, common_steps, both_true, All-cons, not_is_true)
 
 -- the words of two parts with a space between
-words_of_two : (a b : List ℕ) → All (λ c. (c == 32) ≡ false) a → spaced_words (a ++ 32 ∷ b) ≡ a ∷ spaced_words b
+pub words_of_two : (a b : List ℕ) → All (λ c. (c == 32) ≡ false) a → spaced_words (a ++ 32 ∷ b) ≡ a ∷ spaced_words b
 words_of_two a b h = slice_split_at (λ c. c == 32) a 32 b h refl
 
 pub word_alone : (a : List ℕ) → All (λ c. (c == 32) ≡ false) a → spaced_words a ≡ a ∷ []

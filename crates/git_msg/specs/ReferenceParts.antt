@@ -6,8 +6,15 @@ use Rattle.git_names.specs.declared.object_format.Format.{Format}
 use Rattle.git_names.specs.RefName.{IsRefName}
 use Rattle.git_msg.specs.declared.reference_lines.Found.{Found}
 use Rattle.git_msg.specs.declared.reference_places.Part.{Part}
-use Rattle.git_msg.specs.Texts.{IsCutAt, IsLeftOf, parts_left, spaced_words}
-use Rattle.git_msg.specs.References.{AreAttributes, IsAttribute, IsMaybeObjectName, PartFits, part_of, value_behind}
+use Rattle.git_msg.specs.Texts.{IsCutAt, IsLeftOf, IsPartedAt, parts_left, spaced_words}
+use Rattle.git_msg.specs.References.{AreAttributes, IsAttribute, IsIdText, IsMaybeObjectName, PartFits, part_of, value_behind}
+
+-- the first word of the text is that of this object, or `unborn`, and this comes after the space that ends it
+pub record BeginsWithId (format : Format) (text : List ℕ) (id : Option ObjectName) (rest : List ℕ) : Type 0 where
+  pub word : List ℕ
+  pub words : spaced_words text ≡ word ∷ spaced_words rest
+  pub parted : IsPartedAt 32 text word rest
+  pub is_id : IsIdText format word id
 
 -- the first word of the text is this reference name, and this is left
 pub record BeginsWithName (text name : List ℕ) (left : Option (List ℕ)) : Type 0 where

@@ -1,12 +1,12 @@
 //! Reference lines, read.
-ghost use Rattle.std.specs.Prelude.{◌≡◌, ◌+◌, ◌*◌, ◌≤◌, IfOk, MatchResult, length};
+ghost use Rattle.std.specs.Prelude.{◌≡◌, ◌+◌, ◌-◌, ◌*◌, ◌≤◌, IfOk, MatchResult, length};
 ghost use Rattle.std.specs.Option.{option_copied};
 ghost use Rattle.git_names.specs.Steps.{TakesAtMost};
 ghost use Rattle.git_msg.specs.Checks.{Refuses};
 ghost use Rattle.git_msg.specs.References.{FitsIn, IsAttributeFault, IsIdText, IsNoIdText, IsReferenceFault, IsReferenceLine};
 ghost use Rattle.git_msg.specs.References.{attribute_checks, reference_at, shown_reference};
 ghost use Rattle.git_msg.specs.Texts.{IsLeftOf, bytes_left, parts_left};
-ghost use Rattle.git_msg.specs.ReferenceParts.{AreLocated, BeginsWithName, BeginsWithNoName, IsFound};
+ghost use Rattle.git_msg.specs.ReferenceParts.{AreLocated, BeginsWithId, BeginsWithName, BeginsWithNoName, IsFound};
 
 use crate::reference_places::{Part, ReferencePlaces};
 use crate::references::Reference;
@@ -48,11 +48,10 @@ pub fn locate_reference(
         (IsReferenceFault format text.now) }
     ensures cost { TakesAtMost (40 * (length text.now + 1)) steps.old steps.new }
 {
-    steps.tick(text.len() + 1);
-    let (id, Some(rest)) = split_at_first(text, b' ') else {
-        return Err(Kind::BadLine);
+    let (id, rest) = match split_id(format, text, steps) {
+        Ok(parts) => parts,
+        Err(kind) => return Err(kind),
     };
-    let id = read_id(format, id, steps)?;
     let (name, words) = split_name(rest, steps)?;
     let found = read_attributes(format, text, words, steps)?;
     Ok(ReferencePlaces {
@@ -61,6 +60,51 @@ pub fn locate_reference(
         target: found.target,
         peeled: found.peeled,
     })
+}
+
+/// The object that the first word of a line names, none where that is `unborn`, and what comes after the space that ends it. Most
+/// lines begin with the digits of an object's name and a space: as digits have no space, they need no search for one.
+#[inline(always)]
+fn split_id<'a>(
+    format: Format,
+    text: &'a [u8],
+    steps: &mut Steps,
+) -> Result<(Option<Oid>, &'a [u8]), Kind>
+    ensures parts { MatchResult result (λ parts. BeginsWithId format text.now parts.0 parts.1.now) (IsReferenceFault format text.now) }
+    ensures cost { MatchResult result
+        (λ parts. TakesAtMost (length text.now + 3 + 17 * (length text.now - length parts.1.now)) steps.old steps.new)
+        (λ _. TakesAtMost (20 * (length text.now + 1)) steps.old steps.new) }
+{
+    let end = format.digits();
+    if text.len() <= end || text[end] != b' ' || text[0] == b'u' {
+        return search_id(format, text, steps);
+    }
+    steps.tick(2);
+    match Oid::read(format, &text[..end], steps) {
+        Ok(id) => Ok((Some(id), &text[end + 1..])),
+        Err(_) => Err(Kind::BadObjectName),
+    }
+}
+
+/// The same of any line. Two of its bytes have been looked at.
+fn search_id<'a>(
+    format: Format,
+    text: &'a [u8],
+    steps: &mut Steps,
+) -> Result<(Option<Oid>, &'a [u8]), Kind>
+    ensures parts { MatchResult result (λ parts. BeginsWithId format text.now parts.0 parts.1.now) (IsReferenceFault format text.now) }
+    ensures cost { MatchResult result
+        (λ parts. TakesAtMost (length text.now + 3 + 17 * (length text.now - length parts.1.now)) steps.old steps.new)
+        (λ _. TakesAtMost (20 * (length text.now + 1)) steps.old steps.new) }
+{
+    steps.tick(text.len() + 3);
+    let (word, Some(rest)) = split_at_first(text, b' ') else {
+        return Err(Kind::BadLine);
+    };
+    match read_id(format, word, steps) {
+        Ok(id) => Ok((id, rest)),
+        Err(kind) => Err(kind),
+    }
 }
 
 /// The object that the first word of a line names: none where the word is `unborn`.
@@ -99,7 +143,8 @@ fn split_name<'a>(
     Ok((name, rest))
 }
 
-/// The last values of the attributes of a line, which are the end of its text.
+/// The last values of the attributes of a line, which are the end of its text. Most lines have none.
+#[inline(always)]
 fn read_attributes(
     format: Format,
     text: &[u8],

@@ -12,8 +12,9 @@ use Rattle.git_names.specs.declared.object_format.Format.{Format}
 use Rattle.git_names.specs.declared.object_format.Format.TheVariants.{Sha1, Sha256}
 use Rattle.git_names.specs.ObjectFormat.{digits_of}
 use Rattle.git_names.specs.Digits.{AreDigits, HaveValues, IsHexDigit, digit_value}
-use Rattle.git_names.specs.ObjectName.{IsNoObjectName, IsObjectName, name_bytes}
-use Rattle.git_names.proofs.Pairs.{digits_of_pairs, pairs_from}
+use Rattle.git_names.specs.ObjectName.{IsNoObjectName, IsObjectName}
+use Rattle.git_names.proofs.Pairs.{pairs_from}
+use Rattle.git_names.proofs.WrittenForms.{digits-object_name}
 
 -- the byte of the pair of lanes at this place, as lanes are multiplied and added
 abbrev pub lane_at : List ℕ → ℕ → ℕ
@@ -152,7 +153,7 @@ name_20 text values bytes long size have front back after =
 -- where some byte as they are laid out is no digit the text is no SHA-1 name
 pub no_name_20 : (text : List ℕ) → length text ≡ 40 → ¬ AreDigits (laid_out text) → IsNoObjectName Sha1 text
 no_name_20 text long other id h =
-    other (digits_laid_out text long (digits_of_pairs text (name_bytes id) h.pairs))
+    other (digits_laid_out text long (digits-object_name Sha1 text id h))
 
 -- a SHA-256 name of the values of its digits
 pub name_32 : (text values bytes : List ℕ) → length text ≡ 64 → length bytes ≡ 32 → HaveValues text values
@@ -174,7 +175,7 @@ name_32 text values bytes long size have made =
     }
 
 pub no_name_32 : (text : List ℕ) → ¬ AreDigits text → IsNoObjectName Sha256 text
-no_name_32 text other id h = other (digits_of_pairs text (name_bytes id) h.pairs)
+no_name_32 text other id h = other (digits-object_name Sha256 text id h)
 
 -- ---- whether there was another byte
 

@@ -1,7 +1,6 @@
 -- Pairs of digits.
-use Rattle.std.proofs.Common.{◌≡◌, ℕ, zero, suc, ◌+◌, ◌*◌, ◌/◌, ◌%◌, ◌<◌, List, [], ◌∷◌, length, slice_index, refl, sym, subst, ap, ap₂, ◌∙◌, arith, inl, inr}
-use Rattle.std.proofs.lemmas.Bool.{cases_lt}
-use Rattle.git_names.specs.Digits.{AreDigits, IsHexDigit, lower_digit}
+use Rattle.std.proofs.Common.{◌≡◌, ℕ, zero, suc, ◌+◌, ◌*◌, ◌/◌, ◌%◌, ◌<◌, List, [], ◌∷◌, length, slice_index, refl, ap, ap₂, ◌∙◌, arith}
+use Rattle.git_names.specs.Digits.{lower_digit}
 use Rattle.git_names.specs.ObjectName.{ArePairs, IsPair, hex_text}
 
 -- pairs have two digits for each byte
@@ -46,19 +45,6 @@ pairs_from (high ∷ low ∷ text) (byte ∷ bytes) long h = (
       let second : 2 * suc k + 1 ≡ suc (suc (2 * k + 1)) = omega arith in
       rw (second, first) at (h (suc k) (omega arith))),
 )
-
--- each byte of pairs is a digit
-pub digits_of_pairs : (text bytes : List ℕ) → ArePairs text bytes → AreDigits text
-digits_of_pairs text bytes pairs k lt =
-    let twice = length-pairs text bytes pairs in
-    elim (cases_lt (k % 2) 1) [
-      | inl even ↦
-          let e : k ≡ 2 * (k / 2) = omega arith in
-          subst (λ (j : ℕ). IsHexDigit (slice_index text j)) (sym e) (pair_at text bytes (k / 2) pairs (omega arith)).high_digit
-      | inr odd ↦
-          let e : k ≡ 2 * (k / 2) + 1 = omega arith in
-          subst (λ (j : ℕ). IsHexDigit (slice_index text j)) (sym e) (pair_at text bytes (k / 2) pairs (omega arith)).low_digit
-    ]
 
 -- the digits of each byte
 pub hex_text_from : (text bytes : List ℕ) → length text ≡ 2 * length bytes

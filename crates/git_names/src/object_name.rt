@@ -15,9 +15,9 @@ use std::marker::Model;
 /// names are equal where their formats and bytes are; those of one format are in order of bytes.
 #[derive(Clone, Copy, Debug, Hash, PartialEq, Eq, PartialOrd, Ord)]
 pub struct Oid {
-    // After the format's width these are zero. They come first: a copy loads 16 bytes at a time, as they were stored.
-    bytes: [u8; 32],
     format: Format,
+    // After the format's width these are zero.
+    bytes: [u8; 32],
 }
 
 impl Model for Oid {
@@ -37,6 +37,8 @@ const _: () = prove!(size_of::<Oid>() == 33);
 impl Oid {
     /// The object name that `text` spells: exactly as many hexadecimal digits as the format has,
     /// of either case. Any other text is `BadObjectName`.
+    // It goes into each caller, for a name that is handed out is copied from odd places, which is slow just after it was stored there.
+    #[inline(always)]
     pub fn read(format: Format, text: &[u8], steps: &mut Steps) -> Result<Oid, NameFault>
         ensures name { MatchResult result (IsObjectName format text.now)
             (λ fault. (fault ≡ NameFault.BadObjectName) × IsNoObjectName format text.now) }
@@ -47,7 +49,7 @@ impl Oid {
             Format::Sha256 => read_32(text, steps),
         };
         match read {
-            Some(bytes) => Ok(Oid { bytes, format }),
+            Some(bytes) => Ok(Oid { format, bytes }),
             None => Err(NameFault::BadObjectName),
         }
     }
