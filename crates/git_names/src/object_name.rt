@@ -15,10 +15,9 @@ use std::marker::Model;
 /// names are equal where their formats and bytes are; those of one format are in order of bytes.
 #[derive(Clone, Copy, Debug, Hash, PartialEq, Eq, PartialOrd, Ord)]
 pub struct Oid {
-    // After the format's width these are zero. They come first, since a name is copied 16 bytes at a time: just after it was stored
-    // that is slow from other places than those where it was.
-    bytes: [u8; 32],
     format: Format,
+    // After the format's width these are zero.
+    bytes: [u8; 32],
 }
 
 impl Model for Oid {
@@ -38,7 +37,7 @@ const _: () = prove!(size_of::<Oid>() == 33);
 impl Oid {
     /// The object name that `text` spells: exactly as many hexadecimal digits as the format has,
     /// of either case. Any other text is `BadObjectName`.
-    // It goes into each caller, which then copies the name once less.
+    // It goes into each caller, for a name that is handed out is copied from odd places, which is slow just after it was stored there.
     #[inline(always)]
     pub fn read(format: Format, text: &[u8], steps: &mut Steps) -> Result<Oid, NameFault>
         ensures name { MatchResult result (IsObjectName format text.now)
@@ -50,7 +49,7 @@ impl Oid {
             Format::Sha256 => read_32(text, steps),
         };
         match read {
-            Some(bytes) => Ok(Oid { bytes, format }),
+            Some(bytes) => Ok(Oid { format, bytes }),
             None => Err(NameFault::BadObjectName),
         }
     }
