@@ -216,6 +216,8 @@ impl<A: Allocator + Copy> Client<A> {
     ///
     /// Bytes of the pack and of the progress are lent of the piece, as it is cut: an event has all that the piece has of one
     /// packet. Those of all other events are lent of the client.
+    // It goes into each loop that calls it, so that an event is not written to memory and read back.
+    #[inline(always)]
     pub fn feed<'a>(&'a mut self, piece: &'a [u8], steps: &mut Steps) -> Heard<'a>
         ensures* after { sem 𝓛 (Rests (the_row A.row A.Allocator) self.entry (λ new. Feeds self.old piece.now result new
             × Pays result.used steps.old steps.new (credit_of (reader_of self.old)) (credit_of (reader_of new)))) }
