@@ -102,12 +102,12 @@ digits_laid_out text long digits k lt =
     elim (cases_lt k 32) [
       | inl front ↦ rw (laid_out-front text k long front) (digits k (omega arith))
       | inr past ↦ elim (cases_lt k 48) [
-          | inl back ↦
-              let same : k - 8 + 8 ≡ k = omega arith in
-              let at = rw same at (laid_out-back text (k - 8) long (omega arith) (omega arith)) in
-              rw at (digits (k - 8) (omega arith))
-          | inr after ↦ rw (laid_out-after text k long (omega arith) after, digit_zero) (omega arith)
-        ]
+        | inl back ↦
+            let same : k - 8 + 8 ≡ k = omega arith in
+            let at = rw same at (laid_out-back text (k - 8) long (omega arith) (omega arith)) in
+            rw at (digits (k - 8) (omega arith))
+        | inr after ↦ rw (laid_out-after text k long (omega arith) after, digit_zero) (omega arith)
+      ]
     ]
 
 -- ---- the names

@@ -59,7 +59,8 @@ pub(crate) fn read_20(text: &[u8], steps: &mut Steps) -> Option<[u8; 32]>
     if text.len() != 40 {
         return None;
     }
-    steps.tick(text.len() + 1);
+    // Two copies.
+    steps.tick(33 + 17);
     let Some(values) = digit_values(&laid_out(text), steps) else {
         return None;
     };
@@ -77,7 +78,7 @@ pub(crate) fn read_32(text: &[u8], steps: &mut Steps) -> Option<[u8; 32]>
         return None;
     }
     let mut digits = [0; 64];
-    steps.tick(text.len() + 1);
+    steps.tick(65);
     digits.copy_from_slice(text);
     let Some(values) = digit_values(&digits, steps) else {
         return None;
