@@ -37,7 +37,7 @@ const _: () = prove!(size_of::<Oid>() == 33);
 impl Oid {
     /// The object name that `text` spells: exactly as many hexadecimal digits as the format has,
     /// of either case. Any other text is `BadObjectName`.
-    // It goes into each caller, for a name that is handed out is copied from odd places, which is slow just after it was stored there.
+    // It goes into each caller: a name that is returned is stored once more, and copied from there, which is slow right after it.
     #[inline(always)]
     pub fn read(format: Format, text: &[u8], steps: &mut Steps) -> Result<Oid, NameFault>
         ensures name { MatchResult result (IsObjectName format text.now)
