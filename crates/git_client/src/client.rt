@@ -216,7 +216,8 @@ impl<A: Allocator + Copy> Client<A> {
     ///
     /// Bytes of the pack and of the progress are lent of the piece, as it is cut: an event has all that the piece has of one
     /// packet. Those of all other events are lent of the client.
-    // It goes into each loop that calls it, so that an event is not written to memory and read back.
+    // It goes into each loop that calls it, with what it calls: an answer that is returned is stored in parts and loaded whole, which is
+    // slow right after it.
     #[inline(always)]
     pub fn feed<'a>(&'a mut self, piece: &'a [u8], steps: &mut Steps) -> Heard<'a>
         ensures* after { sem 𝓛 (Rests (the_row A.row A.Allocator) self.entry (λ new. Feeds self.old piece.now result new
@@ -269,6 +270,7 @@ impl<A: Allocator + Copy> Client<A> {
     }
 
     /// Uses bytes up to the first event or fault, or all of them.
+    #[inline(always)]
     fn advance(&mut self, piece: &[u8], steps: &mut Steps) -> Advance
         requires { wants_input self.old ≡ true }
         ensures cost { Pays result.used steps.old steps.new (credit_of (reader_of self.old)) (credit_of (reader_of self.new)) }
@@ -493,6 +495,7 @@ impl<A: Allocator + Copy> Client<A> {
     }
 
     /// The event of what the last packet contained.
+    #[inline(always)]
     fn event(&self) -> Event<'_>
         requires something { said_last self.now ≢ Said.Nothing }
         requires fits { Fits (said_last self.now) (drop 4 (held_of (reader_of self.now))) }
