@@ -294,6 +294,7 @@ impl<A: Allocator + Copy> Client<A> {
     }
 
     /// Uses bytes up to the end of a packet, or all of them; in the packfile section up to the last of the piece that passes.
+    #[inline(always)]
     fn take(&mut self, piece: &[u8], steps: &mut Steps) -> Advance
         requires { wants_input self.old ≡ true }
         ensures cost { Pays result.used steps.old steps.new (credit_of (reader_of self.old)) (credit_of (reader_of self.new)) }
