@@ -357,6 +357,7 @@ impl<A: Allocator + Copy> Client<A> {
     }
 
     /// The same where references are due, of which a line changes nothing but what the last packet contained.
+    #[inline(always)]
     fn take_listed(&mut self, piece: &[u8], steps: &mut Steps) -> Advance
         requires hears { phase_of self.old ≡ Phase.Hearing Due.References }
         ensures cost { Pays result.used steps.old steps.new (credit_of (reader_of self.old)) (credit_of (reader_of self.new)) }
