@@ -294,7 +294,6 @@ impl<A: Allocator + Copy> Client<A> {
     }
 
     /// Uses bytes up to the end of a packet, or all of them; in the packfile section up to the last of the piece that passes.
-    #[inline(always)]
     fn take(&mut self, piece: &[u8], steps: &mut Steps) -> Advance
         requires { wants_input self.old ≡ true }
         ensures cost { Pays result.used steps.old steps.new (credit_of (reader_of self.old)) (credit_of (reader_of self.new)) }
@@ -357,7 +356,6 @@ impl<A: Allocator + Copy> Client<A> {
     }
 
     /// The same where references are due, of which a line changes nothing but what the last packet contained.
-    #[inline(always)]
     fn take_listed(&mut self, piece: &[u8], steps: &mut Steps) -> Advance
         requires hears { phase_of self.old ≡ Phase.Hearing Due.References }
         ensures cost { Pays result.used steps.old steps.new (credit_of (reader_of self.old)) (credit_of (reader_of self.new)) }
