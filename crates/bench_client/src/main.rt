@@ -4,7 +4,7 @@
 #![tactic(auto)]
 
 ghost use Rattle.std.specs.Prelude.{◌≡◌, ◌+◌, ◌≤◌, ◌%◌, ◌^◌, true, length, IfOk};
-ghost use Rattle.git_client.specs.Client.{can_ask};
+ghost use Rattle.git_client.specs.Client.{can_ask, wants_input};
 
 use git_client::{Client, Ending, Event, HeardGot, Sent};
 use git_msg::{Argument, Command, Limits, Request};
@@ -109,36 +109,60 @@ fn hear_piece(
     Ok(used)
 }
 
+/// Receives what the input has next.
+fn hear_next<R: BufRead>(
+    input: &mut R,
+    client: &mut Client<Global>,
+    counts: &mut Counts,
+) -> Result<(), RunFault>
+    requires { wants_input client.old ≡ true }
+{
+    let piece = input.fill_buf().map_err(|_| RunFault::ReadFault)?;
+    if piece.is_empty() {
+        return Err(RunFault::Refused(client.close()));
+    }
+    let used = hear_piece(client, piece, counts)?;
+    input.consume(used);
+    Ok(())
+}
+
+/// Does what the client has to do next. Answers whether something is left to do.
+fn take_turn<R: BufRead>(
+    input: &mut R,
+    client: &mut Client<Global>,
+    asking: &mut Option<Request<Global>>,
+    counts: &mut Counts,
+) -> Result<bool, RunFault> {
+    match client.pull() {
+        Sent::Packet(_) => Ok(true),
+        Sent::NeedInput => {
+            hear_next(input, client, counts)?;
+            Ok(true)
+        }
+        Sent::CanAsk => {
+            go_on(client, asking)?;
+            Ok(true)
+        }
+        Sent::Finished => Ok(false),
+        Sent::Failed(fault) => Err(RunFault::Refused(fault)),
+    }
+}
+
 /// Receives the whole conversation, and counts its pack. What the client sends is dropped.
 fn hear<R: BufRead>(input: &mut R, request: Request<Global>) -> Result<Counts, RunFault> {
     let mut client = Client::new(Format::Sha1, Ending::FlushOnly);
     let mut asking = Some(request);
     let mut counts = Counts::none();
     for _ in 0..u64::MAX {
-        match client.pull() {
-            Sent::Packet(_) => {}
-            Sent::CanAsk => go_on(&mut client, &mut asking)?,
-            Sent::Finished => return Ok(counts),
-            Sent::Failed(fault) => return Err(RunFault::Refused(fault)),
-            Sent::NeedInput => {
-                let piece = input.fill_buf().map_err(|_| RunFault::ReadFault)?;
-                if piece.is_empty() {
-                    return Err(RunFault::Refused(client.close()));
-                }
-                let used = hear_piece(&mut client, piece, &mut counts)?;
-                input.consume(used);
-            }
+        if !take_turn(input, &mut client, &mut asking, &mut counts)? {
+            return Ok(counts);
         }
     }
     Err(RunFault::ReadLimit)
 }
 
-fn main(rt: HostRuntime) -> io::Result<ExitCode> {
-    let mut input = BufReader::with_capacity(rt.alloc(), PIECE_BYTES, rt.stdin())?;
-    let heard = match request(rt.alloc()) {
-        Ok(request) => hear(&mut input, request),
-        Err(kind) => Err(RunFault::Refused(Fault { kind, offset: 0 })),
-    };
+/// Prints the counts, or reports the fault. Answers the status.
+fn tell(rt: &HostRuntime, heard: Result<Counts, RunFault>) -> io::Result<ExitCode> {
     match heard {
         Ok(counts) => {
             println!(rt; "{} {}", counts.bytes, counts.checksum)?;
@@ -149,4 +173,13 @@ fn main(rt: HostRuntime) -> io::Result<ExitCode> {
             Ok(ExitCode::FAILURE)
         }
     }
+}
+
+fn main(rt: HostRuntime) -> io::Result<ExitCode> {
+    let mut input = BufReader::with_capacity(rt.alloc(), PIECE_BYTES, rt.stdin())?;
+    let heard = match request(rt.alloc()) {
+        Ok(request) => hear(&mut input, request),
+        Err(kind) => Err(RunFault::Refused(Fault { kind, offset: 0 })),
+    };
+    tell(&rt, heard)
 }

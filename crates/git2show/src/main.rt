@@ -1,6 +1,8 @@
 //! The program `git2show`: shows, checks, serves, fetches and plays conversations of Git's wire protocol.
 #![tactic(auto)]
 
+ghost use Rattle.std.specs.Prelude.{◌<◌};
+
 mod fetching;
 mod one_request;
 mod remote_lines;
@@ -310,23 +312,38 @@ fn run_serve(rt: &HostRuntime, matches: &ArgMatches<'_>) -> Result<(), ProgramFa
     let service = service_of(matches);
     let advertise = service != Service::Answer;
     let mut server = Server::new(rt.alloc(), repo, offer, limits_of(matches), advertise);
-    let mut piece = [0; PIECE];
-    if service == Service::Answer && server.wants_input() {
-        take_request(
-            &mut Told::new(Retries::new(rt.stdin())),
-            &mut piece,
-            &mut server,
-            TURNS,
-        )?;
+    if service == Service::Answer {
+        take_one_request(rt, &mut server)?;
     }
     let turns = match service {
         Service::Session => TURNS,
         // All that is owed is written, and nothing is read for it.
         Service::Advertisement | Service::Answer => 0,
     };
+    answer(rt, &mut server, turns)
+}
+
+/// Takes one request from standard input, where the server waits for one.
+fn take_one_request(
+    rt: &HostRuntime,
+    server: &mut Server<ListRepo, Global>,
+) -> Result<(), RunFault> {
+    if !server.wants_input() {
+        return Ok(());
+    }
+    let mut reader = Told::new(Retries::new(rt.stdin()));
+    take_request(&mut reader, &mut [0; PIECE], server, TURNS)
+}
+
+/// Writes what the server owes on standard output, and answers what so many reads of standard input bring.
+fn answer(
+    rt: &HostRuntime,
+    server: &mut Server<ListRepo, Global>,
+    turns: u64,
+) -> Result<(), ProgramFault> {
     let mut reader = Told::new(Retries::new(rt.stdin()));
     let mut writer = Told::new(buffered_output(rt)?);
-    match serve(&mut reader, &mut writer, &mut piece, &mut server, turns) {
+    match serve(&mut reader, &mut writer, &mut [0; PIECE], server, turns) {
         Ok(Outcome::Flush | Outcome::Closed) => Ok(()),
         Ok(Outcome::Refused(fault)) => Err(RunFault::Refused(fault).into()),
         Err(RunFault::ReadLimit) if turns == 0 => Ok(()),
@@ -337,27 +354,43 @@ fn run_serve(rt: &HostRuntime, matches: &ArgMatches<'_>) -> Result<(), ProgramFa
 /// Plays the script that is named over the repository whose files are named, and writes the transcript to standard output. All
 /// files are read before one of them is judged.
 fn run_play(rt: &HostRuntime, matches: &ArgMatches<'_>) -> Result<(), ProgramFault> {
-    let alloc = rt.alloc();
     let text = read_text(rt, open(rt, matches, "repo")?)?;
     let packs = read_packs(rt, matches)?;
     let script = read_whole(rt, matches, "script")?;
     let repo = judge_repository(text, packs)?;
-    let requests = judge_script(alloc, &script, repo.format())?;
-    // clap refuses 0 and more than the longest, which is tested once more for the prover.
-    let cut = match matches.get_one::<u32>("cut") {
-        Some(cut) => cut.clamp(1, LONGEST_CUT),
-        None => LONGEST_CUT,
-    };
+    let requests = judge_script(rt.alloc(), &script, repo.format())?;
+    play_requests(rt, matches, repo, requests)
+}
+
+/// Plays the requests over the repository, and writes the transcript to standard output.
+fn play_requests(
+    rt: &HostRuntime,
+    matches: &ArgMatches<'_>,
+    repo: ListRepo,
+    requests: Vec<Request<Global>>,
+) -> Result<(), ProgramFault> {
     let mut out = Told::new(buffered_output(rt)?);
     Ok(play(
-        alloc,
+        rt.alloc(),
         repo,
         requests,
-        cut as usize,
+        cut_of(matches),
         ending_of(matches),
         &mut out,
         &mut Discard,
     )?)
+}
+
+/// How many bytes go over at a time, by the command line. clap refuses 0 and more than the longest, which is tested once more for the
+/// prover.
+fn cut_of(matches: &ArgMatches<'_>) -> usize
+    ensures { 0 < result }
+{
+    let cut = match matches.get_one::<u32>("cut") {
+        Some(cut) => cut.clamp(1, LONGEST_CUT),
+        None => LONGEST_CUT,
+    };
+    cut as usize
 }
 
 /// Reads the script that is named.
@@ -417,15 +450,27 @@ fn read_text(rt: &HostRuntime, file: File) -> Result<RepositoryReader, ProgramFa
     let mut reader = RepositoryReader::new(rt.alloc());
     let mut piece = [0; PIECE];
     for _ in 0..u64::MAX {
-        match file.read(&mut piece) {
-            Ok(0) => return Ok(reader),
-            Ok(count) => reader
-                .feed(&piece[..count])
-                .map_err(|_| ProgramFault::OutOfMemory)?,
-            Err(error) => return Err(file_fault(error)),
+        if !read_piece(&mut file, &mut piece, &mut reader)? {
+            return Ok(reader);
         }
     }
     Err(ProgramFault::File)
+}
+
+/// Reads the next piece of the text of a repository. Answers whether there was one.
+fn read_piece(
+    file: &mut Retries<File>,
+    piece: &mut [u8],
+    reader: &mut RepositoryReader,
+) -> Result<bool, ProgramFault> {
+    let count = file.read(piece).map_err(file_fault)?;
+    if count == 0 {
+        return Ok(false);
+    }
+    reader
+        .feed(&piece[..count])
+        .map_err(|_| ProgramFault::OutOfMemory)?;
+    Ok(true)
 }
 
 /// Reads the file that an argument names.
