@@ -36,8 +36,7 @@ begins_with_id format text id end within space named =
 no_id_text : (format : Format) (text : List ℕ) (at end : ℕ) → end ≡ digits_of format → at < length text → slice_index text 0 ≢ 117
     → IsNoObjectName format (take end text) → IsNoIdText format (take at text)
 no_id_text format text at end is_end within other none =
-    let size = length-take-le at text (omega arith) in
-    (
+    let size = length-take-le at text (omega arith) in (
       λ same.
           let six : at ≡ 6 = omega (arith, size, ap length same) in
           other (sym (get_or-take at text 0 0 (omega arith)) ∙ ap (λ (xs : List ℕ). slice_index xs 0) same),
@@ -56,4 +55,5 @@ refused_at_its_id format text end is_end within space other none = go (position 
   go (Some at) e =
       let parted = parted_at 32 text at e in
       let inside : at < length text = omega (arith, position-Some (λ c. c == 32) text at 0 e) in
-      id_refused format text (take at text) (take (length text - (at + 1)) (drop (at + 1) text)) (parts_at 32 text at e) (no_id_text format text at end is_end inside other none)
+      let rest = take (length text - (at + 1)) (drop (at + 1) text) in
+      id_refused format text (take at text) rest (parts_at 32 text at e) (no_id_text format text at end is_end inside other none)
