@@ -1,8 +1,9 @@
 //! Many short texts: they are in one vector with the places where they end, and none has a block of its own.
-use git_msg::{Argument, Command, Limits, Request};
-use git_names::Format;
+use crate::adding::{add_name, add_prefix, bytes_kept, new_request};
+use git_msg::{Command, Limits, Request};
+use git_pkt::Kind;
 use linked_list_allocator::LocalHeap;
-use std::alloc::Global;
+use std::alloc::{Allocator, Global};
 use std::process::Abort;
 use std::test::Fail;
 
@@ -40,10 +41,11 @@ const TEXTS: [Text; 3] = [
     },
 ];
 
-fn argument_of(text: &Text) -> Argument<'_> {
+// Adds a text as the argument of its command.
+fn add_text<A: Allocator + Copy>(request: &mut Request<A>, text: &Text) -> Result<(), Kind> {
     match text.command {
-        Command::Fetch => Argument::WantRef(text.bytes),
-        _ => Argument::RefPrefix(text.bytes),
+        Command::Fetch => add_name(request, text.bytes),
+        _ => add_prefix(request, text.bytes),
     }
 }
 
@@ -54,11 +56,11 @@ fn check_kept(rt: &impl Abort, alloc: Global, text: &Text, times: usize) -> Resu
     let limits = Limits {
         args: Limits::USUAL,
     };
-    let mut request = Request::new(&heap, text.command, Format::Sha1, limits);
+    let mut request = new_request(&heap, text.command, limits);
     for _ in 0..times {
-        assert_eq!(rt; request.add(argument_of(text)), Ok(()), "{times} texts");
+        assert_eq!(rt; add_text(&mut request, text), Ok(()), "{times} texts");
     }
-    assert_eq!(rt; request.kept() as usize, counted);
+    assert_eq!(rt; bytes_kept(&request) as usize, counted);
     Ok(())
 }
 
