@@ -5,7 +5,7 @@ use crate::servers::{new_server, object, usual};
 use git_client::{Client, HeardGot};
 use git_msg::{Caps, Command, Limits, Offer, ReadGot, Request, RequestStream, RequestWriter};
 use git_names::{Format, Steps};
-use git_pkt::Hold;
+use git_pkt::{Hold, Kind};
 use git_server::{ListRepo, Pulled, Server};
 use linked_list_allocator::LocalHeap;
 use std::process::Abort;
@@ -78,18 +78,25 @@ fn serve(rt: &(impl Abort + AllocGlobal), heap: &LocalHeap, input: &[u8]) -> Res
     Ok(most)
 }
 
+/// Adds what is asked of a pack, where there is memory for it.
+fn add_all(rt: &impl Abort, request: &mut Request<&LocalHeap>) -> Result<(), Kind> {
+    let id = object(rt, Format::Sha1, b'a');
+    add_want(request, id)?;
+    add_have(request, id)?;
+    add_revision(request, b"v1")?;
+    add_filter(request, b"blob:none")
+}
+
 /// A request for a pack, where there is memory for it.
 fn request<'h>(rt: &impl Abort, heap: &'h LocalHeap) -> Option<Request<&'h LocalHeap>> {
     let limits = Limits {
         args: Limits::USUAL,
     };
     let mut request = new_request(heap, Command::Fetch, limits);
-    let id = object(rt, Format::Sha1, b'a');
-    add_want(&mut request, id).ok()?;
-    add_have(&mut request, id).ok()?;
-    add_revision(&mut request, b"v1").ok()?;
-    add_filter(&mut request, b"blob:none").ok()?;
-    Some(request)
+    match add_all(rt, &mut request) {
+        Ok(()) => Some(request),
+        Err(_) => None,
+    }
 }
 
 /// Feeds a client. The bytes that it did not use, unless it fails.

@@ -49,6 +49,18 @@ fn add_text<A: Allocator + Copy>(request: &mut Request<A>, text: &Text) -> Resul
     }
 }
 
+// Adds a text so many times.
+fn add_times<A: Allocator + Copy>(
+    request: &mut Request<A>,
+    text: &Text,
+    times: usize,
+) -> Result<(), Kind> {
+    for _ in 0..times {
+        add_text(request, text)?;
+    }
+    Ok(())
+}
+
 // That so many of a text are kept where no more memory is left than it may take.
 fn check_kept(rt: &impl Abort, alloc: Global, text: &Text, times: usize) -> Result<(), Fail> {
     let counted = text.counted.saturating_mul(times);
@@ -57,9 +69,11 @@ fn check_kept(rt: &impl Abort, alloc: Global, text: &Text, times: usize) -> Resu
         args: Limits::USUAL,
     };
     let mut request = new_request(&heap, text.command, limits);
-    for _ in 0..times {
-        assert_eq!(rt; add_text(&mut request, text), Ok(()), "{times} texts");
-    }
+    assert_eq!(rt;
+        add_times(&mut request, text, times),
+        Ok(()),
+        "{times} texts"
+    );
     assert_eq!(rt; bytes_kept(&request) as usize, counted);
     Ok(())
 }
