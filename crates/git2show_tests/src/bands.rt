@@ -2,9 +2,9 @@
 
 ghost use Rattle.git_pkt.specs.BandReader.{MayPass};
 
-use crate::conversing::requests;
-use git_client::{Client, Ending, Event, HeardGot, Sent};
-use git_names::{Format, Steps};
+use crate::clients::{ask_all, new_client, say};
+use git_client::{Client, Event, HeardGot};
+use git_names::Steps;
 use git_pkt::{BandGot, Kind, Packet, PacketReader};
 use std::alloc::{AllocError, Global};
 use std::process::Abort;
@@ -104,24 +104,34 @@ fn hear(heard: &mut Vec<u8>, event: &Event<'_>) -> Result<(), AllocError> {
     heard.extend_from_slice(b"|")
 }
 
-/// A client that has asked for a pack.
-fn asking(rt: &(impl Abort + AllocGlobal)) -> Result<Client<Global>, Fail> {
-    let mut client = Client::new(Format::Sha1, Ending::FlushOnly);
-    let mut rest = b"000eversion 2\n000afetch\n0000".as_slice();
+/// Feeds a client, and appends what it hands out.
+fn hear_piece(
+    client: &mut Client<Global>,
+    piece: &[u8],
+    heard: &mut Vec<u8>,
+) -> Result<(), AllocError> {
+    match client.feed(piece, &mut Steps::new()).got {
+        HeardGot::Event(event) => hear(heard, &event),
+        _ => Ok(()),
+    }
+}
+
+/// Feeds a client until the piece is used up.
+fn feed_client(client: &mut Client<Global>, piece: &[u8]) {
+    let mut rest = piece;
     for _ in 0..MANY {
         let used = client.feed(rest, &mut Steps::new()).used;
         rest = &rest[used..];
     }
+}
+
+/// A client that has asked for a pack.
+fn asking(rt: &(impl Abort + AllocGlobal)) -> Result<Client<Global>, Fail> {
+    let mut client = new_client();
+    feed_client(&mut client, b"000eversion 2\n000afetch\n0000");
     let script = b"fetch\nwant aaaaaaaaaaaaaaaaaaaaaaaaaaaaaaaaaaaaaaaa\ndone\n";
-    for request in requests(rt, script)? {
-        assert!(rt; client.can_ask());
-        assert!(rt; client.ask(request).is_ok());
-    }
-    for _ in 0..MANY {
-        let Sent::Packet(_) = client.pull() else {
-            break;
-        };
-    }
+    ask_all(rt, &mut client, script)?;
+    say(&mut client, MANY);
     Ok(client)
 }
 
@@ -130,9 +140,7 @@ fn a_client_hands_out_each_byte_of_a_pack_as_it_comes(rt: HostRuntime) -> Result
     let mut client = asking(&rt)?;
     let mut heard = Vec::new(rt.alloc());
     for byte in b"000dpackfile\n0008\x01ABC0006\x02x0005\x010000".chunks(1) {
-        if let HeardGot::Event(event) = client.feed(byte, &mut Steps::new()).got {
-            hear(&mut heard, &event)?;
-        }
+        hear_piece(&mut client, byte, &mut heard)?;
     }
     assert_eq!(rt; heard.as_slice(), b"A|B|C|x|ended|".as_slice());
     assert!(rt; client.can_ask());
@@ -144,9 +152,7 @@ fn what_came_of_an_open_packet_was_handed_out(rt: HostRuntime) -> Result<(), Fai
     let mut client = asking(&rt)?;
     let mut heard = Vec::new(rt.alloc());
     for piece in [b"000dpackfile\n".as_slice(), b"0009\x01AB"] {
-        if let HeardGot::Event(event) = client.feed(piece, &mut Steps::new()).got {
-            hear(&mut heard, &event)?;
-        }
+        hear_piece(&mut client, piece, &mut heard)?;
     }
     assert_eq!(rt; heard.as_slice(), b"AB|".as_slice());
     assert!(rt; client.wants_input());

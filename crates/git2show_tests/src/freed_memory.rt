@@ -1,11 +1,11 @@
 //! Memory is given back: all that an end or a reader took, wherever its input ends and whichever growth is refused.
-use crate::servers::{new_server, usual};
-use git_client::{Client, Ending, HeardGot, Sent};
-use git_msg::{
-    Argument, Caps, Command, Limits, Offer, ReadGot, Request, RequestStream, RequestWriter,
-};
-use git_names::{Format, Oid, Steps};
-use git_pkt::Hold;
+use crate::adding::{add_filter, add_have, add_revision, add_want, new_request};
+use crate::clients::{new_client, say};
+use crate::servers::{new_server, object, usual};
+use git_client::{Client, HeardGot};
+use git_msg::{Caps, Command, Limits, Offer, ReadGot, Request, RequestStream, RequestWriter};
+use git_names::{Format, Steps};
+use git_pkt::{Hold, Kind};
 use git_server::{ListRepo, Pulled, Server};
 use linked_list_allocator::LocalHeap;
 use std::process::Abort;
@@ -59,18 +59,32 @@ fn drain(server: &mut Server<ListRepo, &LocalHeap>) {
     }
 }
 
+/// Feeds a server. The bytes that it did not use.
+fn feed<'a>(server: &mut Server<ListRepo, &LocalHeap>, piece: &'a [u8]) -> &'a [u8] {
+    let used = server.feed(piece, &mut Steps::new());
+    &piece[used..]
+}
+
 /// Feeds a server, and drops it. How much memory it had at the most.
 fn serve(rt: &(impl Abort + AllocGlobal), heap: &LocalHeap, input: &[u8]) -> Result<usize, Fail> {
     let mut server = new_server(rt, heap, usual())?;
     let mut rest = input;
     let mut most = 0;
     for _ in 0..PACKETS {
-        let used = server.feed(rest, &mut Steps::new());
-        rest = &rest[used..];
+        rest = feed(&mut server, rest);
         most = most.max(heap.used());
         drain(&mut server);
     }
     Ok(most)
+}
+
+/// Adds what is asked of a pack, where there is memory for it.
+fn add_all(rt: &impl Abort, request: &mut Request<&LocalHeap>) -> Result<(), Kind> {
+    let id = object(rt, Format::Sha1, b'a');
+    add_want(request, id)?;
+    add_have(request, id)?;
+    add_revision(request, b"v1")?;
+    add_filter(request, b"blob:none")
 }
 
 /// A request for a pack, where there is memory for it.
@@ -78,44 +92,54 @@ fn request<'h>(rt: &impl Abort, heap: &'h LocalHeap) -> Option<Request<&'h Local
     let limits = Limits {
         args: Limits::USUAL,
     };
-    let mut request = Request::new(heap, Command::Fetch, Format::Sha1, limits);
-    let id = Oid::read(Format::Sha1, &[b'a'; 40], &mut Steps::new()).expect(rt, "an object name");
-    request.add(Argument::Want(id)).ok()?;
-    request.add(Argument::Have(id)).ok()?;
-    request.add(Argument::DeepenNot(b"v1")).ok()?;
-    request.add(Argument::Filter(b"blob:none")).ok()?;
-    Some(request)
+    let mut request = new_request(heap, Command::Fetch, limits);
+    match add_all(rt, &mut request) {
+        Ok(()) => Some(request),
+        Err(_) => None,
+    }
 }
 
-/// Sends so many packets of what the client owes.
-fn say(client: &mut Client<&LocalHeap>, packets: usize) {
-    for _ in 0..packets {
-        if !matches!(client.pull(), Sent::Packet(_)) {
-            return;
-        }
+/// Feeds a client. The bytes that it did not use, unless it fails.
+fn hear<'a>(client: &mut Client<&LocalHeap>, piece: &'a [u8]) -> Option<&'a [u8]> {
+    let heard = client.feed(piece, &mut Steps::new());
+    match heard.got {
+        HeardGot::Failed(_) => None,
+        _ => piece.get(heard.used..),
     }
+}
+
+/// Asks for a pack where the client can ask, and sends so many packets of that. How much memory the request took, where there was
+/// memory for it.
+fn ask_where_due<'h>(
+    rt: &impl Abort,
+    heap: &'h LocalHeap,
+    client: &mut Client<&'h LocalHeap>,
+    packets: usize,
+) -> Option<usize> {
+    if !client.can_ask() {
+        return Some(0);
+    }
+    let request = request(rt, heap)?;
+    assert!(rt; client.ask(request).is_ok());
+    let taken = heap.used();
+    say(client, packets);
+    Some(taken)
 }
 
 /// Feeds a client that asks as soon as it can, and sends so many packets of that, and drops it. How much memory its request took.
 fn ask(rt: &impl Abort, heap: &LocalHeap, input: &[u8], packets: usize) -> usize {
-    let mut client = Client::new(Format::Sha1, Ending::FlushOnly);
+    let mut client = new_client();
     let mut rest = input;
     let mut most = 0;
     for _ in 0..PACKETS {
-        let heard = client.feed(rest, &mut Steps::new());
-        let is_over = matches!(heard.got, HeardGot::Failed(_));
-        rest = &rest[heard.used.min(rest.len())..];
-        if is_over {
+        let Some(unused) = hear(&mut client, rest) else {
             break;
-        }
-        if client.can_ask() {
-            let Some(request) = request(rt, heap) else {
-                break;
-            };
-            assert!(rt; client.ask(request).is_ok());
-            most = most.max(heap.used());
-            say(&mut client, packets);
-        }
+        };
+        rest = unused;
+        let Some(taken) = ask_where_due(rt, heap, &mut client, packets) else {
+            break;
+        };
+        most = most.max(taken);
     }
     most
 }
@@ -191,22 +215,27 @@ fn a_request_is_given_back_wherever_it_breaks_off(rt: HostRuntime) -> Result<(),
     Ok(())
 }
 
-#[test]
-fn a_request_is_written_without_memory(rt: HostRuntime) -> Result<(), Fail> {
-    let heap = LocalHeap::new(rt.alloc(), ENOUGH)?;
-    let request = request(&rt, &heap).expect(&rt, "a request");
+/// Writes a request, for which no memory is taken. How many packets it has.
+fn packets_of(rt: &impl Abort, heap: &LocalHeap, request: &Request<&LocalHeap>) -> u32 {
     let before = heap.used();
-    let mut writer = RequestWriter::new(&request, &Caps::new());
+    let mut writer = RequestWriter::new(request, &Caps::new());
     let mut hold = Hold::new();
     let mut packets = 0u32;
     for _ in 0..PACKETS {
-        if !writer.pull(&request, &mut hold) {
+        if !writer.pull(request, &mut hold) {
             break;
         }
         packets = packets.saturating_add(1);
         assert_eq!(rt; heap.used(), before);
     }
+    packets
+}
+
+#[test]
+fn a_request_is_written_without_memory(rt: HostRuntime) -> Result<(), Fail> {
+    let heap = LocalHeap::new(rt.alloc(), ENOUGH)?;
+    let request = request(&rt, &heap).expect(&rt, "a request");
     // The command, the delimiter, the filter, the revision, the object that is wanted, the one that is had, and the flush.
-    assert_eq!(rt; packets, 7);
+    assert_eq!(rt; packets_of(&rt, &heap, &request), 7);
     Ok(())
 }

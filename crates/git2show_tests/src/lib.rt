@@ -4,9 +4,13 @@
 #![tactic(auto)]
 
 #[cfg(test)]
+mod adding;
+#[cfg(test)]
 mod bands;
 #[cfg(test)]
 mod checking;
+#[cfg(test)]
+mod clients;
 #[cfg(test)]
 mod conversing;
 #[cfg(test)]

@@ -1,7 +1,7 @@
 //! A server and a client that meet in a loop of the test's own: what the client receives where the server refuses.
-use crate::conversing::requests;
+use crate::clients::{ask_all, new_client};
 use crate::servers::{advertising, new_server};
-use git_client::{Client, Ending, HeardGot, Sent};
+use git_client::{Client, HeardGot, Sent};
 use git_names::{Format, Steps};
 use git_pkt::{Fault, Kind};
 use git_server::{ListRepo, Pulled, Server};
@@ -39,18 +39,26 @@ fn say<A: Allocator + Copy>(client: &mut Client<Global>, server: &mut Server<Lis
     }
 }
 
+/// The client receives the advertisement, and sends all of a script to the server.
+fn meet<A: Allocator + Copy>(
+    rt: &(impl Abort + AllocGlobal),
+    server: &mut Server<ListRepo, A>,
+    client: &mut Client<Global>,
+    script: &[u8],
+) -> Result<(), Fail> {
+    assert_eq!(rt; hear(server, client), None);
+    ask_all(rt, client, script)?;
+    say(client, server);
+    Ok(())
+}
+
 /// The server refuses the third packet of a request, and the client receives its name and offset.
 #[test]
 fn a_client_hears_why_a_server_refuses(rt: HostRuntime) -> Result<(), Fail> {
     let script = b"fetch\nwant dddddddddddddddddddddddddddddddddddddddd\ndone\n";
     let mut server = new_server(&rt, rt.alloc(), advertising(Format::Sha1))?;
-    let mut client = Client::new(Format::Sha1, Ending::FlushOnly);
-    assert_eq!(rt; hear(&mut server, &mut client), None);
-    for request in requests(&rt, script)? {
-        assert!(rt; client.can_ask());
-        assert!(rt; client.ask(request).is_ok());
-    }
-    say(&mut client, &mut server);
+    let mut client = new_client();
+    meet(&rt, &mut server, &mut client, script)?;
     let refused = Fault {
         kind: Kind::NotOurs,
         offset: 62,
@@ -72,13 +80,8 @@ fn refused_within(rt: &(impl Abort + AllocGlobal), size: usize) -> Result<Option
     let script = b"fetch\nwant aaaaaaaaaaaaaaaaaaaaaaaaaaaaaaaaaaaaaaaa\ndeepen-not v1\ndone\n";
     let heap = LocalHeap::new(rt.alloc(), size)?;
     let mut server = new_server(rt, &heap, advertising(Format::Sha1))?;
-    let mut client = Client::new(Format::Sha1, Ending::FlushOnly);
-    assert_eq!(rt; hear(&mut server, &mut client), None);
-    for request in requests(rt, script)? {
-        assert!(rt; client.can_ask());
-        assert!(rt; client.ask(request).is_ok());
-    }
-    say(&mut client, &mut server);
+    let mut client = new_client();
+    meet(rt, &mut server, &mut client, script)?;
     let heard = hear(&mut server, &mut client);
     let Some(refused) = server.fault() else {
         assert_eq!(rt; heard, None);

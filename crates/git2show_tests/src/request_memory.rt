@@ -2,8 +2,10 @@
 ghost use Rattle.std.specs.Prelude.{◌≡◌, false};
 ghost use Rattle.git_msg.specs.RequestReader.{is_waiting};
 
-use git_msg::{Argument, Command, Limits, Offer, Request, RequestReader, Taken};
-use git_names::{Format, Oid, Steps};
+use crate::adding::{add_filter, add_prefix, add_want, bytes_kept, new_request};
+use crate::servers::object;
+use git_msg::{Argument, Command, Limits, Offer, RequestReader, Taken};
+use git_names::{Format, Steps};
 use git_pkt::{Fault, Kind, Packet};
 use linked_list_allocator::LocalHeap;
 use std::alloc::{AllocError, Allocator, Global};
@@ -20,16 +22,16 @@ fn offer() -> Offer {
 /// Adds two prefixes to a request that may use this much memory, and returns how many were kept.
 fn kept_within(rt: &impl Abort, alloc: Global, size: usize) -> Result<u32, AllocError> {
     let heap = LocalHeap::new(alloc, size)?;
-    let mut request = Request::new(&heap, Command::LsRefs, Format::Sha1, Limits { args: 1000 });
+    let mut request = new_request(&heap, Command::LsRefs, Limits { args: 1000 });
     assert_eq!(rt; request.add(Argument::Symrefs), Ok(()));
     let mut kept = 0u32;
     for prefix in [b"refs/heads/".as_slice(), b"refs/tags/".as_slice()] {
-        let before = request.kept();
-        match request.add(Argument::RefPrefix(prefix)) {
+        let before = bytes_kept(&request);
+        match add_prefix(&mut request, prefix) {
             Ok(()) => kept = kept.saturating_add(1),
             Err(kind) => {
                 assert_eq!(rt; kind, Kind::OutOfMemory);
-                assert_eq!(rt; request.kept(), before);
+                assert_eq!(rt; bytes_kept(&request), before);
                 assert_eq!(rt; request.ref_prefix(kept as usize), None);
                 assert!(rt; request.symrefs());
                 assert!(rt; !request.peel());
@@ -66,19 +68,19 @@ const FILTERS: [&[u8]; 2] = [b"blob:limit=8", b"tree:100"];
 /// Adds the filters to a fetch that may use this much memory, and returns how many were kept.
 fn filters_within(rt: &impl Abort, alloc: Global, size: usize) -> Result<u32, AllocError> {
     let heap = LocalHeap::new(alloc, size)?;
-    let mut request = Request::new(&heap, Command::Fetch, Format::Sha1, Limits { args: 1000 });
+    let mut request = new_request(&heap, Command::Fetch, Limits { args: 1000 });
     assert_eq!(rt; request.add(Argument::WaitForDone), Ok(()));
     let mut kept = 0u32;
     for spec in FILTERS {
-        let before = request.kept();
-        match request.add(Argument::Filter(spec)) {
+        let before = bytes_kept(&request);
+        match add_filter(&mut request, spec) {
             Ok(()) => {
                 assert_eq!(rt; request.filter(kept as usize), Some(spec));
                 kept = kept.saturating_add(1);
             }
             Err(kind) => {
                 assert_eq!(rt; kind, Kind::OutOfMemory);
-                assert_eq!(rt; request.kept(), before);
+                assert_eq!(rt; bytes_kept(&request), before);
                 break;
             }
         }
@@ -99,24 +101,19 @@ fn each_growth_of_the_filters_is_refused_in_turn(rt: HostRuntime) -> Result<(), 
 
 #[test]
 fn filters_are_kept_in_order(rt: HostRuntime) -> Result<(), AllocError> {
-    let mut request = Request::new(
-        rt.alloc(),
-        Command::Fetch,
-        Format::Sha1,
-        Limits { args: 57 },
-    );
+    let mut request = new_request(rt.alloc(), Command::Fetch, Limits { args: 57 });
     for spec in [FILTERS[0], FILTERS[1], FILTERS[0]] {
-        assert_eq!(&rt; request.add(Argument::Filter(spec)), Ok(()));
+        assert_eq!(&rt; add_filter(&mut request, spec), Ok(()));
     }
     // Each counts with the seven bytes of its word and the space, and its repetition counts again.
-    assert_eq!(&rt; request.kept(), 53);
+    assert_eq!(&rt; bytes_kept(&request), 53);
     assert_eq!(&rt; request.filter(0), Some(FILTERS[0]));
     assert_eq!(&rt; request.filter(1), Some(FILTERS[1]));
     assert_eq!(&rt; request.filter(2), Some(FILTERS[0]));
     assert_eq!(&rt; request.filter(3), None);
-    assert_eq!(&rt; request.add(Argument::Filter(b"")), Err(Kind::BadLine));
-    assert_eq!(&rt; request.add(Argument::Filter(b"x")), Err(Kind::TooMuchKept));
-    assert_eq!(&rt; request.kept(), 53);
+    assert_eq!(&rt; add_filter(&mut request, b""), Err(Kind::BadLine));
+    assert_eq!(&rt; add_filter(&mut request, b"x"), Err(Kind::TooMuchKept));
+    assert_eq!(&rt; bytes_kept(&request), 53);
     assert_eq!(&rt; request.filter(3), None);
     Ok(())
 }
@@ -127,15 +124,15 @@ const MANY: usize = 20;
 /// Adds wants to a request that may use this much memory, and returns how many were kept.
 fn wants_within(rt: &impl Abort, alloc: Global, size: usize) -> Result<usize, AllocError> {
     let heap = LocalHeap::new(alloc, size)?;
-    let mut request = Request::new(&heap, Command::Fetch, Format::Sha1, Limits { args: 1000 });
-    let id = Oid::read(Format::Sha1, &[b'a'; 40], &mut Steps::new()).expect(rt, "an object name");
+    let mut request = new_request(&heap, Command::Fetch, Limits { args: 1000 });
+    let id = object(rt, Format::Sha1, b'a');
     assert_eq!(rt; request.add(Argument::IsDone), Ok(()));
     for kept in 0..MANY {
-        let before = request.kept();
-        let added = request.add(Argument::Want(id));
+        let before = bytes_kept(&request);
+        let added = add_want(&mut request, id);
         if added.is_err() {
             assert_eq!(rt; added, Err(Kind::OutOfMemory));
-            assert_eq!(rt; request.kept(), before);
+            assert_eq!(rt; bytes_kept(&request), before);
             assert_eq!(rt; request.wants().len(), kept);
             assert!(rt; request.done());
             return Ok(kept);
@@ -158,6 +155,13 @@ fn each_growth_of_the_wants_is_refused_in_turn(rt: HostRuntime) -> Result<(), Al
     assert!(&rt; kept_some, "no later growth is refused alone");
     assert_eq!(&rt; most, MANY);
     Ok(())
+}
+
+/// A reader of the requests that are offered.
+fn new_reader<A: Allocator + Copy>(alloc: A) -> RequestReader<A>
+    ensures { is_waiting result ≡ false }
+{
+    RequestReader::new(alloc, offer(), Limits { args: 1000 })
 }
 
 /// Gives the reader a packet, and keeps the argument that it is.
@@ -183,7 +187,7 @@ fn hear<A: Allocator + Copy>(
 fn a_reader_without_memory_refuses_the_first_prefix(rt: HostRuntime) -> Result<(), AllocError> {
     // The places of four texts take all of it, and their bytes find none.
     let heap = LocalHeap::new(rt.alloc(), 16)?;
-    let mut reader = RequestReader::new(&heap, offer(), Limits { args: 1000 });
+    let mut reader = new_reader(&heap);
     let refused = Err(Fault {
         kind: Kind::OutOfMemory,
         offset: 33,
@@ -205,13 +209,13 @@ fn a_reader_without_memory_refuses_the_first_prefix(rt: HostRuntime) -> Result<(
 #[test]
 fn a_request_of_flags_takes_no_memory(rt: HostRuntime) -> Result<(), AllocError> {
     let heap = LocalHeap::new(rt.alloc(), 0)?;
-    let mut request = Request::new(&heap, Command::LsRefs, Format::Sha1, Limits { args: 1000 });
+    let mut request = new_request(&heap, Command::LsRefs, Limits { args: 1000 });
     assert_eq!(&rt; request.add(Argument::Peel), Ok(()));
     assert_eq!(&rt; request.add(Argument::Symrefs), Ok(()));
-    assert_eq!(&rt; request.kept(), 11);
-    let added = request.add(Argument::RefPrefix(b""));
+    assert_eq!(&rt; bytes_kept(&request), 11);
+    let added = add_prefix(&mut request, b"");
     assert_eq!(&rt; added, Err(Kind::OutOfMemory));
-    let mut reader = RequestReader::new(&heap, offer(), Limits { args: 1000 });
+    let mut reader = new_reader(&heap);
     assert_eq!(&rt;
         hear(&mut reader, Packet::Payload(b"command=ls-refs\n"), 0),
         Ok(())
@@ -244,7 +248,7 @@ fn heard_within(
     line: &[u8],
 ) -> Result<Result<(), Fault>, AllocError> {
     let heap = LocalHeap::new(alloc, size)?;
-    let mut reader = RequestReader::new(&heap, offer(), Limits { args: 1000 });
+    let mut reader = new_reader(&heap);
     let command = hear(&mut reader, Packet::Payload(b"command=fetch\n"), 0);
     assert_eq!(rt; command, Ok(()));
     assert_eq!(rt; hear(&mut reader, Packet::Delim, 18), Ok(()));

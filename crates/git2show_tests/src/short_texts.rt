@@ -1,8 +1,9 @@
 //! Many short texts: they are in one vector with the places where they end, and none has a block of its own.
-use git_msg::{Argument, Command, Limits, Request};
-use git_names::Format;
+use crate::adding::{add_name, add_prefix, bytes_kept, new_request};
+use git_msg::{Command, Limits, Request};
+use git_pkt::Kind;
 use linked_list_allocator::LocalHeap;
-use std::alloc::Global;
+use std::alloc::{Allocator, Global};
 use std::process::Abort;
 use std::test::Fail;
 
@@ -40,11 +41,24 @@ const TEXTS: [Text; 3] = [
     },
 ];
 
-fn argument_of(text: &Text) -> Argument<'_> {
+// Adds a text as the argument of its command.
+fn add_text<A: Allocator + Copy>(request: &mut Request<A>, text: &Text) -> Result<(), Kind> {
     match text.command {
-        Command::Fetch => Argument::WantRef(text.bytes),
-        _ => Argument::RefPrefix(text.bytes),
+        Command::Fetch => add_name(request, text.bytes),
+        _ => add_prefix(request, text.bytes),
     }
+}
+
+// Adds a text so many times.
+fn add_times<A: Allocator + Copy>(
+    request: &mut Request<A>,
+    text: &Text,
+    times: usize,
+) -> Result<(), Kind> {
+    for _ in 0..times {
+        add_text(request, text)?;
+    }
+    Ok(())
 }
 
 // That so many of a text are kept where no more memory is left than it may take.
@@ -54,11 +68,13 @@ fn check_kept(rt: &impl Abort, alloc: Global, text: &Text, times: usize) -> Resu
     let limits = Limits {
         args: Limits::USUAL,
     };
-    let mut request = Request::new(&heap, text.command, Format::Sha1, limits);
-    for _ in 0..times {
-        assert_eq!(rt; request.add(argument_of(text)), Ok(()), "{times} texts");
-    }
-    assert_eq!(rt; request.kept() as usize, counted);
+    let mut request = new_request(&heap, text.command, limits);
+    assert_eq!(rt;
+        add_times(&mut request, text, times),
+        Ok(()),
+        "{times} texts"
+    );
+    assert_eq!(rt; bytes_kept(&request) as usize, counted);
     Ok(())
 }
 
