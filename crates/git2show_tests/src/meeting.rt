@@ -74,18 +74,54 @@ fn a_client_hears_why_a_server_refuses(rt: HostRuntime) -> Result<(), Fail> {
     Ok(())
 }
 
-/// Asks for a pack of a server that has so much memory, by a revision and an object name. Where the server refuses the request as
-/// OutOfMemory, which the client receives with its offset; or nothing where it answers.
-fn refused_within(rt: &(impl Abort + AllocGlobal), size: usize) -> Result<Option<u64>, Fail> {
+/// What came of a meeting.
+#[derive(Drop)]
+struct Met {
+    /// Why the server refused the request, if it did.
+    refused: Option<Fault>,
+    /// The fault that the client received, if one.
+    heard: Option<Fault>,
+    /// The message that the client has of it; nothing where it has none.
+    message: Vec<u8>,
+    /// Whether the client can ask again.
+    can_ask: bool,
+}
+
+/// The message that the client has of its fault; nothing where it has none.
+fn message_of(alloc: Global, client: &Client<Global>) -> Result<Vec<u8>, Fail> {
+    let mut message = Vec::new(alloc);
+    message.extend_from_slice(client.message().unwrap_or(b""))?;
+    Ok(message)
+}
+
+/// Whether the client can ask.
+fn is_ready(client: &Client<Global>) -> bool {
+    client.can_ask()
+}
+
+/// Asks for a pack of a server that has so much memory, by a revision and an object name.
+fn meet_within(rt: &(impl Abort + AllocGlobal), size: usize) -> Result<Met, Fail> {
     let script = b"fetch\nwant aaaaaaaaaaaaaaaaaaaaaaaaaaaaaaaaaaaaaaaa\ndeepen-not v1\ndone\n";
     let heap = LocalHeap::new(rt.alloc(), size)?;
     let mut server = new_server(rt, &heap, advertising(Format::Sha1))?;
     let mut client = new_client();
     meet(rt, &mut server, &mut client, script)?;
     let heard = hear(&mut server, &mut client);
-    let Some(refused) = server.fault() else {
-        assert_eq!(rt; heard, None);
-        assert!(rt; client.can_ask());
+    Ok(Met {
+        refused: server.fault(),
+        heard,
+        message: message_of(rt.alloc(), &client)?,
+        can_ask: is_ready(&client),
+    })
+}
+
+/// Where a server with so much memory refuses the request as OutOfMemory, which the client receives with its offset; or nothing where
+/// it answers.
+fn refused_within(rt: &(impl Abort + AllocGlobal), size: usize) -> Result<Option<u64>, Fail> {
+    let met = meet_within(rt, size)?;
+    let Some(refused) = met.refused else {
+        assert_eq!(rt; met.heard, None);
+        assert!(rt; met.can_ask);
         return Ok(None);
     };
     assert_eq!(rt; refused.kind, Kind::OutOfMemory);
@@ -93,9 +129,9 @@ fn refused_within(rt: &(impl Abort + AllocGlobal), size: usize) -> Result<Option
         kind: Kind::RemoteError,
         offset: 146,
     };
-    assert_eq!(rt; heard, Some(told));
+    assert_eq!(rt; met.heard, Some(told));
     let message = format!(in rt.alloc(); "OutOfMemory at {}", refused.offset)?;
-    assert_eq!(rt; client.message(), Some(message.as_bytes()));
+    assert_eq!(rt; met.message.as_slice(), message.as_bytes());
     Ok(Some(refused.offset))
 }
 
