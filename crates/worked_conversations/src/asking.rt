@@ -3,10 +3,11 @@
 use crate::escapes::escaped;
 use crate::script::{Script, Step};
 use crate::setup::{MANY, limits, offer};
+use crate::texts::append;
 use crate::trouble::Trouble;
-use git_msg::{Argument, Caps, Command, Request, RequestWriter, read_argument};
+use git_msg::{Argument, Caps, Command, Offer, Request, RequestWriter, read_argument};
 use git_names::{Format, Steps};
-use git_pkt::Hold;
+use git_pkt::{Hold, Kind};
 use std::alloc::Global;
 
 /// A request that is to be made, and what the other end advertised.
@@ -19,11 +20,20 @@ pub struct Asking {
     pub object_format: bool,
 }
 
+/// The argument of a command that a text is, where this is offered.
+pub fn argument_of<'a>(
+    command: Command,
+    offer: &Offer,
+    text: &'a [u8],
+) -> Result<Argument<'a>, Kind> {
+    read_argument(command, offer, text, &mut Steps::new())
+}
+
 // The argument that a text is, of whichever command.
-fn argument_of(format: Format, text: &[u8]) -> Option<Argument<'_>> {
+fn any_argument(format: Format, text: &[u8]) -> Option<Argument<'_>> {
     let offer = offer(format, true);
     for command in [Command::LsRefs, Command::Fetch, Command::ObjectInfo] {
-        if let Ok(argument) = read_argument(command, &offer, text, &mut Steps::new()) {
+        if let Ok(argument) = argument_of(command, &offer, text) {
             return Some(argument);
         }
     }
@@ -39,8 +49,8 @@ pub fn written(alloc: Global, request: &Request<Global>, caps: &Caps) -> Result<
         if !writer.pull(request, &mut hold) {
             return Ok(lines);
         }
-        lines.extend_from_slice(escaped(alloc, hold.as_slice())?.as_slice())?;
-        lines.push(b'\n')?;
+        append(&mut lines, escaped(alloc, hold.as_slice())?.as_slice())?;
+        append(&mut lines, b"\n")?;
     }
     Err(Trouble::Breaks("a request has no end"))
 }
@@ -53,7 +63,7 @@ impl Asking {
         request: &mut Request<Global>,
         text: &[u8],
     ) -> Result<String, Trouble> {
-        let Some(argument) = argument_of(self.format, text) else {
+        let Some(argument) = any_argument(self.format, text) else {
             return Err(Trouble::BadCase("no argument"));
         };
         match request.add(argument) {
@@ -84,7 +94,7 @@ impl Asking {
         for step in script.steps.as_slice() {
             let text = script.input.as_slice().get(last.input..step.input);
             let line = self.told(alloc, &mut request, text.unwrap_or(&[]))?;
-            told.extend_from_slice(line.as_bytes())?;
+            append(&mut told, line.as_bytes())?;
             last = *step;
         }
         if told.as_slice() != script.given.as_slice() {

@@ -4,6 +4,7 @@ use crate::escapes::length_told;
 use crate::runs::{Due, Known, Run, compare};
 use crate::script::Script;
 use crate::setup::{MANY, TURNS};
+use crate::texts::copied;
 use crate::trouble::Trouble;
 use git_client::Ending;
 use git_names::Format;
@@ -149,7 +150,7 @@ fn due_of_requests(alloc: Global, script: &Script, end: usize) -> Result<Due, Tr
         String::from_str(alloc, "closed\n")?
     };
     Ok(Due {
-        given: Vec::from_slice(alloc, all.get(..given).unwrap_or(&[]))?,
+        given: copied(alloc, all.get(..given).unwrap_or(&[]))?,
         pack: Vec::new(alloc),
         progress: Vec::new(alloc),
         ending,

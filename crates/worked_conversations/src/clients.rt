@@ -5,12 +5,13 @@ use crate::escapes::escaped;
 use crate::runs::Run;
 use crate::script::{Script, append_sent};
 use crate::setup::MANY;
+use crate::texts::{append, append_str};
 use crate::trouble::Trouble;
 use crate::wordings::{Wording, shown};
 use git_client::{Client, Ending, Event, HeardGot, Sent, write_asked, write_event};
 use git_msg::Caps;
 use git_names::{Format, Steps};
-use git_pkt::Told;
+use git_pkt::{Fault, Told};
 use std::alloc::{AllocError, Global};
 
 /// How a client is set up.
@@ -25,15 +26,15 @@ pub struct Setup<'a> {
 // Appends a word where its flag is set.
 fn append_word(line: &mut String, is_set: bool, word: &str) -> Result<(), AllocError> {
     if is_set {
-        line.push_str(" ")?;
-        line.push_str(word)?;
+        append_str(line, " ")?;
+        append_str(line, word)?;
     }
     Ok(())
 }
 
 /// Appends the line of what was noted.
 pub fn append_noted(line: &mut String, caps: &Caps) -> Result<(), AllocError> {
-    line.push_str("noted")?;
+    append_str(line, "noted")?;
     append_word(line, caps.agent, "agent")?;
     append_word(line, caps.ls_refs, "ls-refs")?;
     append_word(line, caps.unborn, "unborn")?;
@@ -47,7 +48,7 @@ pub fn append_noted(line: &mut String, caps: &Caps) -> Result<(), AllocError> {
     append_word(line, caps.object_format, "object-format")?;
     append_word(line, caps.sha1, "sha1")?;
     append_word(line, caps.sha256, "sha256")?;
-    line.push_str("\n")
+    append_str(line, "\n")
 }
 
 /// What a client sent and received.
@@ -81,13 +82,13 @@ impl Notes {
         if write_event(&mut Told::new(&mut line), event, pack, progress).is_err() {
             return Err(Trouble::Breaks("a line is not written"));
         }
-        self.lines.extend_from_slice(line.as_slice())?;
+        append(&mut self.lines, line.as_slice())?;
         match event {
             Event::Pack([]) | Event::Progress([]) => {
                 return Err(Trouble::Breaks("an event of no bytes"));
             }
-            Event::Pack(bytes) => self.pack.extend_from_slice(bytes)?,
-            Event::Progress(bytes) => self.progress.extend_from_slice(bytes)?,
+            Event::Pack(bytes) => append(&mut self.pack, bytes)?,
+            Event::Progress(bytes) => append(&mut self.progress, bytes)?,
             Event::Ended => {
                 self.pack_start = self.pack.len();
                 self.progress_start = self.progress.len();
@@ -132,9 +133,14 @@ impl<'a> Talk<'a> {
         Ok(talk)
     }
 
+    // Whether it uses bytes that it is given.
+    fn uses_more(&mut self) -> bool {
+        self.client.feed(b"0000", &mut Steps::new()).used != 0
+    }
+
     // A client that does not wait for input uses none.
     fn check_waiting(&mut self) -> Result<(), Trouble> {
-        if !self.client.wants_input() && self.client.feed(b"0000", &mut Steps::new()).used != 0 {
+        if !self.client.wants_input() && self.uses_more() {
             return Err(Trouble::Breaks("a client uses bytes that it does not want"));
         }
         Ok(())
@@ -191,7 +197,7 @@ impl<'a> Talk<'a> {
                 if write_asked(&mut Told::new(&mut line), wording.command).is_err() {
                     return Err(Trouble::Breaks("a line is not written"));
                 }
-                self.notes.lines.extend_from_slice(line.as_slice())?;
+                append(&mut self.notes.lines, line.as_slice())?;
             }
             Err((request, fault)) => {
                 if shown(self.alloc, &request)?.as_slice() != asked.as_slice() {
@@ -201,29 +207,53 @@ impl<'a> Talk<'a> {
                     return Err(Trouble::Breaks("a refused request changes the client"));
                 }
                 let line = format!(in self.alloc; "refused {fault}\n")?;
-                self.notes.lines.extend_from_slice(line.as_bytes())?;
+                append(&mut self.notes.lines, line.as_bytes())?;
             }
         }
         Ok(())
+    }
+
+    // Receives a piece up to an event, and notes that. What is left of the piece, if there was one.
+    fn hear_event<'p>(&mut self, piece: &'p [u8]) -> Result<Option<&'p [u8]>, Trouble> {
+        let is_wanted = self.client.wants_input();
+        let heard = self.client.feed(piece, &mut Steps::new());
+        let rest = &piece[heard.used..];
+        match heard.got {
+            HeardGot::More if is_wanted && !rest.is_empty() => {
+                Err(Trouble::Breaks("a piece is not used up"))
+            }
+            HeardGot::More | HeardGot::Failed(_) => Ok(None),
+            HeardGot::Event(event) => {
+                self.notes.note(self.alloc, &event)?;
+                Ok(Some(rest))
+            }
+        }
     }
 
     // Receives a piece, up to where no more input is wanted, and sends what is to be sent between.
     fn hear(&mut self, piece: &[u8]) -> Result<(), Trouble> {
         let mut rest = piece;
         for _ in 0..=piece.len() {
-            let is_wanted = self.client.wants_input();
-            let heard = self.client.feed(rest, &mut Steps::new());
-            rest = &rest[heard.used..];
-            match heard.got {
-                HeardGot::More if is_wanted && !rest.is_empty() => {
-                    return Err(Trouble::Breaks("a piece is not used up"));
-                }
-                HeardGot::More | HeardGot::Failed(_) => return Ok(()),
-                HeardGot::Event(event) => self.notes.note(self.alloc, &event)?,
-            }
+            let Some(left) = self.hear_event(rest)? else {
+                return Ok(());
+            };
+            rest = left;
             self.say()?;
         }
         Err(Trouble::Breaks("a piece has events without an end"))
+    }
+
+    // Whether it says that it needs input.
+    fn needs_input(&mut self) -> bool {
+        matches!(self.client.pull(), Sent::NeedInput)
+    }
+
+    // The fault that it tells, if it failed.
+    fn fault(&mut self) -> Option<Fault> {
+        match self.client.pull() {
+            Sent::Failed(fault) => Some(fault),
+            _ => None,
+        }
     }
 
     // The input ends here.
@@ -231,39 +261,47 @@ impl<'a> Talk<'a> {
         if !self.client.wants_input() {
             return Ok(());
         }
-        if !matches!(self.client.pull(), Sent::NeedInput) {
+        if !self.needs_input() {
             return Err(Trouble::Breaks("a client that wants input does not say so"));
         }
         if !self.client.wants_input() {
             return Err(Trouble::Breaks("a client wants input no more once it said so"));
         }
         let fault = self.client.close();
+        if self.fault() != Some(fault) {
+            return Err(Trouble::Breaks("a client that was closed tells another fault"));
+        }
+        Ok(())
+    }
+
+    // How many bytes a client uses that is at its end, and the fault that it tells then.
+    fn feed_more(&mut self) -> Result<(usize, Option<Fault>), Trouble> {
+        let heard = self.client.feed(b"0000", &mut Steps::new());
+        match heard.got {
+            HeardGot::More => Ok((heard.used, None)),
+            HeardGot::Failed(fault) => Ok((heard.used, Some(fault))),
+            HeardGot::Event(_) => Err(Trouble::Breaks("an event of no bytes")),
+        }
+    }
+
+    // How a client ended: whether it can be asked, its fault, and the line that reports it.
+    fn ending(&mut self) -> Result<(bool, Option<Fault>, String), Trouble> {
         match self.client.pull() {
-            Sent::Failed(told) if told == fault => Ok(()),
-            _ => Err(Trouble::Breaks("a client that was closed tells another fault")),
+            Sent::CanAsk => Ok((true, None, String::from_str(self.alloc, "can ask\n")?)),
+            Sent::Finished => Ok((false, None, String::from_str(self.alloc, "left\n")?)),
+            Sent::Failed(fault) => {
+                let line = format!(in self.alloc; "refused {fault}\n")?;
+                Ok((false, Some(fault), line))
+            }
+            _ => Err(Trouble::Breaks("a client wants to send or to read")),
         }
     }
 
     // A client that is at its end uses nothing more, and reports its end by each of its functions. Answers how it ended.
     fn ended(&mut self) -> Result<String, Trouble> {
         let position = self.client.position();
-        let heard = self.client.feed(b"0000", &mut Steps::new());
-        let used = heard.used;
-        let told = match heard.got {
-            HeardGot::More => None,
-            HeardGot::Failed(fault) => Some(fault),
-            HeardGot::Event(_) => return Err(Trouble::Breaks("an event of no bytes")),
-        };
-        let (can_ask, fault, ending) = match self.client.pull() {
-            Sent::CanAsk => (true, None, String::from_str(self.alloc, "can ask\n")?),
-            Sent::Finished => (false, None, String::from_str(self.alloc, "left\n")?),
-            Sent::Failed(fault) => (
-                false,
-                Some(fault),
-                format!(in self.alloc; "refused {fault}\n")?,
-            ),
-            _ => return Err(Trouble::Breaks("a client wants to send or to read")),
-        };
+        let (used, told) = self.feed_more()?;
+        let (can_ask, fault, ending) = self.ending()?;
         if used != 0 || told != fault {
             return Err(Trouble::Breaks("a client goes on after its end"));
         }
@@ -279,13 +317,16 @@ impl<'a> Talk<'a> {
 
 // Appends the line of the message that ended a conversation.
 fn append_message(alloc: Global, ending: &mut String, message: &[u8]) -> Result<(), AllocError> {
-    ending.push_str("message")?;
+    append_str(ending, "message")?;
     if !message.is_empty() {
-        ending.push_str(" ")?;
+        append_str(ending, " ")?;
         let message = escaped(alloc, message)?;
-        ending.push_str(String::from_utf8_lossy(alloc, message.as_slice())?.as_str())?;
+        append_str(
+            ending,
+            String::from_utf8_lossy(alloc, message.as_slice())?.as_str(),
+        )?;
     }
-    ending.push_str("\n")
+    append_str(ending, "\n")
 }
 
 /// Feeds the pieces to a client, which sends the requests of the case as soon as it can, and after which the input ends.

@@ -3,6 +3,7 @@
 use crate::runs::{Due, compare};
 use crate::script::{Given, Script};
 use crate::setup::{LAST_POSITION, offer};
+use crate::texts::append;
 use crate::trouble::Trouble;
 use crate::{checks, clients, packets, requests, sessions};
 use git_names::Format;
@@ -84,7 +85,7 @@ impl<'a> End<'a> {
             End::Server(_) => {
                 let line = format!(in alloc; "ERR Truncated at {offset}\n")?;
                 let packet = format!(in alloc; "{:04x}{line}", line.len().saturating_add(4))?;
-                given.extend_from_slice(packet.as_bytes())
+                append(given, packet.as_bytes())
             }
             _ => Ok(()),
         }

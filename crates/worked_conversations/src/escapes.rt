@@ -1,5 +1,6 @@
 //! Bytes as a case writes them: in the escaped form that `git2show show` prints.
 
+use crate::texts::append;
 use crate::trouble::Trouble;
 use git_pkt::escape_into;
 use std::alloc::{AllocError, Global};
@@ -35,35 +36,35 @@ pub fn length_told(digits: &[u8]) -> Option<usize> {
     Some(((first * 16 + second) * 16 + third) * 16 + fourth)
 }
 
+// How far an escape has come after one more byte, and the byte that is whole then.
+fn unescaped(place: Place, byte: u8) -> Result<(Place, Option<u8>), Trouble> {
+    match (place, byte) {
+        (Place::Plain, b'\\') => Ok((Place::Escape, None)),
+        (Place::Plain, plain) => Ok((Place::Plain, Some(plain))),
+        (Place::Escape, b'n') => Ok((Place::Plain, Some(b'\n'))),
+        (Place::Escape, b'\\') => Ok((Place::Plain, Some(b'\\'))),
+        (Place::Escape, b'x') => Ok((Place::HighDigit, None)),
+        (Place::Escape, _) => Err(Trouble::BadCase("an unknown escape")),
+        (Place::HighDigit, byte) => match digit(byte) {
+            Some(high) => Ok((Place::LowDigit(high), None)),
+            None => Err(Trouble::BadCase("no digit after \\x")),
+        },
+        (Place::LowDigit(high), byte) => match digit(byte) {
+            Some(low) => Ok((Place::Plain, Some(high.wrapping_mul(16) | low))),
+            None => Err(Trouble::BadCase("no second digit after \\x")),
+        },
+    }
+}
+
 /// Appends the bytes of an escaped text: `\n` is LF, `\\` a backslash, `\x` and two digits that byte.
 pub fn append_unescaped(bytes: &mut Vec<u8>, text: &str) -> Result<(), Trouble> {
     let mut place = Place::Plain;
     for byte in text.as_bytes() {
-        place = match (place, *byte) {
-            (Place::Plain, b'\\') => Place::Escape,
-            (Place::Plain, plain) => {
-                bytes.push(plain)?;
-                Place::Plain
-            }
-            (Place::Escape, b'n') => {
-                bytes.push(b'\n')?;
-                Place::Plain
-            }
-            (Place::Escape, b'\\') => {
-                bytes.push(b'\\')?;
-                Place::Plain
-            }
-            (Place::Escape, b'x') => Place::HighDigit,
-            (Place::Escape, _) => return Err(Trouble::BadCase("an unknown escape")),
-            (Place::HighDigit, byte) => {
-                Place::LowDigit(digit(byte).ok_or(Trouble::BadCase("no digit after \\x"))?)
-            }
-            (Place::LowDigit(high), byte) => {
-                let low = digit(byte).ok_or(Trouble::BadCase("no second digit after \\x"))?;
-                bytes.push(high.wrapping_mul(16) | low)?;
-                Place::Plain
-            }
-        };
+        let (next, whole) = unescaped(place, *byte)?;
+        if let Some(whole) = whole {
+            append(bytes, &[whole])?;
+        }
+        place = next;
     }
     match place {
         Place::Plain => Ok(()),
@@ -77,7 +78,7 @@ pub fn escaped(alloc: Global, bytes: &[u8]) -> Result<Vec<u8>, AllocError> {
     for byte in bytes {
         let mut shown = [0; 4];
         let end = escape_into(&[*byte], &mut shown, 0).min(4);
-        text.extend_from_slice(&shown[..end])?;
+        append(&mut text, &shown[..end])?;
     }
     Ok(text)
 }

@@ -1,5 +1,6 @@
 //! Lists that make a repository or do not, given as lines.
 
+use crate::texts::copied;
 use crate::trouble::Trouble;
 use git_msg::Boundary;
 use git_names::{Format, Oid, Steps};
@@ -38,13 +39,13 @@ fn entry(
     let mut peeled = None;
     for word in rest.split(' ') {
         if let Some(name) = word.strip_prefix("symref-target:") {
-            target = Some(Vec::from_slice(alloc, name.as_bytes())?);
+            target = Some(copied(alloc, name.as_bytes())?);
         }
         if let Some(id) = word.strip_prefix("peeled:") {
             peeled = Some(object(id)?);
         }
     }
-    let name = Vec::from_slice(alloc, name.as_bytes())?;
+    let name = copied(alloc, name.as_bytes())?;
     match RefEntry::new(name, object(id)?, target, peeled) {
         Ok(entry) => Ok(Ok(entry)),
         Err(fault) => Ok(Err(format!(in alloc; "{fault}")?)),
@@ -72,7 +73,7 @@ impl Lists {
                 .push(Boundary::Unshallow(object(first)?))
                 .is_ok(),
             "unborn" => {
-                self.unborn = Some(Vec::from_slice(alloc, first.as_bytes())?);
+                self.unborn = Some(copied(alloc, first.as_bytes())?);
                 true
             }
             _ => return Err(Trouble::BadCase("a line of no list")),

@@ -17,6 +17,7 @@ mod script;
 mod sessions;
 mod setup;
 mod tables;
+mod texts;
 mod trouble;
 mod wordings;
 

@@ -7,6 +7,7 @@ use crate::escapes::escaped;
 use crate::runs::Run;
 use crate::script::Script;
 use crate::setup::{LAST_POSITION, TURNS};
+use crate::texts::append;
 use crate::trouble::Trouble;
 use git_names::Steps;
 use git_pkt::{Fault, Got, Packet, PacketReader, RunFault, Told, put};
@@ -27,14 +28,14 @@ fn append_line(
         Packet::RespEnd => format!(in alloc; "{offset} end")?,
         Packet::Payload(payload) => format!(in alloc; "{offset} data {}", payload.len())?,
     };
-    lines.extend_from_slice(line.as_bytes())?;
+    append(lines, line.as_bytes())?;
     if let Packet::Payload(payload) = packet {
         if !payload.is_empty() {
-            lines.extend_from_slice(b" ")?;
-            lines.extend_from_slice(escaped(alloc, payload)?.as_slice())?;
+            append(lines, b" ")?;
+            append(lines, escaped(alloc, payload)?.as_slice())?;
         }
     }
-    lines.extend_from_slice(b"\n")
+    append(lines, b"\n")
 }
 
 // After a packet the hold has its bytes as they came, and an empty piece leaves them. Then it may be written over.
@@ -56,6 +57,38 @@ fn check_hold(reader: &mut PacketReader, came: &[u8]) -> Result<(), Trouble>
     Ok(())
 }
 
+/// How far a piece was used.
+#[derive(Clone, Copy)]
+enum Used<'a> {
+    Whole,
+    /// Up to the end of a packet: this is left.
+    Front(&'a [u8]),
+    /// Up to a fault.
+    Failed,
+}
+
+// Feeds a piece up to the end of a packet, and appends the line of that.
+fn feed_packet<'a>(
+    alloc: Global,
+    reader: &mut PacketReader,
+    piece: &'a [u8],
+    lines: &mut Vec<u8>,
+) -> Result<Used<'a>, AllocError>
+    requires gathers { passes_of reader.old ≡ false }
+    ensures gathers { passes_of reader.new ≡ false }
+{
+    let fed = reader.feed(piece, &mut Steps::new());
+    let rest = &piece[fed.used..];
+    match fed.got {
+        Got::More => Ok(Used::Whole),
+        Got::Failed(_) => Ok(Used::Failed),
+        Got::Packet(packet, offset) => {
+            append_line(alloc, lines, packet, offset)?;
+            Ok(Used::Front(rest))
+        }
+    }
+}
+
 // Feeds a piece whole, also an empty one. Answers whether it met a fault.
 fn feed(
     alloc: Global,
@@ -70,12 +103,10 @@ fn feed(
 {
     let mut rest = piece;
     for _ in 0..=piece.len() {
-        let fed = reader.feed(rest, &mut Steps::new());
-        rest = &rest[fed.used..];
-        match fed.got {
-            Got::More => return Ok(false),
-            Got::Failed(_) => return Ok(true),
-            Got::Packet(packet, offset) => append_line(alloc, lines, packet, offset)?,
+        match feed_packet(alloc, reader, rest, lines)? {
+            Used::Whole => return Ok(false),
+            Used::Failed => return Ok(true),
+            Used::Front(left) => rest = left,
         }
         let used = reader.position().saturating_sub(start) as usize;
         check_hold(reader, input.get(..used).unwrap_or(&[]))?;

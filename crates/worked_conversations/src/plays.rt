@@ -6,6 +6,7 @@ use crate::runs::{Due, Known, Run, compare};
 use crate::script::Script;
 use crate::sessions::{Contents, repository};
 use crate::setup::limits;
+use crate::texts::copied;
 use crate::trouble::Trouble;
 use git_client::Ending;
 use git_msg::Limits;
@@ -98,8 +99,8 @@ fn due_ending(alloc: Global, script: &Script, ending: Ending) -> Result<String, 
 
 fn due(alloc: Global, script: &Script, ending: Ending) -> Result<Due, Trouble> {
     Ok(Due {
-        given: script.given.clone()?,
-        pack: script.pack.clone()?,
+        given: copied(alloc, script.given.as_slice())?,
+        pack: copied(alloc, script.pack.as_slice())?,
         progress: Vec::new(alloc),
         ending: due_ending(alloc, script, ending)?,
         used: 0,

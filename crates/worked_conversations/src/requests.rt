@@ -7,6 +7,7 @@ ghost use Rattle.git_msg.specs.RequestReader.{is_waiting};
 use crate::escapes::escaped;
 use crate::runs::Run;
 use crate::setup::{MANY, limits};
+use crate::texts::append;
 use crate::trouble::Trouble;
 use git_msg::{Offer, Request, RequestReader, Taken};
 use git_names::{Oid, Steps};
@@ -52,8 +53,8 @@ impl Keeper {
 fn append_flags(lines: &mut Vec<u8>, flags: &[(bool, &str)]) -> Result<(), AllocError> {
     for (is_set, name) in flags {
         if *is_set {
-            lines.extend_from_slice(name.as_bytes())?;
-            lines.extend_from_slice(b"\n")?;
+            append(lines, name.as_bytes())?;
+            append(lines, b"\n")?;
         }
     }
     Ok(())
@@ -66,12 +67,12 @@ fn append_text(
     word: &str,
     text: &[u8],
 ) -> Result<(), AllocError> {
-    lines.extend_from_slice(word.as_bytes())?;
+    append(lines, word.as_bytes())?;
     if !text.is_empty() {
-        lines.extend_from_slice(b" ")?;
-        lines.extend_from_slice(escaped(alloc, text)?.as_slice().trim_ascii_end())?;
+        append(lines, b" ")?;
+        append(lines, escaped(alloc, text)?.as_slice().trim_ascii_end())?;
     }
-    lines.extend_from_slice(b"\n")
+    append(lines, b"\n")
 }
 
 // Appends lines of a word and an object name.
@@ -147,7 +148,7 @@ fn append_request(
     let command = request.command().name();
     let (format, kept) = (request.format().name(), request.kept());
     let head = format!(in alloc; "request {command} {format} kept {kept}\n")?;
-    lines.extend_from_slice(head.as_bytes())?;
+    append(lines, head.as_bytes())?;
     let flags = [
         (request.peel(), "peel"),
         (request.symrefs(), "symrefs"),
@@ -199,6 +200,64 @@ fn append_heard(
     Ok(false)
 }
 
+// How a reader ended at a fault, which it keeps.
+fn refused(alloc: Global, keeper: &mut Keeper, fault: Fault) -> Result<String, Trouble> {
+    if keeper.hear(Packet::Flush, 7).err() != Some(fault) {
+        return Err(Trouble::Breaks("a reader goes on after its fault"));
+    }
+    Ok(format!(in alloc; "refused {fault}\n")?)
+}
+
+// Gives the reader a packet, and appends the line of what that brought. Answers how it ended, if it did.
+fn hear(
+    alloc: Global,
+    keeper: &mut Keeper,
+    packet: Packet<'_>,
+    offset: u64,
+    lines: &mut Vec<u8>,
+) -> Result<Option<String>, Trouble> {
+    match keeper.hear(packet, offset) {
+        Ok(heard) => match append_heard(alloc, lines, &heard, packet)? {
+            true => Ok(Some(String::from_str(alloc, "stop\n")?)),
+            false => Ok(None),
+        },
+        Err(fault) => Ok(Some(refused(alloc, keeper, fault)?)),
+    }
+}
+
+/// How far a piece was used.
+#[derive(Drop)]
+enum Used<'a> {
+    Whole,
+    /// Up to the end of a packet: this is left.
+    Front(&'a [u8]),
+    /// Up to where it ended as this line reports.
+    Ended(String),
+}
+
+// Feeds a piece up to the end of a packet.
+fn feed_packet<'a>(
+    alloc: Global,
+    packets: &mut PacketReader,
+    keeper: &mut Keeper,
+    piece: &'a [u8],
+    lines: &mut Vec<u8>,
+) -> Result<Used<'a>, Trouble>
+    requires gathers { passes_of packets.old ≡ false }
+    ensures gathers { passes_of packets.new ≡ false }
+{
+    let fed = packets.feed(piece, &mut Steps::new());
+    let rest = &piece[fed.used..];
+    match fed.got {
+        Got::More => Ok(Used::Whole),
+        Got::Failed(fault) => Ok(Used::Ended(format!(in alloc; "refused {fault}\n")?)),
+        Got::Packet(packet, offset) => match hear(alloc, keeper, packet, offset, lines)? {
+            Some(ending) => Ok(Used::Ended(ending)),
+            None => Ok(Used::Front(rest)),
+        },
+    }
+}
+
 // Feeds a piece whole. Answers how it ended, if it did.
 fn feed(
     alloc: Global,
@@ -212,25 +271,10 @@ fn feed(
 {
     let mut rest = piece;
     for _ in 0..=piece.len() {
-        let fed = packets.feed(rest, &mut Steps::new());
-        rest = &rest[fed.used..];
-        let (packet, offset) = match fed.got {
-            Got::More => return Ok(None),
-            Got::Failed(fault) => return Ok(Some(format!(in alloc; "refused {fault}\n")?)),
-            Got::Packet(packet, offset) => (packet, offset),
-        };
-        match keeper.hear(packet, offset) {
-            Ok(heard) => {
-                if append_heard(alloc, lines, &heard, packet)? {
-                    return Ok(Some(String::from_str(alloc, "stop\n")?));
-                }
-            }
-            Err(fault) => {
-                if keeper.hear(Packet::Flush, 7).err() != Some(fault) {
-                    return Err(Trouble::Breaks("a reader goes on after its fault"));
-                }
-                return Ok(Some(format!(in alloc; "refused {fault}\n")?));
-            }
+        match feed_packet(alloc, packets, keeper, rest, lines)? {
+            Used::Whole => return Ok(None),
+            Used::Front(left) => rest = left,
+            Used::Ended(ending) => return Ok(Some(ending)),
         }
     }
     Err(Trouble::Breaks("a piece is never used up"))

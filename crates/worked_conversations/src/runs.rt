@@ -4,6 +4,7 @@ use crate::ends::End;
 use crate::escapes::{escaped, length_told};
 use crate::script::{Script, Step};
 use crate::setup::MANY;
+use crate::texts::copied;
 use crate::trouble::Trouble;
 use git_pkt::BAND_HEAD;
 use std::alloc::{AllocError, Global};
@@ -96,7 +97,7 @@ fn on_bands(script: &Script, last: Step, at: usize) -> (usize, usize) {
 
 // The first bytes.
 fn front(alloc: Global, bytes: &Vec<u8>, count: usize) -> Result<Vec<u8>, AllocError> {
-    Vec::from_slice(alloc, bytes.as_slice().get(..count).unwrap_or(&[]))
+    copied(alloc, bytes.as_slice().get(..count).unwrap_or(&[]))
 }
 
 // Where the last packet ends that ends by here.
@@ -124,9 +125,9 @@ fn recorded_due_at(
 ) -> Result<Due, Trouble> {
     let last = last_packet(script.input.as_slice(), at) as u64;
     Ok(Due {
-        given: script.given.clone()?,
-        pack: script.pack.clone()?,
-        progress: script.progress.clone()?,
+        given: copied(alloc, script.given.as_slice())?,
+        pack: copied(alloc, script.pack.as_slice())?,
+        progress: copied(alloc, script.progress.as_slice())?,
         ending: end.truncated(alloc, end.start().saturating_add(last))?,
         used: at,
         known: Known::Front,
@@ -138,9 +139,9 @@ pub fn due_at(alloc: Global, end: &End<'_>, script: &Script, at: usize) -> Resul
     let told = script.told();
     if told <= at {
         return Ok(Due {
-            given: script.given.clone()?,
-            pack: script.pack.clone()?,
-            progress: script.progress.clone()?,
+            given: copied(alloc, script.given.as_slice())?,
+            pack: copied(alloc, script.pack.as_slice())?,
+            progress: copied(alloc, script.progress.as_slice())?,
             ending: script.ending.clone()?,
             used: told.saturating_sub(end.unread(script)),
             known: Known::All,
@@ -217,6 +218,31 @@ pub fn compare(alloc: Global, run: &Run, due: &Due, place: usize) -> Result<(), 
     }
 }
 
+// The bytes one by one, with empty pieces between.
+fn single_bytes(alloc: Global, input: &[u8]) -> Result<Vec<&[u8]>, Trouble> {
+    let mut single: Vec<&[u8]> = Vec::new(alloc);
+    for byte in input.chunks(1) {
+        single.push(byte).map_err(|_| Trouble::OutOfMemory)?;
+        single.push(&[]).map_err(|_| Trouble::OutOfMemory)?;
+    }
+    Ok(single)
+}
+
+// The case goes as it states where it is cut in two at a byte, and where it ends there.
+fn goes_cut(
+    alloc: Global,
+    end: &End<'_>,
+    script: &Script,
+    due: &Due,
+    at: usize,
+) -> Result<(), Trouble> {
+    let input = script.input.as_slice();
+    let (front, rest) = input.split_at(at.min(input.len()));
+    end.goes(alloc, script, &[front, rest], due, at)?;
+    let ended = due_at(alloc, end, script, at)?;
+    end.goes(alloc, script, &[front], &ended, at)
+}
+
 /// The case goes as it states: whole, cut in two at each byte, in single bytes with empty pieces between, and ended
 /// at each byte. Answers how many runs were made.
 pub fn goes(alloc: Global, end: &End<'_>, script: &Script) -> Result<usize, Trouble> {
@@ -224,20 +250,12 @@ pub fn goes(alloc: Global, end: &End<'_>, script: &Script) -> Result<usize, Trou
     let due = due_at(alloc, end, script, input.len())?;
     let mut runs = 0usize;
     for at in 0..=input.len() {
-        if !is_cut_at(input.len(), at) {
-            continue;
+        if is_cut_at(input.len(), at) {
+            goes_cut(alloc, end, script, &due, at)?;
+            runs = runs.saturating_add(2);
         }
-        let (front, rest) = input.split_at(at);
-        end.goes(alloc, script, &[front, rest], &due, at)?;
-        let ended = due_at(alloc, end, script, at)?;
-        end.goes(alloc, script, &[front], &ended, at)?;
-        runs = runs.saturating_add(2);
     }
-    let mut single: Vec<&[u8]> = Vec::new(alloc);
-    for byte in input.chunks(1) {
-        single.push(byte).map_err(|_| Trouble::OutOfMemory)?;
-        single.push(&[]).map_err(|_| Trouble::OutOfMemory)?;
-    }
+    let single = single_bytes(alloc, input)?;
     end.goes(alloc, script, single.as_slice(), &due, usize::MAX)?;
     let others = end.goes_elsewhere(alloc, script)?;
     Ok(runs.saturating_add(1).saturating_add(others))

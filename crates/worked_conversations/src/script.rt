@@ -1,6 +1,7 @@
 //! The lines of a case: what comes, what is given for it, and how it ends.
 
 use crate::escapes::{append_unescaped, escaped};
+use crate::texts::{append, append_str, copied};
 use crate::trouble::Trouble;
 use crate::wordings::Wording;
 use std::alloc::{AllocError, Global};
@@ -118,8 +119,8 @@ impl Script {
     }
 
     fn take_ending(&mut self, line: &str) -> Result<(), Trouble> {
-        self.ending.push_str(line)?;
-        self.ending.push_str("\n")?;
+        append_str(&mut self.ending, line)?;
+        append_str(&mut self.ending, "\n")?;
         self.last = Last::Ending;
         Ok(())
     }
@@ -128,11 +129,16 @@ impl Script {
     fn take_input(&mut self, text: &str) -> Result<(), Trouble> {
         append_unescaped(&mut self.input, text)?;
         self.last = Last::Input;
-        if self.ending.is_empty() {
-            let step = self.reached();
-            self.steps.push(step).map_err(|_| Trouble::OutOfMemory)?;
+        match self.ending.is_empty() {
+            true => self.end_step(),
+            false => Ok(()),
         }
-        Ok(())
+    }
+
+    // A step ends where the bytes so far do.
+    fn end_step(&mut self) -> Result<(), Trouble> {
+        let step = self.reached();
+        self.steps.push(step).map_err(|_| Trouble::OutOfMemory)
     }
 
     // Where the bytes so far end.
@@ -149,8 +155,8 @@ impl Script {
         match form {
             Given::Bytes => append_unescaped(&mut self.given, text)?,
             Given::Lines | Given::Talk => {
-                self.given.extend_from_slice(text.as_bytes())?;
-                self.given.push(b'\n')?;
+                append(&mut self.given, text.as_bytes())?;
+                append(&mut self.given, b"\n")?;
             }
         }
         self.last = Last::Given;
@@ -223,8 +229,7 @@ impl Script {
         self.is_recorded = true;
         self.input = recording.responses;
         self.pack = recording.pack;
-        let step = self.reached();
-        self.steps.push(step).map_err(|_| Trouble::OutOfMemory)
+        self.end_step()
     }
 
     /// Takes what was recorded as the streams that are checked against each other: all of both.
@@ -236,8 +241,26 @@ impl Script {
         self.asked_read = recording.requests.len();
         self.asked = recording.requests;
         self.input = recording.responses;
-        let step = self.reached();
-        self.steps.push(step).map_err(|_| Trouble::OutOfMemory)
+        self.end_step()
+    }
+
+    // Goes on with what is given, whose last line is not at its end yet where it is lines.
+    fn give_more(&mut self, count: u32, text: &str, form: Given) -> Result<(), Trouble> {
+        if form == Given::Bytes {
+            return append_often(&mut self.given, count, text);
+        }
+        self.given.pop();
+        append_often(&mut self.given, count, text)?;
+        Ok(append(&mut self.given, b"\n")?)
+    }
+
+    // Goes on with the last line of the ending.
+    fn end_more(&mut self, count: u32, text: &str) -> Result<(), Trouble> {
+        self.ending.pop();
+        for _ in 0..count {
+            append_str(&mut self.ending, text)?;
+        }
+        Ok(append_str(&mut self.ending, "\n")?)
     }
 
     // Goes on with the line before: so many times these bytes.
@@ -251,23 +274,8 @@ impl Script {
             Last::Asked => append_often(&mut self.asked, count, text)?,
             Last::Pack => append_often(&mut self.pack, count, text)?,
             Last::Progress => append_often(&mut self.progress, count, text)?,
-            Last::Given => {
-                let is_lines = form != Given::Bytes;
-                if is_lines {
-                    self.given.pop();
-                }
-                append_often(&mut self.given, count, text)?;
-                if is_lines {
-                    self.given.push(b'\n')?;
-                }
-            }
-            Last::Ending => {
-                self.ending.pop();
-                for _ in 0..count {
-                    self.ending.push_str(text)?;
-                }
-                self.ending.push_str("\n")?;
-            }
+            Last::Given => self.give_more(count, text, form)?,
+            Last::Ending => self.end_more(count, text)?,
             Last::Nothing => return Err(Trouble::BadCase("nothing before +")),
         }
         if self.ending.is_empty() {
@@ -287,11 +295,10 @@ impl Script {
         };
         let start = before.last().copied().unwrap_or_default().input;
         let packet = self.input.as_slice().get(start..last.input);
-        let packet = Vec::from_slice(alloc, packet.unwrap_or(&[]))?;
+        let packet = copied(alloc, packet.unwrap_or(&[]))?;
         for _ in 0..count {
-            self.input.extend_from_slice(packet.as_slice())?;
-            let step = self.reached();
-            self.steps.push(step).map_err(|_| Trouble::OutOfMemory)?;
+            append(&mut self.input, packet.as_slice())?;
+            self.end_step()?;
         }
         self.last = Last::Nothing;
         Ok(())
@@ -320,9 +327,9 @@ impl Script {
 
 /// Appends the line of a packet that is sent.
 pub fn append_sent(alloc: Global, lines: &mut Vec<u8>, packet: &[u8]) -> Result<(), AllocError> {
-    lines.extend_from_slice(b"? ")?;
-    lines.extend_from_slice(escaped(alloc, packet)?.as_slice())?;
-    lines.extend_from_slice(b"\n")
+    append(lines, b"? ")?;
+    append(lines, escaped(alloc, packet)?.as_slice())?;
+    append(lines, b"\n")
 }
 
 fn append_often(bytes: &mut Vec<u8>, count: u32, text: &str) -> Result<(), Trouble> {

@@ -1,10 +1,13 @@
 //! A server that is fed, and one that is run over a reader and a writer.
 
+ghost use Rattle.std.specs.Prelude.{◌≤◌, length};
+
 use crate::runs::Run;
 use crate::setup::{MANY, TURNS, limits, offer};
+use crate::texts::{append, copied};
 use crate::trouble::Trouble;
 use git_names::Steps;
-use git_pkt::{Fault, Told};
+use git_pkt::{Fault, RunFault, Told};
 use git_repository::{Packs, TextFault, read_repo};
 use git_server::{Faulty, ListRepo, Outcome, Pulled, Repo, Server, serve};
 use std::alloc::{AllocError, Global};
@@ -47,11 +50,11 @@ pub struct Setup<'a> {
 /// The repository of a text and its packs.
 pub fn repository(alloc: Global, contents: Contents<'_>) -> Result<ListRepo, Trouble> {
     let filtered = match contents.filtered {
-        Some(filtered) => Some(Vec::from_slice(alloc, filtered)?),
+        Some(filtered) => Some(copied(alloc, filtered)?),
         None => None,
     };
     let packs = Packs {
-        pack: Vec::from_slice(alloc, contents.pack)?,
+        pack: copied(alloc, contents.pack)?,
         filtered,
     };
     match read_repo(alloc, contents.text, packs) {
@@ -89,12 +92,30 @@ fn drain<R: Repo>(
 ) -> Result<Option<Outcome>, Trouble> {
     for _ in 0..MANY {
         match server.pull() {
-            Pulled::Packet(bytes) => output.extend_from_slice(bytes)?,
+            Pulled::Packet(bytes) => append(output, bytes)?,
             Pulled::NeedInput => return Ok(None),
             Pulled::Finished(outcome) => return Ok(Some(outcome)),
         }
     }
     Err(Trouble::Breaks("an answer has no end"))
+}
+
+// How many bytes of a piece a server uses.
+fn used_of<R: Repo>(server: &mut Server<R, Global>, piece: &[u8]) -> usize
+    ensures used { result ≤ length piece.now }
+{
+    server.feed(piece, &mut Steps::new())
+}
+
+// Feeds a piece up to where the server has something to give, and appends that. Its outcome, and what is left of the piece.
+fn feed_front<'a, R: Repo>(
+    server: &mut Server<R, Global>,
+    piece: &'a [u8],
+    output: &mut Vec<u8>,
+) -> Result<(Option<Outcome>, &'a [u8]), Trouble> {
+    let used = used_of(server, piece);
+    let outcome = drain(server, output)?;
+    Ok((outcome, &piece[used..]))
 }
 
 // Feeds a piece whole, and appends what the server gives for it. Its outcome, and how many bytes it used.
@@ -105,9 +126,8 @@ fn feed<R: Repo>(
 ) -> Result<(Option<Outcome>, usize), Trouble> {
     let mut rest = piece;
     for _ in 0..=piece.len() {
-        let used = server.feed(rest, &mut Steps::new());
-        rest = &rest[used..];
-        let outcome = drain(server, output)?;
+        let (outcome, left) = feed_front(server, rest, output)?;
+        rest = left;
         if rest.is_empty() || outcome.is_some() {
             return Ok((outcome, piece.len().saturating_sub(rest.len())));
         }
@@ -115,13 +135,18 @@ fn feed<R: Repo>(
     Err(Trouble::Breaks("a piece is never used up"))
 }
 
+// The outcome that a server has, if it has nothing more to give.
+fn outcome_of<R: Repo>(server: &mut Server<R, Global>) -> Option<Outcome> {
+    match server.pull() {
+        Pulled::Finished(outcome) => Some(outcome),
+        _ => None,
+    }
+}
+
 // A server whose session is over uses nothing more, gives nothing more, and has its outcome's fault.
 fn check_over<R: Repo>(server: &mut Server<R, Global>, outcome: Outcome) -> Result<(), Trouble> {
-    let used = server.feed(b"0000", &mut Steps::new());
-    let again = match server.pull() {
-        Pulled::Finished(again) => Some(again),
-        _ => None,
-    };
+    let used = used_of(server, b"0000");
+    let again = outcome_of(server);
     if used != 0 || again != Some(outcome) || server.wants_input() {
         return Err(Trouble::Breaks("a server goes on after its session"));
     }
@@ -131,6 +156,36 @@ fn check_over<R: Repo>(server: &mut Server<R, Global>, outcome: Outcome) -> Resu
     Ok(())
 }
 
+// Feeds all pieces to a new server. Its last outcome, and how many bytes it used.
+fn feed_all<R: Repo>(
+    server: &mut Server<R, Global>,
+    pieces: &[&[u8]],
+    output: &mut Vec<u8>,
+) -> Result<(Option<Outcome>, usize), Trouble> {
+    let mut outcome = drain(server, output)?;
+    let mut used = 0usize;
+    for piece in pieces {
+        let (came, count) = feed(server, piece, output)?;
+        outcome = came;
+        used = used.saturating_add(count);
+    }
+    Ok((outcome, used))
+}
+
+// The input ends here, where a server wants more of it. Its outcome, which is this one where it wants nothing more.
+fn close<R: Repo>(
+    server: &mut Server<R, Global>,
+    outcome: Option<Outcome>,
+    output: &mut Vec<u8>,
+) -> Result<Outcome, Trouble> {
+    let mut outcome = outcome;
+    if server.wants_input() {
+        server.close();
+        outcome = drain(server, output)?;
+    }
+    outcome.ok_or(Trouble::Breaks("a closed server has no outcome"))
+}
+
 // Feeds the pieces to a new server, after which the input ends.
 fn fed_to<R: Repo + Drop>(
     alloc: Global,
@@ -138,20 +193,8 @@ fn fed_to<R: Repo + Drop>(
     pieces: &[&[u8]],
 ) -> Result<Run, Trouble> {
     let mut given = Vec::new(alloc);
-    let mut outcome = drain(&mut server, &mut given)?;
-    let mut used = 0usize;
-    for piece in pieces {
-        let (came, count) = feed(&mut server, piece, &mut given)?;
-        outcome = came;
-        used = used.saturating_add(count);
-    }
-    if server.wants_input() {
-        server.close();
-        outcome = drain(&mut server, &mut given)?;
-    }
-    let Some(outcome) = outcome else {
-        return Err(Trouble::Breaks("a closed server has no outcome"));
-    };
+    let (outcome, used) = feed_all(&mut server, pieces, &mut given)?;
+    let outcome = close(&mut server, outcome, &mut given)?;
     check_over(&mut server, outcome)?;
     let ending = ending_of(alloc, outcome)?;
     Ok(Run::new(alloc, given, ending, Some(used)))
@@ -169,6 +212,25 @@ pub fn fed(alloc: Global, setup: &Setup<'_>, pieces: &[&[u8]]) -> Result<Run, Tr
     }
 }
 
+// Serves the pieces, and appends what the server gives.
+fn serve_pieces<R: Repo>(
+    server: &mut Server<R, Global>,
+    pieces: &[&[u8]],
+    output: &mut Vec<u8>,
+) -> Result<Outcome, RunFault> {
+    let mut reader = Told::new(Pieces::new(pieces));
+    let mut writer = Told::new(output);
+    serve(&mut reader, &mut writer, &mut [0; 256], server, TURNS)
+}
+
+// How a run ended.
+fn ending_of_run(alloc: Global, run: Result<Outcome, RunFault>) -> Result<String, AllocError> {
+    match run {
+        Ok(outcome) => ending_of(alloc, outcome),
+        Err(fault) => format!(in alloc; "{fault}\n"),
+    }
+}
+
 // Serves the pieces by a new server.
 fn served_by<R: Repo + Drop>(
     alloc: Global,
@@ -176,18 +238,8 @@ fn served_by<R: Repo + Drop>(
     pieces: &[&[u8]],
 ) -> Result<Run, Trouble> {
     let mut given = Vec::new(alloc);
-    let mut piece = [0; 256];
-    let run = serve(
-        &mut Told::new(Pieces::new(pieces)),
-        &mut Told::new(&mut given),
-        &mut piece,
-        &mut server,
-        TURNS,
-    );
-    let ending = match run {
-        Ok(outcome) => ending_of(alloc, outcome)?,
-        Err(fault) => format!(in alloc; "{fault}\n")?,
-    };
+    let run = serve_pieces(&mut server, pieces, &mut given);
+    let ending = ending_of_run(alloc, run)?;
     Ok(Run::new(alloc, given, ending, None))
 }
 

@@ -1,13 +1,15 @@
 //! Tables: each text that comes is read or written by itself, and what is reported of it are lines.
 
+use crate::asking::argument_of;
 use crate::clients::append_noted;
 use crate::escapes::escaped;
 use crate::lists::made;
 use crate::script::{Script, Step};
 use crate::setup::{limits, offer};
+use crate::texts::{append, append_str};
 use crate::trouble::Trouble;
 use crate::wordings::shown;
-use git_msg::{Argument, Caps, Command, read_argument, read_capability, read_reference};
+use git_msg::{Argument, Caps, Command, read_capability, read_reference};
 use git_names::{Format, Oid, RefName, Steps};
 use git_pkt::{Hold, Packet, put, text};
 use git_repository::{Packs, TextFault, read_repo};
@@ -44,15 +46,15 @@ enum Said<'a> {
 
 // Appends a line of a word and bytes in their escaped form.
 fn say(alloc: Global, lines: &mut Vec<u8>, word: &str, said: Said<'_>) -> Result<(), AllocError> {
-    lines.extend_from_slice(word.as_bytes())?;
+    append(lines, word.as_bytes())?;
     match said {
         Said::Nothing | Said::Bytes([]) => {}
         Said::Bytes(bytes) => {
-            lines.extend_from_slice(b" ")?;
-            lines.extend_from_slice(escaped(alloc, bytes)?.as_slice())?;
+            append(lines, b" ")?;
+            append(lines, escaped(alloc, bytes)?.as_slice())?;
         }
     }
-    lines.extend_from_slice(b"\n")
+    append(lines, b"\n")
 }
 
 fn say_payload(alloc: Global, lines: &mut Vec<u8>, payload: &[u8]) -> Result<(), AllocError> {
@@ -135,14 +137,14 @@ fn say_notes(alloc: Global, lines: &mut Vec<u8>, text: &[u8]) -> Result<(), Allo
     }
     let mut said = String::new(alloc);
     append_noted(&mut said, &caps)?;
-    said.push_str("speaks")?;
+    append_str(&mut said, "speaks")?;
     for format in [Format::Sha1, Format::Sha256] {
         if caps.speaks(format) {
-            said.push_str(" ")?;
-            said.push_str(format.name())?;
+            append_str(&mut said, " ")?;
+            append_str(&mut said, format.name())?;
         }
     }
-    said.push_str("\noffers")?;
+    append_str(&mut said, "\noffers")?;
     let offer = caps.offer(Format::Sha256);
     for (is_set, word) in [
         (offer.unborn, " unborn"),
@@ -154,11 +156,11 @@ fn say_notes(alloc: Global, lines: &mut Vec<u8>, text: &[u8]) -> Result<(), Allo
         (offer.server_option, " server-option"),
     ] {
         if is_set {
-            said.push_str(word)?;
+            append_str(&mut said, word)?;
         }
     }
-    said.push_str("\n")?;
-    lines.extend_from_slice(said.as_bytes())
+    append_str(&mut said, "\n")?;
+    append(lines, said.as_bytes())
 }
 
 fn say_argument(
@@ -167,7 +169,7 @@ fn say_argument(
     (command, format, features): (Command, Format, bool),
     text: &[u8],
 ) -> Result<(), AllocError> {
-    let argument = match read_argument(command, &offer(format, features), text, &mut Steps::new()) {
+    let argument = match argument_of(command, &offer(format, features), text) {
         Ok(argument) => argument,
         Err(kind) => return say(alloc, lines, kind.name(), Said::Nothing),
     };
@@ -272,9 +274,19 @@ fn say_script(
         }
     };
     for request in requests.as_slice() {
-        lines.extend_from_slice(shown(alloc, request)?.as_slice())?;
+        append(lines, shown(alloc, request)?.as_slice())?;
     }
     Ok(())
+}
+
+// A text gives other lines than are after it.
+fn differs(alloc: Global, text: &[u8], told: &[u8]) -> Result<Trouble, AllocError> {
+    let text = escaped(alloc, text)?;
+    let told = escaped(alloc, told)?;
+    let text = String::from_utf8_lossy(alloc, text.as_slice())?;
+    let told = String::from_utf8_lossy(alloc, told.as_slice())?;
+    let (text, told) = (text.as_str(), told.as_str());
+    Ok(Trouble::Differs(format!(in alloc; "of {text}: {told}")?))
 }
 
 impl Table {
@@ -310,12 +322,7 @@ impl Table {
             let lines = script.given.as_slice().get(last.given..step.given);
             let told = self.told(alloc, text.unwrap_or(&[]))?;
             if Some(told.as_slice()) != lines {
-                let text = escaped(alloc, text.unwrap_or(&[]))?;
-                let told = escaped(alloc, told.as_slice())?;
-                let text = String::from_utf8_lossy(alloc, text.as_slice())?;
-                let told = String::from_utf8_lossy(alloc, told.as_slice())?;
-                let (text, told) = (text.as_str(), told.as_str());
-                return Err(Trouble::Differs(format!(in alloc; "of {text}: {told}")?));
+                return Err(differs(alloc, text.unwrap_or(&[]), told.as_slice())?);
             }
             last = *step;
         }

@@ -1,10 +1,10 @@
 //! What a case asks of a client: requests, each made of the texts of its arguments.
 
-use crate::asking::written;
+use crate::asking::{argument_of, written};
 use crate::setup::{MOST_KEPT, limits, offer};
 use crate::trouble::Trouble;
-use git_msg::{Caps, Command, Request, read_argument};
-use git_names::{Format, Steps};
+use git_msg::{Caps, Command, Offer, Request};
+use git_names::Format;
 use std::alloc::Global;
 
 /// A request that is to be made.
@@ -36,22 +36,28 @@ impl Wording {
         })
     }
 
+    // Adds the argument that a text is.
+    fn add(
+        &self,
+        request: &mut Request<Global>,
+        offer: &Offer,
+        text: &[u8],
+    ) -> Result<(), Trouble> {
+        let Ok(argument) = argument_of(self.command, offer, text) else {
+            return Err(Trouble::BadCase("no argument"));
+        };
+        match request.add(argument) {
+            Ok(()) => Ok(()),
+            Err(_) => Err(Trouble::BadCase("an argument that is not added")),
+        }
+    }
+
     /// The request, of whose arguments each is read as by one who offers all of them.
     pub fn request(&self, alloc: Global) -> Result<Request<Global>, Trouble> {
         let offer = offer(self.format, true);
         let mut request = Request::new(alloc, self.command, self.format, limits(MOST_KEPT));
         for text in self.arguments.as_slice() {
-            let Ok(argument) = read_argument(
-                self.command,
-                &offer,
-                text.as_slice(),
-                &mut Steps::new(),
-            ) else {
-                return Err(Trouble::BadCase("no argument"));
-            };
-            if request.add(argument).is_err() {
-                return Err(Trouble::BadCase("an argument that is not added"));
-            }
+            self.add(&mut request, &offer, text.as_slice())?;
         }
         Ok(request)
     }
