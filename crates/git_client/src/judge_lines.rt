@@ -13,8 +13,8 @@ ghost use Rattle.git_client.specs.Turns.{FindsCapability, Says, due_after_header
 use crate::phase::{CapabilityPlaces, Due, Said};
 use crate::sections::{Acks, Allowed, Section, read_header};
 use git_msg::{
-    Boundary, Caps, locate_reference, read_ack, read_boundary, read_capability, read_info,
-    read_wanted,
+    Boundary, Caps, ReferencePlaces, locate_reference, read_ack, read_boundary, read_capability,
+    read_info, read_wanted,
 };
 use git_names::{Format, Steps};
 use git_pkt::Kind;
@@ -58,9 +58,15 @@ pub(crate) fn judge_reference(
     ensures line { MatchResult result (λ _. Says references format line.now said.new) (IsLineFault references format line.now) }
     ensures cost { TakesAtMost (40 * (length line.now + 1)) steps.old steps.new }
 {
-    let places = locate_reference(format, line, steps)?;
-    *said = Said::Reference(places);
-    Ok(())
+    // Most lines come after another, over whose places theirs are written.
+    match said {
+        Said::Reference(_) => {}
+        _ => *said = Said::Reference(ReferencePlaces::new()),
+    }
+    match said {
+        Said::Reference(places) => locate_reference(format, line, places, steps),
+        _ => unreachable!(),
+    }
 }
 
 /// The header of a section, with what is due after it.

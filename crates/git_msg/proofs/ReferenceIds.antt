@@ -1,5 +1,5 @@
 -- The word for the object at the head of a reference line.
-use Rattle.std.proofs.Common.{◌≡◌, ◌≢◌, ℕ, ◌+◌, ◌-◌, ◌<◌, ◌==◌, Option, Some, None, List, ◌∷◌, ◌++◌, length, slice_index, take, drop, codes}
+use Rattle.std.proofs.Common.{◌≡◌, ◌≢◌, ℕ, ◌+◌, ◌-◌, ◌<◌, ◌==◌, Option, Some, None, List, ◌∷◌, ◌++◌, length, slice_index, take, drop}
 use Rattle.std.proofs.Common.{refl, sym, ap, ◌∙◌, subst, arith}
 use Rattle.std.specs.Prelude.{position}
 use Rattle.std.proofs.lemmas.List.Quantifiers.{position-Some}
@@ -8,7 +8,7 @@ use Rattle.git_names.specs.ObjectFormat.{digits_of}
 use Rattle.git_names.specs.ObjectName.{ObjectName, IsObjectName, IsNoObjectName}
 use Rattle.git_names.specs.declared.object_format.Format.{Format}
 use Rattle.git_pkt.specs.declared.fault.Kind.TheVariants.{BadObjectName}
-use Rattle.git_msg.specs.Texts.{IsPartedAt, spaced_words}
+use Rattle.git_msg.specs.Texts.{spaced_words}
 use Rattle.git_msg.specs.References.{IsNoIdText, IsReferenceFault}
 use Rattle.git_msg.specs.ReferenceParts.{BeginsWithId}
 use Rattle.git_msg.proofs.ReferenceLines.{digits_are_unspaced, digits_lack_space, words_of_two}

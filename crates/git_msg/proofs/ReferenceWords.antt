@@ -13,7 +13,6 @@ use Rattle.git_names.specs.ObjectName.{ObjectName}
 use Rattle.git_names.specs.declared.object_format.Format.{Format}
 use Rattle.git_pkt.specs.declared.fault.Kind.{Kind}
 use Rattle.git_pkt.specs.declared.fault.Kind.TheVariants.{BadObjectName}
-use Rattle.git_msg.specs.declared.reference_lines.Found.{Found}
 use Rattle.git_msg.specs.declared.reference_places.Part.{Part}
 use Rattle.git_msg.specs.declared.reference_places.ReferencePlaces.{ReferencePlaces}
 use Rattle.git_msg.specs.Checks.{Passes, Refuses}
@@ -43,10 +42,12 @@ value_spelled word text value = go (bytes_eq (take (length word) text) word) ref
       sym (take-append-drop (length word) text) ∙ ap (λ (xs : List ℕ). xs ++ drop (length word) text) same ∙ ap (λ (xs : List ℕ). word ++ xs) rest
 
 -- no attribute that is known
-pub other_found : (format : Format) (word : List ℕ) (end : ℕ) (found : Found) → BeginsOtherThan (codes "symref-target:") word
+pub other_found : (format : Format) (word : List ℕ) (end : ℕ) (found : ReferencePlaces) → BeginsOtherThan (codes "symref-target:") word
     → BeginsOtherThan (codes "peeled:") word → IsFound format word end found found
 other_found format word end found no_target no_peeled = record {
   is_attribute = record { target = λ value e. absurd (no_target value e); peeled = λ value e. absurd (no_peeled value e) };
+  id = refl;
+  name_length = refl;
   target = ap (λ (o : Option (List ℕ)). target_with o end found.target) (sym (nothing_behind (codes "symref-target:") word no_target));
   peeled = subst (λ (o : Option (List ℕ)). IsPeeledWith format o found.peeled found.peeled) (sym (nothing_behind (codes "peeled:") word no_peeled)) refl;
 }
@@ -129,10 +130,10 @@ target_fits : (word : List ℕ) (value : Option (List ℕ)) (end count : ℕ) (t
 target_fits word None end count target h k e fits = fits
 target_fits word (Some value) end count target h k e fits = search (rules, value_spelled, length-append)
 
-module _ (format : Format) (text : List ℕ) (whole : List (List ℕ)) (rest word : List ℕ) (next : Option (List ℕ)) (old : Found)
+module _ (format : Format) (text : List ℕ) (whole : List (List ℕ)) (rest word : List ℕ) (next : Option (List ℕ)) (old : ReferencePlaces)
     (h : ReadSoFar format text whole (Some rest) old.target old.peeled) (words : spaced_words rest ≡ word ∷ parts_left 32 next) where
   -- one more word was read
-  pub one_more_word : (end : ℕ) (new : Found) → IsCutAt 32 rest word next → end ≡ length text - length rest + length word
+  pub one_more_word : (end : ℕ) (new : ReferencePlaces) → IsCutAt 32 rest word next → end ≡ length text - length rest + length word
       → IsFound format word end old new → ReadSoFar format text whole next new.target new.peeled
   one_more_word end new cut at is =
       let first = word_first rest word next cut in

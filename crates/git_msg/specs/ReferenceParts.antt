@@ -4,8 +4,8 @@ use Rattle.std.specs.Option.{option_map}
 use Rattle.git_names.specs.ObjectName.{ObjectName}
 use Rattle.git_names.specs.declared.object_format.Format.{Format}
 use Rattle.git_names.specs.RefName.{IsRefName}
-use Rattle.git_msg.specs.declared.reference_lines.Found.{Found}
 use Rattle.git_msg.specs.declared.reference_places.Part.{Part}
+use Rattle.git_msg.specs.declared.reference_places.ReferencePlaces.{ReferencePlaces}
 use Rattle.git_msg.specs.Texts.{IsCutAt, IsLeftOf, IsPartedAt, parts_left, spaced_words}
 use Rattle.git_msg.specs.References.{AreAttributes, IsAttribute, IsIdText, IsMaybeObjectName, PartFits, part_of, value_behind}
 
@@ -39,9 +39,11 @@ abbrev pub IsPeeledWith : Format → Option (List ℕ) → Option ObjectName →
 IsPeeledWith format None old new = new ≡ old
 IsPeeledWith format (Some text) old new = IsMaybeObjectName format (Some text) new
 
--- the attribute passes, and this is found with it
-pub record IsFound (format : Format) (word : List ℕ) (end : ℕ) (old new : Found) : Type 0 where
+-- the attribute passes, and these are the places with what it has
+pub record IsFound (format : Format) (word : List ℕ) (end : ℕ) (old new : ReferencePlaces) : Type 0 where
   pub is_attribute : IsAttribute format word
+  pub id : new.id ≡ old.id
+  pub name_length : new.name_length ≡ old.name_length
   pub target : new.target ≡ target_with (value_behind (codes "symref-target:") word) end old.target
   pub peeled : IsPeeledWith format (value_behind (codes "peeled:") word) old.peeled new.peeled
 

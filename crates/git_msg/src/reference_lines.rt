@@ -1,5 +1,5 @@
 //! Reference lines, read.
-ghost use Rattle.std.specs.Prelude.{◌≡◌, ◌+◌, ◌-◌, ◌*◌, ◌≤◌, IfOk, MatchResult, length};
+ghost use Rattle.std.specs.Prelude.{◌≡◌, ◌+◌, ◌-◌, ◌*◌, ◌≤◌, IfOk, OnOk, MatchResult, length};
 ghost use Rattle.std.specs.Option.{option_copied};
 ghost use Rattle.git_names.specs.Steps.{TakesAtMost};
 ghost use Rattle.git_msg.specs.Checks.{Refuses};
@@ -14,12 +14,6 @@ use crate::texts::{after, is_word, split_at_first};
 use git_names::{Format, NameFault, Oid, RefName, Steps};
 use git_pkt::Kind;
 
-#[derive(Clone, Copy, Debug)]
-struct Found {
-    target: Option<Part>,
-    peeled: Option<Oid>,
-}
-
 /// Reads the text of a reference line: an object name, or `unborn` in its place, a space and a reference name, then attributes,
 /// each after one space. Attributes that are not known are passed over. A text without a space is `BadLine`; then from left to right
 /// `BadObjectName` and `BadRefName`.
@@ -32,69 +26,73 @@ pub fn read_reference<'a>(
         (IsReferenceFault format text.now) }
     ensures cost { TakesAtMost (40 * (length text.now + 1)) steps.old steps.new }
 {
-    let places = locate_reference(format, text, steps)?;
+    let mut places = ReferencePlaces::new();
+    locate_reference(format, text, &mut places, steps)?;
     Ok(places.reference(text))
 }
 
-/// Reads the text of a reference line as [`read_reference`] does, and returns where its parts are.
+/// Reads the text of a reference line as [`read_reference`] does, and writes where its parts are to `places`, whatever was there. Where
+/// the line is refused, what is there then means nothing.
+// The parts are written where they stay, each by itself: a name that is handed up through results is copied at each, and loaded just after
+// it was stored in parts, which is slow.
 #[inline(always)]
 pub fn locate_reference(
     format: Format,
     text: &[u8],
+    places: &mut ReferencePlaces,
     steps: &mut Steps,
-) -> Result<ReferencePlaces, Kind>
+) -> Result<(), Kind>
     ensures line { MatchResult result
-        (λ places. IsReferenceLine format text.now (reference_at places text.now) × FitsIn places (length text.now))
+        (λ _. IsReferenceLine format text.now (reference_at places.new text.now) × FitsIn places.new (length text.now))
         (IsReferenceFault format text.now) }
     ensures cost { TakesAtMost (40 * (length text.now + 1)) steps.old steps.new }
 {
-    let (id, rest) = match split_id(format, text, steps) {
-        Ok(parts) => parts,
-        Err(kind) => return Err(kind),
-    };
+    let rest = split_id(format, text, &mut places.id, steps)?;
     let (name, words) = split_name(rest, steps)?;
-    let found = read_attributes(format, text, words, steps)?;
-    Ok(ReferencePlaces {
-        id,
-        name_length: name.len(),
-        target: found.target,
-        peeled: found.peeled,
-    })
+    places.name_length = name.len();
+    read_attributes(format, text, words, places, steps)?;
+    Ok(())
 }
 
-/// The object that the first word of a line names, none where that is `unborn`, and what comes after the space that ends it. Most
-/// lines begin with the digits of an object's name and a space: as digits have no space, they need no search for one.
+/// Finds the object that the first word of a line names, none where that is `unborn`, and answers what comes after the space that ends
+/// it. Most lines begin with the digits of an object's name and a space: as digits have no space, they need no search for one.
 #[inline(always)]
 fn split_id<'a>(
     format: Format,
     text: &'a [u8],
+    id: &mut Option<Oid>,
     steps: &mut Steps,
-) -> Result<(Option<Oid>, &'a [u8]), Kind>
-    ensures parts { MatchResult result (λ parts. BeginsWithId format text.now parts.0 parts.1.now) (IsReferenceFault format text.now) }
+) -> Result<&'a [u8], Kind>
+    ensures parts { MatchResult result (λ rest. BeginsWithId format text.now id.new rest.now) (IsReferenceFault format text.now) }
     ensures cost { MatchResult result
-        (λ parts. TakesAtMost (length text.now + 3 + 17 * (length text.now - length parts.1.now)) steps.old steps.new)
+        (λ rest. TakesAtMost (length text.now + 3 + 17 * (length text.now - length rest.now)) steps.old steps.new)
         (λ _. TakesAtMost (20 * (length text.now + 1)) steps.old steps.new) }
 {
     let end = format.digits();
     if text.len() <= end || text[end] != b' ' || text[0] == b'u' {
-        return search_id(format, text, steps);
+        return search_id(format, text, id, steps);
     }
     steps.tick(2);
     match Oid::read(format, &text[..end], steps) {
-        Ok(id) => Ok((Some(id), &text[end + 1..])),
+        Ok(found) => {
+            *id = Some(found);
+            Ok(&text[end + 1..])
+        }
         Err(_) => Err(Kind::BadObjectName),
     }
 }
 
 /// The same of any line. Two of its bytes have been looked at.
+#[inline(never)]
 fn search_id<'a>(
     format: Format,
     text: &'a [u8],
+    id: &mut Option<Oid>,
     steps: &mut Steps,
-) -> Result<(Option<Oid>, &'a [u8]), Kind>
-    ensures parts { MatchResult result (λ parts. BeginsWithId format text.now parts.0 parts.1.now) (IsReferenceFault format text.now) }
+) -> Result<&'a [u8], Kind>
+    ensures parts { MatchResult result (λ rest. BeginsWithId format text.now id.new rest.now) (IsReferenceFault format text.now) }
     ensures cost { MatchResult result
-        (λ parts. TakesAtMost (length text.now + 3 + 17 * (length text.now - length parts.1.now)) steps.old steps.new)
+        (λ rest. TakesAtMost (length text.now + 3 + 17 * (length text.now - length rest.now)) steps.old steps.new)
         (λ _. TakesAtMost (20 * (length text.now + 1)) steps.old steps.new) }
 {
     steps.tick(text.len() + 3);
@@ -102,7 +100,10 @@ fn search_id<'a>(
         return Err(Kind::BadLine);
     };
     match read_id(format, word, steps) {
-        Ok(id) => Ok((id, rest)),
+        Ok(found) => {
+            *id = found;
+            Ok(rest)
+        }
         Err(kind) => Err(kind),
     }
 }
@@ -143,68 +144,62 @@ fn split_name<'a>(
     Ok((name, rest))
 }
 
-/// The last values of the attributes of a line, which are the end of its text. Most lines have none.
+/// Finds the last values of the attributes of a line, which are the end of its text. Most lines have none.
 #[inline(always)]
 fn read_attributes(
     format: Format,
     text: &[u8],
     words: Option<&[u8]>,
+    places: &mut ReferencePlaces,
     steps: &mut Steps,
-) -> Result<Found, Kind>
+) -> Result<(), Kind>
     requires { IsLeftOf text.now (option_copied words) }
     ensures values { MatchResult result
-        (λ found. AreLocated format text.now (parts_left 32 (option_copied words.entry)) found.target found.peeled)
+        (λ _. AreLocated format text.now (parts_left 32 (option_copied words.entry)) places.new.target places.new.peeled)
         (Refuses (attribute_checks format (parts_left 32 (option_copied words.entry)))) }
+    ensures others { OnOk result ((places.new.id ≡ places.old.id) × (places.new.name_length ≡ places.old.name_length)) }
     ensures cost { TakesAtMost (21 * bytes_left (option_copied words.entry)) steps.old steps.new }
 {
-    let mut found = Found {
-        target: None,
-        peeled: None,
-    };
+    places.target = None;
+    places.peeled = None;
     let mut left = words;
     'words: while let Some(rest) = left {
         let (word, next) = split_at_first(rest, b' ');
         steps.tick(word.len() + 3);
         let end = text.len() - rest.len() + word.len();
-        match read_attribute(format, word, end, found, steps) {
-            Ok(more) => found = more,
+        match read_attribute(format, word, end, places, steps) {
+            Ok(()) => {}
             Err(kind) => return Err(kind),
         }
         left = next;
     }
-    Ok(found)
+    Ok(())
 }
 
-/// What was found, with what one more attribute contains, which ends at this place of the line.
+/// Finds what one more attribute contains, which ends at this place of the line.
 fn read_attribute(
     format: Format,
     word: &[u8],
     end: usize,
-    found: Found,
+    places: &mut ReferencePlaces,
     steps: &mut Steps,
-) -> Result<Found, Kind>
+) -> Result<(), Kind>
     requires { length word.now ≤ end }
-    ensures attribute { MatchResult result (λ new. IsFound format word.now end found new) (IsAttributeFault format word.now) }
+    ensures attribute { MatchResult result (λ _. IsFound format word.now end places.old places.new) (IsAttributeFault format word.now) }
     ensures cost { TakesAtMost (18 * (length word.now + 1)) steps.old steps.new }
 {
     // Two words.
     steps.tick(2 * (word.len().min(14) + 1));
-    let Found { target, peeled } = found;
     if let Some(name) = after(word, b"symref-target:") {
         RefName::read(name, steps)?;
         let length = name.len();
         let start = end - length;
-        return Ok(Found {
-            target: Some(Part { start, length }),
-            peeled,
-        });
+        places.target = Some(Part { start, length });
+        return Ok(());
     }
     if let Some(name) = after(word, b"peeled:") {
         let id = Oid::read(format, name, steps)?;
-        return Ok(Found {
-            target,
-            peeled: Some(id),
-        });
+        places.peeled = Some(id);
     }
-    Ok(found)
+    Ok(())
 }

@@ -1,5 +1,5 @@
 //! Where the parts of a reference line lie in its text.
-ghost use Rattle.std.specs.Prelude.{◌≡◌, ◌+◌, ◌≤◌, length};
+ghost use Rattle.std.specs.Prelude.{◌≡◌, ◌+◌, ◌≤◌, None, length};
 ghost use Rattle.git_msg.specs.References.{FitsIn, part_of, reference_at, shown_reference};
 
 use crate::references::{Reference, id_text_length};
@@ -34,6 +34,19 @@ pub struct ReferencePlaces {
 }
 
 impl ReferencePlaces {
+    /// Room for the places of a line, before one was read.
+    pub fn new() -> Self
+        ensures id { result.id ≡ None }
+        ensures peeled { result.peeled ≡ None }
+    {
+        ReferencePlaces {
+            id: None,
+            name_length: 0,
+            target: None,
+            peeled: None,
+        }
+    }
+
     /// The reference of the line that has these places, whose text is lent again.
     pub fn reference<'a>(&self, text: &'a [u8]) -> Reference<'a>
         requires { FitsIn self.now (length text.now) }

@@ -8,7 +8,7 @@ pub returns-in-Err-clause-values : goal.returns-in-Err-clause-values
 returns-in-Err-clause-values c =
     let h = rw c.in-Some.is at c.words.invariant.read in
     (word_refused c.args.format c.args.text.now (parts_left 32 (option_copied c.args.words)) c.in-Some.rest.now c.split_at_first.result.0.now
-    (option_copied c.split_at_first.result.1) c.words.found h c.split_at_first.ensures.parts c.in-Err.kind c.in-Err.ensures.attribute)
+    (option_copied c.split_at_first.result.1) c.words.places h c.split_at_first.ensures.parts c.in-Err.kind c.in-Err.ensures.attribute)
 
 pub words-preserved : goal.words-preserved
 words-preserved c = search (rules, one_more_word)
