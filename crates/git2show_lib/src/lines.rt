@@ -6,7 +6,7 @@ ghost use Rattle.git_pkt.specs.Escape.{escaped_of};
 ghost use Rattle.git_pkt.specs.Sends.{Puts, Sends};
 ghost use Rattle.git2show_lib.specs.PacketLines.{kind_shown, line_of};
 
-use git_pkt::{Packet, RunFault, Told, escape_into, flush, is_plain, send};
+use git_pkt::{Packet, RunFault, Told, escape_into, flush, is_plain, put_at, send};
 use itoa::Buffer;
 use std::io::Write;
 use std::marker::Model;
@@ -196,14 +196,4 @@ fn write_head(packet: Packet<'_>, offset: u64, out: &mut [u8], at: usize) -> usi
             put_at(out, at, b" ")
         }
     }
-}
-
-/// Puts bytes at a place, over what is there, and answers where they end.
-pub(crate) fn put_at(out: &mut [u8], at: usize, bytes: &[u8]) -> usize
-    requires { at + length bytes.now ≤ length out.old }
-    ensures end { result ≡ at + length bytes.now }
-    ensures put { take result out.new ≡ take at out.old ++ bytes.now }
-{
-    out[at..at + bytes.len()].copy_from_slice(bytes);
-    at + bytes.len()
 }

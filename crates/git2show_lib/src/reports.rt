@@ -7,8 +7,7 @@ ghost use Rattle.git_pkt.specs.FaultNames.{fault_text};
 ghost use Rattle.git2show_lib.specs.Reports.{check_fault_text, fault_line};
 
 use crate::checking::CheckFault;
-use crate::lines::put_at;
-use git_pkt::{Fault, RunFault, Told, send};
+use git_pkt::{Fault, RunFault, Told, put_at, send};
 use itoa::Buffer;
 use std::io::Write;
 use thiserror::Error;

@@ -1,9 +1,7 @@
 //! The lines of a script, and what they contain so far.
 
-ghost use Rattle.std.specs.Prelude.{◌≡◌, MatchOption, MatchResult};
+ghost use Rattle.std.specs.Prelude.{◌≡◌, MatchResult};
 ghost use Rattle.git_msg.specs.Advertisement.{everything};
-ghost use Rattle.git_msg.specs.Arguments.{name_of};
-ghost use Rattle.git_msg.specs.declared.arguments.Command.{Command};
 ghost use Rattle.git2show_lib.specs.HeldScripts.{AddsArgument, Begins, IsBeginFault, IsLineFault, TakesLine, nothing_held};
 
 use git_msg::{Command, Limits, Offer, Request, read_argument};
@@ -55,7 +53,7 @@ impl<A: Allocator + Copy> Script<A> {
     fn begin(&mut self, alloc: A, text: &[u8]) -> Result<(), LineFault>
         ensures { MatchResult result (λ _. Begins (held self.old) text.now (held self.new)) (IsBeginFault text.now) }
     {
-        let Some(command) = read_command(text) else {
+        let Some(command) = Command::read(text) else {
             return Err(LineFault::Refused);
         };
         let request = Request::new(alloc, command, self.offer.format, self.limits);
@@ -93,17 +91,5 @@ impl<A: Allocator + Copy> Script<A> {
         ensures { result.items ≡ (held self).requests }
     {
         self.requests
-    }
-}
-
-/// The command that the text names.
-fn read_command(text: &[u8]) -> Option<Command>
-    ensures { MatchOption result ((command : Command) → ¬ (text.now ≡ name_of command)) (λ command. text.now ≡ name_of command) }
-{
-    match text {
-        b"ls-refs" => Some(Command::LsRefs),
-        b"fetch" => Some(Command::Fetch),
-        b"object-info" => Some(Command::ObjectInfo),
-        _ => None,
     }
 }

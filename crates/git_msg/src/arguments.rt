@@ -13,7 +13,7 @@ use crate::flags::Flag;
 use crate::numbers::read_number;
 use crate::offers::Offer;
 use crate::parts::check_id;
-use crate::texts::after;
+use crate::texts::{after, is_word};
 use git_names::{Format, Oid, RefName, Steps};
 use git_pkt::Kind;
 
@@ -129,6 +129,22 @@ impl Command {
             Command::Fetch => "fetch",
             Command::ObjectInfo => "object-info",
         }
+    }
+
+    /// The command that has this key, as [`Command::name`] gives it.
+    pub fn read(key: &[u8]) -> Option<Command>
+        ensures { MatchOption result ((command : Command) → ¬ (key.now ≡ name_of command)) (λ command. key.now ≡ name_of command) }
+    {
+        if is_word(key, b"ls-refs") {
+            return Some(Command::LsRefs);
+        }
+        if is_word(key, b"fetch") {
+            return Some(Command::Fetch);
+        }
+        if is_word(key, b"object-info") {
+            return Some(Command::ObjectInfo);
+        }
+        None
     }
 }
 

@@ -88,16 +88,7 @@ fn read_command(value: Option<&[u8]>) -> Option<Command>
     ensures command { MatchOption result (¬ NamesCommand (option_copied value.entry))
         (λ command. option_copied value.entry ≡ Some (name_of command)) }
 {
-    if is_value(value, b"ls-refs") {
-        return Some(Command::LsRefs);
-    }
-    if is_value(value, b"fetch") {
-        return Some(Command::Fetch);
-    }
-    if is_value(value, b"object-info") {
-        return Some(Command::ObjectInfo);
-    }
-    None
+    Command::read(value?)
 }
 
 /// Whether the value is there, and is the word.

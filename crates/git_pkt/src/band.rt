@@ -7,7 +7,7 @@ ghost use Rattle.git_pkt.specs.Bands.{IsNoBand, band_packet, byte_of};
 ghost use Rattle.git_pkt.specs.Packets.{spelling_of, longest_payload};
 
 use crate::fault::Kind;
-use crate::hold::{Hold, LONGEST_PACKET, append, overwrite};
+use crate::hold::{Hold, LONGEST_PACKET, append, put_at};
 use crate::packet::{begin, digits};
 
 /// How many bytes of a packet come before those on its band: its four digits, and the band's byte.
@@ -72,7 +72,7 @@ pub fn close_band(hold: &mut Hold, band: Band, count: usize)
 {
     let held = hold.as_mut_slice();
     let [a, b, c, d] = digits(count + BAND_HEAD);
-    overwrite(held, 0, &[a, b, c, d, band.byte()]);
+    put_at(held, 0, &[a, b, c, d, band.byte()]);
 }
 
 /// The band of a payload inside a packfile section, and the bytes after it. A payload without a byte is `NoBand`, and one

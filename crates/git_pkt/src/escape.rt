@@ -3,7 +3,7 @@
 ghost use Rattle.std.specs.Prelude.{◌≡◌, ◌+◌, ◌*◌, ◌≤◌, ◌↔◌, ◌++◌, drop, length, take, IsTrue};
 ghost use Rattle.git_pkt.specs.Escape.{escape_of, escaped_of};
 
-use crate::hold::overwrite;
+use crate::hold::put_at;
 
 // The escape of each byte, filled up with spaces; a row has 8 bytes. A table has no branch for the processor to guess
 // wrong.
@@ -86,7 +86,7 @@ pub fn escape_into(bytes: &[u8], out: &mut [u8], at: usize) -> usize
     let mut end = at;
     for byte in bytes {
         let one = look_up(*byte);
-        overwrite(out, end, &one.bytes);
+        put_at(out, end, &one.bytes);
         end += one.length;
     }
     end

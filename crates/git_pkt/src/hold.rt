@@ -34,16 +34,20 @@ pub(crate) fn place(hold: &mut Hold, at: usize, bytes: &[u8], steps: &mut Steps)
 {
     steps.tick(2 * (bytes.len() + 1));
     let over = bytes.len().min(hold.len() - at);
-    overwrite(hold.as_mut_slice(), at, &bytes[..over]);
+    put_at(hold.as_mut_slice(), at, &bytes[..over]);
     if over < bytes.len() {
         append(hold, &bytes[over..]);
     }
 }
 
-/// Puts bytes over those of a slice.
-pub(crate) fn overwrite(slice: &mut [u8], at: usize, bytes: &[u8])
+/// Puts bytes at a place of a slice, over what is there, and returns where they end.
+pub fn put_at(slice: &mut [u8], at: usize, bytes: &[u8]) -> usize
     requires { at + length bytes.now ≤ length slice.old }
+    ensures end { result ≡ at + length bytes.now }
+    ensures put { take result slice.new ≡ take at slice.old ++ bytes.now }
     ensures placed { slice.new ≡ take at slice.old ++ bytes.now ++ drop (at + length bytes.now) slice.old }
 {
-    slice[at..at + bytes.len()].copy_from_slice(bytes);
+    let end = at + bytes.len();
+    slice[at..end].copy_from_slice(bytes);
+    end
 }

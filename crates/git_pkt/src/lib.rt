@@ -20,7 +20,7 @@ pub use band::{BAND_HEAD, Band, close_band, open_band, put_band, split_band};
 pub use engine::{flush, receive, send};
 pub use escape::{escape_into, is_plain};
 pub use fault::{Fault, Kind, RunFault};
-pub use hold::{Hold, LONGEST_PACKET, append};
+pub use hold::{Hold, LONGEST_PACKET, append, put_at};
 pub use output::{Discard, Output};
 pub use packet::{Packet, begin, front_packet, put, text};
 pub use reader::{BandFed, BandGot, Fed, Got, PacketReader};

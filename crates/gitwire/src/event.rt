@@ -8,7 +8,7 @@ ghost use Rattle.gitwire.specs.Rooms.{put_before};
 use crate::answer::What;
 use git_client::Event;
 use git_names::Oid;
-use git_pkt::Fault;
+use git_pkt::{Fault, put_at};
 
 /// What one call of `gitwire_client_feed` did, and the event that came. Fields without a meaning are 0 or false. The texts
 /// are at the front of the room, one after another: the object's name in lower case digits, the name, the text, and the
@@ -136,8 +136,8 @@ impl<'a> EventParts<'a> {
         ensures room { room.new ≡ put_before (bytes_shown (parts_shown self.entry)) room.old }
     {
         let id_end = put_digits(room, 0, self.id);
-        let name_end = put(room, id_end, self.name);
-        let text_end = put(room, name_end, bytes_of(self.text));
+        let name_end = put_at(room, id_end, self.name);
+        let text_end = put_at(room, name_end, bytes_of(self.text));
         let end = put_digits(room, text_end, self.peeled);
         GitwireEvent {
             used,
@@ -210,17 +210,6 @@ fn bytes_of(text: Option<&[u8]>) -> &[u8]
     }
 }
 
-/// Puts bytes at a place of the room, and returns where they end.
-fn put(room: &mut [u8], at: usize, bytes: &[u8]) -> usize
-    requires { at + length bytes.now ≤ length room.old }
-    ensures end { result ≡ at + length bytes.now }
-    ensures placed { room.new ≡ take at room.old ++ bytes.now ++ drop (at + length bytes.now) room.old }
-{
-    let end = at + bytes.len();
-    room[at..end].copy_from_slice(bytes);
-    end
-}
-
 /// Puts the digits of an object name at a place of the room, if there is one, and returns where they end.
 fn put_digits(room: &mut [u8], at: usize, id: Option<&Oid>) -> usize
     requires { at + length (digits_shown (option_copied id)) ≤ length room.old }
@@ -233,5 +222,5 @@ fn put_digits(room: &mut [u8], at: usize, id: Option<&Oid>) -> usize
     };
     let mut digits = [0; 64];
     let count = id.write(&mut digits);
-    put(room, at, &digits[..count])
+    put_at(room, at, &digits[..count])
 }
