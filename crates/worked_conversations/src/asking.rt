@@ -85,27 +85,41 @@ impl Asking {
         written(alloc, request, &caps)
     }
 
-    /// Each argument is kept or refused as the line after it states, and the request is written as the ending has it.
-    pub fn goes(self, alloc: Global, script: &Script) -> Result<usize, Trouble> {
-        let limits = limits(self.limit);
-        let mut request = Request::new(alloc, self.command, self.format, limits);
+    // Adds the argument of each step, and returns how these went.
+    fn all_told(
+        self,
+        alloc: Global,
+        request: &mut Request<Global>,
+        script: &Script,
+    ) -> Result<Vec<u8>, Trouble> {
         let mut told = Vec::new(alloc);
         let mut last = Step::default();
         for step in script.steps.as_slice() {
             let text = script.input.as_slice().get(last.input..step.input);
-            let line = self.told(alloc, &mut request, text.unwrap_or(&[]))?;
+            let line = self.told(alloc, request, text.unwrap_or(&[]))?;
             append(&mut told, line.as_bytes())?;
             last = *step;
         }
-        if told.as_slice() != script.given.as_slice() {
-            let told = String::from_utf8_lossy(alloc, told.as_slice())?;
-            return Err(Trouble::Differs(told));
-        }
+        Ok(told)
+    }
+
+    /// Each argument is kept or refused as the line after it states, and the request is written as the ending has it.
+    pub fn goes(self, alloc: Global, script: &Script) -> Result<usize, Trouble> {
+        let limits = limits(self.limit);
+        let mut request = Request::new(alloc, self.command, self.format, limits);
+        let told = self.all_told(alloc, &mut request, script)?;
+        same(alloc, told.as_slice(), script.given.as_slice())?;
         let written = self.written(alloc, &request)?;
-        if written.as_slice() != script.ending.as_bytes() {
-            let written = String::from_utf8_lossy(alloc, written.as_slice())?;
-            return Err(Trouble::Differs(written));
-        }
+        same(alloc, written.as_slice(), script.ending.as_bytes())?;
         Ok(script.steps.len())
     }
+}
+
+// What came is what the case has.
+fn same(alloc: Global, came: &[u8], due: &[u8]) -> Result<(), Trouble> {
+    if came != due {
+        let came = String::from_utf8_lossy(alloc, came)?;
+        return Err(Trouble::Differs(came));
+    }
+    Ok(())
 }

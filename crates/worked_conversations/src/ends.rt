@@ -31,6 +31,42 @@ fn is_whole(transcript: &[u8]) -> bool {
     last == b"offered".as_slice() || last.starts_with(b"end ")
 }
 
+// The packet reader, and `show` where the stream begins.
+fn packets_go(
+    alloc: Global,
+    start: u64,
+    script: &Script,
+    pieces: &[&[u8]],
+    due: &Due,
+    place: usize,
+) -> Result<(), Trouble> {
+    let run = packets::read(alloc, start, script, pieces)?;
+    compare(alloc, &run, due, place)?;
+    if start == 0 {
+        return shown(alloc, pieces, due, place);
+    }
+    Ok(())
+}
+
+fn shown(alloc: Global, pieces: &[&[u8]], due: &Due, place: usize) -> Result<(), Trouble> {
+    let run = packets::shown(alloc, pieces)?;
+    compare(alloc, &run, due, place)
+}
+
+// The server, fed and served.
+fn server_goes(
+    alloc: Global,
+    setup: &sessions::Setup<'_>,
+    pieces: &[&[u8]],
+    due: &Due,
+    place: usize,
+) -> Result<(), Trouble> {
+    let run = sessions::fed(alloc, setup, pieces)?;
+    compare(alloc, &run, due, place)?;
+    let run = sessions::served(alloc, setup, pieces)?;
+    compare(alloc, &run, due, place)
+}
+
 impl<'a> End<'a> {
     /// How what it gives is written.
     pub fn form(&self) -> Given {
@@ -101,23 +137,13 @@ impl<'a> End<'a> {
         place: usize,
     ) -> Result<(), Trouble> {
         match self {
-            End::Packets(start) => {
-                let run = packets::read(alloc, *start, script, pieces)?;
-                compare(alloc, &run, due, place)?;
-                if *start == 0 {
-                    compare(alloc, &packets::shown(alloc, pieces)?, due, place)?;
-                }
-                Ok(())
-            }
+            End::Packets(start) => packets_go(alloc, *start, script, pieces, due, place),
             End::Requests(format, limit, features) => {
                 let offer = offer(*format, *features);
                 let run = requests::heard(alloc, offer, *limit, pieces)?;
                 compare(alloc, &run, due, place)
             }
-            End::Server(setup) => {
-                compare(alloc, &sessions::fed(alloc, setup, pieces)?, due, place)?;
-                compare(alloc, &sessions::served(alloc, setup, pieces)?, due, place)
-            }
+            End::Server(setup) => server_goes(alloc, setup, pieces, due, place),
             End::Client(setup) => {
                 let run = clients::fed(alloc, setup, script, pieces)?;
                 compare(alloc, &run, due, place)
@@ -125,6 +151,7 @@ impl<'a> End<'a> {
             End::Check(setup) => checks::goes(alloc, *setup, script, pieces, due, place),
         }
     }
+
     /// The runs of its own, in which another stream than the input is cut short. Answers how many they were.
     pub fn goes_elsewhere(&self, alloc: Global, script: &Script) -> Result<usize, Trouble> {
         match self {
