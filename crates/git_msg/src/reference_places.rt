@@ -1,6 +1,6 @@
 //! Where the parts of a reference line lie in its text.
-ghost use Rattle.std.specs.Prelude.{◌≡◌, ◌+◌, ◌≤◌, None, length};
-ghost use Rattle.git_msg.specs.References.{FitsIn, part_of, reference_at, shown_reference};
+ghost use Rattle.std.specs.Prelude.{◌≡◌, ◌+◌, ◌≤◌, ℕ, List, [], None, length};
+ghost use Rattle.git_msg.specs.References.{FitsIn, part_of, reference_at, reference_of, shown_reference};
 
 use crate::references::{Reference, id_text_length};
 use git_names::Oid;
@@ -36,8 +36,7 @@ pub struct ReferencePlaces {
 impl ReferencePlaces {
     /// Room for the places of a line, before one was read.
     pub fn new() -> Self
-        ensures id { result.id ≡ None }
-        ensures peeled { result.peeled ≡ None }
+        ensures empty { (text : List ℕ) → reference_at result text ≡ reference_of None [] None None }
     {
         ReferencePlaces {
             id: None,
