@@ -20,3 +20,13 @@ case_each_link_of_a_page_leads_to_a_file() {
         done
     done
 }
+
+# In a crate with machines the definitions of its protocol stand without them. The laws on both ends, the program and C state only calls.
+case_no_definition_of_the_protocol_cites_a_machine() {
+    local crate definitions
+    for crate in "$top"/crates/*/specs/Machine; do
+        for definitions in "$(dirname "$crate")"/*.antt; do
+            ! grep -q -F 'specs.Machine.' "$definitions" || differs "${definitions#"$top/"} cites a definition of specs/Machine"
+        done
+    done
+}

@@ -4,7 +4,7 @@
 #![tactic(auto)]
 
 ghost use Rattle.std.specs.Prelude.{◌≡◌, ◌+◌, ◌≤◌, ◌%◌, ◌^◌, true, length, IfOk};
-ghost use Rattle.git_client.specs.Client.{can_ask, wants_input};
+ghost use Rattle.git_client.specs.Machine.Client.{can_ask, wants_input};
 
 use git_client::{Client, Ending, Event, HeardGot, Sent};
 use git_msg::{Argument, Command, Limits, Request};

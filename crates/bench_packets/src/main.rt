@@ -8,8 +8,8 @@
 
 ghost use Rattle.std.specs.Prelude.{◌≡◌, ◌+◌, ◌%◌, ◌^◌, false, length};
 ghost use Rattle.git_pkt.specs.Packets.{body_of, seen};
-ghost use Rattle.git_pkt.specs.PacketReader.{passes_of};
-ghost use Rattle.git_pkt.specs.BandReader.{MayPass};
+ghost use Rattle.git_pkt.specs.Machine.PacketReader.{passes_of};
+ghost use Rattle.git_pkt.specs.Machine.BandReader.{MayPass};
 
 use git_names::Steps;
 use git_pkt::{BandGot, Fault, Got, Packet, PacketReader};

@@ -7,8 +7,8 @@ use Rattle.std.proofs.KnownBytes.{Consumes-nil, Consumes-trans, Consumes-kept}
 use Rattle.git_pkt.specs.Streams.{Flow, flow}
 use Rattle.git_server.specs.Repository.{RepoState}
 use Rattle.git_server.specs.Sessions.{Setting}
-use Rattle.git_server.specs.Server.{Running}
-use Rattle.git_server.specs.ServerCalls.{Closes, Goes}
+use Rattle.git_server.specs.Machine.Server.{Running}
+use Rattle.git_server.specs.Machine.ServerCalls.{Closes, Goes}
 use Rattle.git_server.specs.declared.server.Server.{Server}
 use Rattle.git2show.specs.OneRequest.{TakesOne}
 

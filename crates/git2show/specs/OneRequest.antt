@@ -4,7 +4,7 @@ use Rattle.std.specs.Io.KnownBytes.{Consumes}
 use Rattle.git_pkt.specs.Streams.{Flow}
 use Rattle.git_server.specs.Repository.{RepoState}
 use Rattle.git_server.specs.Sessions.{Setting}
-use Rattle.git_server.specs.Server.{Running}
+use Rattle.git_server.specs.Machine.Server.{Running}
 use Rattle.git_server.specs.declared.server.Server.{Server}
 
 -- the server used a front of what was read, and all of it where the input ended, which the reader reported; nothing was given

@@ -1,7 +1,7 @@
 //! A client on standard input and output.
 
 ghost use Rattle.std.specs.Prelude.{◌≡◌, true, false};
-ghost use Rattle.git_client.specs.Client.{wants_input};
+ghost use Rattle.git_client.specs.Machine.Client.{wants_input};
 
 use crate::remote_lines::RemoteLines;
 use crate::{PIECE, TURNS, ending_of, file_fault, format_of, read_requests};

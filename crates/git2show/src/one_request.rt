@@ -1,10 +1,10 @@
 //! One request alone, as where each has a server of its own.
 
 ghost use Rattle.std.specs.Prelude.{◌≡◌, ◌<◌, ◌≤◌, true, false, length, IsTrue, IfErr, OnErr, OnOk};
-ghost use Rattle.git_pkt.specs.Told.{inner_of, reads_of, has_failed, has_ended, has_wasted, IsNew};
-ghost use Rattle.git_pkt.specs.Engine.{FailsAs, IsShownBy, IsSpent};
+ghost use Rattle.git_pkt.specs.Machine.Told.{inner_of, reads_of, has_failed, has_ended, has_wasted, IsNew};
+ghost use Rattle.git_pkt.specs.Machine.Engine.{FailsAs, IsShownBy, IsSpent};
 ghost use Rattle.git_pkt.specs.Streams.{flow};
-ghost use Rattle.git_server.specs.Server.{wants_input};
+ghost use Rattle.git_server.specs.Machine.Server.{wants_input};
 ghost use Rattle.git2show.specs.OneRequest.{TakesOne};
 
 use git_names::Steps;

@@ -4,28 +4,28 @@ use Rattle.std.proofs.Common.{Result, Ok, Err, IfErr, refl, sym, ap, ◌∙◌, 
 use Rattle.std.proofs.lemmas.List.{map-append}
 use Rattle.std.proofs.KnownBytes.{Consumes-nil, Consumes-trans}
 use Rattle.std.specs.Io.KnownBytes.{Consumes}
-use Rattle.git_pkt.specs.Engine.{FailsAs, IsShownBy, IsSpent}
+use Rattle.git_pkt.specs.Machine.Engine.{FailsAs, IsShownBy, IsSpent}
 use Rattle.git_pkt.specs.Faults.{IsOpen, last_position}
 use Rattle.git_pkt.specs.Splits.{Given}
 use Rattle.git_pkt.specs.Streams.{Flow, flow, Moves, is_broken}
 use Rattle.git_pkt.specs.declared.fault.RunFault.{RunFault}
 use Rattle.git_pkt.specs.declared.fault.RunFault.TheVariants.{ReadFault, WriteFault, ReadLimit, Refused}
-use Rattle.git_pkt.specs.Told.{has_ended, has_failed}
+use Rattle.git_pkt.specs.Machine.Told.{has_ended, has_failed}
 use Rattle.git_pkt.specs.declared.told.Told.{Told}
 use Rattle.git_pkt.proofs.Spelling.{none_begins_nothing}
 use Rattle.git_msg.specs.Advertisement.{noted_offer}
 use Rattle.git_msg.specs.Asked.{Asked}
-use Rattle.git_msg.specs.HeldRequest.{asked_of}
+use Rattle.git_msg.specs.Machine.HeldRequest.{asked_of}
 use Rattle.git_msg.specs.Requests.{IsStop}
-use Rattle.git_msg.specs.RequestStreams.{HasRead, AreAsked, IsRefusedAs, bytes_used, limit_of, offer_of}
-use Rattle.git_msg.specs.StreamStages.{AreBegun}
+use Rattle.git_msg.specs.Machine.RequestStreams.{HasRead, AreAsked, IsRefusedAs, bytes_used, limit_of, offer_of}
+use Rattle.git_msg.specs.Machine.StreamStages.{AreBegun}
 use Rattle.git_msg.specs.declared.offers.Offer.{Offer}
 use Rattle.git_msg.specs.declared.requests.Request.{Request}
 use Rattle.git_msg.specs.declared.streams.RequestStream.{RequestStream}
-use Rattle.git_client.specs.Client.{History, Converses, nothing_yet, bytes_used as client_bytes, can_ask, caps_of}
-use Rattle.git_client.specs.Client.{wants_input}
+use Rattle.git_client.specs.Machine.Client.{History, Converses, nothing_yet, bytes_used as client_bytes, can_ask, caps_of}
+use Rattle.git_client.specs.Machine.Client.{wants_input}
 use Rattle.git_client.specs.Parts.{Terms}
-use Rattle.git_client.specs.RunSteps.{AsksNext, AsksTo, HearsFrom, HearsTo, HearsWhole, no_counts, window_of}
+use Rattle.git_client.specs.Machine.RunSteps.{AsksNext, AsksTo, HearsFrom, HearsTo, HearsWhole, no_counts, window_of}
 use Rattle.git_client.specs.Transcript.{transcript_of}
 use Rattle.git_client.specs.declared.client.Client.{Client}
 use Rattle.git_client.specs.declared.hearing.Window.{Window}
@@ -33,10 +33,10 @@ use Rattle.git_client.proofs.AskedInTurn.{commands_advertised}
 use Rattle.git_client.proofs.ClientRuns.{Running, Ran, ran, ran_as, ran_unasked, begins, asks_on, hears_on, hears_whole, interrupted, read_on, refused_next}
 use Rattle.git_client.proofs.EventsHeard.{has_events, has_noted, is_whole, position_is}
 use Rattle.git_client.proofs.Faults.{first_fault}
-use Rattle.git2show_lib.specs.CheckFaults.{run_fault, run_result, standing_of}
-use Rattle.git2show_lib.specs.CheckSteps.{Asking, ReadsAll, ReadsNoMore, ReadsOn, ReadsRequest, ReadsTo, SeesEnd}
-use Rattle.git2show_lib.specs.CheckedStreams.{AreAllAsked, AreAnswered, AreOver, AreUnread, Checked, EndsAs, Found, IsOffered, IsWithinRequest}
-use Rattle.git2show_lib.specs.CheckedStreams.{of_responses as fault_of_responses}
+use Rattle.git2show_lib.specs.Machine.CheckFaults.{run_fault, run_result, standing_of}
+use Rattle.git2show_lib.specs.Machine.CheckSteps.{Asking, ReadsAll, ReadsNoMore, ReadsOn, ReadsRequest, ReadsTo, SeesEnd}
+use Rattle.git2show_lib.specs.Machine.CheckedStreams.{AreAllAsked, AreAnswered, AreOver, AreUnread, Checked, EndsAs, Found, IsOffered, IsWithinRequest}
+use Rattle.git2show_lib.specs.Machine.CheckedStreams.{of_responses as fault_of_responses}
 use Rattle.git2show_lib.specs.declared.checking.CheckFault.{CheckFault}
 use Rattle.git2show_lib.specs.declared.checking.CheckFault.TheVariants.{Requests, Responses}
 use Rattle.git2show_lib.specs.declared.checking.CheckFault.TheVariants.{ReadFault as CheckReadFault, WriteFault as CheckWriteFault, ReadLimit as CheckReadLimit}

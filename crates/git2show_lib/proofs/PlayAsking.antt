@@ -2,9 +2,9 @@
 use Rattle.std.proofs.Common.{◌≡◌, ℕ, false, List, [], ◌++◌, None, ◌∙◌, append_assoc, append-nil, refl}
 use Rattle.git_pkt.specs.Streams.{Flow, WrittenAs}
 use Rattle.git_msg.specs.Asked.{command_asked}
-use Rattle.git_msg.specs.HeldRequest.{asked_of}
+use Rattle.git_msg.specs.Machine.HeldRequest.{asked_of}
 use Rattle.git_msg.specs.declared.requests.Request.{Request}
-use Rattle.git_client.specs.Client.{Asks, Pulls, SaysOn, TellsSent, can_ask, fault_of, has_left}
+use Rattle.git_client.specs.Machine.Client.{Asks, Pulls, SaysOn, TellsSent, can_ask, fault_of, has_left}
 use Rattle.git_client.specs.Transcript.{asked_line}
 use Rattle.git_client.specs.declared.client.Client.{Client}
 use Rattle.git_client.specs.declared.events.Sent.{Sent}
@@ -12,7 +12,7 @@ use Rattle.git_client.specs.declared.events.Sent.TheVariants.{Packet}
 use Rattle.git_client.proofs.SayingSteps.{asks_whole, gives_no_packet, hears_next, says_nothing, says_then}
 use Rattle.git_server.specs.Repository.{RepoState}
 use Rattle.git_server.specs.declared.server.Server.{Server}
-use Rattle.git2show_lib.specs.PlaySteps.{AsksServer, StandsOn, TellsAll, silent}
+use Rattle.git2show_lib.specs.Machine.PlaySteps.{AsksServer, StandsOn, TellsAll, silent}
 use denote.Ref.{Bor}
 
 module _ {R A : Type 0} (state : R → RepoState) where

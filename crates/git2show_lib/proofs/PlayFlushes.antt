@@ -8,7 +8,7 @@ use Rattle.git_msg.specs.Asked.{Asked, ls_refs, fetch, object_info}
 use Rattle.git_msg.specs.WrittenRequest.{text_line, agent_line, format_line, lines_written}
 use Rattle.git_msg.specs.declared.offers.Caps.{Caps}
 use Rattle.git_msg.specs.declared.offers.Offer.{Offer}
-use Rattle.git_client.specs.Client.{questions_of}
+use Rattle.git_client.specs.Machine.Client.{questions_of}
 use Rattle.git_client.specs.Parts.{nearest}
 use Rattle.git_server.specs.Answers.{advertisement_of, offered_line, fetch_line, ls_refs_line, IsAnswer, reference_packet, shown_refs, unborn_packets}
 use Rattle.git_server.specs.FetchAnswers.{EndsWithBoundary, EndsWithRefs, IsAfter, IsFetchAnswerBy, IsNegotiated, acknowledgments, is_ready_for, negotiates}

@@ -3,18 +3,18 @@ use Rattle.std.proofs.Common.{arith, ◌≡◌, ℕ, ◌+◌, ◌≤◌, Bool, t
 use Rattle.std.proofs.Common.{Err, ap, length-drop}
 use Rattle.std.proofs.lemmas.List.{length-take, take_min}
 use Rattle.git_pkt.specs.Streams.{flow}
-use Rattle.git_pkt.specs.PacketReader.{ShownByFeed}
+use Rattle.git_pkt.specs.Machine.PacketReader.{ShownByFeed}
 use Rattle.git_pkt.specs.declared.fault.Fault.{Fault}
 use Rattle.git_pkt.specs.declared.fault.RunFault.{RunFault}
 use Rattle.git_pkt.specs.declared.fault.RunFault.TheVariants.{ReadFault, WriteFault, ReadLimit, Refused}
 use Rattle.git_pkt.proofs.Pieces.{left_of}
-use Rattle.git_client.specs.Client.{phase_of, wants_input}
-use Rattle.git_client.specs.RunSteps.{HearsBytes, HearsPieceTo}
+use Rattle.git_client.specs.Machine.Client.{phase_of, wants_input}
+use Rattle.git_client.specs.Machine.RunSteps.{HearsBytes, HearsPieceTo}
 use Rattle.git_client.specs.declared.client.Client.{Client}
 use Rattle.git_client.specs.declared.hearing.Counts.{Counts}
 use Rattle.git_client.proofs.HeardBytes.{heard_then}
 use Rattle.git_client.proofs.Phases.{not_ready_where_due}
-use Rattle.git2show_lib.specs.PlaySteps.{silent}
+use Rattle.git2show_lib.specs.Machine.PlaySteps.{silent}
 use Rattle.git2show_lib.proofs.PlayTelling.{next_piece, left_after, piece_joined}
 
 module _ {A : Type 0} where

@@ -10,15 +10,15 @@ use Rattle.git_pkt.specs.Streams.{flow}
 use Rattle.git_pkt.specs.declared.fault.RunFault.{RunFault}
 use Rattle.git_pkt.proofs.Spelling.{append_cancel_length}
 use Rattle.git_msg.specs.Asked.{Asked}
-use Rattle.git_msg.specs.HeldRequest.{asked_of}
+use Rattle.git_msg.specs.Machine.HeldRequest.{asked_of}
 use Rattle.git_msg.specs.WrittenRequest.{lines_written}
 use Rattle.git_msg.specs.declared.offers.Caps.{Caps}
 use Rattle.git_msg.specs.declared.requests.Request.{Request}
-use Rattle.git_client.specs.Client.{History, Converses, can_ask, caps_of, nothing_yet, phase_of, questions_of, spelled, wants_input}
+use Rattle.git_client.specs.Machine.Client.{History, Converses, can_ask, caps_of, nothing_yet, phase_of, questions_of, spelled, wants_input}
 use Rattle.git_client.specs.Conversation.{HasNoted}
 use Rattle.git_client.specs.Parts.{Terms, terms_of}
-use Rattle.git_client.specs.RunSteps.{no_counts}
-use Rattle.git_client.specs.Runs.{leaves_last}
+use Rattle.git_client.specs.Machine.RunSteps.{no_counts}
+use Rattle.git_client.specs.Machine.Runs.{leaves_last}
 use Rattle.git_client.specs.declared.client.Client.{Client}
 use Rattle.git_client.specs.declared.events.Ending.TheVariants.{FlushOnly, ResponseEnd}
 use Rattle.git_client.proofs.ClientRuns.{asks_on, quietly_said, ran}
@@ -26,11 +26,11 @@ use Rattle.git_client.proofs.EventsHeard.{has_noted, is_whole}
 use Rattle.git_client.proofs.Notes.{noted_same}
 use Rattle.git_client.proofs.Phases.{quiet_where_due, quiet_where_ready}
 use Rattle.git_server.specs.Repository.{RepoState}
-use Rattle.git_server.specs.Server.{repo_of, wants_input as waits_for_input}
+use Rattle.git_server.specs.Machine.Server.{repo_of, wants_input as waits_for_input}
 use Rattle.git_server.specs.Sessions.{Setting, IsAnswered}
 use Rattle.git_server.specs.declared.server.Server.{Server}
 use Rattle.git_server.proofs.Going.{no_outcome}
-use Rattle.git2show_lib.specs.PlaySteps.{Answers, AnswersTo, AsksServer, HearsMessage, Settled, Stands}
+use Rattle.git2show_lib.specs.Machine.PlaySteps.{Answers, AnswersTo, AsksServer, HearsMessage, Settled, Stands}
 use Rattle.git_both_ends.specs.Plays.{AreAll, AreSaid, CanFail, IsDone, IsTalk, Talk, said_each, setting_of, with_end}
 use Rattle.git2show_lib.proofs.PlayFlushes.{questions_close, questions_count}
 use Rattle.git2show_lib.proofs.PlayRuns.{PlayEnds, Plays, Runs, Turn, answer_stopped, begun, first_turn, given_is, heard, now_whole, play_ends, settled, waits}

@@ -6,21 +6,21 @@ use Rattle.git_pkt.specs.Streams.{Flow, flow}
 use Rattle.git_pkt.specs.declared.fault.RunFault.{RunFault}
 use Rattle.git_pkt.specs.declared.fault.RunFault.TheVariants.{ReadFault, WriteFault, ReadLimit, Refused as RefusedRun}
 use Rattle.git_pkt.proofs.EngineLemmas.{timely}
-use Rattle.git_client.specs.Client.{can_ask, phase_of, wants_input}
-use Rattle.git_client.specs.RunSteps.{HearsBytes, HearsInPiece, HearsPieceTo}
+use Rattle.git_client.specs.Machine.Client.{can_ask, phase_of, wants_input}
+use Rattle.git_client.specs.Machine.RunSteps.{HearsBytes, HearsInPiece, HearsPieceTo}
 use Rattle.git_client.specs.declared.client.Client.{Client}
 use Rattle.git_client.specs.declared.hearing.Counts.{Counts}
 use Rattle.git_client.proofs.HeardBytes.{heard_then, nothing_heard}
 use Rattle.git_client.proofs.Phases.{not_ready_where_due}
 use Rattle.git_server.specs.Repository.{RepoState}
-use Rattle.git_server.specs.Server.{outcome_of}
-use Rattle.git_server.specs.ServerCalls.{IsAfterPull, Pulls, TellsPulled}
+use Rattle.git_server.specs.Machine.Server.{outcome_of}
+use Rattle.git_server.specs.Machine.ServerCalls.{IsAfterPull, Pulls, TellsPulled}
 use Rattle.git_server.specs.declared.outcome.Outcome.{Outcome}
 use Rattle.git_server.specs.declared.server.Pulled.{Pulled}
 use Rattle.git_server.specs.declared.server.Pulled.TheVariants.{Packet, NeedInput, Finished}
 use Rattle.git_server.specs.declared.server.Server.{Server}
 use Rattle.git_server.proofs.Outcomes.{too_long_before}
-use Rattle.git2show_lib.specs.PlaySteps.{GivesOn, Hears, HearsOut, HearsServerTo, IsSpent, StopsAt, silent}
+use Rattle.git2show_lib.specs.Machine.PlaySteps.{GivesOn, Hears, HearsOut, HearsServerTo, IsSpent, StopsAt, silent}
 use denote.Ref.{Bor}
 
 -- ---- the server

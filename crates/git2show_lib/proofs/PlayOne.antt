@@ -4,12 +4,12 @@ use Rattle.std.proofs.Common.{Ok, Err, refl, sym, ap, ◌∙◌, append-nil, len
 use Rattle.git_pkt.specs.Packets.{Pkt, flush, flushes}
 use Rattle.git_pkt.specs.Streams.{flow}
 use Rattle.git_pkt.specs.declared.fault.RunFault.{RunFault}
-use Rattle.git_msg.specs.HeldRequest.{asked_of}
+use Rattle.git_msg.specs.Machine.HeldRequest.{asked_of}
 use Rattle.git_msg.specs.declared.requests.Request.{Request}
-use Rattle.git_client.specs.Client.{History, Converses, Leaves, caps_of, nothing_yet, phase_of, questions_of, spelled, wants_input}
+use Rattle.git_client.specs.Machine.Client.{History, Converses, Leaves, caps_of, nothing_yet, phase_of, questions_of, spelled, wants_input}
 use Rattle.git_client.specs.Parts.{Terms}
-use Rattle.git_client.specs.RunSteps.{no_counts}
-use Rattle.git_client.specs.Runs.{leaves_last}
+use Rattle.git_client.specs.Machine.RunSteps.{no_counts}
+use Rattle.git_client.specs.Machine.Runs.{leaves_last}
 use Rattle.git_client.specs.declared.client.Client.{Client}
 use Rattle.git_client.specs.declared.events.Ending.TheVariants.{FlushOnly}
 use Rattle.git_client.proofs.ClientRuns.{asks_on, has_said, leaves_on}
@@ -22,7 +22,7 @@ use Rattle.git_server.specs.declared.server.Server.{Server}
 use Rattle.git_server.proofs.AtRest.{front_of, packets_of}
 use Rattle.git_server.proofs.Flushes.{flushes-append}
 use Rattle.git_server.proofs.Going.{no_outcome}
-use Rattle.git2show_lib.specs.PlaySteps.{Answers, AnswersTo, AsksServer, HearsMessage, Settled, Stands, StandsOn, TellsAll}
+use Rattle.git2show_lib.specs.Machine.PlaySteps.{Answers, AnswersTo, AsksServer, HearsMessage, Settled, Stands, StandsOn, TellsAll}
 use Rattle.git_both_ends.specs.Plays.{AreSaid, CanFail, said_each, setting_of}
 use Rattle.git2show_lib.proofs.PlayFlushes.{Closes, advertises_once, closes_both, flushes_nearest, questions_close, questions_count}
 use Rattle.git2show_lib.proofs.PlayRuns.{PlayEnds, Plays, Runs, Turn, answer_stopped, begun, first_turn, given_is, sole_turn, heard, now_whole, play_ends}

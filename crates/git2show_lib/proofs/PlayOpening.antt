@@ -6,12 +6,12 @@ use Rattle.git_msg.specs.declared.offers.Offer.{Offer}
 use Rattle.git_client.specs.Parts.{terms_of}
 use Rattle.git_client.specs.declared.events.Ending.TheVariants.{FlushOnly}
 use Rattle.git_server.specs.Repository.{RepoState}
-use Rattle.git_server.specs.Server.{Running, outcome_of}
+use Rattle.git_server.specs.Machine.Server.{Running, outcome_of}
 use Rattle.git_server.specs.Sessions.{Setting}
 use Rattle.git_server.specs.declared.server.Server.{Server}
 use Rattle.git_server.proofs.AtRest.{open_at_first}
 use Rattle.git_both_ends.specs.Plays.{setting_of}
-use Rattle.git2show_lib.specs.PlaySteps.{Stands}
+use Rattle.git2show_lib.specs.Machine.PlaySteps.{Stands}
 
 -- the setting of a server with this offer
 abbrev pub setting_with : Offer → ℕ → Bool → RepoState → Setting

@@ -6,14 +6,15 @@ use Rattle.git_pkt.specs.Packets.{Pkt, flushes, resp_end}
 use Rattle.git_pkt.specs.Streams.{Flow, flow, Moves, is_broken}
 use Rattle.git_pkt.specs.declared.fault.RunFault.{RunFault}
 use Rattle.git_pkt.specs.declared.fault.RunFault.TheVariants.{ReadFault, WriteFault, ReadLimit, Refused}
-use Rattle.git_msg.specs.HeldRequest.{asked_of}
+use Rattle.git_msg.specs.Machine.HeldRequest.{asked_of}
 use Rattle.git_msg.specs.declared.offers.Caps.{Caps}
 use Rattle.git_msg.specs.declared.requests.Request.{Request}
-use Rattle.git_client.specs.Client.{History, Converses, can_ask, caps_of, nothing_yet, phase_of, questions_of, request_of, said_of, spelled, wants_input}
+use Rattle.git_client.specs.Machine.Client.{History, Converses, can_ask, caps_of, nothing_yet, phase_of, questions_of}
+use Rattle.git_client.specs.Machine.Client.{request_of, said_of, spelled, wants_input}
 use Rattle.git_client.specs.Conversation.{HasNoted, IsConversation}
 use Rattle.git_client.specs.Events.{EventValue, pack_bytes}
 use Rattle.git_client.specs.Parts.{Terms, is_end_due, nearest}
-use Rattle.git_client.specs.RunSteps.{no_counts}
+use Rattle.git_client.specs.Machine.RunSteps.{no_counts}
 use Rattle.git_client.specs.Transcript.{transcript_of}
 use Rattle.git_client.specs.declared.client.Client.{Client}
 use Rattle.git_client.specs.declared.events.Ending.{Ending}
@@ -26,13 +27,13 @@ use Rattle.git_client.proofs.EventsHeard.{all_is_said, has_events, is_whole}
 use Rattle.git_client.proofs.Faults.{first_fault}
 use Rattle.git_client.proofs.Phases.{quiet_where_due, quiet_where_failed, quiet_where_ready}
 use Rattle.git_server.specs.Repository.{RepoState}
-use Rattle.git_server.specs.Server.{wants_input as waits_for_input}
+use Rattle.git_server.specs.Machine.Server.{wants_input as waits_for_input}
 use Rattle.git_server.specs.Sessions.{IsAnswered, advertised}
 use Rattle.git_server.specs.declared.server.Server.{Server}
 use Rattle.git_server.proofs.AtRest.{packets_of}
 use Rattle.git_server.proofs.Flushes.{flushes-append}
-use Rattle.git2show_lib.specs.PlaySteps.{AnswersTo, AsksServer, AsksServerTo, Hears, HearsMessage, HearsMessageTo, IsSpent}
-use Rattle.git2show_lib.specs.PlaySteps.{Settled, Stands, silent}
+use Rattle.git2show_lib.specs.Machine.PlaySteps.{AnswersTo, AsksServer, AsksServerTo, Hears, HearsMessage, HearsMessageTo, IsSpent}
+use Rattle.git2show_lib.specs.Machine.PlaySteps.{Settled, Stands, silent}
 use Rattle.git_both_ends.specs.Plays.{AreAll, AreSaid, AreServed, CanFail, EndsAs, IsDone, IsServed, IsTalk, Played, Talk, said_each, setting_of, with_end}
 use Rattle.git2show_lib.proofs.PlayFlushes.{Closes, advertises_once, flushes_nearest}
 use Rattle.git2show_lib.proofs.PlayTalks.{Enough, Quota, Rests, done, enough_heard, last_of_closed, no_end_unheard, nothing_unheard}

@@ -10,16 +10,16 @@ use Rattle.git_pkt.specs.declared.fault.RunFault.{RunFault}
 use Rattle.git_pkt.specs.declared.fault.RunFault.TheVariants.{ReadFault, WriteFault, ReadLimit, Refused as RefusedRun}
 use Rattle.git_pkt.proofs.EngineLemmas.{written_flushed, written_nothing}
 use Rattle.git_msg.specs.declared.requests.Request.{Request}
-use Rattle.git_client.specs.Client.{can_ask, phase_of, wants_input}
-use Rattle.git_client.specs.RunSteps.{HearsInPiece, HearsPieceTo, no_counts}
+use Rattle.git_client.specs.Machine.Client.{can_ask, phase_of, wants_input}
+use Rattle.git_client.specs.Machine.RunSteps.{HearsInPiece, HearsPieceTo, no_counts}
 use Rattle.git_client.specs.declared.client.Client.{Client}
 use Rattle.git_client.specs.declared.hearing.Counts.{Counts}
 use Rattle.git_client.proofs.HeardBytes.{heard_flushed, heard_quietly, heard_then}
 use Rattle.git_client.proofs.Phases.{not_ready_where_due, not_ready_where_failed}
 use Rattle.git_server.specs.Repository.{RepoState}
 use Rattle.git_server.specs.declared.server.Server.{Server}
-use Rattle.git2show_lib.specs.PlaySteps.{AnswersTo, AsksServer, EndsMessageTo, Hears, HearsMessageTo, HearsOut, HearsServerTo}
-use Rattle.git2show_lib.specs.PlaySteps.{IsSpent, silent}
+use Rattle.git2show_lib.specs.Machine.PlaySteps.{AnswersTo, AsksServer, EndsMessageTo, Hears, HearsMessageTo, HearsOut, HearsServerTo}
+use Rattle.git2show_lib.specs.Machine.PlaySteps.{IsSpent, silent}
 use Rattle.git2show_lib.proofs.PlayMeeting.{hears_more, stops_in}
 
 -- more bytes that nobody used change nothing where the input goes on

@@ -5,12 +5,12 @@ use Rattle.std.proofs.lemmas.Bool.{cases_lt}
 use Rattle.std.proofs.lemmas.Grind.{flat_map-append}
 use Rattle.git_pkt.specs.Packets.{Pkt, flush, resp_end, flushes, spelling_of}
 use Rattle.git_pkt.specs.Splits.{Given, SpellsAll}
-use Rattle.git_client.specs.Client.{spelled}
+use Rattle.git_client.specs.Machine.Client.{spelled}
 use Rattle.git_client.specs.Parts.{nearest, is_end_due, is_zero}
 use Rattle.git_client.specs.declared.events.Ending.TheVariants.{ResponseEnd}
 use Rattle.git_server.specs.Answers.{AllFit}
 use Rattle.git_server.specs.Repository.{RepoState}
-use Rattle.git_server.specs.Server.{IsPackLost, StandsBy, outcome_of, repo_of, wants_input as waits_for_input}
+use Rattle.git_server.specs.Machine.Server.{IsPackLost, StandsBy, outcome_of, repo_of, wants_input as waits_for_input}
 use Rattle.git_server.specs.Sessions.{Setting, IsAnswered, Stream, advertised}
 use Rattle.git_server.specs.declared.outcome.Outcome.{Outcome}
 use Rattle.git_server.specs.declared.server.Server.{Server}
@@ -20,7 +20,7 @@ use Rattle.git_server.proofs.Going.{no_outcome, owes_some}
 use Rattle.git_server.proofs.OneSession.{answers_end, owes_flush}
 use Rattle.git_server.proofs.Sent.{is_whole}
 use Rattle.git_server.proofs.SessionLaws.{all_answered, going}
-use Rattle.git2show_lib.specs.PlaySteps.{IsSpent, Settled, Stands}
+use Rattle.git2show_lib.specs.Machine.PlaySteps.{IsSpent, Settled, Stands}
 use Rattle.git_both_ends.specs.Plays.{CanFail, IsDone, IsLostFor, IsTalk, Talk}
 use Rattle.git2show_lib.proofs.PlayFlushes.{Closes, LastFlush, closes_both, ends_closed, flushes_nearest, given_close}
 

@@ -9,12 +9,12 @@ use Rattle.git_pkt.specs.declared.fault.Fault.{Fault}
 use Rattle.git_pkt.specs.declared.fault.Kind.TheVariants.{StreamTooLong}
 use Rattle.git_pkt.proofs.Pieces.{left_of}
 use Rattle.git_server.specs.Repository.{RepoState}
-use Rattle.git_server.specs.Server.{Running, outcome_of, wants_input}
-use Rattle.git_server.specs.ServerCalls.{Goes, StopsInTime}
+use Rattle.git_server.specs.Machine.Server.{Running, outcome_of, wants_input}
+use Rattle.git_server.specs.Machine.ServerCalls.{Goes, StopsInTime}
 use Rattle.git_server.specs.Sessions.{Setting}
 use Rattle.git_server.specs.declared.outcome.Outcome.TheVariants.{Refused}
 use Rattle.git_server.specs.declared.server.Server.{Server}
-use Rattle.git2show_lib.specs.PlaySteps.{Stands}
+use Rattle.git2show_lib.specs.Machine.PlaySteps.{Stands}
 
 -- ---- the next piece of a packet
 

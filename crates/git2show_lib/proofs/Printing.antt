@@ -7,7 +7,7 @@ use Rattle.std.proofs.lemmas.Grind.{flat_map-append}
 use Rattle.std.specs.Io.KnownBytes.{Consumes, Keeps}
 use Rattle.git_pkt.specs.Splits.{Given}
 use Rattle.git_pkt.specs.Packets.{seen}
-use Rattle.git_pkt.specs.PacketReader.{Reads, ReadsOn, StandsAt, Feeds, Tells, fault_of, given_by, is_open, open_length, position_of}
+use Rattle.git_pkt.specs.Machine.PacketReader.{Reads, ReadsOn, StandsAt, Feeds, Tells, fault_of, given_by, is_open, open_length, position_of}
 use Rattle.git_pkt.proofs.KnownRest.{none_between}
 use Rattle.std.proofs.lemmas.Result.{err_from_is_err_and}
 use Rattle.git_pkt.specs.declared.packet.Packet.{Packet}
@@ -15,8 +15,7 @@ use Rattle.git_pkt.specs.declared.reader.Fed.{Fed}
 use Rattle.git_pkt.specs.declared.reader.Got.{Got}
 use Rattle.git_pkt.specs.declared.reader.Got.TheVariants.{More, Failed, Packet as GotPacket}
 use Rattle.git_pkt.proofs.Pieces.{take_joined, left_of}
-use Rattle.git_pkt.specs.Told.{AppendsFront}
-use Rattle.git_pkt.specs.Streams.{Flow, flow, WrittenAs, Moves, is_broken}
+use Rattle.git_pkt.specs.Streams.{AppendsFront, Flow, flow, WrittenAs, Moves, is_broken}
 use Rattle.git_pkt.specs.declared.fault.Kind.TheVariants.{Truncated}
 use Rattle.git_pkt.specs.declared.fault.Fault.{Fault}
 use Rattle.git_pkt.specs.declared.fault.RunFault.{RunFault}
@@ -24,8 +23,8 @@ use Rattle.git_pkt.specs.declared.fault.RunFault.TheVariants.{ReadFault, WriteFa
 use Rattle.git_pkt.specs.declared.reader.PacketReader.{PacketReader}
 use Rattle.git_pkt.proofs.EngineLemmas.{timely, Moved, moved_on, moved_unread, moves, brings_more, written_nothing, written_then}
 use Rattle.git2show_lib.specs.PacketLines.{line_of, lines_of}
-use Rattle.git2show_lib.specs.LineBuffer.{Emits, EmitsFront}
-use Rattle.git2show_lib.specs.ShownStream.{EndsAs, Prints, PrintsPiece, Shows, ShowsPiece, Writes, WritesFront}
+use Rattle.git2show_lib.specs.Machine.LineBuffer.{Emits, EmitsFront}
+use Rattle.git2show_lib.specs.Machine.ShownStream.{EndsAs, Prints, PrintsPiece, Shows, ShowsPiece, Writes, WritesFront}
 use Rattle.git2show_lib.proofs.Sendings.{emits_then, front_after}
 
 pub lines-append : (gs hs : List Given) → lines_of (gs ++ hs) ≡ lines_of gs ++ lines_of hs

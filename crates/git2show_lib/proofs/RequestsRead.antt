@@ -9,8 +9,8 @@ use Rattle.std.proofs.KnownBytes.{Consumes-nil, Consumes-trans, Consumes-kept}
 use Rattle.git_pkt.specs.declared.fault.Fault.{Fault}
 use Rattle.git_pkt.specs.Streams.{Flow, flow}
 use Rattle.git_pkt.proofs.EngineLemmas.{timely}
-use Rattle.git_msg.specs.RequestStreams.{Closes, Feeds, asked_by, fault_of, wants_input}
-use Rattle.git_msg.specs.StreamStages.{fault_in}
+use Rattle.git_msg.specs.Machine.RequestStreams.{Closes, Feeds, asked_by, fault_of, wants_input}
+use Rattle.git_msg.specs.Machine.StreamStages.{fault_in}
 use Rattle.git_msg.specs.declared.requests.Request.{Request as HeldRequest}
 use Rattle.git_msg.specs.declared.streams.RequestStream.{RequestStream}
 use Rattle.git_msg.specs.declared.streams.ReadGot.{ReadGot}
@@ -19,11 +19,11 @@ use Rattle.git_msg.specs.declared.streams.ReadRequest.{ReadRequest}
 use Rattle.git_msg.specs.declared.streams.Stage.{Stage}
 use Rattle.git_msg.proofs.StreamReadings.{asked_so_far, begun_so_far, nothing_begun, reads_between, refused_as, stopped_at}
 use Rattle.git_msg.proofs.StreamSteps.{reading}
-use Rattle.git_client.specs.RunSteps.{window_of}
+use Rattle.git_client.specs.Machine.RunSteps.{window_of}
 use Rattle.git_client.specs.declared.hearing.Window.{Window}
 use Rattle.git2show_lib.specs.declared.checking.CheckFault.{CheckFault}
 use Rattle.git2show_lib.specs.declared.checking.CheckFault.TheVariants.{ReadFault}
-use Rattle.git2show_lib.specs.CheckSteps.{ReadsAll, ReadsFault, ReadsNoMore, ReadsOn, ReadsRequest, ReadsTo}
+use Rattle.git2show_lib.specs.Machine.CheckSteps.{ReadsAll, ReadsFault, ReadsNoMore, ReadsOn, ReadsRequest, ReadsTo}
 
 -- the bytes at the front of a piece are a window of it
 front_window : (end : ℕ) (piece : List ℕ) → take end piece ≡ window_of (record { start = 0; end = end }) piece

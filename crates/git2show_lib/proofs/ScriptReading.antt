@@ -11,7 +11,7 @@ use Rattle.git_msg.proofs.TextParts.{bytes_left}
 use Rattle.git_repository.specs.RepositoryLines.{lines_of}
 use Rattle.git_repository.specs.declared.text_faults.LineFault.TheVariants.{Refused, OutOfMemory}
 use Rattle.git2show_lib.specs.Scripts.{ScriptLine, FollowAll, HasBadScriptLine, WantsScriptMemory}
-use Rattle.git2show_lib.specs.HeldScripts.{Held, Holds, IsLineFault, TakesLine, nothing_held}
+use Rattle.git2show_lib.specs.Machine.HeldScripts.{Held, Holds, IsLineFault, TakesLine, nothing_held}
 use Rattle.git2show_lib.proofs.ScriptLists.{follow_more}
 use Rattle.git2show_lib.proofs.Scripting.{holds_nothing}
 

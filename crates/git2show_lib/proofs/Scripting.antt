@@ -17,7 +17,7 @@ use Rattle.git_msg.specs.declared.requests.Request.{Request}
 use Rattle.git_msg.specs.Arguments.{Arg, IsArgumentFault, IsInRange, ReadsAs, name_of, stored_in, written_text}
 use Rattle.git_msg.specs.Asked.{Asked, asked_by, nothing_asked, with_argument}
 use Rattle.git_msg.specs.Checks.{Passes, Refuses}
-use Rattle.git_msg.specs.HeldRequest.{IsEmpty, Keeps, add_checks, command_of, format_of, holding_of, limit_of}
+use Rattle.git_msg.specs.Machine.HeldRequest.{IsEmpty, Keeps, add_checks, command_of, format_of, holding_of, limit_of}
 use Rattle.git_msg.specs.Kept.{IsNew, Kept, KeepsArgument}
 use Rattle.git_msg.proofs.ArgumentsInOrder.{asked_snoc}
 use Rattle.git_msg.proofs.AskedValues.{says_in_range}
@@ -26,8 +26,8 @@ use Rattle.git_msg.proofs.Values.{added_or_refused}
 use Rattle.git_repository.specs.declared.text_faults.LineFault.{LineFault}
 use Rattle.git_repository.specs.declared.text_faults.LineFault.TheVariants.{Refused, OutOfMemory}
 use Rattle.git2show_lib.specs.Scripts.{ScriptLine, blank, command, argument, MayFollow, kept_after, nearest, open_after, request_of, requests_in}
-use Rattle.git2show_lib.specs.HeldScripts.{Held, AddsArgument, Begins, FitsIn, GoesOn, HasOpen, Holds, IsBeginFault, IsLineFault, TakesLine}
-use Rattle.git2show_lib.specs.HeldScripts.{nothing_held, with_requests}
+use Rattle.git2show_lib.specs.Machine.HeldScripts.{Held, AddsArgument, Begins, FitsIn, GoesOn, HasOpen, Holds, IsBeginFault, IsLineFault, TakesLine}
+use Rattle.git2show_lib.specs.Machine.HeldScripts.{nothing_held, with_requests}
 use Rattle.git2show_lib.proofs.ScriptLists.{Cut, cut_of, nearest_more, requests_blank, requests_cut, requests_of_cut}
 
 module _ {X : Type 0} where

@@ -1,16 +1,16 @@
 -- One thing after another goes through a buffer.
 use Rattle.std.proofs.Common.{length, ◌≡◌, ℕ, List, [], ◌++◌, Option, Result, Ok, Err, IsErrAnd, ap, sym, ◌∙◌, subst, append_assoc, append-nil}
 use Rattle.std.proofs.lemmas.List.{nil_from_length}
-use Rattle.git_pkt.specs.Told.{inner_of}
+use Rattle.git_pkt.specs.Machine.Told.{inner_of}
 use Rattle.git_pkt.specs.Escape.{escaped_of}
-use Rattle.git_pkt.specs.Sends.{Puts}
+use Rattle.git_pkt.specs.Machine.Sends.{Puts}
 use Rattle.git_pkt.specs.declared.fault.RunFault.{RunFault}
 use Rattle.git_pkt.specs.declared.told.Told.{Told}
 use Rattle.git_pkt.proofs.EngineLemmas.{AppendsFront-after, AppendsFront-longer}
 use Rattle.git_pkt.proofs.Escapes.{escaped-append}
 use Rattle.git_pkt.proofs.Sends.{puts_waiting, puts_then, puts_front}
 use Rattle.std.proofs.KnownBytes.{Appends-trans}
-use Rattle.git2show_lib.specs.LineBuffer.{Emits, EmitsFront}
+use Rattle.git2show_lib.specs.Machine.LineBuffer.{Emits, EmitsFront}
 
 pub emits_then : (a b c : Option (List ℕ)) (x bytes y more z : List ℕ) → Emits a b x bytes y → Emits b c y more z → Emits a c x (bytes ++ more) z
 emits_then a b c x bytes y more z one two = record {

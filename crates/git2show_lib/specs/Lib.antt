@@ -1,12 +1,3 @@
 pub mod PacketLines
-pub mod LineBuffer
-pub mod ShownStream
-pub mod Reports
-pub mod CheckFaults
-pub mod CheckSteps
-pub mod CheckedStreams
 pub mod Scripts
-pub mod HeldScripts
-pub mod ScriptLines
-pub mod ScriptFaults
-pub mod PlaySteps
+pub mod Machine

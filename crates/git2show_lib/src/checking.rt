@@ -1,12 +1,12 @@
 //! A recorded conversation, both of its streams checked against each other.
 
 ghost use Rattle.std.specs.Prelude.{[], ◌∷◌, ◌≡◌, ◌+◌, ◌≤◌, ◌<◌, ◌||◌, length, false, IsTrue, IfErr};
-ghost use Rattle.git_pkt.specs.Told.{inner_of, reads_of, has_failed, has_wasted, IsNew};
-ghost use Rattle.git_pkt.specs.Engine.{FailsAs, IsShownBy};
+ghost use Rattle.git_pkt.specs.Machine.Told.{inner_of, reads_of, has_failed, has_wasted, IsNew};
+ghost use Rattle.git_pkt.specs.Machine.Engine.{FailsAs, IsShownBy};
 ghost use Rattle.git_pkt.specs.Streams.{flow, is_broken, Moves};
 ghost use Rattle.git_client.specs.Parts.{terms_of};
-ghost use Rattle.git2show_lib.specs.CheckFaults.{run_fault, run_result, standing_of, AreSpent};
-ghost use Rattle.git2show_lib.specs.CheckedStreams.{of_responses, Checked};
+ghost use Rattle.git2show_lib.specs.Machine.CheckFaults.{run_fault, run_result, standing_of, AreSpent};
+ghost use Rattle.git2show_lib.specs.Machine.CheckedStreams.{of_responses, Checked};
 
 use crate::left_over::see_the_end;
 use crate::requests_read::next_request;

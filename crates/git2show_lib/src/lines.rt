@@ -3,7 +3,7 @@
 ghost use Rattle.std.specs.Prelude.{◌≡◌, ◌+◌, ◌≤◌, ◌++◌, [], length, take, OnOk, decimal};
 ghost use Rattle.git_pkt.specs.Packets.{body_of, seen};
 ghost use Rattle.git_pkt.specs.Escape.{escaped_of};
-ghost use Rattle.git_pkt.specs.Sends.{Puts, Sends};
+ghost use Rattle.git_pkt.specs.Machine.Sends.{Puts, Sends};
 ghost use Rattle.git2show_lib.specs.PacketLines.{kind_shown, line_of};
 
 use git_pkt::{Packet, RunFault, Told, escape_into, flush, is_plain, put_at, send};

@@ -2,15 +2,15 @@
 
 ghost use Rattle.std.specs.Prelude.{◌≡◌, ◌<◌, ◌||◌, ◌∷◌, [], true, false, None, IsTrue, IfErr};
 ghost use Rattle.std.specs.Io.KnownBytes.{Keeps};
-ghost use Rattle.git_pkt.specs.Told.{inner_of, has_failed};
-ghost use Rattle.git_pkt.specs.Engine.{FailsAs, IsShownBy};
+ghost use Rattle.git_pkt.specs.Machine.Told.{inner_of, has_failed};
+ghost use Rattle.git_pkt.specs.Machine.Engine.{FailsAs, IsShownBy};
 ghost use Rattle.git_pkt.specs.Streams.{flow, is_broken, Moves};
-ghost use Rattle.git_client.specs.Client.{can_ask, fault_of, wants_input};
+ghost use Rattle.git_client.specs.Machine.Client.{can_ask, fault_of, wants_input};
 ghost use Rattle.git_client.specs.Parts.{terms_of};
-ghost use Rattle.git_client.specs.RunSteps.{HearsPieceTo};
-ghost use Rattle.git_server.specs.Server.{outcome_of};
+ghost use Rattle.git_client.specs.Machine.RunSteps.{HearsPieceTo};
+ghost use Rattle.git_server.specs.Machine.Server.{outcome_of};
 ghost use Rattle.git_both_ends.specs.Plays.{CanFail, Played, setting_of};
-ghost use Rattle.git2show_lib.specs.PlaySteps.{AnswersTo, AsksServerTo, EndsMessageTo, HearsMessageTo, HearsServerTo, Stands, StandsOn, TellsAll, silent};
+ghost use Rattle.git2show_lib.specs.Machine.PlaySteps.{AnswersTo, AsksServerTo, EndsMessageTo, HearsMessageTo, HearsServerTo, Stands, StandsOn, TellsAll, silent};
 
 use git_client::{Client, Counts, Ending, Sent, hear_piece, write_asked};
 use git_msg::{Limits, Offer, Request};

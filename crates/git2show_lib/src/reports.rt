@@ -2,9 +2,10 @@
 
 ghost use Rattle.std.specs.Prelude.{◌≡◌, ◌≤◌, ◌++◌, ◌+◌, false, length, take, decimal};
 ghost use Rattle.std.specs.Io.KnownBytes.{Appends};
-ghost use Rattle.git_pkt.specs.Told.{inner_of, has_failed, AppendsFront};
+ghost use Rattle.git_pkt.specs.Machine.Told.{inner_of, has_failed};
+ghost use Rattle.git_pkt.specs.Streams.{AppendsFront};
 ghost use Rattle.git_pkt.specs.FaultNames.{fault_text};
-ghost use Rattle.git2show_lib.specs.Reports.{check_fault_text, fault_line};
+ghost use Rattle.git2show_lib.specs.Machine.Reports.{check_fault_text, fault_line};
 
 use crate::checking::CheckFault;
 use git_pkt::{Fault, RunFault, Told, put_at, send};

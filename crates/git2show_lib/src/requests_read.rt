@@ -1,13 +1,13 @@
 //! The requests of a recorded conversation, one after another.
 
 ghost use Rattle.std.specs.Prelude.{◌≡◌, ◌≤◌, ◌<◌, length, true, false, IsTrue, IfErr};
-ghost use Rattle.git_pkt.specs.Told.{inner_of, reads_of, has_failed, has_ended, has_wasted};
-ghost use Rattle.git_pkt.specs.Engine.{FailsAs, IsShownBy, IsSpent};
+ghost use Rattle.git_pkt.specs.Machine.Told.{inner_of, reads_of, has_failed, has_ended, has_wasted};
+ghost use Rattle.git_pkt.specs.Machine.Engine.{FailsAs, IsShownBy, IsSpent};
 ghost use Rattle.git_pkt.specs.Streams.{flow};
-ghost use Rattle.git_msg.specs.RequestStreams.{wants_input};
-ghost use Rattle.git_client.specs.RunSteps.{window_of};
-ghost use Rattle.git2show_lib.specs.CheckFaults.{run_fault, run_result};
-ghost use Rattle.git2show_lib.specs.CheckSteps.{ReadsTo};
+ghost use Rattle.git_msg.specs.Machine.RequestStreams.{wants_input};
+ghost use Rattle.git_client.specs.Machine.RunSteps.{window_of};
+ghost use Rattle.git2show_lib.specs.Machine.CheckFaults.{run_fault, run_result};
+ghost use Rattle.git2show_lib.specs.Machine.CheckSteps.{ReadsTo};
 
 use crate::checking::CheckFault;
 use git_client::Window;

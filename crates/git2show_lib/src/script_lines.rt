@@ -2,7 +2,7 @@
 
 ghost use Rattle.std.specs.Prelude.{◌≡◌, MatchResult};
 ghost use Rattle.git_msg.specs.Advertisement.{everything};
-ghost use Rattle.git2show_lib.specs.HeldScripts.{AddsArgument, Begins, IsBeginFault, IsLineFault, TakesLine, nothing_held};
+ghost use Rattle.git2show_lib.specs.Machine.HeldScripts.{AddsArgument, Begins, IsBeginFault, IsLineFault, TakesLine, nothing_held};
 
 use git_msg::{Command, Limits, Offer, Request, read_argument};
 use git_names::{Format, Steps};
@@ -21,7 +21,7 @@ pub(crate) struct Script<A: Allocator + Copy> {
 }
 
 impl<A: Allocator + Copy> Script<A> {
-    ghost use Rattle.git2show_lib.specs.ScriptLines.{held};
+    ghost use Rattle.git2show_lib.specs.Machine.ScriptLines.{held};
 
     /// Nothing yet.
     pub(crate) fn new(alloc: A, format: Format, limits: Limits) -> Script<A>

@@ -1,7 +1,7 @@
 //! Scripts: what a client is to ask, read from a text.
 
 ghost use Rattle.std.specs.Prelude.{MatchResult};
-ghost use Rattle.git2show_lib.specs.ScriptFaults.{IsScriptFault, IsWholeScript};
+ghost use Rattle.git2show_lib.specs.Machine.ScriptFaults.{IsScriptFault, IsWholeScript};
 
 use crate::script_lines::Script;
 use git_msg::{Limits, Request, split_at_first};

@@ -2,11 +2,11 @@
 
 ghost use Rattle.std.specs.Prelude.{◌≡◌, ◌<◌, ◌≤◌, [], ◌∷◌, ◌||◌, None, false, length, IsTrue, OnOk, OnErr, IfErr, IfOk, is_err};
 ghost use Rattle.std.specs.Io.KnownBytes.{IsAtEnd};
-ghost use Rattle.git_pkt.specs.Told.{inner_of, reads_of, has_failed, has_ended, has_wasted, IsNew};
-ghost use Rattle.git_pkt.specs.Engine.{FailsAs, IsShownBy, IsSpent};
+ghost use Rattle.git_pkt.specs.Machine.Told.{inner_of, reads_of, has_failed, has_ended, has_wasted, IsNew};
+ghost use Rattle.git_pkt.specs.Machine.Engine.{FailsAs, IsShownBy, IsSpent};
 ghost use Rattle.git_pkt.specs.Streams.{flow, is_broken, Moves};
-ghost use Rattle.git_pkt.specs.PacketReader.{fault_of, passes_of};
-ghost use Rattle.git2show_lib.specs.ShownStream.{Shows, ShowsPiece, PrintsPiece, WritesFront};
+ghost use Rattle.git_pkt.specs.Machine.PacketReader.{fault_of, passes_of};
+ghost use Rattle.git2show_lib.specs.Machine.ShownStream.{Shows, ShowsPiece, PrintsPiece, WritesFront};
 
 use crate::lines::Lines;
 use git_names::Steps;

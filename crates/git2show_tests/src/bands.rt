@@ -1,8 +1,9 @@
 //! Bytes of a pack and of the progress, as they pass: what the packet reader returns of them, and what a client hands out.
 
-ghost use Rattle.git_pkt.specs.BandReader.{MayPass};
+ghost use Rattle.git_pkt.specs.Machine.BandReader.{MayPass};
 
 use crate::clients::{ask_all, new_client, say};
+use crate::expecting::{expect, expect_bytes};
 use git_client::{Client, Event, HeardGot};
 use git_names::Steps;
 use git_pkt::{BandGot, Kind, Packet, PacketReader};
@@ -76,7 +77,7 @@ fn told(alloc: Global, pieces: &[&[u8]]) -> Result<Vec<u8>, AllocError> {
 fn a_reader_passes_the_bytes_of_both_bands(rt: HostRuntime) -> Result<(), Fail> {
     let lines = told(rt.alloc(), &[b"0007\x01AB0005\x010006\x03x0000"])?;
     let wanted = b"7 band 1 AB\n11 packet at 12 \x03x\n4 mark at 18 \n".as_slice();
-    assert_eq!(rt; lines.as_slice(), wanted);
+    expect_bytes(&rt, &lines, wanted);
     Ok(())
 }
 
@@ -84,12 +85,9 @@ fn a_reader_passes_the_bytes_of_both_bands(rt: HostRuntime) -> Result<(), Fail> 
 fn a_part_is_all_that_the_piece_has(rt: HostRuntime) -> Result<(), Fail> {
     let lines = told(rt.alloc(), &[b"0007\x01A", b"B0006\x02x"])?;
     let wanted = b"6 band 1 A\n1 band 1 B\n6 band 2 x\n".as_slice();
-    assert_eq!(rt; lines.as_slice(), wanted);
+    expect_bytes(&rt, &lines, wanted);
     let lines = told(rt.alloc(), &[b"0007\x01A"])?;
-    assert_eq!(rt;
-        lines.as_slice(),
-        b"6 band 1 A\nTruncated at 0\n".as_slice()
-    );
+    expect_bytes(&rt, &lines, b"6 band 1 A\nTruncated at 0\n");
     Ok(())
 }
 
@@ -142,7 +140,7 @@ fn a_client_hands_out_each_byte_of_a_pack_as_it_comes(rt: HostRuntime) -> Result
     for byte in b"000dpackfile\n0008\x01ABC0006\x02x0005\x010000".chunks(1) {
         hear_piece(&mut client, byte, &mut heard)?;
     }
-    assert_eq!(rt; heard.as_slice(), b"A|B|C|x|ended|".as_slice());
+    expect_bytes(&rt, &heard, b"A|B|C|x|ended|");
     assert!(rt; client.can_ask());
     Ok(())
 }
@@ -154,10 +152,10 @@ fn what_came_of_an_open_packet_was_handed_out(rt: HostRuntime) -> Result<(), Fai
     for piece in [b"000dpackfile\n".as_slice(), b"0009\x01AB"] {
         hear_piece(&mut client, piece, &mut heard)?;
     }
-    assert_eq!(rt; heard.as_slice(), b"AB|".as_slice());
+    expect_bytes(&rt, &heard, b"AB|");
     assert!(rt; client.wants_input());
     let fault = client.close();
     assert!(rt; fault.kind == Kind::Truncated);
-    assert_eq!(rt; fault.offset, 41);
+    expect(&rt, &fault.offset, &41);
     Ok(())
 }

@@ -1,5 +1,6 @@
 //! Recorded streams that are checked against each other: what is reported where one stops, where memory or the reads run out, and how far
 //! each is read.
+use crate::expecting::{expect, expect_bytes};
 use crate::stopping::{ALL, MANY, TURNS, expect_due, expect_front};
 use git_client::Ending;
 use git_names::Format;
@@ -52,15 +53,20 @@ fn faults_are_reported_with_their_stream(rt: HostRuntime) -> Result<(), Fail> {
         (CheckFault::ReadLimit, b"git2show: ReadLimit\n".as_slice()),
     ] {
         let mut sink = Sink::new(Vec::new(rt.alloc()), 7, NEVER);
-        assert_eq!(rt;
-            report(&ProgramFault::Check(fault), &mut Told::new(&mut sink)),
-            1
+        expect(
+            &rt,
+            &report(&ProgramFault::Check(fault), &mut Told::new(&mut sink)),
+            &1,
         );
-        assert_eq!(rt; sink.taken.as_slice(), line);
+        expect_bytes(&rt, &sink.taken, line);
     }
     let mut sink = Sink::new(Vec::new(rt.alloc()), 7, NEVER);
-    assert_eq!(rt; report(&ProgramFault::File, &mut Told::new(&mut sink)), 1);
-    assert_eq!(rt; sink.taken.as_slice(), b"git2show: File\n".as_slice());
+    expect(
+        &rt,
+        &report(&ProgramFault::File, &mut Told::new(&mut sink)),
+        &1,
+    );
+    expect_bytes(&rt, &sink.taken, b"git2show: File\n");
     Ok(())
 }
 
@@ -194,14 +200,14 @@ fn each_read_of_the_responses_fails_in_turn_while_they_are_checked(
     for lines in LINES_OF_HEARD {
         due.extend_from_slice(lines)?;
         let checked = conversation(rt.alloc(), Stopping { responses, ..SOUND });
-        assert_eq!(rt; checked.answer, Err(CheckFault::ReadFault));
+        expect(&rt, &checked.answer, &Err(CheckFault::ReadFault));
         responses = responses.saturating_add(1);
-        assert_eq!(rt; checked.responses, u64::from(responses));
+        expect(&rt, &checked.responses, &u64::from(responses));
         expect_due(&rt, &checked.out, &due);
     }
     // The last read shows their end.
     let checked = conversation(rt.alloc(), Stopping { responses, ..SOUND });
-    assert_eq!(rt; checked.answer, Ok(()));
+    expect(&rt, &checked.answer, &Ok(()));
     expect_due(&rt, &checked.out, TRANSCRIPT);
     Ok(())
 }
@@ -216,14 +222,14 @@ fn each_read_of_the_requests_fails_in_turn_while_they_are_checked(
     for lines in LINES_OF_SAID {
         due.extend_from_slice(lines)?;
         let checked = conversation(rt.alloc(), Stopping { requests, ..SOUND });
-        assert_eq!(rt; checked.answer, Err(CheckFault::ReadFault));
+        expect(&rt, &checked.answer, &Err(CheckFault::ReadFault));
         requests = requests.saturating_add(1);
-        assert_eq!(rt; checked.requests, u64::from(requests));
+        expect(&rt, &checked.requests, &u64::from(requests));
         expect_due(&rt, &checked.out, &due);
     }
     let checked = conversation(rt.alloc(), Stopping { requests, ..SOUND });
-    assert_eq!(rt; checked.answer, Ok(()));
-    assert_eq!(rt; checked.requests, u64::from(requests));
+    expect(&rt, &checked.answer, &Ok(()));
+    expect(&rt, &checked.requests, &u64::from(requests));
     expect_due(&rt, &checked.out, TRANSCRIPT);
     Ok(())
 }
@@ -237,10 +243,10 @@ fn each_write_and_flush_fails_in_turn_while_streams_are_checked(
         let checked = conversation(rt.alloc(), Stopping { writes, ..SOUND });
         expect_front(&rt, &checked.out, TRANSCRIPT, &mut longest);
         if checked.answer.is_ok() {
-            assert_eq!(rt; longest, TRANSCRIPT.len());
+            expect(&rt, &longest, &TRANSCRIPT.len());
             return Ok(());
         }
-        assert_eq!(rt; checked.answer, Err(CheckFault::WriteFault));
+        expect(&rt, &checked.answer, &Err(CheckFault::WriteFault));
     }
     assert!(rt; false, "a run with fewer calls");
     Ok(())
@@ -256,9 +262,13 @@ fn a_conversation_without_an_end_ends_at_the_limit_of_reads(rt: HostRuntime) -> 
         ..SOUND
     };
     let checked = check_stopping(rt.alloc(), asked, heard, endless);
-    assert_eq!(rt; checked.answer, Err(CheckFault::ReadLimit));
-    assert_eq!(rt; checked.requests.saturating_add(checked.responses), 1_000);
-    assert_eq!(rt; checked.out.flushed, checked.out.taken.len());
+    expect(&rt, &checked.answer, &Err(CheckFault::ReadLimit));
+    expect(
+        &rt,
+        &checked.requests.saturating_add(checked.responses),
+        &1_000,
+    );
+    expect(&rt, &checked.out.flushed, &checked.out.taken.len());
     Ok(())
 }
 
@@ -269,16 +279,20 @@ fn reads_that_are_spent_are_told(rt: HostRuntime) -> Result<(), Fail> {
         let whole = slow_conversation(rt.alloc(), step, TURNS);
         if step == 256 {
             // Each stream lies in one piece. The responses are read to their end, the requests to the flush alone.
-            assert_eq!(rt; (whole.requests, whole.responses), (1, 2));
+            expect(&rt, &(whole.requests, whole.responses), &(1, 2));
         }
         let reads = whole.requests.saturating_add(whole.responses);
         let enough = slow_conversation(rt.alloc(), step, reads);
-        assert_eq!(rt; enough.answer, Ok(()));
+        expect(&rt, &enough.answer, &Ok(()));
         for turns in 0..reads {
             let checked = slow_conversation(rt.alloc(), step, turns);
-            assert_eq!(rt; checked.answer, Err(CheckFault::ReadLimit));
-            assert_eq!(rt; checked.requests.saturating_add(checked.responses), turns);
-            assert_eq!(rt; checked.out.flushed, checked.out.taken.len());
+            expect(&rt, &checked.answer, &Err(CheckFault::ReadLimit));
+            expect(
+                &rt,
+                &checked.requests.saturating_add(checked.responses),
+                &turns,
+            );
+            expect(&rt, &checked.out.flushed, &checked.out.taken.len());
             assert!(rt; TRANSCRIPT.starts_with(checked.out.taken.as_slice()));
         }
     }
@@ -295,10 +309,10 @@ fn nothing_is_read_before_it_is_due(rt: HostRuntime) -> Result<(), Fail> {
         kind: Kind::UnknownCommand,
         offset: 0,
     };
-    assert_eq!(rt; checked.answer, Err(CheckFault::Requests(refused)));
-    assert_eq!(rt; checked.requests, 23);
-    assert_eq!(rt; checked.responses, ADVERTISED.0);
-    assert_eq!(rt; checked.out.taken.len(), ADVERTISED.1);
+    expect(&rt, &checked.answer, &Err(CheckFault::Requests(refused)));
+    expect(&rt, &checked.requests, &23);
+    expect(&rt, &checked.responses, &ADVERTISED.0);
+    expect(&rt, &checked.out.taken.len(), &ADVERTISED.1);
     let bad = [&RESPONSES[..100], b"0001"].concat(rt.alloc())?;
     let asked = Stream::new(REQUESTS, 1, NEVER);
     let checked = check_stopping(rt.alloc(), asked, Stream::new(&bad, 1, NEVER), SOUND);
@@ -306,9 +320,9 @@ fn nothing_is_read_before_it_is_due(rt: HostRuntime) -> Result<(), Fail> {
         kind: Kind::UnexpectedPacket,
         offset: 100,
     };
-    assert_eq!(rt; checked.answer, Err(CheckFault::Responses(refused)));
-    assert_eq!(rt; checked.requests, 24);
-    assert_eq!(rt; checked.responses, 104);
+    expect(&rt, &checked.answer, &Err(CheckFault::Responses(refused)));
+    expect(&rt, &checked.requests, &24);
+    expect(&rt, &checked.responses, &104);
     Ok(())
 }
 

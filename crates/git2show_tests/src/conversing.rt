@@ -1,14 +1,18 @@
 //! A client over readers and writers: what it sends and receives, what is flushed when, and what is reported of streams that stop.
+ghost use Rattle.std.specs.Prelude.{◌≡◌, ◌<◌, false, length};
+ghost use Rattle.git_pkt.specs.Machine.Told.{IsNew, has_failed};
+
+use crate::expecting::{expect, expect_bytes};
 use crate::serving::{Asking, Counted};
 use crate::stopping::{ALL, MANY, TURNS, expect_due, expect_front};
 use git_client::{Client, Ending, converse};
 use git_msg::{Limits, Request};
 use git_names::Format;
-use git_pkt::{Discard, Fault, Kind, RunFault, Stops, Told};
+use git_pkt::{Discard, Fault, Kind, Output, RunFault, Stops, Told};
 use git2show_lib::read_script;
 use std::alloc::Global;
 use std::cell::Cell;
-use std::io::Read;
+use std::io::{Read, Write};
 use std::process::Abort;
 use std::test::Fail;
 use test_streams::{Endless, Pieces, Sink, Stream};
@@ -57,6 +61,41 @@ pub fn requests(
     };
     let read = read_script(rt.alloc(), script, Format::Sha1, limits);
     Ok(read.expect(rt, "a script"))
+}
+
+/// How the run of a client ends that asks this script over these streams.
+fn run_client<R: Read, W: Write, O: Write, P: Write, E: Output>(
+    rt: &(impl Abort + AllocGlobal),
+    script: &[u8],
+    ending: Ending,
+    answers: &mut Told<R>,
+    said: &mut Told<W>,
+    piece: &mut [u8],
+    out: &mut Told<O>,
+    pack: &mut Told<P>,
+    progress: &mut E,
+    turns: u64,
+) -> Result<Result<(), RunFault>, Fail>
+    requires room { 0 < length piece.old }
+    requires new_reader { IsNew answers.old }
+    requires sound_writer { has_failed said.old ≡ false }
+    requires sound_out { has_failed out.old ≡ false }
+    requires sound_pack { has_failed pack.old ≡ false }
+    requires sound_progress { E.failed progress.old ≡ false }
+{
+    let requests = requests(rt, script)?;
+    let mut client = Client::new(Format::Sha1, ending);
+    Ok(converse(
+        answers,
+        said,
+        piece,
+        &mut client,
+        requests,
+        out,
+        pack,
+        progress,
+        turns,
+    ))
 }
 
 /// The texts, one after another.
@@ -110,18 +149,18 @@ fn run<R: Read + Drop>(
     let mut out = Sink::new(Vec::new(rt.alloc()), usize::MAX, NEVER);
     let mut pack = Sink::new(Vec::new(rt.alloc()), usize::MAX, NEVER);
     let mut progress = Sink::new(Vec::new(rt.alloc()), usize::MAX, NEVER);
-    let mut client = Client::new(Format::Sha1, ending);
-    let got = converse(
+    let got = run_client(
+        rt,
+        SCRIPT,
+        ending,
         &mut Told::new(Stops::new(answers, stopping.reads)),
         &mut Told::new(Stops::new(&mut said, stopping.says)),
         &mut [0; 128],
-        &mut client,
-        requests(rt, SCRIPT)?,
         &mut Told::new(Stops::new(&mut out, stopping.writes)),
         &mut Told::new(Stops::new(&mut pack, stopping.packs)),
         &mut Told::new(Stops::new(&mut progress, stopping.reports)),
         stopping.turns,
-    );
+    )?;
     Ok(Given {
         got,
         said,
@@ -131,34 +170,34 @@ fn run<R: Read + Drop>(
     })
 }
 
+/// That a client receives the answers whole, and sends this.
+fn expect_whole(
+    rt: &(impl Abort + AllocGlobal),
+    answers: &[u8],
+    ending: Ending,
+    said: &[u8],
+) -> Result<(), Fail> {
+    let given = run(rt, Stream::new(answers, 5, NEVER), ending, SOUND)?;
+    expect(rt, &given.got, &Ok(()));
+    expect_bytes(rt, &given.said.taken, said);
+    expect_bytes(rt, &given.out.taken, TRANSCRIPT);
+    expect_bytes(rt, &given.pack.taken, PACK);
+    expect_bytes(rt, &given.progress.taken, PROGRESS);
+    Ok(())
+}
+
 #[test]
 fn a_client_asks_and_hears_and_leaves(rt: HostRuntime) -> Result<(), Fail> {
     let answers = joined(&rt, &ANSWERS)?;
-    let slow = Stream::new(&answers, 5, NEVER);
-    let given = run(&rt, slow, Ending::FlushOnly, SOUND)?;
-    assert_eq!(rt; given.got, Ok(()));
-    assert_eq!(rt; given.said.taken.as_slice(), joined(&rt, &SAID)?.as_slice());
-    assert_eq!(rt; given.out.taken.as_slice(), TRANSCRIPT);
-    assert_eq!(rt; given.pack.taken.as_slice(), b"ABC".as_slice());
-    assert_eq!(rt; given.progress.taken.as_slice(), b"hi\n".as_slice());
-    Ok(())
+    expect_whole(&rt, &answers, Ending::FlushOnly, &joined(&rt, &SAID)?)
 }
 
 #[test]
 fn a_client_with_response_ends_asks_and_does_not_leave(rt: HostRuntime) -> Result<(), Fail> {
     let [advertisement, references, pack] = ANSWERS;
     let answers = joined(&rt, &[advertisement, references, b"0002", pack, b"0002"])?;
-    let slow = Stream::new(&answers, 5, NEVER);
-    let given = run(&rt, slow, Ending::ResponseEnd, SOUND)?;
-    assert_eq!(rt; given.got, Ok(()));
-    assert_eq!(rt;
-        given.said.taken.as_slice(),
-        joined(&rt, &SAID[..2])?.as_slice()
-    );
-    assert_eq!(rt; given.out.taken.as_slice(), TRANSCRIPT);
-    assert_eq!(rt; given.pack.taken.as_slice(), b"ABC".as_slice());
-    assert_eq!(rt; given.progress.taken.as_slice(), b"hi\n".as_slice());
-    Ok(())
+    let said = joined(&rt, &SAID[..2])?;
+    expect_whole(&rt, &answers, Ending::ResponseEnd, &said)
 }
 
 /// What comes, a piece at a read.
@@ -223,7 +262,7 @@ fn expect_interrupted(
     fault: RunFault,
 ) -> Result<(), Fail> {
     let (said, out, pack, progress) = due_after(reads);
-    assert_eq!(rt; given.got, Err(fault));
+    expect(rt, &given.got, &Err(fault));
     let all_said = joined(rt, &SAID)?;
     expect_due(rt, &given.said, all_said.get(..said).unwrap_or(&[]));
     expect_due(rt, &given.out, TRANSCRIPT.get(..out).unwrap_or(&[]));
@@ -252,7 +291,7 @@ fn each_read_fails_in_turn_while_a_client_converses(rt: HostRuntime) -> Result<(
         ..SOUND
     };
     let given = run(&rt, Pieces::new(&PIECES), Ending::FlushOnly, whole)?;
-    assert_eq!(rt; given.got, Ok(()));
+    expect(&rt, &given.got, &Ok(()));
     Ok(())
 }
 
@@ -277,13 +316,13 @@ fn expect_fronts(
     expect_front(rt, &given.pack, PACK, &mut longest.pack);
     expect_front(rt, &given.progress, PROGRESS, &mut longest.progress);
     if given.got.is_err() {
-        assert_eq!(rt; given.got, Err(RunFault::WriteFault));
+        expect(rt, &given.got, &Err(RunFault::WriteFault));
         return Ok(false);
     }
-    assert_eq!(rt; longest.said, said.len());
-    assert_eq!(rt; longest.out, TRANSCRIPT.len());
-    assert_eq!(rt; longest.pack, PACK.len());
-    assert_eq!(rt; longest.progress, PROGRESS.len());
+    expect(rt, &longest.said, &said.len());
+    expect(rt, &longest.out, &TRANSCRIPT.len());
+    expect(rt, &longest.pack, &PACK.len());
+    expect(rt, &longest.progress, &PROGRESS.len());
     Ok(true)
 }
 
@@ -331,27 +370,27 @@ fn run_fetch<R: Read + Drop>(
     let mut out = Sink::new(Vec::new(rt.alloc()), usize::MAX, NEVER);
     let mut pack = Sink::new(Vec::new(rt.alloc()), usize::MAX, NEVER);
     let mut progress = Sink::new(Vec::new(rt.alloc()), usize::MAX, NEVER);
-    let mut client = Client::new(Format::Sha1, Ending::FlushOnly);
     let script = b"fetch\nwant aaaaaaaaaaaaaaaaaaaaaaaaaaaaaaaaaaaaaaaa\ndone\n";
-    let got = converse(
+    let got = run_client(
+        rt,
+        script,
+        Ending::FlushOnly,
         &mut Told::new(answers),
         &mut Told::new(&mut said),
         &mut [0; 256],
-        &mut client,
-        requests(rt, script)?,
         &mut Told::new(&mut out),
         &mut Told::new(&mut pack),
         &mut Told::new(&mut progress),
         turns,
-    );
+    )?;
     expect_due(rt, &said, FETCHES_FROM_AN_AGENT);
     assert!(rt;
         out.taken
             .ends_with(b"capability x-later\noffered\nrequest fetch\n")
     );
-    assert_eq!(rt; out.flushed, out.taken.len());
-    assert_eq!(rt; pack.flushed, pack.taken.len());
-    assert_eq!(rt; progress.flushed, progress.taken.len());
+    expect(rt, &out.flushed, &out.taken.len());
+    expect(rt, &pack.flushed, &pack.taken.len());
+    expect(rt, &progress.flushed, &progress.taken.len());
     Ok((got, pack.taken))
 }
 
@@ -365,8 +404,8 @@ fn what_came_before_a_fault_is_flushed(rt: HostRuntime) -> Result<(), Fail> {
         kind: Kind::RemoteFatal,
         offset: 133,
     };
-    assert_eq!(rt; got, Err(RunFault::Refused(fatal)));
-    assert_eq!(rt; pack.as_slice(), b"AB".as_slice());
+    expect(&rt, &got, &Err(RunFault::Refused(fatal)));
+    expect_bytes(&rt, &pack, b"AB");
     Ok(())
 }
 
@@ -375,8 +414,8 @@ fn what_came_before_a_fault_is_flushed(rt: HostRuntime) -> Result<(), Fail> {
 fn a_piece_is_heard_whole_before_the_read_that_fails(rt: HostRuntime) -> Result<(), Fail> {
     let answers = joined(&rt, &[ADVERTISEMENT, b"000dpackfile\n0007\x01AB"])?;
     let (got, pack) = run_fetch(&rt, Stops::new(answers.as_slice(), 1), TURNS)?;
-    assert_eq!(rt; got, Err(RunFault::ReadFault));
-    assert_eq!(rt; pack.as_slice(), b"AB".as_slice());
+    expect(&rt, &got, &Err(RunFault::ReadFault));
+    expect_bytes(&rt, &pack, b"AB");
     Ok(())
 }
 
@@ -386,9 +425,9 @@ fn a_response_without_an_end_ends_at_the_limit_of_reads(rt: HostRuntime) -> Resu
     let first = joined(&rt, &[ADVERTISEMENT, b"000dpackfile\n0007\x01AB"])?;
     let mut reader = Told::new(Endless::new(&first, b"0006\x02x"));
     let (got, pack) = run_fetch(&rt, &mut reader, 1_000)?;
-    assert_eq!(rt; got, Err(RunFault::ReadLimit));
-    assert_eq!(rt; reader.reads(), 1_000);
-    assert_eq!(rt; pack.as_slice(), b"AB".as_slice());
+    expect(&rt, &got, &Err(RunFault::ReadLimit));
+    expect(&rt, &reader.reads(), &1_000);
+    expect_bytes(&rt, &pack, b"AB");
     Ok(())
 }
 
@@ -401,24 +440,24 @@ fn each_request_is_flushed_before_its_response_is_read(rt: HostRuntime) -> Resul
         flushed: &flushed,
         seen: Vec::new(rt.alloc()),
     };
-    let mut client = Client::new(Format::Sha1, Ending::FlushOnly);
-    let got = converse(
+    let got = run_client(
+        &rt,
+        SCRIPT,
+        Ending::FlushOnly,
         &mut Told::new(&mut asking),
         &mut Told::new(Counted {
             waiting: 0,
             flushed: &flushed,
         }),
         &mut [0; 256],
-        &mut client,
-        requests(&rt, SCRIPT)?,
         &mut Told::new(Vec::new(rt.alloc())),
         &mut Told::new(Vec::new(rt.alloc())),
         &mut Discard,
         TURNS,
-    );
-    assert_eq!(rt; got, Ok(()));
+    )?;
+    expect(&rt, &got, &Ok(()));
     assert_eq!(rt; asking.seen.as_slice(), [0, 51, 159].as_slice());
-    assert_eq!(rt; flushed.get(), 163);
+    expect(&rt, &flushed.get(), &163);
     Ok(())
 }
 
@@ -428,23 +467,24 @@ fn a_request_that_is_not_offered_is_not_said(rt: HostRuntime) -> Result<(), Fail
     let [advertisement, _, _] = ANSWERS;
     let mut said = Vec::new(rt.alloc());
     let mut out = Vec::new(rt.alloc());
-    let mut client = Client::new(Format::Sha1, Ending::FlushOnly);
-    let got = converse(
+    let script = b"fetch\nwant-ref refs/heads/main\ndone\n";
+    let got = run_client(
+        &rt,
+        script,
+        Ending::FlushOnly,
         &mut Told::new(advertisement),
         &mut Told::new(&mut said),
         &mut [0; 256],
-        &mut client,
-        requests(&rt, b"fetch\nwant-ref refs/heads/main\ndone\n")?,
         &mut Told::new(&mut out),
         &mut Told::new(Vec::new(rt.alloc())),
         &mut Discard,
         TURNS,
-    );
+    )?;
     let fault = Fault {
         kind: Kind::NotAdvertised,
         offset: 71,
     };
-    assert_eq!(rt; got, Err(RunFault::Refused(fault)));
+    expect(&rt, &got, &Err(RunFault::Refused(fault)));
     assert!(rt; said.is_empty());
     assert!(rt; out.ends_with(b"offered\n"));
     Ok(())

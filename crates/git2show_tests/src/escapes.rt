@@ -1,4 +1,5 @@
 //! Bytes as they are shown on a line.
+use crate::expecting::expect;
 use git_pkt::{escape_into, is_plain};
 use std::test::Fail;
 
@@ -20,7 +21,7 @@ fn bytes_are_shown_by_their_escapes(rt: HostRuntime) -> Result<(), Fail> {
         let mut line = [b'-'; 80];
         assert!(rt; bytes.len() < 20);
         let end = escape_into(bytes, &mut line, 1);
-        assert_eq!(rt; line[..end].split_first(), Some((&b'-', shown)));
+        expect(&rt, &line[..end].split_first(), &Some((&b'-', shown)));
     }
     Ok(())
 }
@@ -28,7 +29,7 @@ fn bytes_are_shown_by_their_escapes(rt: HostRuntime) -> Result<(), Fail> {
 #[test]
 fn bytes_are_plain_where_each_stands_for_itself(rt: HostRuntime) -> Result<(), Fail> {
     for (bytes, shown) in SHOWN {
-        assert_eq!(rt; is_plain(bytes), bytes == shown);
+        expect(&rt, &is_plain(bytes), &(bytes == shown));
     }
     Ok(())
 }

@@ -1,4 +1,5 @@
 //! The names and numbers of the refusals, and how faults print.
+use crate::expecting::{expect, expect_bytes};
 use git_pkt::{Fault, Kind, RunFault};
 use std::test::Fail;
 
@@ -44,9 +45,9 @@ const TABLE: [(Kind, &[u8], u8); 34] = [
 fn every_kind_has_its_name_and_number(rt: HostRuntime) -> Result<(), Fail> {
     for (kind, name, number) in TABLE {
         assert_eq!(rt; kind.name().as_bytes(), name, "at {number}");
-        assert_eq!(rt; kind.number(), number);
+        expect(&rt, &kind.number(), &number);
         let shown = format!(in rt.alloc(); "{kind}")?;
-        assert_eq!(rt; shown.as_bytes(), name);
+        expect_bytes(&rt, shown.as_bytes(), name);
     }
     Ok(())
 }

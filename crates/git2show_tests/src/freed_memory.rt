@@ -1,6 +1,7 @@
 //! Memory is given back: all that an end or a reader took, wherever its input ends and whichever growth is refused.
 use crate::adding::{add_filter, add_have, add_revision, add_want, new_request};
 use crate::clients::{new_client, say};
+use crate::expecting::expect;
 use crate::servers::{new_server, object, usual};
 use git_client::{Client, HeardGot};
 use git_msg::{Caps, Command, Limits, Offer, ReadGot, Request, RequestStream, RequestWriter};
@@ -226,7 +227,7 @@ fn packets_of(rt: &impl Abort, heap: &LocalHeap, request: &Request<&LocalHeap>) 
             break;
         }
         packets = packets.saturating_add(1);
-        assert_eq!(rt; heap.used(), before);
+        expect(rt, &heap.used(), &before);
     }
     packets
 }
@@ -236,6 +237,6 @@ fn a_request_is_written_without_memory(rt: HostRuntime) -> Result<(), Fail> {
     let heap = LocalHeap::new(rt.alloc(), ENOUGH)?;
     let request = request(&rt, &heap).expect(&rt, "a request");
     // The command, the delimiter, the filter, the revision, the object that is wanted, the one that is had, and the flush.
-    assert_eq!(rt; packets_of(&rt, &heap, &request), 7);
+    expect(&rt, &packets_of(&rt, &heap, &request), &7);
     Ok(())
 }

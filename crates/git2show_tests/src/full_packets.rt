@@ -2,6 +2,7 @@
 
 ghost use Rattle.std.specs.Prelude.{◌≤◌};
 
+use crate::expecting::expect;
 use crate::servers::{converse, object, usual};
 use git_msg::Offer;
 use git_names::Format;
@@ -53,11 +54,11 @@ fn a_pack_comes_in_full_packets(rt: HostRuntime) -> Result<(), Fail> {
     let mut rest = given.as_slice();
     for wanted in [13, 65_520, 6, 0] {
         let (length, later) = split_packet(rest);
-        assert_eq!(rt; length, wanted);
+        expect(&rt, &length, &wanted);
         rest = later;
     }
     assert!(rt; rest.is_empty());
-    assert_eq!(rt; outcome, Some(Outcome::Flush));
+    expect(&rt, &outcome, &Some(Outcome::Flush));
     Ok(())
 }
 
@@ -107,7 +108,7 @@ fn expect_pack(
     let header = b"000dpackfile\n".as_slice();
     let end = answer.len().saturating_sub(last.len());
     assert!(rt; answer.starts_with(header));
-    assert_eq!(rt; answer.get(end..).unwrap_or(&[]), last);
+    expect(rt, &answer.get(end..).unwrap_or(&[]), &last);
     let mut rest = answer.get(header.len()..end).unwrap_or(&[]);
     let mut given = Vec::new(rt.alloc());
     for _ in 0..pack.len() {
@@ -115,7 +116,7 @@ fn expect_pack(
             break;
         }
         let (length, later) = split_packet(rest);
-        assert_eq!(rt; rest.get(4).copied(), Some(1));
+        expect(rt, &rest.get(4).copied(), &Some(1));
         given.extend_from_slice(rest.get(5..length).unwrap_or(&[]))?;
         rest = later;
     }
@@ -137,10 +138,10 @@ fn expect_failures(rt: &(impl Abort + AllocGlobal), length: usize, most: usize) 
     for failing in 0..100u32 {
         let (answer, run) = serve_failing(rt, &pack, failing, most)?;
         if run == Ok(Outcome::Flush) {
-            assert_eq!(rt; read, length);
+            expect(rt, &read, &length);
             return expect_pack(rt, &answer, &pack, b"0000");
         }
-        assert_eq!(rt; run, Ok(Outcome::Refused(refused)));
+        expect(rt, &run, &Ok(Outcome::Refused(refused)));
         let whole = pack.get(..read).unwrap_or(&[]);
         expect_pack(rt, &answer, whole, b"000f\x03PackSource")?;
         read = read.saturating_add(most).min(length);

@@ -1,4 +1,5 @@
 //! Many packets in one piece, of which the reader is given what is left each time: it looks at none of that but the packet it reads.
+use crate::expecting::expect;
 use git_names::Steps;
 use git_pkt::{Got, Packet, PacketReader};
 use std::test::Fail;
@@ -15,17 +16,17 @@ fn a_million_packets_in_one_piece_are_read_one_by_one(rt: HostRuntime) -> Result
     let mut reader = PacketReader::new();
     for number in 0..PACKETS {
         let fed = reader.feed(rest, &mut Steps::new());
-        assert_eq!(rt; fed.used, 4);
+        expect(&rt, &fed.used, &4);
         match fed.got {
             Got::Packet(Packet::Payload(payload), offset) => {
-                assert_eq!(rt; payload.len(), 0);
-                assert_eq!(rt; offset, 4 * number);
+                expect(&rt, &payload.len(), &0);
+                expect(&rt, &offset, &(4 * number));
             }
             _ => assert!(rt; false, "no packet where the one numbered {number} is"),
         }
         rest = &rest[fed.used..];
     }
     assert!(rt; rest.is_empty());
-    assert_eq!(rt; reader.close(), Ok(()));
+    expect(&rt, &reader.close(), &Ok(()));
     Ok(())
 }

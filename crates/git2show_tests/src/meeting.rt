@@ -1,6 +1,7 @@
 //! A server and a client that meet in a loop of the test's own: what the client receives where the server refuses.
 use crate::clients::{ask_all, new_client};
-use crate::servers::{advertising, new_server};
+use crate::expecting::{expect, expect_bytes};
+use crate::servers::{advertising, new_server, repository, server_of};
 use git_client::{Client, HeardGot, Sent};
 use git_names::{Format, Steps};
 use git_pkt::{Fault, Kind};
@@ -39,41 +40,6 @@ fn say<A: Allocator + Copy>(client: &mut Client<Global>, server: &mut Server<Lis
     }
 }
 
-/// The client receives the advertisement, and sends all of a script to the server.
-fn meet<A: Allocator + Copy>(
-    rt: &(impl Abort + AllocGlobal),
-    server: &mut Server<ListRepo, A>,
-    client: &mut Client<Global>,
-    script: &[u8],
-) -> Result<(), Fail> {
-    assert_eq!(rt; hear(server, client), None);
-    ask_all(rt, client, script)?;
-    say(client, server);
-    Ok(())
-}
-
-/// The server refuses the third packet of a request, and the client receives its name and offset.
-#[test]
-fn a_client_hears_why_a_server_refuses(rt: HostRuntime) -> Result<(), Fail> {
-    let script = b"fetch\nwant dddddddddddddddddddddddddddddddddddddddd\ndone\n";
-    let mut server = new_server(&rt, rt.alloc(), advertising(Format::Sha1))?;
-    let mut client = new_client();
-    meet(&rt, &mut server, &mut client, script)?;
-    let refused = Fault {
-        kind: Kind::NotOurs,
-        offset: 62,
-    };
-    assert_eq!(rt; server.fault(), Some(refused));
-    let told = Fault {
-        kind: Kind::RemoteError,
-        offset: 146,
-    };
-    assert_eq!(rt; hear(&mut server, &mut client), Some(told));
-    let message = client.message().expect(&rt, "a message");
-    assert_eq!(rt; message, b"NotOurs at 62".as_slice());
-    Ok(())
-}
-
 /// What came of a meeting.
 #[derive(Drop)]
 struct Met {
@@ -99,20 +65,52 @@ fn is_ready(client: &Client<Global>) -> bool {
     client.can_ask()
 }
 
-/// Asks for a pack of a server that has so much memory, by a revision and an object name.
-fn meet_within(rt: &(impl Abort + AllocGlobal), size: usize) -> Result<Met, Fail> {
-    let script = b"fetch\nwant aaaaaaaaaaaaaaaaaaaaaaaaaaaaaaaaaaaaaaaa\ndeepen-not v1\ndone\n";
-    let heap = LocalHeap::new(rt.alloc(), size)?;
-    let mut server = new_server(rt, &heap, advertising(Format::Sha1))?;
-    let mut client = new_client();
-    meet(rt, &mut server, &mut client, script)?;
-    let heard = hear(&mut server, &mut client);
+/// The client receives the advertisement, sends all of a script to the server, and receives the answer.
+fn meet<A: Allocator + Copy>(
+    rt: &(impl Abort + AllocGlobal),
+    server: &mut Server<ListRepo, A>,
+    client: &mut Client<Global>,
+    script: &[u8],
+) -> Result<Met, Fail> {
+    expect(rt, &hear(server, client), &None);
+    ask_all(rt, client, script)?;
+    say(client, server);
+    let heard = hear(server, client);
     Ok(Met {
         refused: server.fault(),
         heard,
-        message: message_of(rt.alloc(), &client)?,
-        can_ask: is_ready(&client),
+        message: message_of(rt.alloc(), client)?,
+        can_ask: is_ready(client),
     })
+}
+
+/// The server refuses the third packet of a request, and the client receives its name and offset.
+#[test]
+fn a_client_hears_why_a_server_refuses(rt: HostRuntime) -> Result<(), Fail> {
+    let script = b"fetch\nwant dddddddddddddddddddddddddddddddddddddddd\ndone\n";
+    let mut server = new_server(&rt, rt.alloc(), advertising(Format::Sha1))?;
+    let met = meet(&rt, &mut server, &mut new_client(), script)?;
+    let refused = Fault {
+        kind: Kind::NotOurs,
+        offset: 62,
+    };
+    expect(&rt, &met.refused, &Some(refused));
+    let told = Fault {
+        kind: Kind::RemoteError,
+        offset: 146,
+    };
+    expect(&rt, &met.heard, &Some(told));
+    expect_bytes(&rt, &met.message, b"NotOurs at 62");
+    Ok(())
+}
+
+/// Asks for a pack of a server that has so much memory, by a revision and an object name.
+fn meet_within(rt: &(impl Abort + AllocGlobal), size: usize) -> Result<Met, Fail> {
+    let script = b"fetch\nwant aaaaaaaaaaaaaaaaaaaaaaaaaaaaaaaaaaaaaaaa\ndeepen-not v1\ndone\n";
+    let repo = repository(rt, Format::Sha1)?;
+    let heap = LocalHeap::new(rt.alloc(), size)?;
+    let mut server = server_of(repo, &heap, advertising(Format::Sha1));
+    meet(rt, &mut server, &mut new_client(), script)
 }
 
 /// Where a server with so much memory refuses the request as OutOfMemory, which the client receives with its offset; or nothing where
@@ -120,18 +118,18 @@ fn meet_within(rt: &(impl Abort + AllocGlobal), size: usize) -> Result<Met, Fail
 fn refused_within(rt: &(impl Abort + AllocGlobal), size: usize) -> Result<Option<u64>, Fail> {
     let met = meet_within(rt, size)?;
     let Some(refused) = met.refused else {
-        assert_eq!(rt; met.heard, None);
+        expect(rt, &met.heard, &None);
         assert!(rt; met.can_ask);
         return Ok(None);
     };
-    assert_eq!(rt; refused.kind, Kind::OutOfMemory);
+    expect(rt, &refused.kind, &Kind::OutOfMemory);
     let told = Fault {
         kind: Kind::RemoteError,
         offset: 146,
     };
-    assert_eq!(rt; met.heard, Some(told));
+    expect(rt, &met.heard, &Some(told));
     let message = format!(in rt.alloc(); "OutOfMemory at {}", refused.offset)?;
-    assert_eq!(rt; met.message.as_slice(), message.as_bytes());
+    expect_bytes(rt, &met.message, message.as_bytes());
     Ok(Some(refused.offset))
 }
 

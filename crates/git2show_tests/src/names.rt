@@ -3,6 +3,7 @@ ghost use Rattle.std.specs.Prelude.{◌≡◌, ◌+◌, ◌↔◌, IsTrue};
 ghost use Rattle.std.specs.Ordering.{nat_cmp};
 ghost use Rattle.std.specs.Cmp.Lexicographic.{slice_cmp};
 
+use crate::expecting::expect;
 use git_names::{Format, NameFault, Oid, Steps};
 use std::cmp::Ordering;
 use std::test::Fail;
@@ -11,7 +12,7 @@ use std::test::Fail;
 fn formats_by_name(rt: HostRuntime) {
     for (format, name, digits) in [(Format::Sha1, "sha1", 40), (Format::Sha256, "sha256", 64)] {
         assert!(rt; format.name() == name);
-        assert_eq!(rt; format.digits(), digits);
+        expect(&rt, &format.digits(), &digits);
         assert!(rt; Format::read(name.as_bytes()) == Some(format));
     }
     for text in [

@@ -1,4 +1,5 @@
 //! Both ends in one memory, which has room for what the client asks and not for what the server keeps of it.
+use crate::expecting::{expect, expect_bytes};
 use crate::servers::repository;
 use git_client::Ending;
 use git_msg::{Limits, Request};
@@ -71,8 +72,8 @@ fn is_refused(rt: &impl Abort, played: &Played) -> bool {
     let rest = &played.out.as_slice()[ASKED.len().min(played.out.len())..];
     match played.ended {
         Ok(()) => {
-            assert_eq!(rt; rest, ANSWERED);
-            assert_eq!(rt; played.pack.as_slice(), b"TINY".as_slice());
+            expect(rt, &rest, &ANSWERED);
+            expect_bytes(rt, &played.pack, b"TINY");
             false
         }
         Err(fault) => {
@@ -80,9 +81,9 @@ fn is_refused(rt: &impl Abort, played: &Played) -> bool {
                 kind: Kind::RemoteError,
                 offset: OFFERED,
             });
-            assert_eq!(rt; fault, told);
-            assert_eq!(rt; rest.len(), 0);
-            assert_eq!(rt; played.pack.len(), 0);
+            expect(rt, &fault, &told);
+            expect(rt, &rest.len(), &0);
+            expect(rt, &played.pack.len(), &0);
             true
         }
     }

@@ -1,7 +1,8 @@
 //! How often a repository is asked whether it is ready to send a pack.
 
-ghost use Rattle.git_server.specs.ListRepo.{is_short, is_sound, state_of};
+ghost use Rattle.git_server.specs.Machine.ListRepo.{is_short, is_sound, state_of};
 
+use crate::expecting::expect;
 use crate::servers::{repository, usual};
 use git_msg::{Boundary, Fetch, Offer};
 use git_names::{Format, Oid};
@@ -86,7 +87,7 @@ fn times_asked(rt: &(impl Abort + AllocGlobal), requests: &[u8]) -> Result<u32, 
     let mut given = Vec::new(rt.alloc());
     let mut writer = Told::new(&mut given);
     let run = serve(&mut reader, &mut writer, &mut [0; 64], &mut server, 100);
-    assert_eq!(rt; run, Ok(Outcome::Flush));
+    expect(rt, &run, &Ok(Outcome::Flush));
     Ok(times.get())
 }
 
@@ -97,18 +98,18 @@ fn a_repository_is_asked_whether_it_is_ready_only_where_its_pack_may_follow(
 ) -> Result<(), Fail> {
     let negotiating = b"0012command=fetch\n0001\
 0032want aaaaaaaaaaaaaaaaaaaaaaaaaaaaaaaaaaaaaaaa\n0032have bbbbbbbbbbbbbbbbbbbbbbbbbbbbbbbbbbbbbbbb\n00000000";
-    assert_eq!(rt; times_asked(&rt, negotiating)?, 1);
+    expect(&rt, &times_asked(&rt, negotiating)?, &1);
     let alone = b"0012command=fetch\n00010012wait-for-done\n\
 0032have bbbbbbbbbbbbbbbbbbbbbbbbbbbbbbbbbbbbbbbb\n00000000";
-    assert_eq!(rt; times_asked(&rt, alone)?, 0);
+    expect(&rt, &times_asked(&rt, alone)?, &0);
     let alone_without_haves = b"0012command=fetch\n00010012wait-for-done\n00000000";
-    assert_eq!(rt; times_asked(&rt, alone_without_haves)?, 0);
+    expect(&rt, &times_asked(&rt, alone_without_haves)?, &0);
     let done = b"0012command=fetch\n0001\
 0032want aaaaaaaaaaaaaaaaaaaaaaaaaaaaaaaaaaaaaaaa\n0012wait-for-done\n\
 0032have bbbbbbbbbbbbbbbbbbbbbbbbbbbbbbbbbbbbbbbb\n0009done\n00000000";
-    assert_eq!(rt; times_asked(&rt, done)?, 0);
+    expect(&rt, &times_asked(&rt, done)?, &0);
     let without_haves =
         b"0012command=fetch\n00010032want aaaaaaaaaaaaaaaaaaaaaaaaaaaaaaaaaaaaaaaa\n00000000";
-    assert_eq!(rt; times_asked(&rt, without_haves)?, 0);
+    expect(&rt, &times_asked(&rt, without_haves)?, &0);
     Ok(())
 }

@@ -1,8 +1,9 @@
 //! Memory that runs out at each growth in turn.
 ghost use Rattle.std.specs.Prelude.{◌≡◌, false};
-ghost use Rattle.git_msg.specs.RequestReader.{is_waiting};
+ghost use Rattle.git_msg.specs.Machine.RequestReader.{is_waiting};
 
 use crate::adding::{add_filter, add_prefix, add_want, bytes_kept, new_request};
+use crate::expecting::expect;
 use crate::servers::object;
 use git_msg::{Argument, Command, Limits, Offer, RequestReader, Taken};
 use git_names::{Format, Steps};
@@ -23,16 +24,16 @@ fn offer() -> Offer {
 fn kept_within(rt: &impl Abort, alloc: Global, size: usize) -> Result<u32, AllocError> {
     let heap = LocalHeap::new(alloc, size)?;
     let mut request = new_request(&heap, Command::LsRefs, Limits { args: 1000 });
-    assert_eq!(rt; request.add(Argument::Symrefs), Ok(()));
+    expect(rt, &request.add(Argument::Symrefs), &Ok(()));
     let mut kept = 0u32;
     for prefix in [b"refs/heads/".as_slice(), b"refs/tags/".as_slice()] {
         let before = bytes_kept(&request);
         match add_prefix(&mut request, prefix) {
             Ok(()) => kept = kept.saturating_add(1),
             Err(kind) => {
-                assert_eq!(rt; kind, Kind::OutOfMemory);
-                assert_eq!(rt; bytes_kept(&request), before);
-                assert_eq!(rt; request.ref_prefix(kept as usize), None);
+                expect(rt, &kind, &Kind::OutOfMemory);
+                expect(rt, &bytes_kept(&request), &before);
+                expect(rt, &request.ref_prefix(kept as usize), &None);
                 assert!(rt; request.symrefs());
                 assert!(rt; !request.peel());
                 break;
@@ -69,23 +70,23 @@ const FILTERS: [&[u8]; 2] = [b"blob:limit=8", b"tree:100"];
 fn filters_within(rt: &impl Abort, alloc: Global, size: usize) -> Result<u32, AllocError> {
     let heap = LocalHeap::new(alloc, size)?;
     let mut request = new_request(&heap, Command::Fetch, Limits { args: 1000 });
-    assert_eq!(rt; request.add(Argument::WaitForDone), Ok(()));
+    expect(rt, &request.add(Argument::WaitForDone), &Ok(()));
     let mut kept = 0u32;
     for spec in FILTERS {
         let before = bytes_kept(&request);
         match add_filter(&mut request, spec) {
             Ok(()) => {
-                assert_eq!(rt; request.filter(kept as usize), Some(spec));
+                expect(rt, &request.filter(kept as usize), &Some(spec));
                 kept = kept.saturating_add(1);
             }
             Err(kind) => {
-                assert_eq!(rt; kind, Kind::OutOfMemory);
-                assert_eq!(rt; bytes_kept(&request), before);
+                expect(rt, &kind, &Kind::OutOfMemory);
+                expect(rt, &bytes_kept(&request), &before);
                 break;
             }
         }
     }
-    assert_eq!(rt; request.filter(kept as usize), None);
+    expect(rt, &request.filter(kept as usize), &None);
     assert!(rt; request.wait_for_done());
     Ok(kept)
 }
@@ -103,18 +104,22 @@ fn each_growth_of_the_filters_is_refused_in_turn(rt: HostRuntime) -> Result<(), 
 fn filters_are_kept_in_order(rt: HostRuntime) -> Result<(), AllocError> {
     let mut request = new_request(rt.alloc(), Command::Fetch, Limits { args: 57 });
     for spec in [FILTERS[0], FILTERS[1], FILTERS[0]] {
-        assert_eq!(&rt; add_filter(&mut request, spec), Ok(()));
+        expect(&rt, &add_filter(&mut request, spec), &Ok(()));
     }
     // Each counts with the seven bytes of its word and the space, and its repetition counts again.
-    assert_eq!(&rt; bytes_kept(&request), 53);
-    assert_eq!(&rt; request.filter(0), Some(FILTERS[0]));
-    assert_eq!(&rt; request.filter(1), Some(FILTERS[1]));
-    assert_eq!(&rt; request.filter(2), Some(FILTERS[0]));
-    assert_eq!(&rt; request.filter(3), None);
-    assert_eq!(&rt; add_filter(&mut request, b""), Err(Kind::BadLine));
-    assert_eq!(&rt; add_filter(&mut request, b"x"), Err(Kind::TooMuchKept));
-    assert_eq!(&rt; bytes_kept(&request), 53);
-    assert_eq!(&rt; request.filter(3), None);
+    expect(&rt, &bytes_kept(&request), &53);
+    expect(&rt, &request.filter(0), &Some(FILTERS[0]));
+    expect(&rt, &request.filter(1), &Some(FILTERS[1]));
+    expect(&rt, &request.filter(2), &Some(FILTERS[0]));
+    expect(&rt, &request.filter(3), &None);
+    expect(&rt, &add_filter(&mut request, b""), &Err(Kind::BadLine));
+    expect(
+        &rt,
+        &add_filter(&mut request, b"x"),
+        &Err(Kind::TooMuchKept),
+    );
+    expect(&rt, &bytes_kept(&request), &53);
+    expect(&rt, &request.filter(3), &None);
     Ok(())
 }
 
@@ -126,14 +131,14 @@ fn wants_within(rt: &impl Abort, alloc: Global, size: usize) -> Result<usize, Al
     let heap = LocalHeap::new(alloc, size)?;
     let mut request = new_request(&heap, Command::Fetch, Limits { args: 1000 });
     let id = object(rt, Format::Sha1, b'a');
-    assert_eq!(rt; request.add(Argument::IsDone), Ok(()));
+    expect(rt, &request.add(Argument::IsDone), &Ok(()));
     for kept in 0..MANY {
         let before = bytes_kept(&request);
         let added = add_want(&mut request, id);
         if added.is_err() {
-            assert_eq!(rt; added, Err(Kind::OutOfMemory));
-            assert_eq!(rt; bytes_kept(&request), before);
-            assert_eq!(rt; request.wants().len(), kept);
+            expect(rt, &added, &Err(Kind::OutOfMemory));
+            expect(rt, &bytes_kept(&request), &before);
+            expect(rt, &request.wants().len(), &kept);
             assert!(rt; request.done());
             return Ok(kept);
         }
@@ -151,9 +156,9 @@ fn each_growth_of_the_wants_is_refused_in_turn(rt: HostRuntime) -> Result<(), Al
         most = kept;
         kept_some = kept_some | (0 < kept && kept < MANY);
     }
-    assert_eq!(&rt; wants_within(&rt, rt.alloc(), 32)?, 0);
+    expect(&rt, &wants_within(&rt, rt.alloc(), 32)?, &0);
     assert!(&rt; kept_some, "no later growth is refused alone");
-    assert_eq!(&rt; most, MANY);
+    expect(&rt, &most, &MANY);
     Ok(())
 }
 
@@ -183,6 +188,19 @@ fn hear<A: Allocator + Copy>(
     Ok(())
 }
 
+/// That the reader takes the packet, and keeps the argument that it is.
+fn expect_kept<A: Allocator + Copy>(
+    rt: &impl Abort,
+    reader: &mut RequestReader<A>,
+    packet: Packet<'_>,
+    offset: u64,
+)
+    requires { is_waiting reader.old ≡ false }
+    ensures { is_waiting reader.new ≡ false }
+{
+    expect(rt, &hear(reader, packet, offset), &Ok(()));
+}
+
 #[test]
 fn a_reader_without_memory_refuses_the_first_prefix(rt: HostRuntime) -> Result<(), AllocError> {
     // The places of four texts take all of it, and their bytes find none.
@@ -192,17 +210,15 @@ fn a_reader_without_memory_refuses_the_first_prefix(rt: HostRuntime) -> Result<(
         kind: Kind::OutOfMemory,
         offset: 33,
     });
-    assert_eq!(&rt;
-        hear(&mut reader, Packet::Payload(b"command=ls-refs\n"), 0),
-        Ok(())
+    expect_kept(&rt, &mut reader, Packet::Payload(b"command=ls-refs\n"), 0);
+    expect_kept(&rt, &mut reader, Packet::Delim, 20);
+    expect_kept(&rt, &mut reader, Packet::Payload(b"peel\n"), 24);
+    expect(
+        &rt,
+        &hear(&mut reader, Packet::Payload(b"ref-prefix a\n"), 33),
+        &refused,
     );
-    assert_eq!(&rt; hear(&mut reader, Packet::Delim, 20), Ok(()));
-    assert_eq!(&rt; hear(&mut reader, Packet::Payload(b"peel\n"), 24), Ok(()));
-    assert_eq!(&rt;
-        hear(&mut reader, Packet::Payload(b"ref-prefix a\n"), 33),
-        refused
-    );
-    assert_eq!(&rt; hear(&mut reader, Packet::Flush, 50), refused);
+    expect(&rt, &hear(&mut reader, Packet::Flush, 50), &refused);
     Ok(())
 }
 
@@ -210,23 +226,17 @@ fn a_reader_without_memory_refuses_the_first_prefix(rt: HostRuntime) -> Result<(
 fn a_request_of_flags_takes_no_memory(rt: HostRuntime) -> Result<(), AllocError> {
     let heap = LocalHeap::new(rt.alloc(), 0)?;
     let mut request = new_request(&heap, Command::LsRefs, Limits { args: 1000 });
-    assert_eq!(&rt; request.add(Argument::Peel), Ok(()));
-    assert_eq!(&rt; request.add(Argument::Symrefs), Ok(()));
-    assert_eq!(&rt; bytes_kept(&request), 11);
+    expect(&rt, &request.add(Argument::Peel), &Ok(()));
+    expect(&rt, &request.add(Argument::Symrefs), &Ok(()));
+    expect(&rt, &bytes_kept(&request), &11);
     let added = add_prefix(&mut request, b"");
-    assert_eq!(&rt; added, Err(Kind::OutOfMemory));
+    expect(&rt, &added, &Err(Kind::OutOfMemory));
     let mut reader = new_reader(&heap);
-    assert_eq!(&rt;
-        hear(&mut reader, Packet::Payload(b"command=ls-refs\n"), 0),
-        Ok(())
-    );
-    assert_eq!(&rt; hear(&mut reader, Packet::Delim, 20), Ok(()));
-    assert_eq!(&rt;
-        hear(&mut reader, Packet::Payload(b"symrefs\n"), 24),
-        Ok(())
-    );
-    assert_eq!(&rt; hear(&mut reader, Packet::Payload(b"peel\n"), 36), Ok(()));
-    assert_eq!(&rt; hear(&mut reader, Packet::Flush, 45), Ok(()));
+    expect_kept(&rt, &mut reader, Packet::Payload(b"command=ls-refs\n"), 0);
+    expect_kept(&rt, &mut reader, Packet::Delim, 20);
+    expect_kept(&rt, &mut reader, Packet::Payload(b"symrefs\n"), 24);
+    expect_kept(&rt, &mut reader, Packet::Payload(b"peel\n"), 36);
+    expect_kept(&rt, &mut reader, Packet::Flush, 45);
     Ok(())
 }
 
@@ -249,18 +259,14 @@ fn heard_within(
 ) -> Result<Result<(), Fault>, AllocError> {
     let heap = LocalHeap::new(alloc, size)?;
     let mut reader = new_reader(&heap);
-    let command = hear(&mut reader, Packet::Payload(b"command=fetch\n"), 0);
-    assert_eq!(rt; command, Ok(()));
-    assert_eq!(rt; hear(&mut reader, Packet::Delim, 18), Ok(()));
-    let depth = hear(&mut reader, Packet::Payload(b"deepen 2147483647\n"), 22);
-    assert_eq!(rt; depth, Ok(()));
-    let relative = hear(&mut reader, Packet::Payload(b"deepen-relative\n"), 44);
-    assert_eq!(rt; relative, Ok(()));
-    let time = hear(&mut reader, Packet::Payload(b"deepen-since 0\n"), 64);
-    assert_eq!(rt; time, Ok(()));
+    expect_kept(rt, &mut reader, Packet::Payload(b"command=fetch\n"), 0);
+    expect_kept(rt, &mut reader, Packet::Delim, 18);
+    expect_kept(rt, &mut reader, Packet::Payload(b"deepen 2147483647\n"), 22);
+    expect_kept(rt, &mut reader, Packet::Payload(b"deepen-relative\n"), 44);
+    expect_kept(rt, &mut reader, Packet::Payload(b"deepen-since 0\n"), 64);
     let heard = hear(&mut reader, Packet::Payload(line), 100);
     if heard.is_err() {
-        assert_eq!(rt; hear(&mut reader, Packet::Flush, 150), heard);
+        expect(rt, &hear(&mut reader, Packet::Flush, 150), &heard);
     }
     Ok(heard)
 }
@@ -272,8 +278,8 @@ fn a_fetch_takes_memory_for_objects_and_texts_alone(rt: HostRuntime) -> Result<(
         offset: 100,
     });
     for line in KEPT {
-        assert_eq!(&rt; heard_within(&rt, rt.alloc(), 16, line)?, refused);
-        assert_eq!(&rt; heard_within(&rt, rt.alloc(), 8192, line)?, Ok(()));
+        expect(&rt, &heard_within(&rt, rt.alloc(), 16, line)?, &refused);
+        expect(&rt, &heard_within(&rt, rt.alloc(), 8192, line)?, &Ok(()));
     }
     Ok(())
 }

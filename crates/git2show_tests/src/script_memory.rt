@@ -1,4 +1,5 @@
 //! Memory that runs out while a script is read, at each growth in turn.
+use crate::expecting::expect;
 use git_msg::{Caps, Limits, Request, RequestWriter};
 use git_names::Format;
 use git_pkt::Hold;
@@ -81,7 +82,7 @@ fn least_memory(rt: &impl Abort, alloc: Global, script: &[u8]) -> Result<usize, 
         let fault = read_script(&heap, script, Format::Sha1, LIMITS).err();
         assert_eq!(rt; heap.used(), 0, "of {size} bytes");
         match fault {
-            Some(fault) => assert_eq!(rt; fault, TextFault::OutOfMemory),
+            Some(fault) => expect(rt, &fault, &TextFault::OutOfMemory),
             None => return Ok(size),
         }
     }
@@ -129,7 +130,7 @@ fn with_room_enough_a_script_gives_its_requests(rt: HostRuntime) -> Result<(), A
 
 #[test]
 fn a_script_of_empty_lines_takes_no_memory(rt: HostRuntime) -> Result<(), AllocError> {
-    assert_eq!(&rt; least_memory(&rt, rt.alloc(), b"")?, 0);
-    assert_eq!(&rt; least_memory(&rt, rt.alloc(), b"\n\n\n")?, 0);
+    expect(&rt, &least_memory(&rt, rt.alloc(), b"")?, &0);
+    expect(&rt, &least_memory(&rt, rt.alloc(), b"\n\n\n")?, &0);
     Ok(())
 }

@@ -1,5 +1,7 @@
 //! Memory that runs out at each growth in turn.
-use crate::servers::{converse, new_server, refusal, usual};
+use crate::expecting::{expect, expect_bytes};
+use crate::servers::{converse, new_server, refusal, repository, server_of, usual};
+use git_names::Format;
 use git_pkt::{Kind, RunFault, Told};
 use git_server::{Outcome, serve};
 use linked_list_allocator::LocalHeap;
@@ -37,18 +39,29 @@ fn serve_with(
     input: &[u8],
     size: usize,
 ) -> Result<(Vec<u8>, Result<Outcome, RunFault>), Fail> {
+    let repo = repository(rt, Format::Sha1)?;
     let heap = LocalHeap::new(rt.alloc(), size)?;
-    let mut server = new_server(rt, &heap, usual())?;
     let mut written = Vec::new(rt.alloc());
     let mut piece = [0; 7];
     let run = serve(
         &mut Told::new(input),
         &mut Told::new(&mut written),
         &mut piece,
-        &mut server,
+        &mut server_of(repo, &heap, usual()),
         100,
     );
     Ok((written, run))
+}
+
+// What a server that has so much memory gives for the request, and how its session ends.
+fn converse_with(
+    rt: &(impl Abort + AllocGlobal),
+    request: &[u8],
+    size: usize,
+) -> Result<(Vec<u8>, Option<Outcome>), Fail> {
+    let repo = repository(rt, Format::Sha1)?;
+    let heap = LocalHeap::new(rt.alloc(), size)?;
+    Ok(converse(&mut server_of(repo, &heap, usual()), rt.alloc(), &[request])?)
 }
 
 // What is given for it with a heap of this size, and how the session ends. The first text takes two blocks of 16 bytes, for the
@@ -66,9 +79,7 @@ fn due_with(alloc: Global, kept: &Kept, size: usize) -> Result<(Vec<u8>, Outcome
 // That a server with each size of memory is refused the growth that is due.
 fn expect_refusals(rt: &(impl Abort + AllocGlobal), kept: &Kept) -> Result<(), Fail> {
     for size in 0..256 {
-        let heap = LocalHeap::new(rt.alloc(), size)?;
-        let mut server = new_server(rt, &heap, usual())?;
-        let (given, ended) = converse(&mut server, rt.alloc(), &[kept.request])?;
+        let (given, ended) = converse_with(rt, kept.request, size)?;
         let (written, run) = serve_with(rt, kept.request, size)?;
         let (due, outcome) = due_with(rt.alloc(), kept, size)?;
         assert_eq!(rt; given.as_slice(), due.as_slice(), "with {size} bytes");
@@ -105,22 +116,17 @@ fn each_growth_of_the_wants_is_refused_in_turn(rt: HostRuntime) -> Result<(), Fa
     let mut last = None;
     let mut refused: u32 = 0;
     for size in (32..8192).step_by(8) {
-        let heap = LocalHeap::new(rt.alloc(), size)?;
-        let mut server = new_server(&rt, &heap, usual())?;
-        let (given, ended) = converse(&mut server, rt.alloc(), &[request.as_slice()])?;
+        let (given, ended) = converse_with(&rt, &request, size)?;
         match ended {
             Some(Outcome::Refused(fault)) => {
                 let line = format!(in rt.alloc(); "ERR OutOfMemory at {}\n", fault.offset)?;
                 let told = format!(in rt.alloc(); "{:04x}{line}", line.len() + 4)?;
-                assert_eq!(rt; given.as_slice(), told.as_bytes());
-                assert_eq!(rt; fault.kind, Kind::OutOfMemory);
+                expect_bytes(&rt, &given, told.as_bytes());
+                expect(&rt, &fault.kind, &Kind::OutOfMemory);
             }
             _ => {
-                assert_eq!(rt;
-                    given.as_slice(),
-                    b"000dpackfile\n000a\x01PACK!0000".as_slice()
-                );
-                assert_eq!(rt; ended, Some(Outcome::Closed));
+                expect_bytes(&rt, &given, b"000dpackfile\n000a\x01PACK!0000");
+                expect(&rt, &ended, &Some(Outcome::Closed));
             }
         }
         if last != Some(ended) {
@@ -130,7 +136,7 @@ fn each_growth_of_the_wants_is_refused_in_turn(rt: HostRuntime) -> Result<(), Fa
     }
     // Refused at the first want, later on, and not at all.
     assert!(rt; 3 <= refused && refused <= 20);
-    assert_eq!(rt; last, Some(Some(Outcome::Closed)));
+    expect(&rt, &last, &Some(Some(Outcome::Closed)));
     Ok(())
 }
 
@@ -146,31 +152,27 @@ const NO_ROOM: usize = 16;
 
 #[test]
 fn without_memory_the_first_text_is_refused(rt: HostRuntime) -> Result<(), Fail> {
-    let heap = LocalHeap::new(rt.alloc(), NO_ROOM)?;
-    let mut server = new_server(&rt, &heap, usual())?;
-    let (given, ended) = converse(&mut server, rt.alloc(), &[LATE_TEXT])?;
-    assert_eq!(rt; given.as_slice(), LATE_TEXT_REFUSED);
-    assert_eq!(rt; ended, Some(refusal(Kind::OutOfMemory, 67)));
+    let (given, ended) = converse_with(&rt, LATE_TEXT, NO_ROOM)?;
+    expect_bytes(&rt, &given, LATE_TEXT_REFUSED);
+    expect(&rt, &ended, &Some(refusal(Kind::OutOfMemory, 67)));
     Ok(())
 }
 
 #[test]
 fn without_memory_a_run_ends_at_the_first_text(rt: HostRuntime) -> Result<(), Fail> {
     let (written, run) = serve_with(&rt, LATE_TEXT, NO_ROOM)?;
-    assert_eq!(rt; written.as_slice(), LATE_TEXT_REFUSED);
-    assert_eq!(rt; run, Ok(refusal(Kind::OutOfMemory, 67)));
+    expect_bytes(&rt, &written, LATE_TEXT_REFUSED);
+    expect(&rt, &run, &Ok(refusal(Kind::OutOfMemory, 67)));
     Ok(())
 }
 
 #[test]
 fn a_session_of_flags_takes_no_memory(rt: HostRuntime) -> Result<(), Fail> {
     let input = b"0014command=ls-refs\n00010009peel\n000csymrefs\n0000";
-    let heap = LocalHeap::new(rt.alloc(), 0)?;
-    let mut server = new_server(&rt, &heap, usual())?;
-    let (given, ended) = converse(&mut server, rt.alloc(), &[input])?;
+    let (given, ended) = converse_with(&rt, input, 0)?;
     let mut other = new_server(&rt, rt.alloc(), usual())?;
     let (due, _) = converse(&mut other, rt.alloc(), &[input])?;
-    assert_eq!(rt; ended, Some(Outcome::Closed));
-    assert_eq!(rt; given.as_slice(), due.as_slice());
+    expect(&rt, &ended, &Some(Outcome::Closed));
+    expect_bytes(&rt, &given, &due);
     Ok(())
 }

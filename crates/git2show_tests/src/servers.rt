@@ -1,9 +1,13 @@
-//! A repository of three references, and a server of it over a list of pieces.
+//! A repository of three references, and a server of it over a list of pieces, or over streams.
+ghost use Rattle.std.specs.Prelude.{◌≡◌, ◌<◌, false, length};
+ghost use Rattle.git_pkt.specs.Machine.Told.{IsNew, has_failed};
+
 use git_msg::{Limits, Offer};
 use git_names::{Format, Oid, Steps};
-use git_pkt::{Fault, Kind};
-use git_server::{ListRepo, Outcome, Pulled, RefEntry, Repo, Server};
+use git_pkt::{Fault, Kind, RunFault, Told};
+use git_server::{ListRepo, Outcome, Pulled, RefEntry, Repo, Server, serve};
 use std::alloc::{AllocError, Allocator, Global};
+use std::io::{Read, Write};
 use std::process::Abort;
 use std::test::Fail;
 
@@ -87,18 +91,43 @@ pub fn repository(rt: &(impl Abort + AllocGlobal), format: Format) -> Result<Lis
     Ok(repo.expect(rt, "a repository"))
 }
 
-/// A server of the repository that keeps arguments in memory from `alloc`.
+/// A server of this repository that keeps arguments in memory from `alloc`.
+pub fn server_of<A: Allocator + Copy>(
+    repo: ListRepo,
+    alloc: A,
+    setup: Setup,
+) -> Server<ListRepo, A> {
+    let offer = Offer {
+        object_info: false,
+        ..Offer::everything(repo.format())
+    };
+    Server::new(alloc, repo, offer, setup.limits, setup.advertise)
+}
+
+/// A server of the repository.
 pub fn new_server<A: Allocator + Copy>(
     rt: &(impl Abort + AllocGlobal),
     alloc: A,
     setup: Setup,
 ) -> Result<Server<ListRepo, A>, Fail> {
-    let repo = repository(rt, setup.format)?;
-    let offer = Offer {
-        object_info: false,
-        ..Offer::everything(repo.format())
-    };
-    Ok(Server::new(alloc, repo, offer, setup.limits, setup.advertise))
+    Ok(server_of(repository(rt, setup.format)?, alloc, setup))
+}
+
+/// How the run of such a server ends over these streams.
+pub fn run_server<In: Read, W: Write>(
+    rt: &(impl Abort + AllocGlobal),
+    setup: Setup,
+    reader: &mut Told<In>,
+    writer: &mut Told<W>,
+    piece: &mut [u8],
+    turns: u64,
+) -> Result<Result<Outcome, RunFault>, Fail>
+    requires room { 0 < length piece.old }
+    requires new_reader { IsNew reader.old }
+    requires sound_writer { has_failed writer.old ≡ false }
+{
+    let mut server = new_server(rt, rt.alloc(), setup)?;
+    Ok(serve(reader, writer, piece, &mut server, turns))
 }
 
 // Appends all that the server owes. The outcome, if there is one.

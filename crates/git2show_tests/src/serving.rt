@@ -1,5 +1,6 @@
 //! Servers over readers and writers: what is flushed when, what is reported of streams that stop, and reads that are spent.
-use crate::servers::{Setup, advertising, new_server, usual};
+use crate::expecting::{expect, expect_bytes};
+use crate::servers::{Setup, advertising, new_server, run_server, usual};
 use crate::stopping::{ALL, MANY, TURNS, expect_due, expect_front};
 use git_names::Format;
 use git_pkt::{RunFault, Stops, Told};
@@ -38,15 +39,13 @@ fn run_held(
     setup: Setup,
     turns: u64,
 ) -> Result<(Result<Outcome, RunFault>, Vec<u8>), Fail> {
-    let mut server = new_server(rt, rt.alloc(), setup)?;
-    let mut reader = Told::new(input);
     let mut held = Held {
         waiting: Vec::new(rt.alloc()),
         passed: Vec::new(rt.alloc()),
     };
+    let mut reader = Told::new(input);
     let mut writer = Told::new(&mut held);
-    let mut piece = [0; 5];
-    let run = serve(&mut reader, &mut writer, &mut piece, &mut server, turns);
+    let run = run_server(rt, setup, &mut reader, &mut writer, &mut [0; 5], turns)?;
     assert!(rt; held.waiting.is_empty());
     Ok((run, held.passed))
 }
@@ -70,11 +69,11 @@ fn all_is_flushed_at_the_end(rt: HostRuntime) -> Result<(), Fail> {
 #[test]
 fn all_is_flushed_where_the_reads_are_spent(rt: HostRuntime) -> Result<(), Fail> {
     let (run, passed) = run_held(&rt, b"0014command=ls-refs\n0000", usual(), 5)?;
-    assert_eq!(rt; run, Err(RunFault::ReadLimit));
-    assert_eq!(rt; passed.len(), 173);
+    expect(&rt, &run, &Err(RunFault::ReadLimit));
+    expect(&rt, &passed.len(), &173);
     let (run, passed) = run_held(&rt, b"", advertising(Format::Sha1), 0)?;
-    assert_eq!(rt; run, Err(RunFault::ReadLimit));
-    assert_eq!(rt; passed.as_slice(), ANSWERS[0]);
+    expect(&rt, &run, &Err(RunFault::ReadLimit));
+    expect_bytes(&rt, &passed, ANSWERS[0]);
     Ok(())
 }
 
@@ -137,10 +136,8 @@ fn each_answer_is_flushed_before_the_next_read(rt: HostRuntime) -> Result<(), Fa
         waiting: 0,
         flushed: &flushed,
     });
-    let mut piece = [0; 64];
-    let mut server = new_server(&rt, rt.alloc(), usual())?;
-    let run = serve(&mut reader, &mut writer, &mut piece, &mut server, 100);
-    assert_eq!(rt; run, Ok(Outcome::Flush));
+    let run = run_server(&rt, usual(), &mut reader, &mut writer, &mut [0; 64], 100)?;
+    expect(&rt, &run, &Ok(Outcome::Flush));
     assert_eq!(rt; asking.seen.as_slice(), [0, 173, 346].as_slice());
     Ok(())
 }
@@ -175,11 +172,11 @@ fn serve_stopping(
     writes: u32,
     turns: u64,
 ) -> Result<(Result<Outcome, RunFault>, Sink), Fail> {
-    let mut server = new_server(rt, rt.alloc(), advertising(Format::Sha1))?;
+    let setup = advertising(Format::Sha1);
     let mut sink = Sink::new(Vec::new(rt.alloc()), 60, u32::MAX);
     let mut reader = Told::new(Stops::new(Pieces::new(&PIECES), reads));
     let mut writer = Told::new(Stops::new(&mut sink, writes));
-    let run = serve(&mut reader, &mut writer, &mut [0; 64], &mut server, turns);
+    let run = run_server(rt, setup, &mut reader, &mut writer, &mut [0; 64], turns)?;
     Ok((run, sink))
 }
 
@@ -191,15 +188,15 @@ fn each_read_fails_in_turn_while_a_session_is_served(rt: HostRuntime) -> Result<
     for answer in ANSWERS {
         due.extend_from_slice(answer)?;
         let (run, sink) = serve_stopping(&rt, reads, ALL, TURNS)?;
-        assert_eq!(rt; run, Err(RunFault::ReadFault));
+        expect(&rt, &run, &Err(RunFault::ReadFault));
         expect_due(&rt, &sink, &due);
         let (run, sink) = serve_stopping(&rt, ALL, ALL, u64::from(reads))?;
-        assert_eq!(rt; run, Err(RunFault::ReadLimit));
+        expect(&rt, &run, &Err(RunFault::ReadLimit));
         expect_due(&rt, &sink, &due);
         reads = reads.saturating_add(1);
     }
     let (run, sink) = serve_stopping(&rt, reads, ALL, u64::from(reads))?;
-    assert_eq!(rt; run, Ok(Outcome::Flush));
+    expect(&rt, &run, &Ok(Outcome::Flush));
     expect_due(&rt, &sink, &due);
     Ok(())
 }
@@ -214,10 +211,10 @@ fn each_write_and_flush_fails_in_turn_while_a_session_is_served(
         let (run, sink) = serve_stopping(&rt, ALL, writes, TURNS)?;
         expect_front(&rt, &sink, &whole, &mut longest);
         if run.is_ok() {
-            assert_eq!(rt; longest, whole.len());
+            expect(&rt, &longest, &whole.len());
             return Ok(());
         }
-        assert_eq!(rt; run, Err(RunFault::WriteFault));
+        expect(&rt, &run, &Err(RunFault::WriteFault));
     }
     assert!(rt; false, "a run with fewer calls");
     Ok(())
@@ -226,15 +223,14 @@ fn each_write_and_flush_fails_in_turn_while_a_session_is_served(
 /// The client asks for the references, again and again.
 #[test]
 fn a_session_without_an_end_ends_at_the_limit_of_reads(rt: HostRuntime) -> Result<(), Fail> {
-    let mut server = new_server(&rt, rt.alloc(), usual())?;
     let mut sink = Sink::new(Vec::new(rt.alloc()), usize::MAX, u32::MAX);
     let mut reader = Told::new(Endless::new(b"", b"0014command=ls-refs\n0000"));
     let mut writer = Told::new(&mut sink);
-    let run = serve(&mut reader, &mut writer, &mut [0; 64], &mut server, 100);
-    assert_eq!(rt; run, Err(RunFault::ReadLimit));
-    assert_eq!(rt; reader.reads(), 100);
-    assert_eq!(rt; sink.taken.len(), 17_300);
-    assert_eq!(rt; sink.flushed, 17_300);
+    let run = run_server(&rt, usual(), &mut reader, &mut writer, &mut [0; 64], 100)?;
+    expect(&rt, &run, &Err(RunFault::ReadLimit));
+    expect(&rt, &reader.reads(), &100);
+    expect(&rt, &sink.taken.len(), &17_300);
+    expect(&rt, &sink.flushed, &17_300);
     Ok(())
 }
 
@@ -246,21 +242,21 @@ fn reads_that_are_spent(rt: HostRuntime) -> Result<(), Fail> {
     let mut writer = Told::new(&mut given);
     let mut piece = [0; 1];
     let run = serve(&mut reader, &mut writer, &mut piece, &mut server, 24);
-    assert_eq!(rt; run, Err(RunFault::ReadLimit));
-    assert_eq!(rt; given.len(), 173);
+    expect(&rt, &run, &Err(RunFault::ReadLimit));
+    expect(&rt, &given.len(), &173);
     // The session goes on over another reader.
     let mut reader = Told::new(b"0014command=ls-refs\n00000000".as_slice());
     let mut writer = Told::new(&mut given);
     let run = serve(&mut reader, &mut writer, &mut piece, &mut server, 100);
-    assert_eq!(rt; run, Ok(Outcome::Flush));
-    assert_eq!(rt; given.len(), 346);
+    expect(&rt, &run, &Ok(Outcome::Flush));
+    expect(&rt, &given.len(), &346);
     Ok(())
 }
 
 #[test]
 fn a_server_gives_its_repository_back(rt: HostRuntime) -> Result<(), Fail> {
     let repo = new_server(&rt, rt.alloc(), usual())?.into_repo();
-    assert_eq!(rt; repo.refs().len(), 3);
+    expect(&rt, &repo.refs().len(), &3);
     assert!(rt; repo.find(b"refs/tags/v1").is_some());
     assert!(rt; repo.find(b"refs/tags/v2").is_none());
     Ok(())

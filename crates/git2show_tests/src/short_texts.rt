@@ -1,5 +1,6 @@
 //! Many short texts: they are in one vector with the places where they end, and none has a block of its own.
 use crate::adding::{add_name, add_prefix, bytes_kept, new_request};
+use crate::expecting::expect;
 use git_msg::{Command, Limits, Request};
 use git_pkt::Kind;
 use linked_list_allocator::LocalHeap;
@@ -74,7 +75,7 @@ fn check_kept(rt: &impl Abort, alloc: Global, text: &Text, times: usize) -> Resu
         Ok(()),
         "{times} texts"
     );
-    assert_eq!(rt; bytes_kept(&request) as usize, counted);
+    expect(rt, &(bytes_kept(&request) as usize), &counted);
     Ok(())
 }
 

@@ -1,4 +1,5 @@
 //! Streams without an end, or that stop, while their packets are shown, and how faults are reported.
+use crate::expecting::{expect, expect_bytes};
 use crate::stopping::{ALL, MANY, TURNS, expect_due, expect_front};
 use git_pkt::{Fault, Kind, RunFault, Stops, Told};
 use git2show_lib::{ProgramFault, report, show};
@@ -50,12 +51,9 @@ fn an_endless_stream_ends_at_the_limit_of_reads(rt: HostRuntime) -> Result<(), F
     let mut reader = Told::new(Endless::new(b"", b"0004"));
     let mut piece = [0; 4];
     let got = show(&mut reader, &mut Told::new(&mut sink), &mut piece, 3);
-    assert_eq!(rt; got, Err(RunFault::ReadLimit));
-    assert_eq!(rt; reader.reads(), 3);
-    assert_eq!(rt;
-        sink.taken.as_slice(),
-        b"0 data 0\n4 data 0\n8 data 0\n".as_slice()
-    );
+    expect(&rt, &got, &Err(RunFault::ReadLimit));
+    expect(&rt, &reader.reads(), &3);
+    expect_bytes(&rt, &sink.taken, b"0 data 0\n4 data 0\n8 data 0\n");
     Ok(())
 }
 
@@ -67,16 +65,16 @@ fn each_read_fails_in_turn_while_packets_are_shown(rt: HostRuntime) -> Result<()
     for lines in &LINES[..5] {
         due.extend_from_slice(lines)?;
         let (got, sink) = show_stopping(rt.alloc(), reads, ALL, TURNS);
-        assert_eq!(rt; got, Err(RunFault::ReadFault));
+        expect(&rt, &got, &Err(RunFault::ReadFault));
         expect_due(&rt, &sink, &due);
         let (got, sink) = show_stopping(rt.alloc(), ALL, ALL, u64::from(reads));
-        assert_eq!(rt; got, Err(RunFault::ReadLimit));
+        expect(&rt, &got, &Err(RunFault::ReadLimit));
         expect_due(&rt, &sink, &due);
         reads = reads.saturating_add(1);
     }
     due.extend_from_slice(LINES[5])?;
     let (got, sink) = show_stopping(rt.alloc(), reads, ALL, u64::from(reads));
-    assert_eq!(rt; got, bad_length());
+    expect(&rt, &got, &bad_length());
     expect_due(&rt, &sink, &due);
     Ok(())
 }
@@ -89,10 +87,10 @@ fn each_write_and_flush_fails_in_turn_while_packets_are_shown(rt: HostRuntime) -
         let (got, sink) = show_stopping(rt.alloc(), ALL, writes, TURNS);
         expect_front(&rt, &sink, &whole, &mut longest);
         if got == bad_length() {
-            assert_eq!(rt; longest, whole.len());
+            expect(&rt, &longest, &whole.len());
             return Ok(());
         }
-        assert_eq!(rt; got, Err(RunFault::WriteFault));
+        expect(&rt, &got, &Err(RunFault::WriteFault));
     }
     assert!(rt; false, "a run with fewer calls");
     Ok(())
@@ -104,9 +102,9 @@ fn lines_are_flushed_before_the_next_read(rt: HostRuntime) -> Result<(), Fail> {
     let mut reader = Told::new(Stream::new(b"000000010002", 4, NEVER));
     let mut piece = [0; 64];
     let got = show(&mut reader, &mut Told::new(&mut sink), &mut piece, TURNS);
-    assert_eq!(rt; got, Ok(()));
-    assert_eq!(rt; sink.flushes, 3);
-    assert_eq!(rt; sink.flushed, sink.taken.len());
+    expect(&rt, &got, &Ok(()));
+    expect(&rt, &sink.flushes, &3);
+    expect(&rt, &sink.flushed, &sink.taken.len());
     Ok(())
 }
 
@@ -143,10 +141,10 @@ fn faults_are_reported_on_one_line(rt: HostRuntime) -> Result<(), Fail> {
         ),
     ] {
         let mut sink = Sink::new(Vec::new(rt.alloc()), 7, NEVER);
-        assert_eq!(rt; report(&fault, &mut Told::new(&mut sink)), 1);
-        assert_eq!(rt; sink.taken.as_slice(), line);
+        expect(&rt, &report(&fault, &mut Told::new(&mut sink)), &1);
+        expect_bytes(&rt, &sink.taken, line);
         let mut closed = Sink::new(Vec::new(rt.alloc()), 7, 0);
-        assert_eq!(rt; report(&fault, &mut Told::new(&mut closed)), 1);
+        expect(&rt, &report(&fault, &mut Told::new(&mut closed)), &1);
     }
     Ok(())
 }

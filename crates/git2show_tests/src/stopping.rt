@@ -1,4 +1,5 @@
 //! What runs have written whose streams stop after so many calls.
+use crate::expecting::{expect, expect_bytes};
 use std::process::Abort;
 use test_streams::Sink;
 
@@ -13,8 +14,8 @@ pub const TURNS: u64 = 1_073_741_824;
 
 /// That just this was written, and that all of it was flushed.
 pub fn expect_due(rt: &impl Abort, sink: &Sink, due: &[u8]) {
-    assert_eq!(rt; sink.taken.as_slice(), due);
-    assert_eq!(rt; sink.flushed, due.len());
+    expect_bytes(rt, &sink.taken, due);
+    expect(rt, &sink.flushed, &due.len());
 }
 
 /// That what was written begins what the whole run writes, and is no shorter than what was written before one call more was made.

@@ -1,4 +1,5 @@
 //! What a `Told` reports of calls that go well, fail, and go well again, and which reads a `Retries` makes again.
+use crate::expecting::{expect, expect_bytes};
 use git_pkt::{Retries, Stops, Told};
 use std::io::{ErrorKind, Read, Write};
 use std::test::Fail;
@@ -8,15 +9,15 @@ use test_streams::{Sink, Stream};
 fn a_reader_that_fails_in_mid_stream_is_told_and_read_on(rt: HostRuntime) -> Result<(), Fail> {
     let mut reader = Told::new(Stream::new(b"abcdef", 2, 1));
     let mut piece = [0u8; 4];
-    assert_eq!(rt; reader.read(&mut piece)?, 2);
-    assert_eq!(rt; &piece[..2], b"ab".as_slice());
+    expect(&rt, &reader.read(&mut piece)?, &2);
+    expect_bytes(&rt, &piece[..2], b"ab");
     assert!(rt; !reader.failed());
     let kind = reader.read(&mut piece).map_err(|error| error.kind());
-    assert_eq!(rt; kind, Err(ErrorKind::ConnectionReset));
+    expect(&rt, &kind, &Err(ErrorKind::ConnectionReset));
     assert!(rt; reader.failed() && !reader.ended());
-    assert_eq!(rt; reader.read(&mut piece)?, 2);
-    assert_eq!(rt; &piece[..2], b"cd".as_slice());
-    assert_eq!(rt; reader.reads(), 3);
+    expect(&rt, &reader.read(&mut piece)?, &2);
+    expect_bytes(&rt, &piece[..2], b"cd");
+    expect(&rt, &reader.reads(), &3);
     assert!(rt; reader.failed() && !reader.ended());
     Ok(())
 }
@@ -27,12 +28,12 @@ fn an_interrupted_read_is_made_again(rt: HostRuntime) -> Result<(), Fail> {
     stream.error = ErrorKind::Interrupted;
     let mut reader = Told::new(Retries::new(&mut stream));
     let mut piece = [0u8; 4];
-    assert_eq!(rt; reader.read(&mut piece)?, 2);
-    assert_eq!(rt; reader.read(&mut piece)?, 2);
-    assert_eq!(rt; &piece[..2], b"cd".as_slice());
+    expect(&rt, &reader.read(&mut piece)?, &2);
+    expect(&rt, &reader.read(&mut piece)?, &2);
+    expect_bytes(&rt, &piece[..2], b"cd");
     assert!(rt; !reader.failed());
-    assert_eq!(rt; reader.reads(), 2);
-    assert_eq!(rt; stream.reads, 3);
+    expect(&rt, &reader.reads(), &2);
+    expect(&rt, &stream.reads, &3);
     Ok(())
 }
 
@@ -42,9 +43,9 @@ fn a_read_that_fails_otherwise_is_not_made_again(rt: HostRuntime) -> Result<(), 
     let mut reader = Retries::new(&mut stream);
     let mut piece = [0u8; 4];
     let kind = reader.read(&mut piece).map_err(|error| error.kind());
-    assert_eq!(rt; kind, Err(ErrorKind::ConnectionReset));
-    assert_eq!(rt; stream.reads, 1);
-    assert_eq!(rt; stream.rest, b"abcdef".as_slice());
+    expect(&rt, &kind, &Err(ErrorKind::ConnectionReset));
+    expect(&rt, &stream.reads, &1);
+    expect_bytes(&rt, stream.rest, b"abcdef");
     Ok(())
 }
 
@@ -52,14 +53,14 @@ fn a_read_that_fails_otherwise_is_not_made_again(rt: HostRuntime) -> Result<(), 
 fn an_empty_buffer_shows_no_end(rt: HostRuntime) -> Result<(), Fail> {
     let mut reader = Told::new(Stream::new(b"ab", 9, 9));
     let mut piece = [0u8; 4];
-    assert_eq!(rt; reader.read(&mut [])?, 0);
+    expect(&rt, &reader.read(&mut [])?, &0);
     assert!(rt; !reader.ended());
-    assert_eq!(rt; reader.read(&mut piece)?, 2);
-    assert_eq!(rt; reader.read(&mut [])?, 0);
+    expect(&rt, &reader.read(&mut piece)?, &2);
+    expect(&rt, &reader.read(&mut [])?, &0);
     assert!(rt; !reader.ended());
-    assert_eq!(rt; reader.read(&mut piece)?, 0);
+    expect(&rt, &reader.read(&mut piece)?, &0);
     assert!(rt; reader.ended() && !reader.failed());
-    assert_eq!(rt; reader.reads(), 4);
+    expect(&rt, &reader.reads(), &4);
     Ok(())
 }
 
@@ -69,10 +70,10 @@ fn a_writer_of_one_byte_at_a_time_takes_all(rt: HostRuntime) -> Result<(), Fail>
     let mut writer = Told::new(&mut sink);
     writer.write_all(b"foobar")?;
     assert!(rt; !writer.failed());
-    assert_eq!(rt; writer.reads(), 0);
-    assert_eq!(rt; writer.write(b"xyz")?, 1);
-    assert_eq!(rt; sink.taken.as_slice(), b"foobarx".as_slice());
-    assert_eq!(rt; sink.writes, 7);
+    expect(&rt, &writer.reads(), &0);
+    expect(&rt, &writer.write(b"xyz")?, &1);
+    expect_bytes(&rt, &sink.taken, b"foobarx");
+    expect(&rt, &sink.writes, &7);
     Ok(())
 }
 
@@ -81,11 +82,11 @@ fn a_writer_that_fails_in_mid_stream_has_a_front(rt: HostRuntime) -> Result<(), 
     let mut sink = Sink::new(Vec::new(rt.alloc()), 2, 2);
     let mut writer = Told::new(&mut sink);
     let kind = writer.write_all(b"foobar").map_err(|error| error.kind());
-    assert_eq!(rt; kind, Err(ErrorKind::BrokenPipe));
+    expect(&rt, &kind, &Err(ErrorKind::BrokenPipe));
     assert!(rt; writer.failed());
     writer.write_all(b"!")?;
     assert!(rt; writer.failed());
-    assert_eq!(rt; sink.taken.as_slice(), b"foob!".as_slice());
+    expect_bytes(&rt, &sink.taken, b"foob!");
     Ok(())
 }
 
@@ -96,7 +97,7 @@ fn an_interrupted_write_is_made_again(rt: HostRuntime) -> Result<(), Fail> {
     let mut writer = Told::new(&mut sink);
     writer.write_all(b"foobar")?;
     assert!(rt; !writer.failed());
-    assert_eq!(rt; sink.taken.as_slice(), b"foobar".as_slice());
+    expect_bytes(&rt, &sink.taken, b"foobar");
     Ok(())
 }
 
@@ -105,7 +106,7 @@ fn a_full_writer_is_a_failure(rt: HostRuntime) -> Result<(), Fail> {
     let mut sink = Sink::new(Vec::new(rt.alloc()), 0, 99);
     let mut writer = Told::new(&mut sink);
     let kind = writer.write_all(b"foobar").map_err(|error| error.kind());
-    assert_eq!(rt; kind, Err(ErrorKind::WriteZero));
+    expect(&rt, &kind, &Err(ErrorKind::WriteZero));
     assert!(rt; writer.failed());
     writer.write_all(b"")?;
     Ok(())
@@ -120,7 +121,7 @@ fn flushes_are_passed_on(rt: HostRuntime) -> Result<(), Fail> {
     assert!(rt; !writer.failed());
     assert!(rt; writer.flush().is_err());
     assert!(rt; writer.failed());
-    assert_eq!(rt; sink.flushes, 2);
+    expect(&rt, &sink.flushes, &2);
     Ok(())
 }
 
@@ -130,23 +131,23 @@ fn many_calls_and_large_writes_go_through(rt: HostRuntime) -> Result<(), Fail> {
     let mut reader = Told::new(Stream::new(&bytes, 1, u32::MAX));
     let mut piece = [0u8; 9];
     for _ in 0..300_000 {
-        assert_eq!(rt; reader.read(&mut piece)?, 1);
+        expect(&rt, &reader.read(&mut piece)?, &1);
     }
-    assert_eq!(rt; reader.reads(), 300_000);
+    expect(&rt, &reader.reads(), &300_000);
     assert!(rt; !reader.failed() && !reader.ended());
     let mut sink = Sink::new(Vec::new(rt.alloc()), usize::MAX, u32::MAX);
     let mut writer = Told::new(&mut sink);
     for _ in 0..300_000 {
-        assert_eq!(rt; writer.write(b"x")?, 1);
+        expect(&rt, &writer.write(b"x")?, &1);
         writer.write_all(b"x")?;
         writer.flush()?;
     }
-    assert_eq!(rt; writer.write(&bytes)?, 300_000);
+    expect(&rt, &writer.write(&bytes)?, &300_000);
     writer.write_all(&bytes)?;
     assert!(rt; !writer.failed());
-    assert_eq!(rt; sink.writes, 600_002);
-    assert_eq!(rt; sink.flushes, 300_000);
-    assert_eq!(rt; sink.taken.len(), 1_200_000);
+    expect(&rt, &sink.writes, &600_002);
+    expect(&rt, &sink.flushes, &300_000);
+    expect(&rt, &sink.taken.len(), &1_200_000);
     assert!(rt; sink.taken.as_slice().iter().all(|byte| *byte == b'x'));
     Ok(())
 }
@@ -157,12 +158,12 @@ fn a_failed_call_is_not_made_again(rt: HostRuntime) -> Result<(), Fail> {
     let mut reader = Told::new(&mut stream);
     let mut piece = [0u8; 4];
     assert!(rt; reader.read(&mut piece).is_err());
-    assert_eq!(rt; reader.read(&mut piece)?, 4);
-    assert_eq!(rt; stream.reads, 2);
+    expect(&rt, &reader.read(&mut piece)?, &4);
+    expect(&rt, &stream.reads, &2);
     let mut sink = Sink::new(Vec::new(rt.alloc()), 9, 0);
     let mut writer = Told::new(&mut sink);
     assert!(rt; writer.write(b"foobar").is_err());
     assert!(rt; writer.write_all(b"foobar").is_ok());
-    assert_eq!(rt; sink.writes, 2);
+    expect(&rt, &sink.writes, &2);
     Ok(())
 }

@@ -1,5 +1,6 @@
 //! The lines of a transcript, and writers that fail under them.
 
+use crate::expecting::{expect, expect_bytes};
 use git_client::{Event, write_asked, write_event};
 use git_msg::{Capability, Command};
 use git_pkt::{RunFault, Told};
@@ -21,9 +22,9 @@ fn expect_line(
 ) -> Result<(), Fail> {
     let mut sink = Sink::new(Vec::new(rt.alloc()), usize::MAX, NEVER);
     let mut out = Told::new(&mut sink);
-    assert_eq!(rt; write_event(&mut out, event, 7, 8), Ok(()));
+    expect(rt, &write_event(&mut out, event, 7, 8), &Ok(()));
     assert!(rt; !out.failed());
-    assert_eq!(rt; sink.taken.as_slice(), line);
+    expect_bytes(rt, &sink.taken, line);
     Ok(())
 }
 
@@ -59,8 +60,8 @@ fn each_question_is_a_line(rt: HostRuntime) -> Result<(), Fail> {
     ] {
         let mut sink = Sink::new(Vec::new(rt.alloc()), usize::MAX, NEVER);
         let mut out = Told::new(&mut sink);
-        assert_eq!(rt; write_asked(&mut out, command), Ok(()));
-        assert_eq!(rt; sink.taken.as_slice(), line);
+        expect(&rt, &write_asked(&mut out, command), &Ok(()));
+        expect_bytes(&rt, &sink.taken, line);
     }
     Ok(())
 }
@@ -75,8 +76,8 @@ fn a_long_value_is_written_whole(rt: HostRuntime) -> Result<(), Fail> {
     let mut sink = Sink::new(Vec::new(rt.alloc()), 7, NEVER);
     let mut out = Told::new(&mut sink);
     let event = Event::Capability(capability);
-    assert_eq!(rt; write_event(&mut out, &event, 0, 0), Ok(()));
-    assert_eq!(rt; sink.taken.len(), 2_014);
+    expect(&rt, &write_event(&mut out, &event, 0, 0), &Ok(()));
+    expect(&rt, &sink.taken.len(), &2_014);
     assert!(rt; sink.taken.as_slice().starts_with(b"capability k=\\\\"));
     assert!(rt; sink.taken.as_slice().ends_with(b"\\\\\n"));
     Ok(())

@@ -14,12 +14,12 @@ use Rattle.git_msg.specs.Asked.{Asked}
 use Rattle.git_msg.specs.Texts.{IsErrorText}
 use Rattle.git_msg.specs.WrittenRequest.{text_line}
 use Rattle.git_msg.specs.declared.offers.Caps.{Caps}
-use Rattle.git_client.specs.Client.{AreWhole, Behind, IsDue, IsDueIn, awaits_end}
+use Rattle.git_client.specs.Machine.Client.{AreWhole, Behind, IsDue, IsDueIn, awaits_end}
 use Rattle.git_client.specs.Conversation.{GiveAll, GivesAt}
 use Rattle.git_client.specs.Events.{EventValue, ended, ended_by, flush_says, pack, Gives, GivesLine}
 use Rattle.git_client.specs.Parts.{Terms, advertisement_of, message_of, nearest, terms_of}
 use Rattle.git_client.specs.Sections.{may_begin, section_named}
-use Rattle.git_client.specs.Turns.{NotesAfter, due_after_header, phase_after, phase_after_response, place_due}
+use Rattle.git_client.specs.Machine.Turns.{NotesAfter, due_after_header, phase_after, phase_after_response, place_due}
 use Rattle.git_client.specs.declared.events.Ending.{Ending}
 use Rattle.git_client.specs.declared.events.Ending.TheVariants.{FlushOnly, ResponseEnd as WithResponseEnd}
 use Rattle.git_client.specs.declared.phase.Due.{Due}

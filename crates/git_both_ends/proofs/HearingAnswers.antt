@@ -32,13 +32,13 @@ use Rattle.git_msg.proofs.FoundParts.{All-filter_map}
 use Rattle.git_msg.proofs.ReferenceLaws.{reference_reads_back}
 use Rattle.git_msg.proofs.ResponseLines.{ack_reads_back, boundary_reads_back, info_reads_back, wanted_reads_back}
 use Rattle.git_msg.proofs.WrittenNames.{hex_of-reads_back, length-hex_of}
-use Rattle.git_client.specs.Client.{AreWhole, IsDue}
+use Rattle.git_client.specs.Machine.Client.{AreWhole, IsDue}
 use Rattle.git_client.specs.Conversation.{GiveAll}
 use Rattle.git_client.specs.Events.{EventValue, GivesLine, ack, ended, info, nak, pack, ready, reference, wanted_ref}
 use Rattle.git_client.specs.Parts.{Terms, nearest}
 use Rattle.git_client.specs.Places.{acknowledgments as acknowledgments_at, references, shallow_info as shallow_place, sizes, wanted_refs as wanted_place}
 use Rattle.git_client.specs.Sections.{allowed_after, acks_with}
-use Rattle.git_client.specs.Turns.{after_acknowledgments, first_due}
+use Rattle.git_client.specs.Machine.Turns.{after_acknowledgments, first_due}
 use Rattle.git_client.specs.declared.phase.Due.TheVariants.{Acknowledgments, Header, Packfile, References, ShallowInfo, SizeLine, Sizes, WantedRefs}
 use Rattle.git_client.specs.declared.sections.Allowed.{Allowed}
 use Rattle.git_client.specs.declared.sections.Acks.{Acks}

@@ -16,7 +16,7 @@ use Rattle.git_msg.specs.Features.{features_value, fetch_features, ls_refs_featu
 use Rattle.git_msg.specs.Lines.{IsFormatMeant}
 use Rattle.git_msg.specs.WrittenRequest.{text_line}
 use Rattle.git_msg.specs.Asked.{Asked}
-use Rattle.git_client.specs.Client.{AreWhole}
+use Rattle.git_client.specs.Machine.Client.{AreWhole}
 use Rattle.git_client.specs.Conversation.{GiveAll}
 use Rattle.git_client.specs.Events.{EventValue, capability, offered}
 use Rattle.git_client.specs.Parts.{Terms, advertisement_of, is_end_due, is_zero, message_of, nearest, terms_of}

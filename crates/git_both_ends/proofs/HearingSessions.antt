@@ -15,7 +15,7 @@ use Rattle.git_msg.specs.declared.Boundary.TheVariants.{Shallow, Unshallow}
 use Rattle.git_msg.specs.Asked.{Asked}
 use Rattle.git_msg.specs.References.{IsMaybeObjectName, IsReferenceLine}
 use Rattle.git_msg.specs.ResponseLines.{IsSize, object_of}
-use Rattle.git_client.specs.Client.{AreWhole}
+use Rattle.git_client.specs.Machine.Client.{AreWhole}
 use Rattle.git_client.specs.Conversation.{GiveAll}
 use Rattle.git_client.specs.Events.{ended}
 use Rattle.git_client.specs.Parts.{Terms, nearest}
@@ -23,7 +23,7 @@ use Rattle.git_client.specs.declared.events.Ending.{Ending}
 use Rattle.git_client.specs.declared.events.Ending.TheVariants.{FlushOnly}
 use Rattle.git_server.specs.Answers.{IsAnswer}
 use Rattle.git_server.specs.BoundaryLaws.{told_keep}
-use Rattle.git_server.specs.ListRepo.{lists_of, state_of}
+use Rattle.git_server.specs.Machine.ListRepo.{lists_of, state_of}
 use Rattle.git_server.specs.Lists.{Lists}
 use Rattle.git_server.specs.Objects.{object_cmp, size_among}
 use Rattle.git_server.specs.Repository.{Entry, IsSound, Repository}

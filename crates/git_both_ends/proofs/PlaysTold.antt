@@ -16,13 +16,13 @@ use Rattle.git_msg.specs.Advertisement.{everything, noted_of, takes_command}
 use Rattle.git_msg.specs.Arguments.{Arg, IsNameIn, IsValue, MayFollow, Value, Word, have, id_value, is_offered, object_id, of_flag, row}
 use Rattle.git_msg.specs.declared.flags.Flag.{Flag}
 use Rattle.git_msg.specs.Asked.{Asked, HasValues, arguments_in, fetch, haves_of, id_in, ls_refs, object_info, oids_of}
-use Rattle.git_msg.specs.HeldRequest.{asked_of, format_of}
+use Rattle.git_msg.specs.Machine.HeldRequest.{asked_of, format_of}
 use Rattle.git_msg.specs.Lines.{IsFormatMeant}
 use Rattle.git_msg.proofs.ArgumentsInOrder.{arguments_in_order}
 use Rattle.git_msg.proofs.FoundParts.{All-filter_map}
 use Rattle.git_msg.proofs.RoundTrip.{meant_when_said}
 use Rattle.git_msg.proofs.WholeRequests.{lines_have_no_flush}
-use Rattle.git_client.specs.Client.{History, questions_of, said_of, spelled}
+use Rattle.git_client.specs.Machine.Client.{History, questions_of, said_of, spelled}
 use Rattle.git_client.specs.Conversation.{GiveAll, HasNoted, IsConversation, Sounds}
 use Rattle.git_client.specs.Events.{EventValue, pack_bytes}
 use Rattle.git_client.specs.Parts.{Terms, advertisement_of, nearest, terms_of}

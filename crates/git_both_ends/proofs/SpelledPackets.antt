@@ -15,7 +15,7 @@ use Rattle.git_msg.specs.Arguments.{Arg, IsValue, name_of, written_text}
 use Rattle.git_msg.specs.Asked.{Asked, HasValues, arguments_in, command_asked}
 use Rattle.git_msg.specs.WrittenRequest.{agent_line, argument_lines, format_line, lines_written, text_line, where_set}
 use Rattle.git_msg.proofs.KeptBytes.{value_fits}
-use Rattle.git_client.specs.Client.{spelled}
+use Rattle.git_client.specs.Machine.Client.{spelled}
 use Rattle.git_server.specs.Answers.{AllFit}
 use Rattle.git_both_ends.specs.ToldAnswers.{packets_of}
 use Rattle.git_both_ends.proofs.RequestsHeard.{HaveValues, written_all}

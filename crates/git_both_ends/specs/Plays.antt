@@ -9,16 +9,16 @@ use Rattle.git_msg.specs.Advertisement.{everything}
 use Rattle.git_msg.specs.Asked.{Asked}
 use Rattle.git_msg.specs.declared.offers.Caps.{Caps}
 use Rattle.git_msg.specs.declared.requests.Request.{Request}
-use Rattle.git_client.specs.Client.{History, questions_of, spelled}
+use Rattle.git_client.specs.Machine.Client.{History, questions_of, spelled}
 use Rattle.git_client.specs.Conversation.{HasEvents, HasNoted}
 use Rattle.git_client.specs.Events.{pack_bytes}
 use Rattle.git_client.specs.Parts.{Terms}
-use Rattle.git_client.specs.Runs.{HasAsked, HasSaid, IsMalformed, IsRefusedRequest, IsWholeRun}
+use Rattle.git_client.specs.Machine.Runs.{HasAsked, HasSaid, IsMalformed, IsRefusedRequest, IsWholeRun}
 use Rattle.git_client.specs.Transcript.{transcript_of}
 use Rattle.git_client.specs.declared.events.Ending.{Ending}
 use Rattle.git_client.specs.declared.events.Ending.TheVariants.{FlushOnly, ResponseEnd}
 use Rattle.git_server.specs.Repository.{RepoState}
-use Rattle.git_server.specs.Server.{IsPackLost}
+use Rattle.git_server.specs.Machine.Server.{IsPackLost}
 use Rattle.git_server.specs.Sessions.{Setting, GoesOn, IsAnswered, IsEnding, IsSession}
 use Rattle.git_server.specs.declared.outcome.Outcome.{Outcome}
 

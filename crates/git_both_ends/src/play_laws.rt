@@ -2,7 +2,7 @@
 
 ghost use Rattle.std.specs.Prelude.{ℕ, ◌≡◌, ◌∷◌, [], All, List, Ok, flat_map, map};
 ghost use Rattle.git_msg.specs.Asked.{Asked, HasValues};
-ghost use Rattle.git_msg.specs.HeldRequest.{asked_of, format_of};
+ghost use Rattle.git_msg.specs.Machine.HeldRequest.{asked_of, format_of};
 ghost use Rattle.git_msg.specs.declared.requests.Request.{Request};
 ghost use Rattle.git_client.specs.Events.{pack_bytes};
 ghost use Rattle.git_client.specs.Parts.{Terms};

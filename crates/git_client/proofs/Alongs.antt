@@ -3,14 +3,14 @@ use Rattle.std.proofs.Common.{arith, ◌≡◌, ℕ, ◌+◌, ◌≤◌, Bool, t
 use Rattle.std.proofs.Common.{refl, sym, ap, ◌∙◌, subst, append_assoc, length-append}
 use Rattle.git_pkt.specs.declared.fault.Fault.{Fault}
 use Rattle.git_msg.specs.Asked.{Asked, command_asked}
-use Rattle.git_msg.specs.HeldRequest.{asked_of}
+use Rattle.git_msg.specs.Machine.HeldRequest.{asked_of}
 use Rattle.git_msg.specs.declared.requests.Request.{Request}
 use Rattle.git_client.specs.Events.{EventValue, pack_bytes, progress_bytes}
 use Rattle.git_client.specs.Parts.{Terms}
 use Rattle.git_pkt.specs.Streams.{Flow, IsTimely}
 use Rattle.git_client.specs.Transcript.{asked_line, next_asked, transcript_from, transcript_of}
-use Rattle.git_client.specs.Client.{History, Converses, HearsOn, can_ask, fault_of, nothing_yet, phase_of, wants_input}
-use Rattle.git_client.specs.RunSteps.{no_counts, counts_with, CanCount, HearsBytes, AsksNext, FaultsInTime}
+use Rattle.git_client.specs.Machine.Client.{History, Converses, HearsOn, can_ask, fault_of, nothing_yet, phase_of, wants_input}
+use Rattle.git_client.specs.Machine.RunSteps.{no_counts, counts_with, CanCount, HearsBytes, AsksNext, FaultsInTime}
 use Rattle.git_client.specs.declared.client.Client.{Client}
 use Rattle.git_client.specs.declared.hearing.Counts.{Counts}
 use Rattle.git_client.proofs.Counting.{bytes_fit}

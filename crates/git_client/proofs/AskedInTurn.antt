@@ -7,14 +7,14 @@ use Rattle.git_names.specs.declared.object_format.Format.{Format}
 use Rattle.git_msg.specs.Advertisement.{noted_of, offers_command}
 use Rattle.git_msg.specs.Asked.{Asked, command_asked}
 use Rattle.git_msg.specs.Checks.{Passes}
-use Rattle.git_msg.specs.HeldRequest.{asked_of}
+use Rattle.git_msg.specs.Machine.HeldRequest.{asked_of}
 use Rattle.git_msg.specs.declared.offers.Caps.{Caps}
 use Rattle.git_msg.specs.declared.requests.Request.{Request}
 use Rattle.git_client.specs.Parts.{Terms, advertisement_of, nearest}
 use Rattle.git_client.specs.Events.{EventValue, turns_of}
 use Rattle.git_client.specs.Conversation.{HasNoted, IsConversation}
-use Rattle.git_client.specs.Client.{History, Converses, ask_checks, can_ask, caps_of, format_of}
-use Rattle.git_client.specs.Runs.{HasAsked}
+use Rattle.git_client.specs.Machine.Client.{History, Converses, ask_checks, can_ask, caps_of, format_of}
+use Rattle.git_client.specs.Machine.Runs.{HasAsked}
 use Rattle.git_client.specs.declared.client.Client.{Client}
 use Rattle.git_client.proofs.CanAsk.{can_ask_tells}
 use Rattle.git_client.proofs.EventsHeard.{has_noted, is_whole}

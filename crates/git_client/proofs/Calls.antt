@@ -3,14 +3,14 @@ use Rattle.std.proofs.Common.{arith, ◌≡◌, ℕ, ◌+◌, ◌≤◌, List, [
 use Rattle.std.proofs.Common.{length-append, append-nil}
 use Rattle.std.specs.Prelude.{flat_map}
 use Rattle.std.proofs.lemmas.List.{length-take-le}
-use Rattle.git_pkt.specs.Credit.{ArePaid, MakesAll, credit_of}
+use Rattle.git_pkt.specs.Machine.Credit.{ArePaid, MakesAll, credit_of}
 use Rattle.git_pkt.proofs.Credits.{all_paid}
-use Rattle.git_msg.specs.HeldRequest.{kept_of, limit_of as request_limit, stored_of}
+use Rattle.git_msg.specs.Machine.HeldRequest.{kept_of, limit_of as request_limit, stored_of}
 use Rattle.git_msg.specs.declared.requests.Request.{Request}
 use Rattle.git_client.specs.Parts.{Terms}
 use Rattle.git_client.specs.Events.{EventValue}
-use Rattle.git_client.specs.Client.{History, Converses, nothing_yet, reader_of, stored_in, kept_in, limit_in}
-use Rattle.git_client.specs.Calls.{Call, ask, ask_refused, leave, pull, feed, close, Makes, Headline, after_call, history_after, feeds_by, feeds_in}
+use Rattle.git_client.specs.Machine.Client.{History, Converses, nothing_yet, reader_of, stored_in, kept_in, limit_in}
+use Rattle.git_client.specs.Machine.Calls.{Call, ask, ask_refused, leave, pull, feed, close, Makes, Headline, after_call, history_after, feeds_by, feeds_in}
 use Rattle.git_client.specs.declared.client.Client.{Client}
 use Rattle.git_client.proofs.EventsHeard.{has_events, has_noted, goes_well, is_whole, all_is_said}
 use Rattle.git_client.proofs.Faults.{first_fault}

@@ -10,8 +10,8 @@ use Rattle.git_client.specs.Places.{response_end, place_after}
 use Rattle.git_client.specs.Events.{EventValue, turns_of}
 use Rattle.git_client.specs.Opened.{opened_in}
 use Rattle.git_client.specs.Conversation.{GiveAll}
-use Rattle.git_client.specs.Turns.{fault_in, is_ready, has_left_in}
-use Rattle.git_client.specs.Client.{History, Converses, StandsIn, IsDue, fault_of, can_ask, phase_of}
+use Rattle.git_client.specs.Machine.Turns.{fault_in, is_ready, has_left_in}
+use Rattle.git_client.specs.Machine.Client.{History, Converses, StandsIn, IsDue, fault_of, can_ask, phase_of}
 use Rattle.git_client.specs.declared.phase.Phase.{Phase}
 use Rattle.git_client.specs.declared.phase.Phase.TheVariants.{Hearing, Ready, Asking, Leaving, Left, Failed}
 use Rattle.git_client.specs.declared.client.Client.{Client}

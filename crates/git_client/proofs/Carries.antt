@@ -6,7 +6,7 @@ use Rattle.git_names.specs.declared.object_format.Format.{Format}
 use Rattle.git_pkt.specs.Packets.{Pkt, payload, Spells, body_of}
 use Rattle.git_pkt.specs.Splits.{Given}
 use Rattle.git_pkt.specs.Faults.{StopsBy}
-use Rattle.git_pkt.specs.PacketReader.{Reads, StandsAt, position_of, is_open, held_of, fault_of as reader_fault_of}
+use Rattle.git_pkt.specs.Machine.PacketReader.{Reads, StandsAt, position_of, is_open, held_of, fault_of as reader_fault_of}
 use Rattle.git_pkt.specs.declared.fault.Fault.{Fault}
 use Rattle.git_pkt.specs.declared.fault.Kind.{Kind}
 use Rattle.git_pkt.specs.declared.fault.Kind.TheVariants.{Truncated}
@@ -21,9 +21,9 @@ use Rattle.git_client.specs.Places.{Place, place_after}
 use Rattle.git_client.specs.Events.{EventValue, Refuses}
 use Rattle.git_client.specs.Opened.{opened_in}
 use Rattle.git_client.specs.Conversation.{GiveAll, HasDue}
-use Rattle.git_client.specs.Turns.{has_left_in, left_in, question_in, events_at, place_due, NotesAfter, IsTurn}
-use Rattle.git_client.specs.Client.{History, Converses, HearsOn, StandsIn, Goes, Behind, IsDue, spelled}
-use Rattle.git_client.specs.Client.{questions_of, farewell, format_of, ending_of, caps_of, phase_of, reader_of, request_of}
+use Rattle.git_client.specs.Machine.Turns.{has_left_in, left_in, question_in, events_at, phase_in, place_due, NotesAfter, IsTurn}
+use Rattle.git_client.specs.Machine.Client.{History, Converses, HearsOn, StandsIn, Goes, Behind, IsDue, spelled}
+use Rattle.git_client.specs.Machine.Client.{questions_of, farewell, format_of, ending_of, caps_of, phase_of, reader_of, request_of}
 use Rattle.git_client.specs.declared.events.Ending.{Ending}
 use Rattle.git_client.specs.declared.phase.Phase.{Phase}
 use Rattle.git_client.specs.declared.phase.Phase.TheVariants.{Hearing, Ready, Asking, Leaving, Left, Failed}
@@ -174,21 +174,21 @@ module _ {A : Type 0} where
 
   -- a packet without a fault
   pub hears_packet : (old new : Client A) (due : Due) (u : List ℕ) (g : Given) (found : Said) (turn : Turn) → HearsPacket old new due u g
-      → IsTurn (format_of old) (ending_of old) due (caps_of old) g.packet found turn → goes_on turn.next ≡ true → phase_of new ≡ turn.next
-      → caps_of new ≡ turn.caps → HearsOn old u (events_at found (body_of g.packet)) new
-  hears_packet old new due u g found turn b judged goes_after now caps =
+      → IsTurn (format_of old) (ending_of old) due (caps_of old) g.packet found (caps_of new) turn → goes_on (phase_in turn) ≡ true
+      → phase_of new ≡ phase_in turn → HearsOn old u (events_at found (body_of g.packet)) new
+  hears_packet old new due u g found turn b judged goes_after now =
       let said = events_at found (body_of g.packet) in
       hears_bytes old new due u (g ∷ []) [] said b.bytes
-      (ap is_quiet now ∙ goes_quietly turn.next goes_after) (λ t h c r.
+      (ap is_quiet now ∙ goes_quietly (phase_in turn) goes_after) (λ t h c r.
       let of_terms =
-      on_terms (λ format ending. IsTurn format ending due (caps_of old) g.packet found turn) _ _ t c.format_is c.ending_is judged in
-      let says = judged_well t h.asked (nearest r.clean []) due (caps_of old) g.packet found turn r.is_due r.notes of_terms in
+      on_terms (λ format ending. IsTurn format ending due (caps_of old) g.packet found (caps_of new) turn) _ _ t c.format_is c.ending_is judged in
+      let says = judged_well t h.asked (nearest r.clean []) due (caps_of old) g.packet found (caps_of new) turn r.is_due r.notes of_terms in
       let push = nearest_push r.clean g [] in
       let nothing = nothing_left (reader_of new) (h.used ++ u) (r.clean ++ g ∷ []) r.rest b.sound b.shut r.reads in
-      let next : Goes t h.asked (r.clean ++ g ∷ []) (r.clean ++ g ∷ []) r.rest None turn.next (reader_of new) = record {
+      let next : Goes t h.asked (r.clean ++ g ∷ []) (r.clean ++ g ∷ []) r.rest None (phase_in turn) (reader_of new) = record {
         cut = refl;
         sound = b.sound;
-        behind = subst (λ (l : List Pkt). Behind t h.asked l None turn.next) (sym push) says.2;
+        behind = subst (λ (l : List Pkt). Behind t h.asked l None (phase_in turn)) (sym push) says.2;
         shut = λ _. nothing;
       } in
       let none : (place : Option Place) → opened_in place r.rest ≡ [] =
@@ -202,13 +202,12 @@ module _ {A : Type 0} where
             (sym (append-nil h.events) ∙ r.events_are ∙ ap (λ (l : List EventValue). r.whole ++ l) (none _) ∙ append-nil r.whole)
             ∙ sym (append-nil (r.whole ++ said))
             ∙ ap (λ (l : List EventValue). (r.whole ++ said) ++ l) (sym (none _));
-        notes = caps ∙ says.1 ∙ ap (λ (l : List Pkt). noted_of (advertisement_of l)) (sym push);
+        notes = says.1 ∙ ap (λ (l : List Pkt). noted_of (advertisement_of l)) (sym push);
         stands =
             subst (λ (phase : Phase). StandsIn phase t h.asked (r.clean ++ g ∷ []) (r.clean ++ g ∷ []) r.rest (length (h.used ++ u))
-            (question_in (request_of new)) (reader_of new)) (sym now) (stands_on turn.next t h.asked _ _ _ _ _ _ goes_after next);
+            (question_in (request_of new)) (reader_of new)) (sym now) (stands_on (phase_in turn) t h.asked _ _ _ _ _ _ goes_after next);
         same_questions =
-            ap (λ (a : Caps). questions_of t.format a h.asked) caps
-            ∙ same_questions t h.asked (nearest r.clean []) due (caps_of old) turn.caps g.packet r.is_due of_terms.notes;
+            same_questions t h.asked (nearest r.clean []) due (caps_of old) (caps_of new) g.packet r.is_due of_terms.notes;
       })
 
   -- where the client fails nothing was given, and all else stays

@@ -6,24 +6,24 @@ use Rattle.std.proofs.lemmas.Bool.{or_from, or_left}
 use Rattle.std.proofs.lemmas.Result.{err_from_is_err_and}
 use Rattle.std.proofs.KnownBytes.{Appends-kept, Consumes-nil, Consumes-trans}
 use Rattle.std.specs.Io.KnownBytes.{Consumes, Keeps}
-use Rattle.git_pkt.specs.Engine.{FailsAs, IsShownBy}
+use Rattle.git_pkt.specs.Machine.Engine.{FailsAs, IsShownBy}
 use Rattle.git_pkt.specs.declared.fault.Fault.{Fault}
 use Rattle.git_pkt.specs.declared.fault.RunFault.{RunFault}
 use Rattle.git_pkt.specs.declared.fault.RunFault.TheVariants.{ReadFault, WriteFault, ReadLimit, Refused}
 use Rattle.git_msg.specs.Asked.{Asked}
 use Rattle.git_msg.specs.Checks.{Refuses as RefusesBy}
-use Rattle.git_msg.specs.HeldRequest.{asked_of}
+use Rattle.git_msg.specs.Machine.HeldRequest.{asked_of}
 use Rattle.git_msg.specs.declared.requests.Request.{Request}
 use Rattle.git_names.specs.declared.object_format.Format.{Format}
 use Rattle.git_pkt.proofs.EngineLemmas.{holds_at_fault, written_nothing, written_then, written_whole}
 use Rattle.git_client.specs.Parts.{Terms}
 use Rattle.git_client.specs.Events.{EventValue, pack_bytes, progress_bytes}
 use Rattle.git_client.specs.Transcript.{transcript_from, transcript_of}
-use Rattle.git_client.specs.Client.{History, Converses, Leaves, nothing_yet, ask_checks, caps_of, ending_of, can_ask, fault_of, wants_input}
-use Rattle.git_client.specs.Client.{left_to_say, phase_of, request_of}
+use Rattle.git_client.specs.Machine.Client.{History, Converses, Leaves, nothing_yet, ask_checks, caps_of, ending_of, can_ask, fault_of, wants_input}
+use Rattle.git_client.specs.Machine.Client.{left_to_say, phase_of, request_of}
 use Rattle.git_pkt.specs.Streams.{Flow, flow, WrittenAs, Moves, is_broken}
-use Rattle.git_client.specs.RunSteps.{HearsFrom, HearsTo, HearsWhole, Says, AsksNext, AsksNot, AsksTo, FaultsInTime, no_counts, window_of}
-use Rattle.git_client.specs.Runs.{leaves_last, HasSaid, IsBrokenRun, IsInterrupted, IsRefusedRequest, IsWholeRun, EndsAs, Conversed}
+use Rattle.git_client.specs.Machine.RunSteps.{HearsFrom, HearsTo, HearsWhole, Says, AsksNext, AsksNot, AsksTo, FaultsInTime, no_counts, window_of}
+use Rattle.git_client.specs.Machine.Runs.{leaves_last, HasSaid, IsBrokenRun, IsInterrupted, IsRefusedRequest, IsWholeRun, EndsAs, Conversed}
 use Rattle.git_client.specs.declared.client.Client.{Client}
 use Rattle.git_client.specs.declared.events.Ending.{Ending}
 use Rattle.git_client.specs.declared.events.Ending.TheVariants.{FlushOnly, ResponseEnd}

@@ -1,15 +1,15 @@
 -- Where the input ended.
 use Rattle.std.proofs.Common.{arith, ◌≡◌, ◌⊎◌, inl, inr, ℕ, ◌+◌, List, [], length, true, false, Some, None, ap, refl, sym, subst}
 use Rattle.git_pkt.specs.Splits.{Given, Splits}
-use Rattle.git_pkt.specs.PacketReader.{ReadsOn, Holds, is_open, open_length, position_of, fault_of as reader_fault_of}
+use Rattle.git_pkt.specs.Machine.PacketReader.{ReadsOn, Holds, is_open, open_length, position_of, fault_of as reader_fault_of}
 use Rattle.git_pkt.specs.declared.fault.Fault.{Fault}
 use Rattle.git_pkt.specs.declared.fault.Kind.TheVariants.{Truncated}
 use Rattle.git_pkt.specs.declared.reader.PacketReader.{PacketReader}
 use Rattle.git_pkt.proofs.KnownRest.{sound_rest, none_between, rest_length}
 use Rattle.git_pkt.proofs.Streams.{one_split}
 use Rattle.git_client.specs.Parts.{Terms}
-use Rattle.git_client.specs.Turns.{takes_packets, fault_in}
-use Rattle.git_client.specs.Client.{History, Converses, HearsOn, phase_of, reader_of, format_of, ending_of, caps_of, wants_input}
+use Rattle.git_client.specs.Machine.Turns.{takes_packets, fault_in}
+use Rattle.git_client.specs.Machine.Client.{History, Converses, HearsOn, phase_of, reader_of, format_of, ending_of, caps_of, wants_input}
 use Rattle.git_client.specs.declared.phase.Phase.{Phase}
 use Rattle.git_client.specs.declared.phase.Phase.TheVariants.{Hearing, Failed}
 use Rattle.git_client.specs.declared.phase.Due.{Due}

@@ -18,7 +18,7 @@ use Rattle.git_client.specs.Places.{size_line, sizes, response_end, place_after}
 use Rattle.git_client.specs.Events.{EventValue, pack, progress, Gives, ended_by, band_says, flush_says, delimiter_says, response_end_says}
 use Rattle.git_client.specs.Opened.{IsOfRest, opened_in, unless_refused}
 use Rattle.git_client.specs.Conversation.{GiveAll, HasEvents}
-use Rattle.git_client.specs.Client.{History, Converses}
+use Rattle.git_client.specs.Machine.Client.{History, Converses}
 use Rattle.git_client.specs.declared.client.Client.{Client}
 use Rattle.git_client.proofs.PlaceLines.{ReadsLine, boundary_event, line_read}
 use Rattle.git_client.proofs.Opened.{few_opened}

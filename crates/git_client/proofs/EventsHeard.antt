@@ -1,7 +1,7 @@
 -- What a client has received and sent, by its history.
 use Rattle.std.proofs.Common.{arith, ◌≡◌, ℕ, ◌-◌, true, List, [], ◌∷◌, ◌++◌, length, Option, None, inl, inr, refl, sym, ap, ◌∙◌, subst, append-nil, zero-add}
 use Rattle.git_pkt.specs.Faults.{IsOpen, StopsBy}
-use Rattle.git_pkt.specs.PacketReader.{fault_of as reader_fault_of}
+use Rattle.git_pkt.specs.Machine.PacketReader.{fault_of as reader_fault_of}
 use Rattle.git_pkt.specs.Splits.{Given, Splits}
 use Rattle.git_pkt.specs.declared.fault.Kind.{Kind}
 use Rattle.git_pkt.specs.declared.fault.Kind.TheVariants.{Truncated, StreamTooLong}
@@ -16,9 +16,9 @@ use Rattle.git_client.specs.Places.{Place, place_after}
 use Rattle.git_client.specs.Events.{EventValue}
 use Rattle.git_client.specs.Opened.{IsOfRest, opened_in, unless_refused}
 use Rattle.git_client.specs.Conversation.{GiveAll, Sounds, HasEvents, HasNoted, HasDue, GoesWell, GoesOn, IsConversation}
-use Rattle.git_client.specs.Turns.{is_ready, takes_packets, fault_in, question_in}
-use Rattle.git_client.specs.Client.{History, Converses, StandsIn, Goes, AreWhole, fault_of, can_ask, wants_input, bytes_used, phase_of, reader_of}
-use Rattle.git_client.specs.Client.{caps_of, request_of, left_to_say, said_of, spelled}
+use Rattle.git_client.specs.Machine.Turns.{is_ready, takes_packets, fault_in, question_in}
+use Rattle.git_client.specs.Machine.Client.{History, Converses, StandsIn, Goes, AreWhole, fault_of, can_ask, wants_input, bytes_used, phase_of, reader_of}
+use Rattle.git_client.specs.Machine.Client.{caps_of, request_of, left_to_say, said_of, spelled}
 use Rattle.git_client.specs.declared.phase.Phase.{Phase}
 use Rattle.git_client.specs.declared.phase.Phase.TheVariants.{Hearing, Ready, Failed}
 use Rattle.git_client.specs.declared.client.Client.{Client}

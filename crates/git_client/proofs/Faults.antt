@@ -9,8 +9,8 @@ use Rattle.git_msg.specs.Asked.{Asked}
 use Rattle.git_client.specs.Parts.{Terms, nearest}
 use Rattle.git_client.specs.Events.{EventValue}
 use Rattle.git_client.specs.Conversation.{GiveAll, HasDue, FirstMalformed}
-use Rattle.git_client.specs.Turns.{fault_in, question_in}
-use Rattle.git_client.specs.Client.{History, Converses, StandsIn, RefusedPacket, RefusedBytes, EndedEarly, fault_of, phase_of, reader_of, request_of}
+use Rattle.git_client.specs.Machine.Turns.{fault_in, question_in}
+use Rattle.git_client.specs.Machine.Client.{History, Converses, StandsIn, RefusedPacket, RefusedBytes, EndedEarly, fault_of, phase_of, reader_of, request_of}
 use Rattle.git_client.specs.declared.phase.Phase.{Phase}
 use Rattle.git_client.specs.declared.phase.Phase.TheVariants.{Failed}
 use Rattle.git_client.specs.declared.client.Client.{Client}

@@ -5,9 +5,9 @@ use Rattle.git_pkt.specs.Streams.{Flow}
 use Rattle.git_pkt.specs.declared.fault.RunFault.{RunFault}
 use Rattle.git_pkt.specs.declared.fault.RunFault.TheVariants.{ReadFault, WriteFault, ReadLimit, Refused}
 use Rattle.git_msg.specs.declared.requests.Request.{Request}
-use Rattle.git_client.specs.Client.{can_ask}
-use Rattle.git_client.specs.RunSteps.{AsksTo, HearsTo}
-use Rattle.git_client.specs.Runs.{IsHandedBack}
+use Rattle.git_client.specs.Machine.Client.{can_ask}
+use Rattle.git_client.specs.Machine.RunSteps.{AsksTo, HearsTo}
+use Rattle.git_client.specs.Machine.Runs.{IsHandedBack}
 use Rattle.git_client.specs.declared.client.Client.{Client}
 
 module _ {A : Type 0} where

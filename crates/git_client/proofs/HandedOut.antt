@@ -4,16 +4,16 @@ use Rattle.std.proofs.Common.{length-append}
 use Rattle.std.proofs.lemmas.List.{length-map, length-take-le}
 use Rattle.git_pkt.specs.Packets.{longest_payload}
 use Rattle.git_pkt.specs.Passed.{on}
-use Rattle.git_pkt.specs.PacketReader.{ShownByFeed}
+use Rattle.git_pkt.specs.Machine.PacketReader.{ShownByFeed}
 use Rattle.git_pkt.specs.declared.band.Band.{Band}
 use Rattle.git_pkt.specs.declared.band.Band.TheVariants.{Pack, Progress}
 use Rattle.git_pkt.specs.declared.fault.Fault.{Fault}
 use Rattle.git_pkt.proofs.BandFeeds.{last_of_used}
 use Rattle.git_client.specs.Events.{EventValue, pack, progress, all_parts_length}
 use Rattle.git_client.specs.Opened.{events_on}
-use Rattle.git_client.specs.Turns.{fault_in, takes_packets, values_of}
-use Rattle.git_client.specs.HandedOut.{HandsOut, HasPart, Shows}
-use Rattle.git_client.specs.Client.{EndsAt, Feeds, HearsOn, IsPassed, LeavesAfter, Takes, events_of, phase_of, wants_input}
+use Rattle.git_client.specs.Machine.Turns.{fault_in, takes_packets, values_of}
+use Rattle.git_client.specs.Machine.HandedOut.{HandsOut, HasPart, Shows}
+use Rattle.git_client.specs.Machine.Client.{EndsAt, Feeds, HearsOn, IsPassed, LeavesAfter, Takes, events_of, phase_of, wants_input}
 use Rattle.git_client.specs.declared.events.Event.{Event}
 use Rattle.git_client.specs.declared.events.Event.TheVariants.{Pack as PackEvent, Progress as ProgressEvent}
 use Rattle.git_client.specs.declared.events.HeardGot.{HeardGot}

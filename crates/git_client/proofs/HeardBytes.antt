@@ -4,8 +4,8 @@ use Rattle.git_pkt.specs.Streams.{Flow, flow, WrittenAs}
 use Rattle.git_client.specs.Parts.{Terms}
 use Rattle.git_client.specs.Events.{EventValue, pack_bytes, progress_bytes}
 use Rattle.git_client.specs.Transcript.{transcript_from}
-use Rattle.git_client.specs.Client.{History, Converses, HearsOn, can_ask}
-use Rattle.git_client.specs.RunSteps.{counts_with, CanCount, IsOneTurn, HearsBytes}
+use Rattle.git_client.specs.Machine.Client.{History, Converses, HearsOn, can_ask}
+use Rattle.git_client.specs.Machine.RunSteps.{counts_with, CanCount, IsOneTurn, HearsBytes}
 use Rattle.git_client.specs.declared.client.Client.{Client}
 use Rattle.git_client.specs.declared.hearing.Counts.{Counts}
 use Rattle.git_pkt.proofs.EngineLemmas.{written_nothing, written_then, written_whole}

@@ -5,7 +5,7 @@ use Rattle.std.proofs.lemmas.Grind.{common_steps}
 use Rattle.std.proofs.lemmas.List.{drop-take, drop-drop, length-take}
 use Rattle.std.specs.Io.KnownBytes.{Consumes, Keeps}
 use Rattle.std.proofs.KnownBytes.{Consumes-nil, Consumes-trans, Consumes-kept}
-use Rattle.git_pkt.specs.PacketReader.{ShownByFeed}
+use Rattle.git_pkt.specs.Machine.PacketReader.{ShownByFeed}
 use Rattle.git_pkt.specs.declared.fault.Fault.{Fault}
 use Rattle.git_pkt.specs.declared.fault.Kind.{Kind}
 use Rattle.git_pkt.specs.declared.fault.Kind.TheVariants.{Truncated}
@@ -13,8 +13,8 @@ use Rattle.git_pkt.specs.declared.fault.RunFault.{RunFault}
 use Rattle.git_pkt.specs.declared.fault.RunFault.TheVariants.{ReadFault, WriteFault, ReadLimit, Refused}
 use Rattle.git_pkt.specs.Streams.{Flow, flow, WrittenAs, IsTimely}
 use Rattle.git_pkt.proofs.EngineLemmas.{timely, written_nothing, at_fault}
-use Rattle.git_client.specs.Client.{HearsOn, fault_of, phase_of, wants_input}
-use Rattle.git_client.specs.RunSteps.{no_counts, window_of, HearsPieceTo, HearsBytes, HearsFrom, HearsBroken, HearsFault, HearsTo}
+use Rattle.git_client.specs.Machine.Client.{HearsOn, fault_of, phase_of, wants_input}
+use Rattle.git_client.specs.Machine.RunSteps.{no_counts, window_of, HearsPieceTo, HearsBytes, HearsFrom, HearsBroken, HearsFault, HearsTo}
 use Rattle.git_client.specs.declared.client.Client.{Client}
 use Rattle.git_client.specs.declared.hearing.Counts.{Counts}
 use Rattle.git_client.specs.declared.hearing.Window.{Window}

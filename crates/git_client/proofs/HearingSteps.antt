@@ -1,18 +1,18 @@
 -- What calls of `feed` result in over a piece: what they give was written.
 use Rattle.std.proofs.Common.{arith, ◌≡◌, ℕ, ◌+◌, ◌-◌, ◌≤◌, ◌<◌, Bool, true, false, List, [], ◌∷◌, length, map, take, drop}
 use Rattle.std.proofs.Common.{Option, Some, None, Result, Err, refl, sym, ap, ◌∙◌, subst, length-drop}
-use Rattle.git_pkt.specs.PacketReader.{ShownByFeed}
+use Rattle.git_pkt.specs.Machine.PacketReader.{ShownByFeed}
 use Rattle.git_pkt.specs.declared.fault.Fault.{Fault}
 use Rattle.git_pkt.specs.declared.fault.RunFault.{RunFault}
 use Rattle.git_pkt.specs.declared.fault.RunFault.TheVariants.{WriteFault}
 use Rattle.git_pkt.proofs.Pieces.{take_joined, left_of}
 use Rattle.git_client.specs.Events.{EventValue, pack, progress, pack_bytes, progress_bytes, turns_of}
 use Rattle.git_client.specs.Transcript.{lines_of}
-use Rattle.git_client.specs.Turns.{values_of}
+use Rattle.git_client.specs.Machine.Turns.{values_of}
 use Rattle.git_pkt.specs.Streams.{flow, is_broken, WrittenAs}
-use Rattle.git_client.specs.RunSteps.{counts_with, CanCount, IsOneTurn}
-use Rattle.git_client.specs.RunSteps.{HearsBytes, HearsInPiece, HearsToFault, HearsPieceBroken}
-use Rattle.git_client.specs.Client.{HearsOn, Feeds, Tells, LeavesAfter, fault_of, can_ask, wants_input, phase_of, events_of}
+use Rattle.git_client.specs.Machine.RunSteps.{counts_with, CanCount, IsOneTurn}
+use Rattle.git_client.specs.Machine.RunSteps.{HearsBytes, HearsInPiece, HearsToFault, HearsPieceBroken}
+use Rattle.git_client.specs.Machine.Client.{HearsOn, Feeds, Tells, LeavesAfter, fault_of, can_ask, wants_input, phase_of, events_of}
 use Rattle.git_client.specs.declared.client.Client.{Client}
 use Rattle.git_client.specs.declared.events.Event.{Event}
 use Rattle.git_client.specs.declared.events.Event.TheVariants.{Offered, Pack, Progress, Ended}

@@ -3,7 +3,7 @@ use Rattle.std.proofs.Common.{arith, ◌≡◌, ℕ, ◌<◌, Option, Some, None
 use Rattle.git_pkt.specs.Packets.{body_of, text_of}
 use Rattle.git_pkt.specs.Splits.{Given, Splits}
 use Rattle.git_pkt.specs.Faults.{StopsBy}
-use Rattle.git_pkt.specs.PacketReader.{held_of}
+use Rattle.git_pkt.specs.Machine.PacketReader.{held_of}
 use Rattle.git_pkt.specs.declared.fault.Fault.{Fault}
 use Rattle.git_pkt.specs.declared.fault.Kind.{Kind}
 use Rattle.git_pkt.specs.declared.fault.Kind.TheVariants.{RemoteError, RemoteFatal}
@@ -11,9 +11,9 @@ use Rattle.git_pkt.specs.declared.reader.PacketReader.{PacketReader}
 use Rattle.git_msg.specs.Asked.{Asked}
 use Rattle.git_msg.specs.Texts.{IsErrorOf, IsErrorText}
 use Rattle.git_client.specs.Parts.{Terms}
-use Rattle.git_client.specs.Turns.{question_in}
-use Rattle.git_client.specs.Client.{History, Converses, StandsIn, RefusedPacket, phase_of, reader_of, request_of}
-use Rattle.git_client.specs.Client.{EndsWithMessage, EndsWithoutMessage, IsMessage, is_told}
+use Rattle.git_client.specs.Machine.Turns.{question_in}
+use Rattle.git_client.specs.Machine.Client.{History, Converses, StandsIn, RefusedPacket, phase_of, reader_of, request_of}
+use Rattle.git_client.specs.Machine.Client.{EndsWithMessage, EndsWithoutMessage, IsMessage, is_told}
 use Rattle.git_client.specs.declared.phase.Phase.{Phase}
 use Rattle.git_client.specs.declared.phase.Phase.TheVariants.{Failed}
 use Rattle.git_client.specs.declared.client.Client.{Client}

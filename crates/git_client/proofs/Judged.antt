@@ -12,8 +12,9 @@ use Rattle.git_client.specs.Places.{version, capabilities, header, acknowledgmen
 use Rattle.git_client.specs.Events.{EventValue, Gives, Refuses, SaysLine}
 use Rattle.git_client.specs.Conversation.{GivesAt, RefusesAt}
 use Rattle.git_client.specs.Sections.{section_named, lines_of, may_begin, acks_in, acks_with}
-use Rattle.git_client.specs.Turns.{NotesAfter, IsTurn, events_at, place_due, due_after_line, due_after_delimiter, phase_after, phase_after_response}
-use Rattle.git_client.specs.Client.{IsDue, IsDueIn, IsInside, AreWhole, Behind, awaits_end}
+use Rattle.git_client.specs.Machine.Turns.{NotesAfter, IsTurn, events_at, place_due, due_after_line, due_after_delimiter}
+use Rattle.git_client.specs.Machine.Turns.{phase_after, phase_after_response, phase_in}
+use Rattle.git_client.specs.Machine.Client.{IsDue, IsDueIn, IsInside, AreWhole, Behind, awaits_end}
 use Rattle.git_client.specs.declared.sections.Section.{Section}
 use Rattle.git_client.specs.declared.sections.Allowed.{Allowed}
 use Rattle.git_client.specs.declared.sections.Acks.{Acks}
@@ -204,13 +205,13 @@ gives_well t asked before due caps after p events is notes gives adds =
     )
 
 -- a packet in which no fault was found gives what was found of it, and then what was found to be due is due
-pub judged_well : (t : Terms) (asked : List Asked) (before : List Pkt) (due : Due) (caps : Caps) (p : Pkt) (said : Said) (turn : Turn)
-    → IsDue t asked before due → caps ≡ noted_of (advertisement_of before) → IsTurn t.format t.ending due caps p said turn
-    → GivesAt t asked before p (events_at said (body_of p)) × (turn.caps ≡ noted_of (advertisement_of (p ∷ before)))
-    × Behind t asked (p ∷ before) None turn.next
-judged_well t asked before due caps p said turn is notes judged =
+pub judged_well : (t : Terms) (asked : List Asked) (before : List Pkt) (due : Due) (caps : Caps) (p : Pkt) (said : Said) (after : Caps) (turn : Turn)
+    → IsDue t asked before due → caps ≡ noted_of (advertisement_of before) → IsTurn t.format t.ending due caps p said after turn
+    → GivesAt t asked before p (events_at said (body_of p)) × (after ≡ noted_of (advertisement_of (p ∷ before)))
+    × Behind t asked (p ∷ before) None (phase_in turn)
+judged_well t asked before due caps p said after turn is notes judged =
     let (gives, noted, behind) =
-    gives_well t asked before due caps turn.caps p (events_at said (body_of p)) is notes judged.gives judged.notes in
+    gives_well t asked before due caps after p (events_at said (body_of p)) is notes judged.gives judged.notes in
     (gives, noted, subst (Behind t asked (p ∷ before) None) (sym judged.next) behind)
 
 -- a packet in which one was found is refused for it

@@ -4,8 +4,8 @@ use Rattle.std.proofs.Common.{append_assoc, append-nil}
 use Rattle.git_msg.specs.Asked.{Asked}
 use Rattle.git_client.specs.Events.{EventValue, offered, pack, progress, ended, pack_bytes, progress_bytes, turns_of}
 use Rattle.git_client.specs.Transcript.{line_of, lines_of, next_asked, transcript_from}
-use Rattle.git_client.specs.Turns.{values_of}
-use Rattle.git_client.specs.RunSteps.{IsOneTurn}
+use Rattle.git_client.specs.Machine.Turns.{values_of}
+use Rattle.git_client.specs.Machine.RunSteps.{IsOneTurn}
 use Rattle.git_client.specs.declared.events.Event.{Event}
 use Rattle.git_client.specs.declared.events.Event.TheVariants.{Offered, Pack, Progress, Ended}
 

@@ -13,7 +13,7 @@ use Rattle.git_client.specs.Places.{Place, packfile}
 use Rattle.git_client.specs.Events.{EventValue, pack, progress, band_says, pack_bytes, turns_of}
 use Rattle.git_client.specs.Opened.{band_event, events_on, opened_in}
 use Rattle.git_client.specs.Packs.{on_first_band, open_pack_in}
-use Rattle.git_client.specs.Turns.{place_due}
+use Rattle.git_client.specs.Machine.Turns.{place_due}
 use Rattle.git_client.specs.declared.phase.Due.{Due}
 use Rattle.git_client.specs.declared.phase.Due.TheVariants.{Packfile}
 

@@ -5,7 +5,7 @@ use Rattle.git_pkt.specs.Packets.{Pkt, flush, resp_end, flushes}
 use Rattle.git_msg.specs.Asked.{Asked, ls_refs, fetch, object_info}
 use Rattle.git_client.specs.Parts.{Terms, Part, opening, advertisement, listing, sections, informing, closing, answer_to, part_after, part_of, is_end_due}
 use Rattle.git_client.specs.Parts.{is_zero, message_of}
-use Rattle.git_client.specs.Client.{IsDue, IsDueIn, awaits_end}
+use Rattle.git_client.specs.Machine.Client.{IsDue, IsDueIn, awaits_end}
 use Rattle.git_client.specs.declared.events.Ending.{Ending}
 use Rattle.git_client.specs.declared.events.Ending.TheVariants.{FlushOnly, ResponseEnd as WithResponseEnd}
 use Rattle.git_client.specs.declared.phase.Due.{Due}

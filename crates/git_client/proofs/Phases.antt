@@ -1,7 +1,7 @@
 -- What a phase is where bytes are due, where the client can ask, where it has left, and where it has failed.
 use Rattle.std.proofs.Common.{◌≡◌, true, false, Some, None, refl}
 use Rattle.git_pkt.specs.declared.fault.Fault.{Fault}
-use Rattle.git_client.specs.Turns.{takes_packets, fault_in, is_ready, has_left_in}
+use Rattle.git_client.specs.Machine.Turns.{takes_packets, fault_in, is_ready, has_left_in}
 use Rattle.git_client.specs.declared.phase.Phase.{Phase}
 use Rattle.git_client.specs.declared.phase.Phase.TheVariants.{Hearing, Ready, Leaving, Left, Failed}
 use Rattle.git_client.proofs.Carries.{is_quiet}

@@ -5,18 +5,19 @@ use Rattle.std.specs.Bool.{OnTrue, OnFalse}
 use Rattle.std.proofs.lemmas.Grind.{flat_map-append}
 use Rattle.std.proofs.lemmas.List.{append-nil, flat_map_more}
 use Rattle.git_names.specs.declared.object_format.Format.{Format}
-use Rattle.git_pkt.specs.Credit.{credit_of}
+use Rattle.git_pkt.specs.Machine.Credit.{credit_of}
 use Rattle.git_pkt.specs.Packets.{Pkt, flush, spelling_of, flushes}
 use Rattle.git_pkt.specs.Splits.{Given}
-use Rattle.git_pkt.specs.PacketReader.{bytes_held, Reads, is_open, held_of, fault_of as reader_fault_of}
-use Rattle.git_pkt.specs.LentHold.{with_hold, with_hold_by}
-use Rattle.git_pkt.specs.ReaderState.{is_open_in}
+use Rattle.git_pkt.specs.Machine.PacketReader.{bytes_held, Reads, is_open, held_of, fault_of as reader_fault_of}
+use Rattle.git_pkt.specs.Machine.LentHold.{with_hold, with_hold_by}
+use Rattle.git_pkt.specs.Machine.ReaderState.{is_open_in}
 use Rattle.git_pkt.specs.declared.reader.PacketReader.{PacketReader}
 use Rattle.git_pkt.proofs.OpenLengths.{shut_counts_none}
 use Rattle.git_pkt.proofs.LentHolds.{lent_reads}
 use Rattle.git_msg.specs.Asked.{Asked, ls_refs, fetch, object_info}
-use Rattle.git_msg.specs.HeldRequest.{asked_of, format_of as request_format}
-use Rattle.git_msg.specs.WrittenRequest.{lines_written, written_of, left_to_write, PutsFirst}
+use Rattle.git_msg.specs.Machine.HeldRequest.{asked_of, format_of as request_format}
+use Rattle.git_msg.specs.WrittenRequest.{lines_written}
+use Rattle.git_msg.specs.Machine.RequestWriter.{written_of, left_to_write, PutsFirst}
 use Rattle.git_msg.specs.declared.offers.Caps.{Caps}
 use Rattle.git_msg.specs.declared.requests.Request.{Request}
 use Rattle.git_msg.specs.declared.writer.RequestWriter.{RequestWriter}
@@ -25,9 +26,10 @@ use Rattle.git_client.specs.Sections.{is_empty, is_header_due, allowed_after}
 use Rattle.git_client.specs.Places.{place_after}
 use Rattle.git_client.specs.Events.{EventValue}
 use Rattle.git_client.specs.Opened.{opened_in}
-use Rattle.git_client.specs.Turns.{fault_in, is_ready, has_left_in, left_in, question_in, first_due}
-use Rattle.git_client.specs.Client.{History, Converses, AsksOn, SaysOn, GivesOne, Leaves, Puts, StandsIn, Goes, Behind, AreWhole, IsAsked, IsDue}
-use Rattle.git_client.specs.Client.{questions_of, said_of, spelled, format_of, ending_of, caps_of, phase_of, reader_of, request_of, has_left, left_to_say}
+use Rattle.git_client.specs.Machine.Turns.{fault_in, is_ready, has_left_in, left_in, question_in, first_due}
+use Rattle.git_client.specs.Machine.Client.{History, Converses, AsksOn, SaysOn, GivesOne, Leaves, Puts, StandsIn, Goes, Behind, AreWhole, IsAsked, IsDue}
+use Rattle.git_client.specs.Machine.Client.{questions_of, said_of, spelled, format_of, ending_of, caps_of, phase_of, reader_of}
+use Rattle.git_client.specs.Machine.Client.{request_of, has_left, left_to_say}
 use Rattle.git_client.specs.declared.phase.Phase.{Phase}
 use Rattle.git_client.specs.declared.phase.Phase.TheVariants.{Hearing, Ready, Asking, Leaving, Left, Failed}
 use Rattle.git_client.specs.declared.phase.Due.{Due}

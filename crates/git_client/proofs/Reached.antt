@@ -4,8 +4,8 @@ use Rattle.std.proofs.Common.{append_assoc, append-nil}
 use Rattle.git_pkt.specs.Packets.{Pkt, payload}
 use Rattle.git_pkt.specs.Splits.{Given, Splits}
 use Rattle.git_pkt.specs.Passed.{OnBand, is_on_band, others, passed_by, passed_by_all, passed_by_rest, passed_in}
-use Rattle.git_pkt.specs.PacketReader.{Reads, ReadsOn}
-use Rattle.git_pkt.specs.BandReader.{ReadsBandsOn}
+use Rattle.git_pkt.specs.Machine.PacketReader.{Reads, ReadsOn}
+use Rattle.git_pkt.specs.Machine.BandReader.{ReadsBandsOn}
 use Rattle.git_pkt.specs.declared.reader.PacketReader.{PacketReader}
 use Rattle.git_pkt.proofs.Streams.{one_split}
 use Rattle.git_msg.specs.Advertisement.{noted_of}
@@ -16,8 +16,8 @@ use Rattle.git_client.specs.Places.{Place, place_after}
 use Rattle.git_client.specs.Events.{EventValue}
 use Rattle.git_client.specs.Opened.{events_on, opened_in}
 use Rattle.git_client.specs.Conversation.{GivesAt, GiveAll}
-use Rattle.git_client.specs.Turns.{question_in}
-use Rattle.git_client.specs.Client.{History, Converses, StandsIn, Goes, IsDue, caps_of, phase_of, reader_of, request_of}
+use Rattle.git_client.specs.Machine.Turns.{question_in}
+use Rattle.git_client.specs.Machine.Client.{History, Converses, StandsIn, Goes, IsDue, caps_of, phase_of, reader_of, request_of}
 use Rattle.git_client.specs.declared.phase.Phase.{Phase}
 use Rattle.git_client.specs.declared.phase.Phase.TheVariants.{Hearing}
 use Rattle.git_client.specs.declared.phase.Due.{Due}

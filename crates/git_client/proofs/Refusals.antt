@@ -14,7 +14,7 @@ use Rattle.git_client.specs.declared.events.Ending.{Ending}
 use Rattle.git_client.specs.Places.{Place, version, capabilities, references, header, acknowledgments, shallow_info, wanted_refs, packfile}
 use Rattle.git_client.specs.Places.{size_line, sizes, response_end}
 use Rattle.git_client.specs.Events.{EventValue, Refuses, RefusesLine, IsLineFault, band_says, flush_says, delimiter_says, response_end_says, pack, progress}
-use Rattle.git_client.specs.Client.{IsMessage}
+use Rattle.git_client.specs.Machine.Client.{IsMessage}
 
 -- a name of the client's own rules
 abbrev pub is_own : Kind → Bool

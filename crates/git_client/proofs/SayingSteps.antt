@@ -7,14 +7,14 @@ use Rattle.git_pkt.specs.Packets.{Pkt, payload, spelling_of}
 use Rattle.git_pkt.specs.declared.fault.RunFault.{RunFault}
 use Rattle.git_pkt.specs.declared.fault.RunFault.TheVariants.{WriteFault}
 use Rattle.git_msg.specs.Asked.{command_asked}
-use Rattle.git_msg.specs.HeldRequest.{asked_of}
+use Rattle.git_msg.specs.Machine.HeldRequest.{asked_of}
 use Rattle.git_msg.specs.declared.requests.Request.{Request}
 use Rattle.git_pkt.specs.Streams.{Flow, flow, WrittenAs, is_broken}
 use Rattle.git_client.specs.Transcript.{asked_line}
-use Rattle.git_client.specs.Turns.{takes_packets, fault_in, is_ready, is_asking, has_left_in, left_in}
-use Rattle.git_client.specs.Client.{Converses, Asks, SaysOn, Pulls, TellsSent, given_by, can_ask, fault_of, has_left, left_to_say}
-use Rattle.git_client.specs.Client.{wants_input}
-use Rattle.git_client.specs.RunSteps.{BreaksOff, Says, AsksNext, AsksTo}
+use Rattle.git_client.specs.Machine.Turns.{takes_packets, fault_in, is_ready, is_asking, has_left_in, left_in}
+use Rattle.git_client.specs.Machine.Client.{Converses, Asks, SaysOn, Pulls, TellsSent, given_by, can_ask, fault_of, has_left, left_to_say}
+use Rattle.git_client.specs.Machine.Client.{wants_input}
+use Rattle.git_client.specs.Machine.RunSteps.{BreaksOff, Says, AsksNext, AsksTo}
 use Rattle.git_client.specs.declared.phase.Phase.{Phase}
 use Rattle.git_client.specs.declared.phase.Phase.TheVariants.{Hearing, Asking, Leaving, Left, Failed}
 use Rattle.git_client.specs.declared.client.Client.{Client}

@@ -7,8 +7,8 @@ use Rattle.git_pkt.specs.Packets.{Pkt, payload, text_of}
 use Rattle.git_client.specs.Parts.{sections}
 use Rattle.git_client.specs.Sections.{header_of, section_named, section_of, is_header_due, lines_of, allowed_after, allows, next_allowed, may_begin}
 use Rattle.git_client.specs.Sections.{acks_in}
-use Rattle.git_client.specs.Turns.{due_after_header, after_acknowledgments}
-use Rattle.git_client.specs.Client.{IsDueIn, IsInside}
+use Rattle.git_client.specs.Machine.Turns.{due_after_header, after_acknowledgments}
+use Rattle.git_client.specs.Machine.Client.{IsDueIn, IsInside}
 use Rattle.git_client.specs.declared.sections.Section.{Section}
 use Rattle.git_client.specs.declared.sections.Section.TheVariants.{Acknowledgments, ShallowInfo, WantedRefs, Packfile}
 use Rattle.git_client.specs.declared.sections.Allowed.{Allowed}

@@ -1,12 +1,12 @@
 -- What the client has done once a packet is settled.
 use Rattle.std.proofs.Common.{arith, ◌≡◌, ◌≢◌, ◌⊎◌, inl, inr, ℕ, ◌<◌, ◌≤◌, true, false, List, [], ◌∷◌, length, take, drop, map}
-use Rattle.std.proofs.Common.{Some, None, Result, Ok, Err, MatchResult, refl, ap, sym, ◌∙◌, subst}
+use Rattle.std.proofs.Common.{Some, None, Result, Ok, Err, refl, ap, sym, ◌∙◌, subst}
 use Rattle.std.proofs.lemmas.List.{length-take-le}
 use Rattle.git_names.specs.declared.object_format.Format.{Format}
 use Rattle.git_pkt.specs.Packets.{Pkt, Spells, flush, delim, resp_end, payload, seen, text_of, body_of}
 use Rattle.git_pkt.specs.Splits.{Given}
-use Rattle.git_pkt.specs.PacketReader.{Feeds, ReadsOn, ShownByFeed, Tells, given_by, held_of, is_open, fault_of as reader_fault_of}
-use Rattle.git_pkt.specs.BandReader.{FeedsBand, IsPart, ReadsBandsOn, TellsBand, part_of, told_by}
+use Rattle.git_pkt.specs.Machine.PacketReader.{Feeds, ReadsOn, ShownByFeed, Tells, given_by, held_of, is_open, fault_of as reader_fault_of}
+use Rattle.git_pkt.specs.Machine.BandReader.{FeedsBand, IsPart, ReadsBandsOn, TellsBand, part_of, told_by}
 use Rattle.git_pkt.specs.Passed.{on}
 use Rattle.git_pkt.specs.declared.band.Band.{Band}
 use Rattle.git_pkt.specs.declared.band.Band.TheVariants.{Fatal}
@@ -25,9 +25,10 @@ use Rattle.git_msg.specs.declared.offers.Caps.{Caps}
 use Rattle.git_client.specs.Places.{Place, acknowledgments, shallow_info, wanted_refs, packfile, response_end}
 use Rattle.git_client.specs.Events.{EventValue, Gives, Refuses, turns_of, ended_by, delimiter_says, response_end_says}
 use Rattle.git_client.specs.Opened.{events_on}
-use Rattle.git_client.specs.Turns.{fault_in, is_ready, takes_packets, place_due, phase_after, phase_after_response, events_at, Fits, IsTurn}
-use Rattle.git_client.specs.Client.{Comes, Takes, LeavesStep, StandsAfter, phase_judged, caps_judged, outcome_judged, outcome_said, IsMessage}
-use Rattle.git_client.specs.Client.{Settles, format_of, ending_of, caps_of, phase_of, reader_of, said_last}
+use Rattle.git_client.specs.Machine.Turns.{fault_in, is_ready, takes_packets, place_due, phase_after, phase_after_response, phase_in}
+use Rattle.git_client.specs.Machine.Turns.{events_at, Fits, IsTurn, Judges}
+use Rattle.git_client.specs.Machine.Client.{Comes, Takes, LeavesStep, StandsAfter, phase_judged, outcome_judged, outcome_said, IsMessage}
+use Rattle.git_client.specs.Machine.Client.{Settles, format_of, ending_of, caps_of, phase_of, reader_of, said_last}
 use Rattle.git_client.specs.declared.events.Ending.{Ending}
 use Rattle.git_client.specs.declared.events.Ending.TheVariants.{FlushOnly, ResponseEnd as WithResponseEnd}
 use Rattle.git_client.specs.declared.phase.Phase.{Phase}
@@ -151,19 +152,19 @@ module _ {A : Type 0} where
 
   taken_well : (old new : Client A) (due : Due) (piece : List ℕ) (used : ℕ) (g : Given) (found : Said) (turn : Turn)
       → HearsPacket old new due (take used piece) g
-      → 0 < used → IsTurn (format_of old) (ending_of old) due (caps_of old) g.packet found turn → phase_of new ≡ turn.next → caps_of new ≡ turn.caps
+      → 0 < used → IsTurn (format_of old) (ending_of old) due (caps_of old) g.packet found (caps_of new) turn → phase_of new ≡ phase_in turn
       → said_last new ≡ found → Takes old piece (record { used = used; outcome = outcome_said found }) new
-  taken_well old new due piece used g found turn b some judged now caps said =
+  taken_well old new due piece used g found turn b some judged now said =
       let body = body_of g.packet in
-      let goes : goes_on turn.next ≡ true = ap goes_on judged.next ∙ goes_after (ending_of old) due g.packet in
-      let turns : IsTurnTo turn.next (events_at found body) =
+      let goes : goes_on (phase_in turn) ≡ true = ap goes_on judged.next ∙ goes_after (ending_of old) due g.packet in
+      let turns : IsTurnTo (phase_in turn) (events_at found body) =
       subst (λ (phase : Phase). IsTurnTo phase (events_at found body)) (sym judged.next)
       (packet_turn (format_of old) (ending_of old) (caps_of old) due g.packet (events_at found body) judged.gives) in
       record {
         events = events_at found body;
         comes = comes found body used piece new said b.held.body judged.fits;
-        hears = hears_packet old new due (take used piece) g found turn b judged goes now caps;
-        leaves = leaves found used piece new said some b.shut (subst (StandsOn found) (sym now) (stands_after found body turn.next goes turns));
+        hears = hears_packet old new due (take used piece) g found turn b judged goes now;
+        leaves = leaves found used piece new said some b.shut (subst (StandsOn found) (sym now) (stands_after found body (phase_in turn) goes turns));
         fits = events_fit (format_of old) (ending_of old) (place_due (caps_of old) (format_of old) due)
             g.packet (events_at found body) judged.gives b.held.fits;
       }
@@ -271,25 +272,25 @@ module _ {A : Type 0} where
   -- a packet was judged and settled
   taken : (old new : Client A) (due : Due) (piece : List ℕ) (used : ℕ) (g : Given) (said : Said) (judged : Result Turn Kind)
       → HearsPacket old new due (take used piece) g → 0 < used
-      → MatchResult judged (IsTurn (format_of old) (ending_of old) due (caps_of old) g.packet said)
-      (Refuses (format_of old) (ending_of old) (place_due (caps_of old) (format_of old) due) g.packet)
-      → phase_of new ≡ phase_judged g.offset judged → caps_of new ≡ caps_judged (caps_of old) judged → said_last new ≡ said
+      → Judges (format_of old) (ending_of old) due (caps_of old) g.packet said (caps_of new) judged
+      → phase_of new ≡ phase_judged g.offset judged → said_last new ≡ said
       → Takes old piece (record { used = used; outcome = outcome_judged g.offset said judged }) new
-  taken old new due piece used g said (Ok turn) b some judged now caps is = taken_well old new due piece used g said turn b some judged now caps is
-  taken old new due piece used g said (Err kind) b some judged now caps is = taken_badly old new due piece used g kind b judged now caps
+  taken old new due piece used g said (Ok turn) b some judged now is = taken_well old new due piece used g said turn b some judged now is
+  taken old new due piece used g said (Err kind) b some (refused, same) now is = taken_badly old new due piece used g kind b refused now same
 
   -- a packet came whole, and was judged and settled
   pub settled : (old read new : Client A) (due : Due) (piece : List ℕ) (used : ℕ) (g : Given) (judged : Result Turn Kind)
       (outcome : Outcome) → ReadsPacket old read due (take used piece) g → used ≤ length piece
-      → MatchResult judged (IsTurn (format_of old) (ending_of old) due (caps_of old) g.packet (said_last read))
-      (Refuses (format_of old) (ending_of old) (place_due (caps_of old) (format_of old) due) g.packet)
-      → format_of read ≡ format_of old → ending_of read ≡ ending_of old → caps_of read ≡ caps_of old
+      → Judges (format_of old) (ending_of old) due (caps_of old) g.packet (said_last read) (caps_of read) judged
+      → format_of read ≡ format_of old → ending_of read ≡ ending_of old
       → Settles read judged g.offset outcome new → Takes old piece (record { used = used; outcome = outcome }) new
-  settled old read new due piece used g judged outcome r within found format ending caps settles =
+  settled old read new due piece used g judged outcome r within found format ending settles =
       let hears = packet_read old read new due (take used piece) g r settles.reader (settles.format ∙ format) (settles.ending ∙ ending) in
+      let judges = subst (λ (c : Caps). Judges (format_of old) (ending_of old) due (caps_of old) g.packet (said_last read) c judged)
+      (sym settles.caps) found in
       subst (λ (outcome : Outcome). Takes old piece (record { used = used; outcome = outcome }) new) (sym settles.tells)
-      (taken old new due piece used g (said_last read) judged hears (omega (arith, r.some, length-take-le used piece within)) found settles.phase
-      (settles.caps ∙ ap (λ (c : Caps). caps_judged c judged) caps) settles.said)
+      (taken old new due piece used g (said_last read) judged hears (omega (arith, r.some, length-take-le used piece within)) judges settles.phase
+      settles.said)
 
   -- bytes that the reader refuses
   pub taken_failed : (old new : Client A) (due : Due) (piece : List ℕ) (used : ℕ) (f : Fault) → HearsBytes old new due (take used piece) [] []

@@ -2,14 +2,13 @@
 use Rattle.std.proofs.Common.{arith, ◌≡◌, ℕ, ◌+◌, min, Bool, false, List, [], ◌∷◌, length, map, Bor}
 use Rattle.std.proofs.Common.{Option, Result, Ok, Err, OnOk, OnErr, IfErr, refl, sym, ap, ◌∙◌, subst}
 use Rattle.std.specs.Io.KnownBytes.{Appends}
-use Rattle.git_pkt.specs.Told.{AppendsFront}
+use Rattle.git_pkt.specs.Streams.{AppendsFront, flow, is_broken, WrittenAs}
 use Rattle.git_pkt.specs.declared.fault.RunFault.{RunFault}
 use Rattle.git_pkt.specs.declared.fault.RunFault.TheVariants.{WriteFault}
 use Rattle.git_client.specs.Events.{pack, progress, pack_bytes, progress_bytes}
-use Rattle.git_pkt.specs.Streams.{flow, is_broken, WrittenAs}
-use Rattle.git_client.specs.RunSteps.{counts_with, CanCount}
+use Rattle.git_client.specs.Machine.RunSteps.{counts_with, CanCount}
 use Rattle.git_client.specs.Transcript.{lines_of}
-use Rattle.git_client.specs.Turns.{values_of}
+use Rattle.git_client.specs.Machine.Turns.{values_of}
 use Rattle.git_client.specs.declared.events.Event.{Event}
 use Rattle.git_client.specs.declared.events.Event.TheVariants.{Pack, Progress}
 use Rattle.git_client.specs.declared.hearing.Counts.{Counts}

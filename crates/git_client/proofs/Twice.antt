@@ -3,7 +3,7 @@ use Rattle.std.proofs.Common.{arith, ◌≡◌, ◌≢◌, inl, inr, ℕ, ◌+�
 use Rattle.std.proofs.lemmas.Grind.{common_steps}
 use Rattle.git_pkt.proofs.Pieces.{take_joined}
 use Rattle.git_client.specs.Events.{EventValue}
-use Rattle.git_client.specs.Client.{Comes, HearsOn, IsPassed, LeavesStep}
+use Rattle.git_client.specs.Machine.Client.{Comes, HearsOn, IsPassed, LeavesStep}
 use Rattle.git_client.specs.declared.client.Client.{Client}
 use Rattle.git_client.specs.declared.client.Outcome.{Outcome}
 use Rattle.git_client.specs.declared.client.Outcome.TheVariants.{More, Event, Passed, Failed}

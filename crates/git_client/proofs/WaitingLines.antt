@@ -1,18 +1,18 @@
 -- Lines that wait for their writer while a piece is received.
 use Rattle.std.proofs.Common.{◌≡◌, ℕ, Bool, true, false, List, [], ◌++◌, take, Option, Some, None, Result, Ok, Err, OnOk, IfErr, IsErrAnd}
 use Rattle.std.proofs.Common.{refl, sym, ap, ◌∙◌, subst, append_assoc, append-nil}
-use Rattle.git_pkt.specs.Sends.{Puts, Sends}
+use Rattle.git_pkt.specs.Machine.Sends.{Puts, Sends}
 use Rattle.git_pkt.specs.Streams.{Flow, flow, is_broken, WrittenAs}
-use Rattle.git_pkt.specs.Told.{inner_of}
+use Rattle.git_pkt.specs.Machine.Told.{inner_of}
 use Rattle.git_pkt.specs.declared.fault.Fault.{Fault}
 use Rattle.git_pkt.specs.declared.fault.RunFault.{RunFault}
 use Rattle.git_pkt.specs.declared.fault.RunFault.TheVariants.{WriteFault}
 use Rattle.git_pkt.specs.declared.told.Told.{Told}
 use Rattle.git_pkt.proofs.EngineLemmas.{AppendsFront-longer, written_nothing, written_then, written_whole}
 use Rattle.git_client.specs.Events.{pack_bytes, progress_bytes}
-use Rattle.git_client.specs.LineParts.{PutAs}
-use Rattle.git_client.specs.RunSteps.{HearsBytes, HearsInPiece, HearsToFault, HearsPieceBroken}
-use Rattle.git_client.specs.Client.{can_ask, fault_of}
+use Rattle.git_client.specs.Machine.LineParts.{PutAs}
+use Rattle.git_client.specs.Machine.RunSteps.{HearsBytes, HearsInPiece, HearsToFault, HearsPieceBroken}
+use Rattle.git_client.specs.Machine.Client.{can_ask, fault_of}
 use Rattle.git_client.specs.declared.client.Client.{Client}
 use Rattle.git_client.specs.declared.hearing.Counts.{Counts}
 use Rattle.git_client.proofs.HeardBytes.{nothing_heard}

@@ -7,7 +7,7 @@ use Rattle.git_names.specs.ObjectFormat.{digits_of}
 use Rattle.git_names.specs.declared.object_format.Format.{Format}
 use Rattle.git_names.specs.declared.object_format.Format.TheVariants.{Sha1, Sha256}
 use Rattle.git_pkt.specs.Escape.{escaped_of}
-use Rattle.git_pkt.specs.Sends.{Puts, Sends}
+use Rattle.git_pkt.specs.Machine.Sends.{Puts, Sends}
 use Rattle.git_pkt.specs.declared.fault.RunFault.{RunFault}
 use Rattle.git_pkt.specs.declared.told.Told.{Told}
 use Rattle.git_pkt.proofs.Escapes.{escaped-append, escaped-parts}
@@ -15,7 +15,7 @@ use Rattle.git_pkt.proofs.EngineLemmas.{take-next}
 use Rattle.git_pkt.proofs.Sends.{puts_then, puts_front, sends_all, sends_stopped}
 use Rattle.git_client.specs.Events.{EventValue}
 use Rattle.git_client.specs.Transcript.{line_of, lines_of}
-use Rattle.git_client.specs.LineParts.{part_shown, line_shown}
+use Rattle.git_client.specs.Machine.LineParts.{part_shown, line_shown}
 use Rattle.git_client.specs.declared.line.Part.{Part}
 
 -- the parts before a place were put, and those of the line from there on are left

@@ -5,11 +5,5 @@ pub mod Events
 pub mod Opened
 pub mod Conversation
 pub mod Packs
-pub mod Turns
-pub mod Client
-pub mod HandedOut
 pub mod Transcript
-pub mod LineParts
-pub mod Runs
-pub mod RunSteps
-pub mod Calls
+pub mod Machine

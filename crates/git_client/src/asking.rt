@@ -3,10 +3,10 @@
 ghost use Rattle.std.specs.Prelude.{◌≡◌, ◌≤◌, length, true, MatchResult};
 ghost use Rattle.std.specs.Borrow.{sem};
 ghost use Rattle.std.specs.Io.BufRead.{Rests};
-ghost use Rattle.git_pkt.specs.PacketReader.{held_of};
+ghost use Rattle.git_pkt.specs.Machine.PacketReader.{held_of};
 ghost use Rattle.git_msg.specs.Checks.{Passes, Refuses};
-ghost use Rattle.git_msg.specs.HeldRequest.{asked_of};
-ghost use Rattle.git_client.specs.Turns.{first_due, is_asking};
+ghost use Rattle.git_msg.specs.Machine.HeldRequest.{asked_of};
+ghost use Rattle.git_client.specs.Machine.Turns.{first_due, is_asking};
 
 use crate::client::Client;
 use crate::events::Sent;
@@ -17,8 +17,8 @@ use git_pkt::{Fault, Kind, Packet, put};
 use std::alloc::Allocator;
 
 impl<A: Allocator + Copy> Client<A> {
-    ghost use Rattle.git_client.specs.Client.{Asks, RefusesToAsk, Leaves, Pulls, Puts, given_by, ask_checks, can_ask, caps_of};
-    ghost use Rattle.git_client.specs.Client.{format_of, phase_of, reader_of};
+    ghost use Rattle.git_client.specs.Machine.Client.{Asks, RefusesToAsk, Leaves, Pulls, Puts, given_by, ask_checks, can_ask, caps_of};
+    ghost use Rattle.git_client.specs.Machine.Client.{format_of, phase_of, reader_of};
     ghost use Rattle.git_client.specs.contracts.client.Client.{the_row};
 
     /// Asks: from now on the packets of the request are to be pulled, and then its response is due. Refused in this order, at

@@ -19,18 +19,18 @@ ghost use Rattle.std.specs.Prelude.{◌≡◌, ◌≢◌, ◌+◌, ◌-◌, ◌�
 ghost use Rattle.std.specs.Prelude.{MatchOption, ◌*◌};
 ghost use Rattle.std.specs.Option.{ForSome};
 ghost use Rattle.std.specs.Borrow.{sem};
-ghost use Rattle.git_msg.specs.HeldRequest.{format_of as request_format, kept_of, limit_of, stored_of};
+ghost use Rattle.git_msg.specs.Machine.HeldRequest.{format_of as request_format, kept_of, limit_of, stored_of};
 ghost use Rattle.std.specs.Io.BufRead.{Rests};
 ghost use Rattle.git_names.specs.declared.object_format.Format.{Format};
-ghost use Rattle.git_pkt.specs.Credit.{Pays, credit_of};
+ghost use Rattle.git_pkt.specs.Machine.Credit.{Pays, credit_of};
 ghost use Rattle.git_pkt.specs.Packets.{longest_payload};
 ghost use Rattle.git_pkt.specs.Splits.{Given, Splits};
-ghost use Rattle.git_pkt.specs.BandReader.{MayPass};
-ghost use Rattle.git_pkt.specs.PacketReader.{fault_of as reader_fault_of, held_of, is_open, passes_of};
+ghost use Rattle.git_pkt.specs.Machine.BandReader.{MayPass};
+ghost use Rattle.git_pkt.specs.Machine.PacketReader.{fault_of as reader_fault_of, held_of, is_open, passes_of};
 ghost use Rattle.git_client.specs.Parts.{Terms, terms_of};
-ghost use Rattle.git_client.specs.Turns.{takes_packets, fault_in, is_asking, left_in, Fits, LiesIn, events_at, value_at, values_of, capability_value};
-ghost use Rattle.git_client.specs.HandedOut.{HandsOut, HasPart, IsLent, Shows};
-ghost use Rattle.git_client.specs.Turns.{listed_turn, takes_bands, wanted_at};
+ghost use Rattle.git_client.specs.Machine.Turns.{takes_packets, fault_in, is_asking, left_in, Fits, LiesIn, events_at, value_at, values_of, capability_value};
+ghost use Rattle.git_client.specs.Machine.HandedOut.{HandsOut, HasPart, IsLent, Shows};
+ghost use Rattle.git_client.specs.Machine.Turns.{takes_bands, wanted_at};
 ghost use Rattle.git_client.specs.Events.{turns_of, all_parts_length, capability, reference, wanted_ref};
 ghost use Rattle.git_names.specs.ObjectFormat.{digits_of};
 ghost use Rattle.git_msg.specs.References.{FitsIn, reference_at};
@@ -38,7 +38,7 @@ ghost use Rattle.git_client.specs.Conversation.{HasNoted};
 ghost use Rattle.git_client.specs.declared.events.Ending.{Ending};
 
 use crate::events::{Ending, Event, Heard, HeardGot};
-use crate::judge::{judge, judge_listed};
+use crate::judge::judge;
 use crate::phase::{CapabilityPlaces, Due, Phase, Said, Turn};
 use git_msg::{Capability, Caps, ReferencePlaces, Request, error_message};
 use git_names::{Format, Oid, Steps};
@@ -133,9 +133,9 @@ pub struct Client<A: Allocator + Copy> {
 }
 
 impl<A: Allocator + Copy> Client<A> {
-    ghost use Rattle.git_client.specs.Client.{said_last, HearsNext, Converses, History, nothing_yet, HearsOn, Feeds, events_of, EndsWithMessage};
-    ghost use Rattle.git_client.specs.Client.{EndsWithoutMessage, fault_of, can_ask, wants_input, has_left, left_to_say, bytes_used, caps_of};
-    ghost use Rattle.git_client.specs.Client.{phase_of, reader_of, Takes, Settles};
+    ghost use Rattle.git_client.specs.Machine.Client.{said_last, Converses, History, nothing_yet, HearsOn, Feeds, events_of, EndsWithMessage};
+    ghost use Rattle.git_client.specs.Machine.Client.{EndsWithoutMessage, fault_of, can_ask, wants_input, has_left, left_to_say, bytes_used, caps_of};
+    ghost use Rattle.git_client.specs.Machine.Client.{phase_of, reader_of, Takes, Settles};
     ghost use Rattle.git_client.specs.contracts.client.Client.{the_row};
 
     /// A client of this object format, before the first byte of the advertisement.
@@ -307,7 +307,6 @@ impl<A: Allocator + Copy> Client<A> {
         };
         match due {
             Due::Packfile => self.take_band(piece, steps),
-            Due::References => self.take_listed(piece, steps),
             _ => self.take_packet(due, piece, steps),
         }
     }
@@ -337,52 +336,7 @@ impl<A: Allocator + Copy> Client<A> {
                     self.format,
                     self.ending,
                     due,
-                    self.caps,
-                    packet,
-                    &mut self.said,
-                    steps,
-                );
-                let outcome = self.settle(judged, offset);
-                Advance { used, outcome }
-            }
-            Got::Failed(fault) => {
-                self.phase = Phase::Failed(fault);
-                Advance {
-                    used,
-                    outcome: Outcome::Failed(fault),
-                }
-            }
-        }
-    }
-
-    /// The same where references are due, of which a line changes nothing but what the last packet contained.
-    fn take_listed(&mut self, piece: &[u8], steps: &mut Steps) -> Advance
-        requires hears { phase_of self.old ≡ Phase.Hearing Due.References }
-        ensures cost { Pays result.used steps.old steps.new (credit_of (reader_of self.old)) (credit_of (reader_of self.new)) }
-        ensures paid { result.outcome ≡ Outcome.More → result.used < length piece.now
-            → steps.new + credit_of (reader_of self.new) ≤ steps.old + credit_of (reader_of self.old) + 64 * result.used }
-        ensures used { result.used ≤ length piece.now }
-        ensures takes { Takes self.old piece.now result self.new }
-    {
-        steps.tick(1);
-        let fed = self.reader.feed(piece, steps);
-        let used = fed.used;
-        match fed.got {
-            Got::More => Advance {
-                used,
-                outcome: Outcome::More,
-            },
-            Got::Packet(Packet::Payload(payload), offset) => {
-                let judged = judge_listed(self.format, payload, &mut self.said, steps);
-                let outcome = self.settle_listed(judged, offset);
-                Advance { used, outcome }
-            }
-            Got::Packet(packet, offset) => {
-                let judged = judge(
-                    self.format,
-                    self.ending,
-                    Due::References,
-                    self.caps,
+                    &mut self.caps,
                     packet,
                     &mut self.said,
                     steps,
@@ -429,7 +383,7 @@ impl<A: Allocator + Copy> Client<A> {
                     self.format,
                     self.ending,
                     Due::Packfile,
-                    self.caps,
+                    &mut self.caps,
                     packet,
                     &mut self.said,
                     steps,
@@ -452,33 +406,16 @@ impl<A: Allocator + Copy> Client<A> {
         requires whole { is_open (reader_of self.old) ≡ false }
         requires sound { reader_fault_of (reader_of self.old) ≡ None }
         requires said { is_asking (phase_of self.old) ≡ false }
-        requires hears { HearsNext judged }
         ensures { Settles self.old judged offset result self.new }
     {
         match judged {
             Ok(turn) => {
-                self.caps = turn.caps;
-                self.phase = turn.next;
+                self.phase = turn.phase();
                 match self.said {
                     Said::Nothing => Outcome::More,
                     _ => Outcome::Event,
                 }
             }
-            Err(kind) => self.fail(kind, offset),
-        }
-    }
-
-    /// The same after a line where references are due.
-    fn settle_listed(&mut self, judged: Result<(), Kind>, offset: u64) -> Outcome
-        requires whole { is_open (reader_of self.old) ≡ false }
-        requires hears { phase_of self.old ≡ Phase.Hearing Due.References }
-        ensures { Settles self.old (listed_turn (caps_of self.old) judged) offset result self.new }
-    {
-        match judged {
-            Ok(()) => match self.said {
-                Said::Nothing => Outcome::More,
-                _ => Outcome::Event,
-            },
             Err(kind) => self.fail(kind, offset),
         }
     }

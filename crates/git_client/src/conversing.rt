@@ -1,13 +1,13 @@
 //! A client run over a reader and a writer.
 
 ghost use Rattle.std.specs.Prelude.{◌≡◌, ◌≤◌, ◌<◌, ◌||◌, ◌∷◌, [], length, None, true, false, IsTrue, IfErr, is_err};
-ghost use Rattle.git_pkt.specs.Told.{inner_of, reads_of, has_failed, has_ended, has_wasted, IsNew};
-ghost use Rattle.git_pkt.specs.Engine.{FailsAs, IsShownBy, IsSpent};
+ghost use Rattle.git_pkt.specs.Machine.Told.{inner_of, reads_of, has_failed, has_ended, has_wasted, IsNew};
+ghost use Rattle.git_pkt.specs.Machine.Engine.{FailsAs, IsShownBy, IsSpent};
 ghost use Rattle.git_pkt.specs.Streams.{flow, is_broken, Moves};
 ghost use Rattle.git_client.specs.Parts.{Terms};
-ghost use Rattle.git_client.specs.Client.{Converses, nothing_yet, can_ask, wants_input, fault_of};
-ghost use Rattle.git_client.specs.RunSteps.{AsksTo, Says};
-ghost use Rattle.git_client.specs.Runs.{Conversed, IsHandedBack};
+ghost use Rattle.git_client.specs.Machine.Client.{Converses, nothing_yet, can_ask, wants_input, fault_of};
+ghost use Rattle.git_client.specs.Machine.RunSteps.{AsksTo, Says};
+ghost use Rattle.git_client.specs.Machine.Runs.{Conversed, IsHandedBack};
 
 use crate::client::Client;
 use crate::events::{Ending, Sent};

@@ -2,15 +2,15 @@
 
 ghost use Rattle.std.specs.Prelude.{[], ◌≡◌, ◌≤◌, ◌<◌, ◌||◌, length, true, false, IsTrue, OnOk, IfErr, is_err};
 ghost use Rattle.std.specs.Io.KnownBytes.{Appends};
-ghost use Rattle.git_pkt.specs.Told.{inner_of, reads_of, has_failed, has_ended, has_wasted};
-ghost use Rattle.git_pkt.specs.Engine.{FailsAs, IsShownBy, IsSpent};
+ghost use Rattle.git_pkt.specs.Machine.Told.{inner_of, reads_of, has_failed, has_ended, has_wasted};
+ghost use Rattle.git_pkt.specs.Machine.Engine.{FailsAs, IsShownBy, IsSpent};
 ghost use Rattle.git_pkt.specs.Streams.{flow, is_broken, WrittenAs};
-ghost use Rattle.git_client.specs.Client.{wants_input};
+ghost use Rattle.git_client.specs.Machine.Client.{wants_input};
 ghost use Rattle.git_client.specs.Events.{pack_bytes, progress_bytes};
-ghost use Rattle.git_client.specs.LineParts.{PutAs};
-ghost use Rattle.git_client.specs.RunSteps.{counts_with, window_of, CanCount, HearsPieceTo, HearsTo};
+ghost use Rattle.git_client.specs.Machine.LineParts.{PutAs};
+ghost use Rattle.git_client.specs.Machine.RunSteps.{counts_with, window_of, CanCount, HearsPieceTo, HearsTo};
 ghost use Rattle.git_client.specs.Transcript.{lines_of};
-ghost use Rattle.git_client.specs.Turns.{values_of};
+ghost use Rattle.git_client.specs.Machine.Turns.{values_of};
 
 use crate::client::Client;
 use crate::events::{Event, HeardGot};

@@ -1,20 +1,20 @@
 //! What the text lines of a conversation mean, each where it is due, and what refuses them. What a line contains is written to
 //! `said`. Error packets are judged before.
 
-ghost use Rattle.std.specs.Prelude.{◌≡◌, ◌≢◌, Some, true, codes, MatchResult, ◌+◌, ◌*◌, length};
+ghost use Rattle.std.specs.Prelude.{◌≡◌, ◌≢◌, Some, true, codes, MatchResult, OnErr, ◌+◌, ◌*◌, length};
 ghost use Rattle.git_names.specs.declared.object_format.Format.{Format};
 ghost use Rattle.git_names.specs.Steps.{TakesAtMost};
 ghost use Rattle.git_msg.specs.Capability.{IsNoCapability};
 ghost use Rattle.git_client.specs.Events.{IsLineFault};
 ghost use Rattle.git_client.specs.Places.{references, acknowledgments, header, shallow_info, sizes, wanted_refs};
 ghost use Rattle.git_client.specs.Sections.{acks_with, may_begin, section_named};
-ghost use Rattle.git_client.specs.Turns.{FindsCapability, Says, due_after_header};
+ghost use Rattle.git_client.specs.Machine.Turns.{FindsCapability, Says, due_after_header};
 
 use crate::phase::{CapabilityPlaces, Due, Said};
 use crate::sections::{Acks, Allowed, Section, read_header};
 use git_msg::{
-    Boundary, Caps, ReferencePlaces, locate_reference, read_ack, read_boundary, read_capability,
-    read_info, read_wanted,
+    Boundary, Caps, ReferencePlaces, is_word, locate_reference, read_ack, read_boundary,
+    read_capability, read_info, read_wanted,
 };
 use git_names::{Format, Steps};
 use git_pkt::Kind;
@@ -23,20 +23,21 @@ use git_pkt::Kind;
 pub(crate) fn judge_version(line: &[u8]) -> Result<(), Kind>
     ensures { MatchResult result (λ _. line.now ≡ codes "version 2") (λ kind. (line.now ≢ codes "version 2") × (kind ≡ Kind.NotVersion2)) }
 {
-    if line != b"version 2".as_slice() {
+    if !is_word(line, b"version 2") {
         return Err(Kind::NotVersion2);
     }
     Ok(())
 }
 
-/// A capability line, with what is noted after it.
+/// A capability line. What is noted with it is added to `caps`.
 pub(crate) fn judge_capability(
-    caps: Caps,
+    caps: &mut Caps,
     line: &[u8],
     steps: &mut Steps,
-) -> Result<(CapabilityPlaces, Caps), Kind>
-    ensures line { MatchResult result (λ found. FindsCapability caps line.now found.0 found.1)
+) -> Result<CapabilityPlaces, Kind>
+    ensures line { MatchResult result (λ places. FindsCapability caps.old line.now places caps.new)
         (λ kind. IsNoCapability line.now × (kind ≡ Kind.BadCapability)) }
+    ensures refused { OnErr result (caps.new ≡ caps.old) }
     ensures cost { TakesAtMost (40 * (length line.now + 1)) steps.old steps.new }
 {
     let capability = read_capability(line, steps)?;
@@ -44,7 +45,8 @@ pub(crate) fn judge_capability(
         key_length: capability.key.len(),
         has_value: capability.value.is_some(),
     };
-    Ok((places, caps.with(&capability, steps)))
+    *caps = caps.with(&capability, steps);
+    Ok(places)
 }
 
 /// A line of the response to `ls-refs`.
@@ -103,14 +105,14 @@ pub(crate) fn judge_acknowledgment(
     ensures cost { TakesAtMost (40 * (length line.now + 1)) steps.old steps.new }
 {
     let after = Acks { any: true, ..acks };
-    if line == b"NAK".as_slice() {
+    if is_word(line, b"NAK") {
         if acks.any {
             return Err(Kind::BadLine);
         }
         *said = Said::Nak;
         return Ok(Acks { nak: true, ..after });
     }
-    if line == b"ready".as_slice() {
+    if is_word(line, b"ready") {
         if acks.ready {
             return Err(Kind::BadLine);
         }
@@ -132,7 +134,7 @@ pub(crate) fn judge_acknowledgment(
 pub(crate) fn judge_size_line(line: &[u8]) -> Result<(), Kind>
     ensures { MatchResult result (λ _. line.now ≡ codes "size") (λ kind. (line.now ≢ codes "size") × (kind ≡ Kind.BadLine)) }
 {
-    if line != b"size".as_slice() {
+    if !is_word(line, b"size") {
         return Err(Kind::BadLine);
     }
     Ok(())

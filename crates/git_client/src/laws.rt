@@ -1,7 +1,7 @@
 //! What follows from the definitions alone: each law is the contract of a function without parameters.
 
 ghost use Rattle.std.specs.Prelude.{◌≡◌, ◌≢◌, ◌+◌, ◌≤◌, ℕ, List, [], ◌++◌, Some, None, true};
-ghost use Rattle.git_pkt.specs.Credit.{MakesAll, credit_of};
+ghost use Rattle.git_pkt.specs.Machine.Credit.{MakesAll, credit_of};
 ghost use Rattle.git_pkt.specs.Packets.{Pkt};
 ghost use Rattle.git_pkt.specs.Splits.{Given};
 ghost use Rattle.git_pkt.specs.declared.fault.Fault.{Fault};
@@ -13,9 +13,9 @@ ghost use Rattle.git_client.specs.Parts.{Terms};
 ghost use Rattle.git_client.specs.Events.{EventValue, pack_bytes};
 ghost use Rattle.git_client.specs.Packs.{HasPack};
 ghost use Rattle.git_client.specs.Conversation.{GivesAt, RefusesAt, FirstFault, HasEvents, HasNoted, FirstMalformed, GoesWell, IsConversation};
-ghost use Rattle.git_client.specs.Client.{Converses, History, bytes_held, limit_of, fault_of, can_ask, left_to_say, said_of, spelled, caps_of};
-ghost use Rattle.git_client.specs.Client.{bytes_held_by_fields, nothing_yet, reader_of};
-ghost use Rattle.git_client.specs.Calls.{Call, Headline, Makes, feeds_in, history_after};
+ghost use Rattle.git_client.specs.Machine.Client.{Converses, History, bytes_held, limit_of, fault_of, can_ask, left_to_say, said_of, spelled, caps_of};
+ghost use Rattle.git_client.specs.Machine.Client.{bytes_held_by_fields, nothing_yet, reader_of};
+ghost use Rattle.git_client.specs.Machine.Calls.{Call, Headline, Makes, feeds_in, history_after};
 ghost use Rattle.git_client.specs.declared.client.Client.{Client};
 
 use std::alloc::Allocator;

@@ -3,8 +3,8 @@
 ghost use Rattle.std.specs.Prelude.{◌≡◌, ◌+◌, ◌≤◌, ◌++◌, [], codes, decimal, length, OnOk};
 ghost use Rattle.git_names.specs.ObjectName.{hex_of};
 ghost use Rattle.git_pkt.specs.Escape.{escaped_of};
-ghost use Rattle.git_pkt.specs.Sends.{Puts, Sends};
-ghost use Rattle.git_client.specs.LineParts.{line_shown, part_shown};
+ghost use Rattle.git_pkt.specs.Machine.Sends.{Puts, Sends};
+ghost use Rattle.git_client.specs.Machine.LineParts.{line_shown, part_shown};
 
 use git_names::Oid;
 use git_pkt::{RunFault, Told, escape_into, is_plain, send};

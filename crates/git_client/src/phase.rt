@@ -1,7 +1,10 @@
 //! How far a conversation has come, and what a packet means there.
 
+ghost use Rattle.std.specs.Prelude.{◌≡◌, false, None};
+ghost use Rattle.git_client.specs.Machine.Turns.{fault_in, is_asking, phase_in};
+
 use crate::sections::{Acks, Allowed};
-use git_msg::{Caps, Info, ReferencePlaces, RequestWriter};
+use git_msg::{Info, ReferencePlaces, RequestWriter};
 use git_names::Oid;
 use git_pkt::Fault;
 
@@ -72,9 +75,25 @@ pub(crate) struct CapabilityPlaces {
     pub(crate) has_value: bool,
 }
 
-/// What a packet without a fault changes: what of the advertisement is noted after it, and the phase of the conversation then.
+/// Whose turn it is after a packet without a fault.
 #[derive(Clone, Copy, Debug)]
-pub(crate) struct Turn {
-    pub(crate) caps: Caps,
-    pub(crate) next: Phase,
+pub(crate) enum Turn {
+    /// The server's, of which this is due.
+    Hearing(Due),
+    /// The client's: the message is whole, and a request can be asked.
+    Ready,
+}
+
+impl Turn {
+    /// The phase of the conversation then.
+    pub(crate) fn phase(self) -> Phase
+        ensures value { result ≡ phase_in self }
+        ensures owes { is_asking result ≡ false }
+        ensures sound { fault_in result ≡ None }
+    {
+        match self {
+            Turn::Hearing(due) => Phase::Hearing(due),
+            Turn::Ready => Phase::Ready,
+        }
+    }
 }

@@ -3,6 +3,8 @@
 ghost use Rattle.std.specs.Prelude.{◌≡◌, []};
 ghost use Rattle.git_client.specs.Sections.{allows, next_allowed, allowed_after, section_named};
 
+use git_msg::is_word;
+
 /// A section of a response to `fetch`.
 #[derive(Clone, Copy, Debug, PartialEq, Eq)]
 pub(crate) enum Section {
@@ -87,16 +89,16 @@ impl Allowed {
 pub(crate) fn read_header(text: &[u8]) -> Option<Section>
     ensures { result ≡ section_named text.now }
 {
-    if text == b"acknowledgments".as_slice() {
+    if is_word(text, b"acknowledgments") {
         return Some(Section::Acknowledgments);
     }
-    if text == b"shallow-info".as_slice() {
+    if is_word(text, b"shallow-info") {
         return Some(Section::ShallowInfo);
     }
-    if text == b"wanted-refs".as_slice() {
+    if is_word(text, b"wanted-refs") {
         return Some(Section::WantedRefs);
     }
-    if text == b"packfile".as_slice() {
+    if is_word(text, b"packfile") {
         return Some(Section::Packfile);
     }
     None

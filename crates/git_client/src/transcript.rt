@@ -2,11 +2,11 @@
 
 ghost use Rattle.std.specs.Prelude.{◌≡◌, ◌++◌, codes};
 ghost use Rattle.std.specs.Option.{option_copied};
-ghost use Rattle.git_pkt.specs.Sends.{Puts, Sends};
+ghost use Rattle.git_pkt.specs.Machine.Sends.{Puts, Sends};
 ghost use Rattle.git_msg.specs.References.{id_text, peeled_text};
-ghost use Rattle.git_client.specs.Turns.{values_of};
+ghost use Rattle.git_client.specs.Machine.Turns.{values_of};
 ghost use Rattle.git_client.specs.Transcript.{lines_of, shown_after, size_shown, asked_line};
-ghost use Rattle.git_client.specs.LineParts.{part_shown};
+ghost use Rattle.git_client.specs.Machine.LineParts.{part_shown};
 
 use crate::events::Event;
 use crate::line::{Lines, Part};

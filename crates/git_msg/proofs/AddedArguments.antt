@@ -7,7 +7,7 @@ use Rattle.git_msg.specs.declared.arguments.Command.{Command}
 use Rattle.git_msg.specs.declared.requests.Request.{Request}
 use Rattle.git_msg.specs.Arguments.{Arg, stored_in, written_text}
 use Rattle.git_msg.specs.Asked.{Asked, asked_by, with_argument}
-use Rattle.git_msg.specs.HeldRequest.{asked_of, kept_of, stored_of, IsEmpty, AddsAll}
+use Rattle.git_msg.specs.Machine.HeldRequest.{asked_of, kept_of, stored_of, IsEmpty, AddsAll}
 use Rattle.git_msg.proofs.ArgumentsInOrder.{asked_in_turn}
 
 module _ {A : Type 0} where

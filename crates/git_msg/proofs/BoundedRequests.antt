@@ -1,7 +1,7 @@
 -- A request is bounded in one way.
 use Rattle.std.proofs.Common.{◌≡◌, ap, ◌∙◌}
 use Rattle.std.specs.Coded.{le_prop}
-use Rattle.git_msg.specs.HeldRequest.{IsBounded}
+use Rattle.git_msg.specs.Machine.HeldRequest.{IsBounded}
 use Rattle.git_msg.specs.declared.requests.Request.{Request}
 
 pub one_bound : {A : Type 0} (q : Request A) (h k : IsBounded q) → h ≡ k

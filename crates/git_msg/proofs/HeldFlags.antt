@@ -12,7 +12,7 @@ use Rattle.git_msg.specs.declared.object_info.ObjectInfo.TheInside.{Inside as Ob
 use Rattle.git_msg.specs.Arguments.{Arg, alone, of_flag}
 use Rattle.git_msg.specs.Asked.{Asked, fetch, ls_refs, object_info, with_argument}
 use Rattle.git_msg.specs.Flags.{flag_row, flags_of, is_flag, place_of}
-use Rattle.git_msg.specs.Insides.{fetch_inside, ls_refs_inside, object_info_inside, fetch_stored, ls_refs_stored, object_info_stored}
+use Rattle.git_msg.specs.Machine.Insides.{fetch_inside, ls_refs_inside, object_info_inside, fetch_stored, ls_refs_stored, object_info_stored}
 use Rattle.git_msg.specs.Kept.{Kept}
 use Rattle.std.proofs.Common.{[], rules}
 

@@ -19,10 +19,10 @@ use Rattle.git_msg.specs.Arguments.{SaysArgument, IsDepth, IsTime, IsNumberIn, I
 use Rattle.git_msg.specs.Texts.{Follows}
 use Rattle.git_msg.proofs.KeptBytes.{stored_fits}
 use Rattle.git_msg.specs.Checks.{Passes}
-use Rattle.git_msg.specs.HeldRequest.{command_of, format_of, kept_of, limit_of, IsBounded, Keeps, keep_checks, IsRefused}
+use Rattle.git_msg.specs.Machine.HeldRequest.{command_of, format_of, kept_of, limit_of, IsBounded, Keeps, keep_checks, IsRefused}
 use Rattle.git_msg.specs.Lines.{Line, argument, IsLine}
 use Rattle.git_msg.specs.Requests.{AreLines, FirstFault, WantsMemory, IsTold}
-use Rattle.git_msg.specs.RequestReader.{WaitsIn, WaitsBehind, InArguments, KeepsOn, limit_in, waiting_at, waiting_bytes}
+use Rattle.git_msg.specs.Machine.RequestReader.{WaitsIn, WaitsBehind, InArguments, KeepsOn, limit_in, waiting_at, waiting_bytes}
 use Rattle.git_msg.proofs.ArgumentsInOrder.{asked_snoc}
 use Rattle.git_msg.proofs.DigitValues.{decimal_is_shortest}
 use Rattle.git_msg.proofs.AskedValues.{says_in_range}

@@ -2,7 +2,7 @@
 use Rattle.std.proofs.Common.{◌≡◌, ℕ, suc, ◌+◌, ◌*◌, List, [], ◌∷◌, ◌++◌, All, length, map, refl, arith, length-drop, rules}
 use Rattle.std.proofs.Math.Seq.{take-length, drop-append_seam}
 use Rattle.std.proofs.lemmas.List.{append_assoc, length-append, take-append-le, drop-append-le, get_or_append_left, get_or-append-add, map-append}
-use Rattle.git_msg.specs.TextPools.{IsEnd, long_at, text_at}
+use Rattle.git_msg.specs.Machine.TextPools.{IsEnd, long_at, text_at}
 use Rattle.std.proofs.lemmas.Grind.{common_steps}
 
 long_stays : (bytes more : List ℕ) (end : ℕ) → IsEnd bytes end → long_at (bytes ++ more) end ≡ long_at bytes end

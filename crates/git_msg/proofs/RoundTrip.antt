@@ -27,7 +27,7 @@ use Rattle.git_msg.specs.Asked.{Asked, command_asked, asked_by, arguments_in, by
 use Rattle.git_msg.specs.Lines.{Line, command, agent, object_format, delimiter, argument, is_none, is_delimiter, command_in, argument_in, commands_of}
 use Rattle.git_msg.specs.Lines.{arguments_of, kept_in, has_format, has_delimiter, long_of, end_checks, flush_checks_in, IsCapabilityLine}
 use Rattle.git_msg.specs.Lines.{IsArgumentLine, IsFormatMeant, IsLine}
-use Rattle.git_msg.specs.JudgedLine.{IsText}
+use Rattle.git_msg.specs.Machine.JudgedLine.{IsText}
 use Rattle.git_msg.specs.Checks.{Passes}
 use Rattle.git_msg.specs.Requests.{AreLines, Asks}
 use Rattle.git_msg.specs.WrittenRequest.{text_line, where_set, agent_line, format_line, argument_lines, lines_written}

@@ -17,14 +17,14 @@ use Rattle.git_msg.specs.declared.reader.RequestReader.{RequestReader}
 use Rattle.git_msg.specs.declared.reader.Taken.TheVariants.{More, Request as TakenRequest}
 use Rattle.git_msg.specs.Asked.{asked_by}
 use Rattle.git_msg.specs.Checks.{Refuses, Passes}
-use Rattle.git_msg.specs.HeldRequest.{IsBounded, IsEmpty, asked_of, command_of, limit_of}
+use Rattle.git_msg.specs.Machine.HeldRequest.{IsBounded, IsEmpty, asked_of, command_of, limit_of}
 use Rattle.git_msg.proofs.LineLaws.{no_argument_of}
 use Rattle.git_msg.proofs.BoundedRequests.{one_bound}
 use Rattle.git_msg.specs.Lines.{Line, command, agent, server_option, object_format, delimiter, argument, is_none, commands_of, arguments_of}
 use Rattle.git_msg.specs.Lines.{has_format, argument_in, IsLineOf, key_checks, IsCapabilityLine}
 use Rattle.git_msg.specs.Lines.{argument_checks, text_checks, capability_checks, part_checks, end_checks, IsArgumentRefused, HasFault}
-use Rattle.git_msg.specs.RequestReader.{InCapabilities, InArguments, is_nil, fault_in, waits_in, limit_in, kept_so_far}
-use Rattle.git_msg.specs.RequestReaderSteps.{InLines, IsSame, Advances, StepsOn, Notes, IsDue, is_first, with_line, restarted}
+use Rattle.git_msg.specs.Machine.RequestReader.{InCapabilities, InArguments, is_nil, fault_in, waits_in, limit_in, kept_so_far}
+use Rattle.git_msg.specs.Machine.RequestReaderSteps.{InLines, IsSame, Advances, StepsOn, Notes, IsDue, is_first, with_line, restarted}
 use Rattle.git_msg.proofs.PacketFaults.{not_for_limit_by_capability, not_for_limit_by_end, not_for_limit_by_text}
 use Rattle.git_msg.proofs.LineLists.{commands_snoc, arguments_snoc, format_snoc, delimiter_snoc, kept_snoc, capability_is_line}
 

@@ -2,16 +2,16 @@
 use Rattle.std.proofs.Common.{[], arith, ◌≡◌, ◌≢◌, ◌⊎◌, ℕ, ◌+◌, ◌≤◌, true, false, List, ◌++◌, length, None, refl, sym, ap, ◌∙◌, subst, append-nil, rules}
 use Rattle.std.proofs.Props.{props}
 use Rattle.git_pkt.specs.Splits.{Given}
-use Rattle.git_pkt.specs.PacketReader.{ReadsOn, fault_of as packet_fault, is_open, open_length, passes_of, position_of}
+use Rattle.git_pkt.specs.Machine.PacketReader.{ReadsOn, fault_of as packet_fault, is_open, open_length, passes_of, position_of}
 use Rattle.git_pkt.specs.declared.fault.Fault.{Fault}
 use Rattle.git_pkt.specs.declared.fault.Kind.TheVariants.{Truncated}
 use Rattle.git_pkt.specs.declared.reader.PacketReader.{PacketReader}
 use Rattle.git_pkt.proofs.KnownRest.{rest_length, some_inside, sound_rest}
 use Rattle.git_msg.specs.declared.offers.Offer.{Offer}
 use Rattle.git_msg.specs.Asked.{Asked}
-use Rattle.git_msg.specs.RequestReader.{fault_of as reader_fault, is_waiting, kept_so_far, limit_in}
-use Rattle.git_msg.specs.StreamStages.{HasTaken, takes_bytes}
-use Rattle.git_msg.specs.RequestStreams.{AreAsked, HasRead, IsLeftIn, limit_of, offer_of, wants_input}
+use Rattle.git_msg.specs.Machine.RequestReader.{fault_of as reader_fault, is_waiting, kept_so_far, limit_in}
+use Rattle.git_msg.specs.Machine.StreamStages.{HasTaken, takes_bytes}
+use Rattle.git_msg.specs.Machine.RequestStreams.{AreAsked, HasRead, IsLeftIn, limit_of, offer_of, wants_input}
 use Rattle.git_msg.specs.declared.streams.RequestStream.{RequestStream}
 use Rattle.git_msg.specs.declared.streams.Stage.{Stage}
 use Rattle.git_msg.specs.declared.streams.Stage.TheVariants.{Between, Failed, Stopped, Within}

@@ -5,7 +5,7 @@ use Rattle.std.proofs.Props.{props}
 use Rattle.std.proofs.Math.Logic.{∥∥₁_elim, ∥∥₁_prop}
 use Rattle.git_pkt.specs.Faults.{StopsBy}
 use Rattle.git_pkt.specs.Splits.{Given, SpellsAll, Splits}
-use Rattle.git_pkt.specs.PacketReader.{Feeds, Reads, ReadsOn, ShownByFeed, Tells, fault_of as packet_fault, given_by, is_open, position_of}
+use Rattle.git_pkt.specs.Machine.PacketReader.{Feeds, Reads, ReadsOn, ShownByFeed, Tells, fault_of as packet_fault, given_by, is_open, position_of}
 use Rattle.git_pkt.specs.declared.fault.Fault.{Fault}
 use Rattle.git_pkt.specs.declared.fault.Kind.{Kind}
 use Rattle.git_pkt.specs.declared.fault.Kind.TheVariants.{StreamTooLong, Truncated}
@@ -19,11 +19,11 @@ use Rattle.git_pkt.proofs.Streams.{one_split}
 use Rattle.git_msg.specs.declared.offers.Offer.{Offer}
 use Rattle.git_msg.specs.Asked.{Asked}
 use Rattle.git_msg.specs.Requests.{IsTold}
-use Rattle.git_msg.specs.RequestReader.{Takes, offer_of as offer_in, limit_in, kept_so_far, fault_of as reader_fault, is_waiting}
+use Rattle.git_msg.specs.Machine.RequestReader.{Takes, offer_of as offer_in, limit_in, kept_so_far, fault_of as reader_fault, is_waiting}
 use Rattle.git_msg.specs.WholeRequests.{AreRequests}
-use Rattle.git_msg.specs.StreamStages.{AreBegun, Brings, HasTaken, IsBrought, IsWithin, fault_in, goes_on, stage_brought, takes_bytes, stage_is_between}
-use Rattle.git_msg.specs.RequestStreams.{EndsWith, HasRead, IsLeftIn, IsOne, Leaves, asked_by, limit_of, offer_of, wants_input}
-use Rattle.git_msg.specs.RequestStreamSteps.{StepLeaves, Steps}
+use Rattle.git_msg.specs.Machine.StreamStages.{AreBegun, Brings, HasTaken, IsBrought, IsWithin, fault_in, goes_on, stage_brought, takes_bytes, stage_is_between}
+use Rattle.git_msg.specs.Machine.RequestStreams.{EndsWith, HasRead, IsLeftIn, IsOne, Leaves, asked_by, limit_of, offer_of, wants_input}
+use Rattle.git_msg.specs.Machine.RequestStreamSteps.{StepLeaves, Steps}
 use Rattle.git_msg.specs.declared.reader.RequestReader.{RequestReader}
 use Rattle.git_msg.specs.declared.streams.ReadGot.{ReadGot}
 use Rattle.git_msg.specs.declared.streams.ReadGot.TheVariants.{More, Request, Stop, Failed}

@@ -11,12 +11,12 @@ use Rattle.git_msg.specs.declared.reader.RequestReader.{RequestReader}
 use Rattle.git_msg.specs.declared.reader.Taken.{Taken}
 use Rattle.git_msg.specs.declared.reader.Taken.TheVariants.{More, Argument as TakenArgument, Request as TakenRequest, Stop}
 use Rattle.git_msg.specs.Arguments.{Arg, shown}
-use Rattle.git_msg.specs.HeldRequest.{asked_of, command_of, kept_of, format_of}
+use Rattle.git_msg.specs.Machine.HeldRequest.{asked_of, command_of, kept_of, format_of}
 use Rattle.git_msg.specs.Lines.{Line, IsLine, HasFault}
 use Rattle.git_msg.specs.Requests.{AreLines, IsPlainLine, Asks, FirstFault, IsStop}
-use Rattle.git_msg.specs.RequestReader.{Takes, TakesIn, WaitsFor, WaitsIn, WaitsBehind, InCapabilities, TakesOn, Brings, LeavesTaken, fault_of}
-use Rattle.git_msg.specs.RequestReader.{fault_in, is_waiting, waits_in, limit_in}
-use Rattle.git_msg.specs.RequestReaderSteps.{InLines, Advances, Offers, Completes, Leaves, Goes, LeavesStep, StepsOn}
+use Rattle.git_msg.specs.Machine.RequestReader.{Takes, TakesIn, WaitsFor, WaitsIn, WaitsBehind, InCapabilities, TakesOn, Brings, LeavesTaken, fault_of}
+use Rattle.git_msg.specs.Machine.RequestReader.{fault_in, is_waiting, waits_in, limit_in}
+use Rattle.git_msg.specs.Machine.RequestReaderSteps.{InLines, Advances, Offers, Completes, Leaves, Goes, LeavesStep, StepsOn}
 use Rattle.git_msg.proofs.LineLists.{lines_snoc}
 
 -- the packets are lines, after which a reader is in this part

@@ -7,7 +7,7 @@ use Rattle.git_msg.specs.declared.requests.Request.{Request}
 use Rattle.git_msg.specs.Arguments.{Shape, object_name, depth_number, time_number, prefix_text, kept_text, reference_name, row, MayFollow, MayNotFollow}
 use Rattle.git_msg.specs.Arguments.{Arg, Value, id_value, number_value, text_value, IsInRange, IsOutOfRange, IsValue, IsValueFault}
 use Rattle.git_msg.specs.Checks.{Passes, Refuses}
-use Rattle.git_msg.specs.HeldRequest.{add_checks}
+use Rattle.git_msg.specs.Machine.HeldRequest.{add_checks}
 use Rattle.git_msg.proofs.CheckLaws.{AllFair, passes_or_refuses, one_name, fair_check}
 use Rattle.git_msg.proofs.Rows.{kept_text_or_none}
 

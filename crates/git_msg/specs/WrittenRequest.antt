@@ -1,16 +1,10 @@
 -- What a request is written as.
-use Rattle.std.specs.Prelude.{◌≡◌, ℕ, Bool, true, false, List, [], ◌∷◌, ◌++◌, drop, map, codes}
+use Rattle.std.specs.Prelude.{ℕ, Bool, true, false, List, [], ◌∷◌, ◌++◌, map, codes}
 use Rattle.git_names.specs.ObjectFormat.{name_of as format_name}
 use Rattle.git_names.specs.declared.object_format.Format.{Format}
-use Rattle.git_pkt.specs.Packets.{Pkt, flush, delim, payload, spelling_of}
-use Rattle.git_msg.specs.declared.offers.Caps.{Caps}
-use Rattle.git_msg.specs.declared.requests.Request.{Request}
-use Rattle.git_msg.specs.declared.writer.Next.{Next}
-use Rattle.git_msg.specs.declared.writer.Next.TheVariants.{CommandLine, Agent, ObjectFormat, Delimiter, Argument, Done}
-use Rattle.git_msg.specs.declared.writer.RequestWriter.{RequestWriter}
+use Rattle.git_pkt.specs.Packets.{Pkt, flush, delim, payload}
 use Rattle.git_msg.specs.Arguments.{Arg, name_of, written_text}
 use Rattle.git_msg.specs.Asked.{Asked, command_asked, arguments_in}
-use Rattle.git_msg.specs.HeldRequest.{asked_of, format_of}
 
 -- a line, with LF at its end
 abbrev pub text_line : List ℕ → Pkt
@@ -42,34 +36,3 @@ abbrev pub lines_written : Bool → Bool → Format → Asked → List Pkt
 lines_written agent object_format format asked =
     text_line (codes "command=" ++ name_of (command_asked asked))
     ∷ where_set agent agent_line (where_set object_format (format_line format) (argument_part asked))
-
--- what is left from this packet on: of the arguments, those from this place on
-abbrev pub lines_from : Next → Bool → Bool → Format → Asked → List Pkt
-lines_from CommandLine agent object_format format asked = lines_written agent object_format format asked
-lines_from Agent agent object_format format asked = agent_line ∷ where_set object_format (format_line format) (argument_part asked)
-lines_from ObjectFormat agent object_format format asked = format_line format ∷ argument_part asked
-lines_from Delimiter agent object_format format asked = argument_part asked
-lines_from (Argument i) agent object_format format asked = argument_lines (drop i (arguments_in asked))
-lines_from Done agent object_format format asked = []
-
--- the packets that a writer has left, of a request for this
-abbrev pub lines_left : RequestWriter → Format → Asked → List Pkt
-lines_left w format asked = lines_from w.next w.agent w.object_format format asked
-
-module _ {A : Type 0} where
-  -- the packets of the request
-  abbrev pub written_of : Request A → Caps → List Pkt
-  written_of request caps = lines_written caps.agent caps.object_format (format_of request) (asked_of request)
-
-  abbrev pub left_at : Next → RequestWriter → Request A → List Pkt
-  left_at next w request = lines_from next w.agent w.object_format (format_of request) (asked_of request)
-
-  -- the packets that are not written yet
-  abbrev pub left_to_write : RequestWriter → Request A → List Pkt
-  left_to_write w request = lines_left w (format_of request) (asked_of request)
-
--- the hold is the first packet that was left, and the others are left
-pub record PutsFirst (before after : List Pkt) (held : List ℕ) : Type 0 where
-  pub packet : Pkt
-  pub first : before ≡ packet ∷ after
-  pub written : held ≡ spelling_of packet

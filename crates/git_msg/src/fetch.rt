@@ -7,7 +7,7 @@ ghost use Rattle.git_msg.specs.Arguments.{shown, written_text};
 use crate::arguments::{Argument, Command};
 use crate::flags::{Flag, FlagSet, PACK_FLAGS};
 use crate::limits::{Budget, Limits};
-use crate::parts::{Texts, keep_id, number_at, past_flag};
+use crate::parts::{Texts, id_at, keep_id, number_at, past_flag};
 use git_names::{Format, Oid};
 use git_pkt::Kind;
 use std::alloc::Allocator;
@@ -35,7 +35,7 @@ impl<A: Allocator + Copy> Model for Fetch<A> {
 
     ghost Value = { Kept FetchAsked };
 
-    ghost use Rattle.git_msg.specs.Insides.{fetch_inside, fetch_stored};
+    ghost use Rattle.git_msg.specs.Machine.Insides.{fetch_inside, fetch_stored};
 
     ghost view = { λ q. record { format = q.format; asked = fetch_inside q; kept = q.budget.kept; limit = q.budget.limit; stored = fetch_stored q } };
 
@@ -231,20 +231,20 @@ impl<A: Allocator + Copy> Fetch<A> {
         ensures { option_map shown result ≡ slice_get (map (with_text filter_spec) self.now.asked.filters
             ++ joined (shallows_in self.now.asked) (object_arguments self.now.asked)) i }
     {
-        if let Some(spec) = self.filters.get(i) {
-            return Some(Argument::Filter(spec));
+        match self.filters.at(i) {
+            Ok(spec) => Some(Argument::Filter(spec)),
+            Err(next) => self.shallow_argument(next),
         }
-        self.shallow_argument(i - self.filters.len())
     }
 
     // The argument at place `i` after those for how the pack is to be sent.
     fn shallow_argument(&self, i: usize) -> Option<Argument<'_>>
         ensures { option_map shown result ≡ slice_get (joined (shallows_in self.now.asked) (object_arguments self.now.asked)) i }
     {
-        if let Some(id) = self.shallows.get(i) {
-            return Some(Argument::Shallow(*id));
-        }
-        let i = i - self.shallows.len();
+        let i = match id_at(&self.shallows, i) {
+            Ok(id) => return Some(Argument::Shallow(*id)),
+            Err(next) => next,
+        };
         let i = match number_at(self.deepen, i) {
             Ok(depth) => return Some(Argument::Deepen(depth)),
             Err(next) => next,
@@ -261,10 +261,10 @@ impl<A: Allocator + Copy> Fetch<A> {
         ensures { option_map shown result ≡ slice_get (map (with_text deepen_not) self.now.asked.deepen_nots
             ++ (where_asked self.now.asked.deepen_relative Flag.DeepenRelative ++ object_arguments self.now.asked)) i }
     {
-        if let Some(revision) = self.deepen_nots.get(i) {
-            return Some(Argument::DeepenNot(revision));
-        }
-        let i = i - self.deepen_nots.len();
+        let i = match self.deepen_nots.at(i) {
+            Ok(revision) => return Some(Argument::DeepenNot(revision)),
+            Err(next) => next,
+        };
         let Some(i) = past_flag(self.deepen_relative(), i) else {
             return Some(Argument::DeepenRelative);
         };
@@ -275,24 +275,26 @@ impl<A: Allocator + Copy> Fetch<A> {
     fn object_argument(&self, i: usize) -> Option<Argument<'_>>
         ensures { option_map shown result ≡ slice_get (object_arguments self.now.asked) i }
     {
-        if let Some(id) = self.wants.get(i) {
-            return Some(Argument::Want(*id));
-        }
-        let i = i - self.wants.len();
-        if let Some(name) = self.want_refs.get(i) {
-            return Some(Argument::WantRef(name));
-        }
-        self.have_argument(i - self.want_refs.len())
+        let i = match id_at(&self.wants, i) {
+            Ok(id) => return Some(Argument::Want(*id)),
+            Err(next) => next,
+        };
+        let i = match self.want_refs.at(i) {
+            Ok(name) => return Some(Argument::WantRef(name)),
+            Err(next) => next,
+        };
+        self.have_argument(i)
     }
 
     // The argument at place `i` among those for what the client has, and whether it is done.
     fn have_argument(&self, i: usize) -> Option<Argument<'_>>
         ensures { option_map shown result ≡ slice_get (map (with_id have) self.now.asked.haves ++ where_asked self.now.asked.done Flag.Done) i }
     {
-        if let Some(id) = self.haves.get(i) {
-            return Some(Argument::Have(*id));
-        }
-        if self.done() && i == self.haves.len() {
+        let i = match id_at(&self.haves, i) {
+            Ok(id) => return Some(Argument::Have(*id)),
+            Err(next) => next,
+        };
+        if self.done() && i == 0 {
             return Some(Argument::IsDone);
         }
         None

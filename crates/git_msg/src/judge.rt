@@ -5,7 +5,7 @@ ghost use Rattle.git_names.specs.Steps.{TakesAtMost};
 ghost use Rattle.git_msg.specs.Arguments.{name_of, shown};
 ghost use Rattle.git_msg.specs.Checks.{Passes, Refuses};
 ghost use Rattle.git_msg.specs.Lines.{IsLineOf, IsCapabilityLine, NamesCommand, capability_checks, key_checks, text_checks};
-ghost use Rattle.git_msg.specs.JudgedLine.{line_of, IsText};
+ghost use Rattle.git_msg.specs.Machine.JudgedLine.{line_of, IsText};
 
 use crate::arguments::{Argument, Command, read_argument};
 use crate::capabilities::read_capability;

@@ -47,6 +47,6 @@ pub use crate::response_lines::{
     read_boundary, read_info, read_wanted,
 };
 pub use crate::streams::{ReadGot, ReadRequest, RequestStream};
-pub use crate::texts::{after, error_message, is_error, split_at_first};
+pub use crate::texts::{after, error_message, is_error, is_word, split_at_first};
 pub use crate::writer::RequestWriter;
 pub use crate::writing::put_line;

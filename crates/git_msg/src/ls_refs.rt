@@ -27,7 +27,7 @@ impl<A: Allocator + Copy> Model for LsRefs<A> {
 
     ghost Value = { Kept LsRefsAsked };
 
-    ghost use Rattle.git_msg.specs.Insides.{ls_refs_inside, ls_refs_stored};
+    ghost use Rattle.git_msg.specs.Machine.Insides.{ls_refs_inside, ls_refs_stored};
 
     ghost view = { λ q. record { format = q.format; asked = ls_refs_inside q; kept = q.budget.kept; limit = q.budget.limit; stored = ls_refs_stored q } };
 

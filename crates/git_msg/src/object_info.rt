@@ -27,7 +27,7 @@ impl<A: Allocator + Copy> Model for ObjectInfo<A> {
 
     ghost Value = { Kept ObjectInfoAsked };
 
-    ghost use Rattle.git_msg.specs.Insides.{object_info_inside, object_info_stored};
+    ghost use Rattle.git_msg.specs.Machine.Insides.{object_info_inside, object_info_stored};
 
     ghost view = { λ q. record { format = q.format; asked = object_info_inside q; kept = q.budget.kept; limit = q.budget.limit; stored = object_info_stored q } };
 

@@ -3,14 +3,14 @@ ghost use Rattle.std.specs.Prelude.{◌≡◌, ◌≢◌, ◌+◌, ◌*◌, ◌^
 ghost use Rattle.std.specs.Prelude.{MatchResult};
 ghost use Rattle.std.specs.Prelude.{true, false, length, map, slice_get, slice_index, All};
 ghost use Rattle.std.specs.Option.{option_copied};
-ghost use Rattle.git_msg.specs.Arguments.{Arg, IsNameIn, Word, alone, of_flag, with_number};
+ghost use Rattle.git_msg.specs.Arguments.{Arg, IsNameIn, Word, alone, of_flag, with_id, with_number, with_text};
 ghost use Rattle.git_msg.specs.declared.flags.Flag.{Flag};
 ghost use Rattle.git_msg.specs.Asked.{where_asked, where_given};
 ghost use Rattle.std.proofs.Props.{props};
 ghost use Rattle.std.specs.List.{dedup};
 ghost use Rattle.std.specs.Ordering.{is_lt};
 ghost use Rattle.std.specs.List.Sorted.{IsPartitionedBy, IsPartitionPoint, IsPermutation, IsSortedBy};
-ghost use Rattle.git_msg.specs.TextPools.{IsEnd, text_at};
+ghost use Rattle.git_msg.specs.Machine.TextPools.{IsEnd, text_at};
 ghost use Rattle.git_msg.specs.Prefixes.{IsOrdered, Prunes, ShowAlike, SplitsAt, goes_before, begins, is_shown, text_cmp};
 
 use git_names::{Format, Oid};
@@ -28,7 +28,7 @@ pub(crate) struct Texts<A: Allocator + Copy> {
 }
 
 impl<A: Allocator + Copy> Texts<A> {
-    ghost use Rattle.git_msg.specs.HeldTexts.{texts_of, texts_stored};
+    ghost use Rattle.git_msg.specs.Machine.HeldTexts.{texts_of, texts_stored};
 
     pub(crate) fn new(alloc: A) -> Texts<A>
         ensures texts { texts_of result ≡ [] }
@@ -47,6 +47,19 @@ impl<A: Allocator + Copy> Texts<A> {
         match self.ends.get(i) {
             Some(end) => Some(text(&self.bytes, *end)),
             None => None,
+        }
+    }
+
+    /// The text whose argument has this place, if one of these has it; otherwise the place after them.
+    pub(crate) fn at(&self, i: usize) -> Result<&[u8], usize>
+        ensures { MatchResult result
+            (λ text. (word : Word) (others : List Arg)
+            → slice_get (map (with_text word) (texts_of self.now) ++ others) i ≡ Some (with_text word text.now))
+            (λ next. (word : Word) (others : List Arg) → slice_get (map (with_text word) (texts_of self.now) ++ others) i ≡ slice_get others next) }
+    {
+        match self.get(i) {
+            Some(text) => Ok(text),
+            None => Err(i - self.len()),
         }
     }
 
@@ -225,6 +238,18 @@ pub(crate) fn past_flag(set: bool, i: usize) -> Option<usize>
         return None;
     }
     Some(i - 1)
+}
+
+/// The object name whose argument has this place, if one of these has it; otherwise the place after them.
+pub(crate) fn id_at(ids: &[Oid], i: usize) -> Result<&Oid, usize>
+    ensures { MatchResult result
+        (λ id. (word : Word) (others : List Arg) → slice_get (map (with_id word) ids.now ++ others) i ≡ Some (with_id word id.now))
+        (λ next. (word : Word) (others : List Arg) → slice_get (map (with_id word) ids.now ++ others) i ≡ slice_get others next) }
+{
+    match ids.get(i) {
+        Some(id) => Ok(id),
+        None => Err(i - ids.len()),
+    }
 }
 
 /// The number whose argument has this place, if one was given; otherwise the place after it.

@@ -1,5 +1,5 @@
 //! Requests, read packet by packet.
-ghost use Rattle.git_msg.specs.HeldRequest.{IsBounded};
+ghost use Rattle.git_msg.specs.Machine.HeldRequest.{IsBounded};
 
 use crate::arguments::{Argument, Command, put_together};
 use crate::judge::{Noted, judge_capability, read_text};
@@ -54,10 +54,10 @@ impl<A: Allocator + Copy> RequestReader<A> {
     ghost use Rattle.git_pkt.specs.Packets.{body_of, seen};
     ghost use Rattle.git_msg.specs.Arguments.{HasName, shown};
     ghost use Rattle.git_msg.specs.Checks.{Refuses};
-    ghost use Rattle.git_msg.specs.HeldRequest.{IsEmpty};
+    ghost use Rattle.git_msg.specs.Machine.HeldRequest.{IsEmpty};
     ghost use Rattle.git_msg.specs.Lines.{capability_checks};
-    ghost use Rattle.git_msg.specs.RequestReader.{Takes, TakesOn, KeepsOn, GivesKeepable, counted_as, offer_of, limit_in, kept_so_far, fault_of, is_waiting};
-    ghost use Rattle.git_msg.specs.RequestReaderSteps.{Notes, IsDue, IsUndue, StepsOn, is_first, restarted};
+    ghost use Rattle.git_msg.specs.Machine.RequestReader.{Takes, TakesOn, KeepsOn, GivesKeepable, counted_as, offer_of, limit_in, kept_so_far, fault_of, is_waiting};
+    ghost use Rattle.git_msg.specs.Machine.RequestReaderSteps.{Notes, IsDue, IsUndue, StepsOn, is_first, restarted};
 
     /// A reader at the beginning of a request. It takes memory from `alloc` when an argument with a text or an object
     /// name is kept.

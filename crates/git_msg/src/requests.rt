@@ -37,8 +37,8 @@ impl<A: Allocator + Copy> Request<A> {
     ghost use Rattle.git_msg.specs.Asked.{size_of, oids_of, wait_for_done_of, filters_of};
     ghost use Rattle.git_msg.specs.Checks.{Passes, Refuses};
     ghost use Rattle.git_msg.specs.Lines.{end_checks};
-    ghost use Rattle.git_msg.specs.HeldRequest.{IsEmpty, asked_of, command_of, format_of, kept_of, limit_of, stored_of, Keeps, add_checks, keep_checks};
-    ghost use Rattle.git_msg.specs.HeldRequest.{IsRefused};
+    ghost use Rattle.git_msg.specs.Machine.HeldRequest.{IsEmpty, asked_of, command_of, format_of, kept_of, limit_of, stored_of, Keeps, add_checks, keep_checks};
+    ghost use Rattle.git_msg.specs.Machine.HeldRequest.{IsRefused};
 
     /// A request without arguments. Later calls take memory from `alloc`, and only where an argument with a text or an
     /// object name is kept.

@@ -2,9 +2,9 @@
 
 ghost use Rattle.std.specs.Prelude.{◌≡◌, ◌<◌, ◌≤◌, [], None, true, false, length};
 ghost use Rattle.git_pkt.specs.Packets.{seen};
-ghost use Rattle.git_pkt.specs.PacketReader.{passes_of, fault_of as packet_fault};
-ghost use Rattle.git_msg.specs.RequestReader.{fault_of as reader_fault, is_waiting, kept_so_far, limit_in};
-ghost use Rattle.git_msg.specs.StreamStages.{Brings, HasTaken, stage_brought, takes_bytes};
+ghost use Rattle.git_pkt.specs.Machine.PacketReader.{passes_of, fault_of as packet_fault};
+ghost use Rattle.git_msg.specs.Machine.RequestReader.{fault_of as reader_fault, is_waiting, kept_so_far, limit_in};
+ghost use Rattle.git_msg.specs.Machine.StreamStages.{Brings, HasTaken, stage_brought, takes_bytes};
 
 use crate::limits::Limits;
 use crate::offers::Offer;
@@ -64,8 +64,8 @@ pub struct RequestStream<A: Allocator + Copy> {
 }
 
 impl<A: Allocator + Copy> RequestStream<A> {
-    ghost use Rattle.git_msg.specs.RequestStreams.{HasRead, Feeds, Closes, wants_input, offer_of, limit_of, bytes_used};
-    ghost use Rattle.git_msg.specs.RequestStreamSteps.{Steps as StepsTo};
+    ghost use Rattle.git_msg.specs.Machine.RequestStreams.{HasRead, Feeds, Closes, wants_input, offer_of, limit_of, bytes_used};
+    ghost use Rattle.git_msg.specs.Machine.RequestStreamSteps.{Steps as StepsTo};
 
     /// A reader before the first byte. It takes memory from `alloc` when an argument with a text or an object name comes.
     pub fn new(alloc: A, offer: Offer, limits: Limits) -> RequestStream<A>

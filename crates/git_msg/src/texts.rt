@@ -7,7 +7,7 @@ ghost use Rattle.git_msg.specs.Texts.{BeginsOtherThan, IsCutAt, IsErrorOf, IsErr
 use bstr::ByteSlice;
 
 /// Whether the text is the word.
-pub(crate) fn is_word(text: &[u8], word: &[u8]) -> bool
+pub fn is_word(text: &[u8], word: &[u8]) -> bool
     ensures value { result ≡ bytes_eq text.now word.now }
     ensures same { IsTrue result ↔ (text.now ≡ word.now) }
 {

@@ -3,9 +3,9 @@ ghost use Rattle.std.specs.Prelude.{◌≡◌, ◌↔◌, [], Bool, IsTrue, Matc
 ghost use Rattle.std.specs.Bool.{OnTrue, OnFalse};
 ghost use Rattle.git_names.specs.declared.object_format.Format.{Format};
 ghost use Rattle.git_msg.specs.Asked.{Asked};
-ghost use Rattle.git_msg.specs.HeldRequest.{asked_of};
-ghost use Rattle.git_msg.specs.WrittenRequest.{agent_line, argument_part, format_line, where_set, written_of, PutsFirst};
-ghost use Rattle.git_msg.specs.WrittenRequest.{left_at, left_to_write, lines_from, lines_left};
+ghost use Rattle.git_msg.specs.Machine.HeldRequest.{asked_of};
+ghost use Rattle.git_msg.specs.WrittenRequest.{agent_line, argument_part, format_line, where_set};
+ghost use Rattle.git_msg.specs.Machine.RequestWriter.{written_of, PutsFirst, left_at, left_to_write, lines_from, lines_left};
 
 use crate::capabilities::AGENT_LINE;
 use crate::offers::Caps;

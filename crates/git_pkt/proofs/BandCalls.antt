@@ -4,9 +4,9 @@ use Rattle.std.proofs.lemmas.List.{append-nil}
 use Rattle.git_pkt.specs.Packets.{Pkt, flush, delim, resp_end, payload, seen}
 use Rattle.git_pkt.specs.Passed.{OnBand, is_on_band, others, passed_by, passed_by_all, passed_by_rest}
 use Rattle.git_pkt.specs.Splits.{Given}
-use Rattle.git_pkt.specs.PacketReader.{Reads}
-use Rattle.git_pkt.specs.BandReader.{part_of, told_by}
-use Rattle.git_pkt.specs.BandCalls.{AllGoes, AreFed, BandCall, parts_of_all, used_by}
+use Rattle.git_pkt.specs.Machine.PacketReader.{Reads}
+use Rattle.git_pkt.specs.Machine.BandReader.{part_of, told_by}
+use Rattle.git_pkt.specs.Machine.BandCalls.{AllGoes, AreFed, BandCall, parts_of_all, used_by}
 use Rattle.git_pkt.specs.declared.reader.BandGot.{BandGot}
 use Rattle.git_pkt.specs.declared.reader.BandGot.TheVariants.{More, Part, Packet, Failed}
 use Rattle.git_pkt.specs.declared.reader.PacketReader.{PacketReader}

@@ -5,10 +5,10 @@ use Rattle.std.proofs.lemmas.List.{append-nil, length-take-le, take-append-drop}
 use Rattle.git_pkt.specs.Packets.{Pkt, flush, delim, resp_end, payload, Spells}
 use Rattle.git_pkt.specs.Passed.{OnBand, band_in, begins_band, bytes_on, is_on_band, on, others, passed_by, passed_by_all, passed_by_rest, passed_in}
 use Rattle.git_pkt.specs.Splits.{Given}
-use Rattle.git_pkt.specs.ReaderState.{passes_in}
-use Rattle.git_pkt.specs.PacketReader.{Reads, bytes_held, fault_of, held_of, is_open, passes_of, position_of, rest_of}
-use Rattle.git_pkt.specs.PacketReaderSteps.{Moves}
-use Rattle.git_pkt.specs.BandReader.{MayPass, ReadsBandsOn}
+use Rattle.git_pkt.specs.Machine.ReaderState.{passes_in}
+use Rattle.git_pkt.specs.Machine.PacketReader.{Reads, bytes_held, fault_of, held_of, is_open, passes_of, position_of, rest_of}
+use Rattle.git_pkt.specs.Machine.PacketReaderSteps.{Moves}
+use Rattle.git_pkt.specs.Machine.BandReader.{MayPass, ReadsBandsOn}
 use Rattle.git_pkt.specs.declared.band.Band.{Band}
 use Rattle.git_pkt.specs.declared.band.Band.TheVariants.{Pack, Progress, Fatal}
 use Rattle.git_pkt.specs.declared.fault.Fault.{Fault}

@@ -5,9 +5,9 @@ use Rattle.std.proofs.lemmas.List.{length-take-le, take-append-drop}
 use Rattle.std.proofs.Math.Seq.{take-append_seam, drop-append_seam}
 use Rattle.git_pkt.specs.Packets.{Spells, seen}
 use Rattle.git_pkt.specs.Passed.{begins_band, on}
-use Rattle.git_pkt.specs.PacketReader.{ShownByFeed, fault_of, held_of, passes_of, position_of}
-use Rattle.git_pkt.specs.PassedOut.{HandsOut, HasPart}
-use Rattle.git_pkt.specs.BandReader.{BandMoves, FeedsBand, HoldsFew, IsPart, MayPass, ReadsBandsOn}
+use Rattle.git_pkt.specs.Machine.PacketReader.{ShownByFeed, fault_of, held_of, passes_of, position_of}
+use Rattle.git_pkt.specs.Machine.PassedOut.{HandsOut, HasPart}
+use Rattle.git_pkt.specs.Machine.BandReader.{BandMoves, FeedsBand, HoldsFew, IsPart, MayPass, ReadsBandsOn}
 use Rattle.git_pkt.specs.declared.band.Band.{Band}
 use Rattle.git_pkt.specs.declared.band.Band.TheVariants.{Fatal}
 use Rattle.git_pkt.specs.declared.fault.Fault.{Fault}

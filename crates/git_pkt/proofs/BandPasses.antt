@@ -6,11 +6,11 @@ use Rattle.git_pkt.specs.Packets.{payload, Spells}
 use Rattle.git_pkt.specs.Passed.{OnBand, band_in, begins_band, on, passed_by_rest}
 use Rattle.git_pkt.specs.Splits.{Given, NoneBegins}
 use Rattle.git_pkt.specs.Faults.{IsOpen, last_position}
-use Rattle.git_pkt.specs.HeldPacket.{IsGathering, IsWhole}
-use Rattle.git_pkt.specs.ReaderState.{fault_in, held_in, is_open_in, passed_length_in, passes_in}
-use Rattle.git_pkt.specs.PacketReader.{Holds, Reads, ShownByFeed, StandsAt, fault_of, held_of, is_open, passes_of, position_of, rest_of}
-use Rattle.git_pkt.specs.PacketReaderSteps.{IsStopped}
-use Rattle.git_pkt.specs.BandReader.{BandMoves, ReadsBandsOn}
+use Rattle.git_pkt.specs.Machine.HeldPacket.{IsGathering, IsWhole}
+use Rattle.git_pkt.specs.Machine.ReaderState.{fault_in, held_in, is_open_in, passed_length_in, passes_in}
+use Rattle.git_pkt.specs.Machine.PacketReader.{Holds, Reads, ShownByFeed, StandsAt, fault_of, held_of, is_open, passes_of, position_of, rest_of}
+use Rattle.git_pkt.specs.Machine.PacketReaderSteps.{IsStopped}
+use Rattle.git_pkt.specs.Machine.BandReader.{BandMoves, ReadsBandsOn}
 use Rattle.git_pkt.specs.declared.band.Band.{Band}
 use Rattle.git_pkt.specs.declared.fault.Fault.{Fault}
 use Rattle.git_pkt.specs.declared.fault.Kind.{Kind}

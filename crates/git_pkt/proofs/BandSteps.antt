@@ -7,11 +7,11 @@ use Rattle.std.proofs.lemmas.Grind.{common_steps}
 use Rattle.std.proofs.Math.Seq.{take-append-add}
 use Rattle.git_pkt.specs.Passed.{OnBand, band_in, begins_band, on, passed_by_rest}
 use Rattle.git_pkt.specs.Splits.{Given}
-use Rattle.git_pkt.specs.HeldPacket.{IsWhole}
-use Rattle.git_pkt.specs.ReaderState.{held_in, passes_in}
-use Rattle.git_pkt.specs.PacketReader.{bytes_held, fault_of, held_of, open_length, passes_of, position_of, rest_of}
-use Rattle.git_pkt.specs.PacketReaderSteps.{Moves}
-use Rattle.git_pkt.specs.BandReader.{BandMoves, Comes, IsHeldWhole, IsPart, MayPass, ReadsBandsOn}
+use Rattle.git_pkt.specs.Machine.HeldPacket.{IsWhole}
+use Rattle.git_pkt.specs.Machine.ReaderState.{held_in, passes_in}
+use Rattle.git_pkt.specs.Machine.PacketReader.{bytes_held, fault_of, held_of, open_length, passes_of, position_of, rest_of}
+use Rattle.git_pkt.specs.Machine.PacketReaderSteps.{Moves}
+use Rattle.git_pkt.specs.Machine.BandReader.{BandMoves, Comes, IsHeldWhole, IsPart, MayPass, ReadsBandsOn}
 use Rattle.git_pkt.specs.declared.fault.Fault.{Fault}
 use Rattle.git_pkt.specs.declared.progress.BandProgress.{BandProgress}
 use Rattle.git_pkt.specs.declared.progress.BandProgress.TheVariants.{Open as OpenYet, Empty, Part, Whole as WholePacket, Failed as FailedStep}

@@ -4,8 +4,8 @@ use Rattle.std.proofs.lemmas.List.{append-nil}
 use Rattle.git_pkt.specs.Packets.{Spells}
 use Rattle.git_pkt.specs.Splits.{Given, NoneBegins}
 use Rattle.git_pkt.specs.Faults.{IsOpen, StopsBy}
-use Rattle.git_pkt.specs.PacketReader.{bytes_held, position_of, passes_of, held_of, rest_of, fault_of, Reads, StandsAt, ReadsOn}
-use Rattle.git_pkt.specs.PacketReaderSteps.{Moves}
+use Rattle.git_pkt.specs.Machine.PacketReader.{bytes_held, position_of, passes_of, held_of, rest_of, fault_of, Reads, StandsAt, ReadsOn}
+use Rattle.git_pkt.specs.Machine.PacketReaderSteps.{Moves}
 use Rattle.git_pkt.specs.declared.fault.Fault.{Fault}
 use Rattle.git_pkt.specs.declared.reader.PacketReader.{PacketReader}
 use Rattle.git_pkt.specs.declared.progress.Progress.TheVariants.{Open, Whole, Failed}

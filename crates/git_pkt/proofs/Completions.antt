@@ -8,7 +8,7 @@ use Rattle.git_pkt.specs.Digits.{HasDigits, digits_value}
 use Rattle.git_pkt.specs.Packets.{Pkt, flush, delim, resp_end, payload, Spells}
 use Rattle.git_pkt.specs.Splits.{Given, NoneBegins, Splits}
 use Rattle.git_pkt.specs.Faults.{IsOpen, IsRefused}
-use Rattle.git_pkt.specs.HeldPacket.{IsWhole, IsLengthField}
+use Rattle.git_pkt.specs.Machine.HeldPacket.{IsWhole, IsLengthField}
 use Rattle.git_pkt.specs.declared.fault.Kind.{Kind}
 use Rattle.git_pkt.specs.declared.fault.Kind.TheVariants.{BadDigit, BadLength, TooLong}
 use Rattle.git_pkt.proofs.Spelling.{no_bytes, digits_value-append, HasDigits-append, none_begins_bad, none_begins_refused, none_begins_partial}

@@ -2,8 +2,8 @@
 use Rattle.std.proofs.Common.{arith, ◌≡◌, ℕ, ◌+◌, ◌*◌, ◌≤◌, List, [], ◌∷◌, ◌++◌, length, length-append, subst, ap}
 use Rattle.std.specs.Prelude.{flat_map, sum_by}
 use Rattle.std.proofs.lemmas.List.Sums.{sum_by-cons}
-use Rattle.git_pkt.specs.Credit.{ArePaid, MakesAll}
-use Rattle.git_pkt.specs.PacketReader.{Counts}
+use Rattle.git_pkt.specs.Machine.Credit.{ArePaid, MakesAll}
+use Rattle.git_pkt.specs.Machine.PacketReader.{Counts}
 use Rattle.git_pkt.specs.declared.reader.Got.{Got}
 use Rattle.git_pkt.specs.declared.reader.PacketReader.{PacketReader}
 

@@ -2,7 +2,7 @@
 use Rattle.std.proofs.Common.{◌≡◌, ◌≢◌, ℕ, ◌+◌, ◌-◌, List, length, Option, Some, None, sym, ◌∙◌, ap, subst, refl}
 use Rattle.git_pkt.specs.Splits.{Given}
 use Rattle.git_pkt.specs.Faults.{IsOpen, IsRefused, RestFault, StopsBy}
-use Rattle.git_pkt.specs.PacketReader.{Reads, StandsAt, HoldsAll, fault_of, rest_of}
+use Rattle.git_pkt.specs.Machine.PacketReader.{Reads, StandsAt, HoldsAll, fault_of, rest_of}
 use Rattle.git_pkt.specs.declared.fault.Fault.{Fault}
 use Rattle.git_pkt.specs.declared.fault.Kind.{Kind}
 use Rattle.git_pkt.specs.declared.fault.Kind.TheVariants.{Truncated, StreamTooLong}

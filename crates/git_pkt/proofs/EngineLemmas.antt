@@ -6,8 +6,7 @@ use Rattle.std.proofs.lemmas.List.{length-append, length-take-le}
 use Rattle.std.proofs.lemmas.Result.{err_from_is_err_and}
 use Rattle.std.specs.Io.KnownBytes.{Appends, Consumes, Keeps}
 use Rattle.std.proofs.KnownBytes.{Appends-nil, Appends-trans, Appends-kept, Consumes-nil, Consumes-trans, Consumes-kept}
-use Rattle.git_pkt.specs.Told.{AppendsFront}
-use Rattle.git_pkt.specs.Streams.{Flow, flow, StreamRelation, WrittenAs, Moves, IsTimely}
+use Rattle.git_pkt.specs.Streams.{AppendsFront, Flow, flow, StreamRelation, WrittenAs, Moves, IsTimely}
 use Rattle.git_pkt.specs.declared.fault.Kind.{Kind}
 use Rattle.git_pkt.specs.declared.fault.Kind.TheVariants.{Truncated, StreamTooLong}
 use Rattle.git_pkt.specs.declared.fault.RunFault.{RunFault}

@@ -5,7 +5,7 @@ use Rattle.std.proofs.lemmas.List.{get_or_append_left, length-take-le, take-appe
 use Rattle.git_pkt.specs.Digits.{HasDigits, digits_value}
 use Rattle.git_pkt.specs.Splits.{NoneBegins}
 use Rattle.git_pkt.specs.Faults.{FirstBadDigit, IsOpen, ShowsAtEnd, StopsBy}
-use Rattle.git_pkt.specs.HeldPacket.{IsGathering, IsLengthField, IsWhole, TellsField}
+use Rattle.git_pkt.specs.Machine.HeldPacket.{IsGathering, IsLengthField, IsWhole, TellsField}
 use Rattle.git_pkt.specs.declared.fault.Kind.{Kind}
 use Rattle.git_pkt.specs.declared.fault.Kind.TheVariants.{BadDigit, BadLength, TooLong}
 use Rattle.git_pkt.proofs.Spelling.{digits_value-append, HasDigits-append, none_begins_bad, none_begins_refused, none_begins_partial}

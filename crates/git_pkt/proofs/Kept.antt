@@ -1,6 +1,6 @@
 -- What a reader keeps of its stream, by its state.
 use Rattle.std.proofs.Common.{arith, ◌≡◌, ℕ, List, None, ap, subst, refl}
-use Rattle.git_pkt.specs.ReaderState.{IsGathered, IsPassing, fault_in, gathers_in, held_in, left_in, passes_in}
+use Rattle.git_pkt.specs.Machine.ReaderState.{IsGathered, IsPassing, fault_in, gathers_in, held_in, left_in, passes_in}
 use Rattle.git_pkt.specs.declared.fault.Fault.{Fault}
 use Rattle.git_pkt.specs.declared.reader.PacketReader.{PacketReader}
 use Rattle.git_pkt.specs.declared.reader.State.{State}

@@ -4,8 +4,8 @@ use Rattle.std.proofs.Common.{length-append}
 use Rattle.std.proofs.lemmas.List.{append-nil, length-take, length-take-le}
 use Rattle.git_pkt.specs.Splits.{Given}
 use Rattle.git_pkt.specs.Faults.{IsOpen}
-use Rattle.git_pkt.specs.ReaderState.{held_in, come_in, passed_length_in, is_open_in, passes_in}
-use Rattle.git_pkt.specs.PacketReader.{Reads, StandsAt, Holds, HoldsAll, fault_of, is_open, passes_of, rest_of, open_length}
+use Rattle.git_pkt.specs.Machine.ReaderState.{held_in, come_in, passed_length_in, is_open_in, passes_in}
+use Rattle.git_pkt.specs.Machine.PacketReader.{Reads, StandsAt, Holds, HoldsAll, fault_of, is_open, passes_of, rest_of, open_length}
 use Rattle.git_pkt.specs.declared.fault.Fault.{Fault}
 use Rattle.git_pkt.specs.declared.reader.PacketReader.{PacketReader}
 use Rattle.git_pkt.specs.declared.reader.State.{State}

@@ -2,9 +2,9 @@
 use Rattle.std.proofs.Common.{◌≡◌, ◌≤◌, ℕ, Bool, true, false, List, Option, Some, None, refl, sym, ◌∙◌}
 use Rattle.arrayvec.specs.ArrayVec.{ArrayVec}
 use Rattle.git_pkt.specs.Splits.{Given}
-use Rattle.git_pkt.specs.ReaderState.{is_open_in}
-use Rattle.git_pkt.specs.PacketReader.{Reads, StandsAt, bytes_held, fault_of, is_open}
-use Rattle.git_pkt.specs.LentHold.{with_hold, with_hold_by}
+use Rattle.git_pkt.specs.Machine.ReaderState.{is_open_in}
+use Rattle.git_pkt.specs.Machine.PacketReader.{Reads, StandsAt, bytes_held, fault_of, is_open}
+use Rattle.git_pkt.specs.Machine.LentHold.{with_hold, with_hold_by}
 use Rattle.git_pkt.specs.declared.fault.Fault.{Fault}
 use Rattle.git_pkt.specs.declared.reader.PacketReader.{PacketReader}
 use Rattle.git_pkt.proofs.ReaderMoves.{gathers_between, rest_of_shut}

@@ -1,9 +1,9 @@
 -- How many bytes of the open packet have come, from call to call.
 use Rattle.std.proofs.Common.{arith, ◌≡◌, ℕ, ◌+◌, ◌≤◌, false, List, length, Some, refl, ap, length-append, length-drop}
 use Rattle.git_pkt.specs.Packets.{Pkt, Spells, body_of}
-use Rattle.git_pkt.specs.ReaderState.{come_in, fault_in, is_open_in}
-use Rattle.git_pkt.specs.PacketReader.{fault_of, held_of, is_open, open_length, passes_of, rest_of}
-use Rattle.git_pkt.specs.PacketReaderSteps.{Moves}
+use Rattle.git_pkt.specs.Machine.ReaderState.{come_in, fault_in, is_open_in}
+use Rattle.git_pkt.specs.Machine.PacketReader.{fault_of, held_of, is_open, open_length, passes_of, rest_of}
+use Rattle.git_pkt.specs.Machine.PacketReaderSteps.{Moves}
 use Rattle.git_pkt.specs.declared.fault.Fault.{Fault}
 use Rattle.git_pkt.specs.declared.reader.PacketReader.{PacketReader}
 use Rattle.git_pkt.specs.declared.progress.Progress.TheVariants.{Open, Whole}

@@ -2,11 +2,11 @@
 use Rattle.std.proofs.Common.{take, arith, ◌≡◌, ℕ, ◌+◌, ◌-◌, ◌≤◌, ◌<◌, List, [], ◌∷◌, ◌++◌, length, false}
 use Rattle.std.proofs.Common.{ap, sym, ◌∙◌, refl, subst, append_assoc, length-append}
 use Rattle.std.proofs.lemmas.List.{append-nil, length-take, take_all}
-use Rattle.git_pkt.specs.ReaderState.{held_in, is_open_in, passes_in}
-use Rattle.git_pkt.specs.PacketReader.{position_of, is_open, passes_of, held_of, rest_of}
+use Rattle.git_pkt.specs.Machine.ReaderState.{held_in, is_open_in, passes_in}
+use Rattle.git_pkt.specs.Machine.PacketReader.{position_of, is_open, passes_of, held_of, rest_of}
 use Rattle.git_pkt.specs.declared.reader.State.{State}
 use Rattle.git_pkt.specs.declared.reader.State.TheVariants.{Between, Gathering, Passing, Failed}
-use Rattle.git_pkt.specs.PacketReaderSteps.{Moves, Arrives, IsStopped}
+use Rattle.git_pkt.specs.Machine.PacketReaderSteps.{Moves, Arrives, IsStopped}
 use Rattle.git_pkt.specs.declared.fault.Kind.{Kind}
 use Rattle.git_pkt.specs.declared.reader.PacketReader.{PacketReader}
 use Rattle.git_pkt.specs.declared.progress.Progress.{Progress}

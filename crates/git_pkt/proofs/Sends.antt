@@ -5,8 +5,8 @@ use Rattle.std.proofs.lemmas.Result.{err_from_is_err_and}
 use Rattle.std.proofs.KnownBytes.{Appends-nil, Appends-trans}
 use Rattle.git_pkt.specs.declared.fault.RunFault.{RunFault}
 use Rattle.git_pkt.specs.declared.told.Told.{Told}
-use Rattle.git_pkt.specs.Told.{inner_of, has_failed, ReadsNothing}
-use Rattle.git_pkt.specs.Sends.{Sends, Puts}
+use Rattle.git_pkt.specs.Machine.Told.{inner_of, has_failed, ReadsNothing}
+use Rattle.git_pkt.specs.Machine.Sends.{Sends, Puts}
 use Rattle.git_pkt.proofs.EngineLemmas.{AppendsFront-after, AppendsFront-longer}
 
 or_none : (b : Bool) → (b || false) ≡ b

@@ -1,7 +1,6 @@
 -- What a run does to the bytes of its streams, however many it has.
-use Rattle.std.specs.Prelude.{◌≡◌, ℕ, ◌<◌, Bool, true, false, List, [], ◌∷◌, length, Option, Result, Err}
+use Rattle.std.specs.Prelude.{◌≡◌, ℕ, ◌<◌, Bool, true, false, List, [], ◌∷◌, ◌++◌, length, Option, Result, Err}
 use Rattle.std.specs.Io.KnownBytes.{Appends, Consumes}
-use Rattle.git_pkt.specs.Told.{AppendsFront}
 use Rattle.git_pkt.specs.declared.fault.Kind.{Kind}
 use Rattle.git_pkt.specs.declared.fault.Kind.TheVariants.{Truncated, StreamTooLong}
 use Rattle.git_pkt.specs.declared.fault.RunFault.{RunFault}
@@ -18,6 +17,10 @@ flow before after = record { before = before; after = after }
 -- what a run has to do with bytes: those that it read of each of its readers, and those that it gave to each of its writers
 abbrev pub StreamRelation : Type 1
 StreamRelation = List (List ℕ) → List (List ℕ) → Type 0
+
+-- a front of these bytes, all of them and none of them included, was appended
+abbrev pub AppendsFront : Option (List ℕ) → Option (List ℕ) → List ℕ → Type 0
+AppendsFront old new bytes = (front : List ℕ) × (rest : List ℕ) × (bytes ≡ front ++ rest) × Appends old new front
 
 -- all these bytes were written; where a write failed, a front of them
 abbrev pub WrittenAs : Bool → Flow → List ℕ → Type 0

@@ -1,7 +1,7 @@
 //! The four hexadecimal digits that begin a packet.
 
 ghost use Rattle.std.specs.Prelude.{◌≤◌, length};
-ghost use Rattle.git_pkt.specs.TellsDigits.{TellsDigits};
+ghost use Rattle.git_pkt.specs.Machine.TellsDigits.{TellsDigits};
 
 use git_names::digit_value;
 

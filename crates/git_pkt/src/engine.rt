@@ -2,8 +2,8 @@
 ghost use Rattle.std.specs.Prelude.{◌≡◌, ◌+◌, ◌==◌, min, ◌||◌, IfErr, is_err, length};
 ghost use Rattle.std.specs.Io.{ReadsAtMost};
 ghost use Rattle.std.specs.Io.KnownBytes.{Keeps, ReadConsumes};
-ghost use Rattle.git_pkt.specs.Sends.{Sends};
-ghost use Rattle.git_pkt.specs.Told.{inner_of, reads_of, has_failed, has_ended, has_wasted, gave_nothing, ReadsNothing};
+ghost use Rattle.git_pkt.specs.Machine.Sends.{Sends};
+ghost use Rattle.git_pkt.specs.Machine.Told.{inner_of, reads_of, has_failed, has_ended, has_wasted, gave_nothing, ReadsNothing};
 
 use crate::fault::RunFault;
 use crate::told::Told;

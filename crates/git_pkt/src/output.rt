@@ -1,7 +1,8 @@
 //! Where the bytes of a run go: to a writer, or nowhere.
 ghost use Rattle.std.specs.Prelude.{◌≡◌, ◌||◌, List, ℕ, Option, Bool, None, false, OnOk, OnErr, IfErr, is_err};
 ghost use Rattle.std.specs.Io.KnownBytes.{Appends, Keeps};
-ghost use Rattle.git_pkt.specs.Told.{inner_of, has_failed, AppendsFront};
+ghost use Rattle.git_pkt.specs.Machine.Told.{inner_of, has_failed};
+ghost use Rattle.git_pkt.specs.Streams.{AppendsFront};
 
 use crate::engine;
 use crate::fault::RunFault;

@@ -1,7 +1,7 @@
 //! How far one step of a reader over a piece came.
 
 ghost use Rattle.std.specs.Prelude.{◌≡◌, ◌≤◌, length};
-ghost use Rattle.git_pkt.specs.PassedOut.{HandsOut, HasPart};
+ghost use Rattle.git_pkt.specs.Machine.PassedOut.{HandsOut, HasPart};
 
 use crate::band::Band;
 use crate::fault::Fault;

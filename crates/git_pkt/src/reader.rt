@@ -26,8 +26,8 @@ ghost use Rattle.git_pkt.specs.Splits.{Given};
 ghost use Rattle.git_pkt.specs.declared.fault.Fault.{Fault};
 ghost use Rattle.git_pkt.specs.Faults.{last_position};
 ghost use Rattle.git_pkt.specs.Passed.{band_in, begins_band};
-ghost use Rattle.git_pkt.specs.HeldPacket.{IsWhole, TellsField};
-ghost use Rattle.git_pkt.specs.ReaderState.{IsGathered, IsPassing, gathers_in, held_in, left_in, passes_in};
+ghost use Rattle.git_pkt.specs.Machine.HeldPacket.{IsWhole, TellsField};
+ghost use Rattle.git_pkt.specs.Machine.ReaderState.{IsGathered, IsPassing, gathers_in, held_in, left_in, passes_in};
 ghost use Rattle.git_pkt.specs.declared.fault.Kind.TheVariants.{Truncated};
 
 use crate::band::Band;
@@ -115,11 +115,11 @@ pub struct PacketReader {
 }
 
 impl PacketReader {
-    ghost use Rattle.git_pkt.specs.PacketReader.{Reads, ReadsOn, Feeds, Holds, position_of, fault_of, rest_of, open_length, held_of, is_open, passes_of};
-    ghost use Rattle.git_pkt.specs.BandReader.{BandMoves, FeedsBand, MayPass, ReadsBandsOn};
+    ghost use Rattle.git_pkt.specs.Machine.PacketReader.{Reads, ReadsOn, Feeds, Holds, position_of, fault_of, rest_of, open_length, held_of, is_open, passes_of};
+    ghost use Rattle.git_pkt.specs.Machine.BandReader.{BandMoves, FeedsBand, MayPass, ReadsBandsOn};
     ghost use Rattle.git_pkt.specs.contracts.reader.PacketReader.{the_row};
-    ghost use Rattle.git_pkt.specs.LentHold.{LendsHold};
-    ghost use Rattle.git_pkt.specs.PacketReaderSteps.{Moves, IsStopped, IsOfPacket, IsShown};
+    ghost use Rattle.git_pkt.specs.Machine.LentHold.{LendsHold};
+    ghost use Rattle.git_pkt.specs.Machine.PacketReaderSteps.{Moves, IsStopped, IsOfPacket, IsShown};
 
     /// A reader of a stream that starts at offset 0.
     pub fn new() -> Self

@@ -3,7 +3,7 @@ ghost use Rattle.std.specs.Prelude.{◌≡◌, ◌≢◌, IfErr};
 ghost use Rattle.std.specs.Io.{ReadsAtMost};
 ghost use Rattle.std.specs.Io.KnownBytes.{ReadConsumes};
 ghost use Rattle.std.specs.IoError.{error_kind};
-ghost use Rattle.git_pkt.specs.Retries.{inner_of};
+ghost use Rattle.git_pkt.specs.Machine.Retries.{inner_of};
 
 use std::io;
 use std::io::{ErrorKind, Read};

@@ -18,7 +18,7 @@ pub struct Stops<T> {
 }
 
 impl<T> Stops<T> {
-    ghost use Rattle.git_pkt.specs.Stops.{calls_left, inner_of};
+    ghost use Rattle.git_pkt.specs.Machine.Stops.{calls_left, inner_of};
 
     /// Wraps a reader or a writer, to which it passes so many calls on.
     pub fn new(inner: T, calls: u32) -> Stops<T>
@@ -41,7 +41,7 @@ impl<T> Stops<T> {
 }
 
 impl<R: Read> Read for Stops<R> {
-    ghost use Rattle.git_pkt.specs.Stops.{calls_left, inner_of};
+    ghost use Rattle.git_pkt.specs.Machine.Stops.{calls_left, inner_of};
 
     ghost remaining = { λ stops. R.remaining (inner_of stops) };
 
@@ -61,7 +61,7 @@ impl<R: Read> Read for Stops<R> {
 }
 
 impl<W: Write> Write for Stops<W> {
-    ghost use Rattle.git_pkt.specs.Stops.{calls_left, inner_of};
+    ghost use Rattle.git_pkt.specs.Machine.Stops.{calls_left, inner_of};
 
     ghost contents = { λ stops. W.contents (inner_of stops) };
 

@@ -12,9 +12,9 @@ use Rattle.git_server.specs.Lists.{Lists}
 use Rattle.git_repository.specs.RepositoryLines.{lines_of}
 use Rattle.git_repository.specs.declared.text_faults.TextFault.{TextFault}
 use Rattle.git_repository.specs.declared.drafts.Draft.{Draft}
-use Rattle.git_repository.specs.DraftLists.{drafted}
+use Rattle.git_repository.specs.Machine.DraftLists.{drafted}
 use Rattle.git_repository.specs.LinesTold.{AreTold}
-use Rattle.git_repository.specs.RepositoryProgress.{HasFailed, HasRead, IsBegun, IsLinesFault, Stands}
+use Rattle.git_repository.specs.Machine.RepositoryProgress.{HasFailed, HasRead, IsBegun, IsLinesFault, Stands}
 use Rattle.git_repository.specs.declared.repository_progress.Progress.{Progress}
 use Rattle.git_repository.specs.declared.repository_progress.Progress.TheVariants.{Start, Lines, Failed}
 use Rattle.git_repository.proofs.Reading.{fault_stays}

@@ -11,8 +11,8 @@ use Rattle.git_repository.specs.RepositoryLines.{Said, reference, unborn, object
 use Rattle.git_repository.specs.RepositoryText.{Begins, IsRepositoryText, MayStand, SayAll, WantsMemory}
 use Rattle.git_repository.specs.RepositoryText.{boundaries_in, counts_in, first_of, names_in, objects_in, refs_in, unborn_in}
 use Rattle.git_repository.specs.LinesTold.{AreTold, lines_behind, ready_lines, unborn_lines}
-use Rattle.git_repository.specs.RepositoryProgress.{IsLinesFault}
-use Rattle.git_repository.specs.RepositoryFaults.{IsTextFault}
+use Rattle.git_repository.specs.Machine.RepositoryProgress.{IsLinesFault}
+use Rattle.git_repository.specs.Machine.RepositoryFaults.{IsTextFault}
 use Rattle.git_repository.specs.declared.text_faults.TextFault.{TextFault}
 use Rattle.git_repository.specs.declared.text_faults.TextFault.TheVariants.{Bad, OutOfMemory as OutOfMemoryOfText}
 use Rattle.git_repository.specs.Drafts.{Holds, IsLineFault, MayFollow, empty_lists, head_names, with_packs, with_said}

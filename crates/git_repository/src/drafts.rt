@@ -1,7 +1,7 @@
 //! What the lines of a repository's text contain so far.
 
 ghost use Rattle.std.specs.Prelude.{◌≡◌, ◌↔◌, ◌+◌, ◌++◌, ◌∷◌, [], ℕ, List, All, IsTrue, IfOk, MatchResult};
-ghost use Rattle.git_server.specs.ListRepo.{lists_of};
+ghost use Rattle.git_server.specs.Machine.ListRepo.{lists_of};
 ghost use Rattle.git_server.specs.Lists.{IsRepository, lists_in};
 ghost use Rattle.git_server.specs.Objects.{object_of};
 ghost use Rattle.git_server.specs.Repository.{IsNamed, IsOfFormat};
@@ -27,10 +27,10 @@ pub(crate) struct Draft {
 }
 
 impl Draft {
-    ghost use Rattle.git_repository.specs.DraftLists.{drafted};
+    ghost use Rattle.git_repository.specs.Machine.DraftLists.{drafted};
     ghost use Rattle.git_repository.specs.LinesTold.{AreTold, lines_behind};
     ghost use Rattle.git_repository.specs.Packs.{packs_of};
-    ghost use Rattle.git_repository.specs.RepositoryProgress.{IsLinesFault};
+    ghost use Rattle.git_repository.specs.Machine.RepositoryProgress.{IsLinesFault};
 
     /// Nothing yet.
     pub(crate) fn new(alloc: Global, format: Format) -> Draft

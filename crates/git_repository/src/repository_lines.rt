@@ -7,7 +7,7 @@ ghost use Rattle.git_repository.specs.RepositoryLines.{IsCount, IsSizedObject, S
 ghost use Rattle.git_repository.specs.RepositoryLines.{Said};
 ghost use Rattle.std.specs.Option.{option_copied};
 
-use git_msg::{Boundary, Reference, after, read_number, read_reference};
+use git_msg::{Boundary, Reference, after, is_word, read_number, read_reference};
 use git_names::{Format, Oid, Steps};
 
 /// The most common objects that a repository may want before it is ready.
@@ -103,7 +103,7 @@ fn unborn_target<'a>(name: &[u8], target: Option<&'a [u8]>, peeled: Option<Oid>)
     ensures { MatchOption result ((other : List ℕ) → ¬ IsUnbornHeadOf name.now (option_copied target.entry) peeled other)
         (λ found. IsUnbornHeadOf name.now (option_copied target.entry) peeled found.now) }
 {
-    if name != b"HEAD".as_slice() || peeled.is_some() {
+    if !is_word(name, b"HEAD") || peeled.is_some() {
         return None;
     }
     target

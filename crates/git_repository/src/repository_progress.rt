@@ -3,7 +3,7 @@
 ghost use Rattle.std.specs.Prelude.{◌≡◌, ◌↔◌, ◌+◌, ◌≤◌, ◌++◌, ◌∷◌, [], ℕ, List, IsTrue, MatchResult, length, vec_capacity};
 ghost use Rattle.git_msg.specs.Texts.{parts_of};
 ghost use Rattle.git_repository.specs.Packs.{packs_of};
-ghost use Rattle.git_repository.specs.RepositoryFaults.{IsTextFault, IsWholeText};
+ghost use Rattle.git_repository.specs.Machine.RepositoryFaults.{IsTextFault, IsWholeText};
 ghost use Rattle.git_repository.specs.RepositoryLines.{lines_of};
 
 use crate::drafts::Draft;
@@ -26,7 +26,7 @@ pub(crate) enum Progress {
 }
 
 impl Progress {
-    ghost use Rattle.git_repository.specs.RepositoryProgress.{HasFailed, HasRead, Stands};
+    ghost use Rattle.git_repository.specs.Machine.RepositoryProgress.{HasFailed, HasRead, Stands};
 
     /// Whether a line was refused.
     pub(crate) fn has_failed(&self) -> bool

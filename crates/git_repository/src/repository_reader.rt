@@ -2,7 +2,7 @@
 
 ghost use Rattle.std.specs.Prelude.{◌≡◌, ◌++◌, [], ℕ, List, length, IsOk, MatchResult, OnErr, OnOk};
 ghost use Rattle.git_repository.specs.Packs.{packs_of};
-ghost use Rattle.git_repository.specs.RepositoryFaults.{IsTextFault, IsWholeText};
+ghost use Rattle.git_repository.specs.Machine.RepositoryFaults.{IsTextFault, IsWholeText};
 
 use crate::packs::Packs;
 use crate::repository_progress::Progress;
@@ -23,7 +23,7 @@ pub struct RepositoryReader {
 }
 
 impl RepositoryReader {
-    ghost use Rattle.git_repository.specs.RepositoryReader.{HasRefused, LacksRoom, Reads, Stays};
+    ghost use Rattle.git_repository.specs.Machine.RepositoryReader.{HasRefused, LacksRoom, Reads, Stays};
 
     /// A reader that was fed nothing.
     pub fn new(alloc: Global) -> RepositoryReader

@@ -2,7 +2,7 @@
 
 ghost use Rattle.std.specs.Prelude.{MatchResult};
 ghost use Rattle.git_repository.specs.Packs.{packs_of};
-ghost use Rattle.git_repository.specs.RepositoryFaults.{IsTextFault, IsWholeText};
+ghost use Rattle.git_repository.specs.Machine.RepositoryFaults.{IsTextFault, IsWholeText};
 
 use crate::packs::Packs;
 use crate::repository_progress::Progress;

@@ -20,7 +20,7 @@ use Rattle.git_server.specs.Repository.{RepoState}
 use Rattle.git_server.specs.Packs.{broken}
 use Rattle.git_server.specs.Answers.{AllFit, IsAnswerAs, spelled}
 use Rattle.git_server.specs.Sessions.{Setting, EndsBy, IsEnding, IsRequest, IsTail, IsTailBy, Stream, advertised}
-use Rattle.git_server.specs.Server.{Running, StandsBy, outcome_of, wants_input}
+use Rattle.git_server.specs.Machine.Server.{Running, StandsBy, outcome_of, wants_input}
 use Rattle.git_server.specs.declared.outcome.Outcome.{Outcome}
 use Rattle.git_server.specs.declared.outcome.Outcome.TheVariants.{Closed, Flush, Refused}
 use Rattle.git_server.specs.declared.server.Server.{Server}

@@ -3,7 +3,7 @@ use Rattle.std.proofs.Common.{◌≡◌, ℕ, false, List, [], ◌∷◌, ◌++�
 use Rattle.std.proofs.lemmas.List.Elements.{All-nil}
 use Rattle.git_pkt.specs.Splits.{Given}
 use Rattle.git_msg.specs.Requests.{AreLines}
-use Rattle.git_msg.specs.RequestReader.{Takes, TakesIn, fault_in, waits_in, fault_of, is_waiting, offer_of, limit_in}
+use Rattle.git_msg.specs.Machine.RequestReader.{Takes, TakesIn, fault_in, waits_in, fault_of, is_waiting, offer_of, limit_in}
 use Rattle.git_msg.specs.Lines.{Line}
 use Rattle.git_msg.specs.declared.offers.Offer.{Offer}
 use Rattle.git_msg.specs.declared.reader.Part.{Part}

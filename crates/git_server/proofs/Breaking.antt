@@ -3,11 +3,11 @@ use Rattle.std.proofs.Common.{arith, ◌≡◌, ℕ, Bool, false, List, [], ◌�
 use Rattle.std.proofs.Common.{refl, sym, ap, ◌∙◌, append_assoc, append-nil, subst, inr}
 use Rattle.git_pkt.specs.Packets.{Pkt, spelling_of}
 use Rattle.git_pkt.specs.Splits.{Given}
-use Rattle.git_pkt.specs.PacketReader.{is_open}
+use Rattle.git_pkt.specs.Machine.PacketReader.{is_open}
 use Rattle.git_pkt.specs.declared.fault.Kind.TheVariants.{PackSource}
 use Rattle.git_pkt.proofs.KnownRest.{none_between, sound_rest}
 use Rattle.git_msg.specs.Asked.{Asked}
-use Rattle.git_msg.specs.RequestReader.{offer_of, limit_in, kept_so_far}
+use Rattle.git_msg.specs.Machine.RequestReader.{offer_of, limit_in, kept_so_far}
 use Rattle.git_msg.specs.WholeRequests.{AreRequests}
 use Rattle.git_msg.proofs.WholeRequests.{last_packet, last_request}
 use Rattle.git_pkt.proofs.OpenLengths.{shut_counts_none}
@@ -15,11 +15,11 @@ use Rattle.git_server.specs.Repository.{Repository, RepoState}
 use Rattle.git_server.specs.Packs.{broken}
 use Rattle.git_server.specs.Answers.{AllFit, IsAnswerAs, spelled}
 use Rattle.git_server.specs.Sessions.{Setting, IsAnswering, IsEnding, IsLastAt, IsRequest, advertised}
-use Rattle.git_server.specs.AnsweredRequest.{IsAnswerFrom, ReadsPack}
-use Rattle.git_server.specs.Phases.{FlushIsAt, LeftIn, MayBreak, Owes, kept_in, lost_pack, most_owed, outcome_in, owes_in, stored_in}
-use Rattle.git_server.specs.WrittenPackets.{Writes}
-use Rattle.git_server.specs.Server.{IsPackLost, Serves, StandsBy, outcome_of}
-use Rattle.git_server.specs.ServerCalls.{Gives, OwesNow}
+use Rattle.git_server.specs.Machine.AnsweredRequest.{IsAnswerFrom, ReadsPack}
+use Rattle.git_server.specs.Machine.Phases.{FlushIsAt, LeftIn, MayBreak, Owes, kept_in, lost_pack, most_owed, outcome_in, owes_in, stored_in}
+use Rattle.git_server.specs.Machine.WrittenPackets.{Writes}
+use Rattle.git_server.specs.Machine.Server.{IsPackLost, Serves, StandsBy, outcome_of}
+use Rattle.git_server.specs.Machine.ServerCalls.{Gives, OwesNow}
 use Rattle.git_server.specs.declared.answer.Answer.{Answer}
 use Rattle.git_server.specs.declared.answer.Answered.TheVariants.{Broken}
 use Rattle.git_server.specs.declared.outcome.Outcome.{Outcome}

@@ -3,16 +3,16 @@ use Rattle.std.proofs.Common.{arith, ◌≡◌, ◌≢◌, ℕ, Bool, true, fals
 use Rattle.std.proofs.Common.{subst, inl, inr}
 use Rattle.std.proofs.Common.{append_assoc, append-nil}
 use Rattle.std.proofs.lemmas.List.{length-take-le}
-use Rattle.git_pkt.specs.Credit.{ArePaid, MakesAll, credit_of}
+use Rattle.git_pkt.specs.Machine.Credit.{ArePaid, MakesAll, credit_of}
 use Rattle.git_pkt.proofs.Credits.{all_paid}
 use Rattle.git_pkt.specs.Packets.{Pkt}
 use Rattle.git_pkt.specs.declared.fault.Fault.{Fault}
 use Rattle.git_pkt.specs.declared.fault.Kind.TheVariants.{StreamTooLong}
 use Rattle.git_server.specs.Repository.{RepoState}
 use Rattle.git_server.specs.Sessions.{FirstMalformed, IsEnding, IsOfTheBytes, IsRefused, Setting}
-use Rattle.git_server.specs.Server.{Running, outcome_of, reader_of}
-use Rattle.git_server.specs.Calls.{Call, feed, pull, close, Headline, Makes, closes, feeds_by, given_in, used_by, used_in}
-use Rattle.git_server.specs.ServerCalls.{given_by}
+use Rattle.git_server.specs.Machine.Server.{Running, outcome_of, reader_of}
+use Rattle.git_server.specs.Machine.Calls.{Call, feed, pull, close, Headline, Makes, closes, feeds_by, given_in, used_by, used_in}
+use Rattle.git_server.specs.Machine.ServerCalls.{given_by}
 use Rattle.git_server.specs.declared.outcome.Outcome.{Outcome}
 use Rattle.git_server.specs.declared.outcome.Outcome.TheVariants.{Refused}
 use Rattle.git_server.specs.declared.server.Server.{Server}

@@ -3,17 +3,17 @@ use Rattle.std.proofs.Common.{◌≡◌, ◌≢◌, ◌⊎◌, ℕ, ◌+◌, ◌
 use Rattle.std.proofs.Common.{Some, None, refl, sym, ap, ◌∙◌, append-nil, subst, inl, inr, arith}
 use Rattle.git_pkt.specs.Packets.{Pkt}
 use Rattle.git_pkt.specs.Splits.{Given}
-use Rattle.git_pkt.specs.PacketReader.{bytes_held, is_open, open_length, fault_of, position_of}
+use Rattle.git_pkt.specs.Machine.PacketReader.{bytes_held, is_open, open_length, fault_of, position_of}
 use Rattle.git_pkt.specs.declared.fault.Fault.{Fault}
 use Rattle.git_pkt.specs.declared.fault.Kind.TheVariants.{PackSource, Truncated}
 use Rattle.git_pkt.proofs.KnownRest.{sound_rest, none_between, some_inside, rest_length}
-use Rattle.git_msg.specs.RequestReader.{offer_of, limit_in, kept_so_far}
+use Rattle.git_msg.specs.Machine.RequestReader.{offer_of, limit_in, kept_so_far}
 use Rattle.git_server.specs.Repository.{RepoState}
 use Rattle.git_server.specs.Answers.{AllFit, spelled}
 use Rattle.git_server.specs.Sessions.{Setting, EndsBy, IsTail}
-use Rattle.git_server.specs.Phases.{LeftIn, outcome_in, Owes, refused_by}
-use Rattle.git_server.specs.Server.{IsPackLost, Running, Serves, StandsBy, outcome_of, wants_input}
-use Rattle.git_server.specs.ServerCalls.{Closes, Keeps}
+use Rattle.git_server.specs.Machine.Phases.{LeftIn, outcome_in, Owes, refused_by}
+use Rattle.git_server.specs.Machine.Server.{IsPackLost, Running, Serves, StandsBy, outcome_of, wants_input}
+use Rattle.git_server.specs.Machine.ServerCalls.{Closes, Keeps}
 use Rattle.git_server.specs.declared.outcome.Outcome.{Outcome}
 use Rattle.git_server.specs.declared.outcome.Outcome.TheVariants.{Closed, Refused}
 use Rattle.git_server.specs.declared.server.Phase.{Phase}

@@ -2,7 +2,7 @@
 use Rattle.std.proofs.Common.{◌≡◌, ℕ, true, not, List, [], ◌∷◌, ◌++◌, refl, sym, ◌∙◌, append_assoc}
 use Rattle.git_msg.specs.Asked.{is_empty}
 use Rattle.git_msg.specs.Features.{capability_text, spaced}
-use Rattle.git_server.specs.AdvertisementLines.{Names, separator_after}
+use Rattle.git_server.specs.Machine.AdvertisementLines.{Names, separator_after}
 use Rattle.git_server.specs.declared.advertisement.FeaturesLine.{FeaturesLine}
 
 spaced_more : (word : List ℕ) (words : List (List ℕ)) (feature : List ℕ)

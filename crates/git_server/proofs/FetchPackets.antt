@@ -11,13 +11,13 @@ use Rattle.git_msg.specs.Asked.{FetchAsked}
 use Rattle.git_msg.specs.WrittenRequest.{text_line}
 use Rattle.git_server.specs.Repository.{Repository, found_ref}
 use Rattle.git_server.specs.Packs.{Manner, whole, broken, IsPackfile}
-use Rattle.git_server.specs.AnsweredRequest.{IsNext}
+use Rattle.git_server.specs.Machine.AnsweredRequest.{IsNext}
 use Rattle.git_server.specs.FetchAnswers.{EndsWithBoundary, EndsWithRefs, IsAfter, IsFetchAnswer, IsFetchAnswerBy, IsNegotiated, ack_packet}
 use Rattle.git_server.specs.FetchAnswers.{acknowledgments, boundary_packet, common, is_ready_for, nak_or_acks, negotiates, ready_lines, shallow_info}
 use Rattle.git_server.specs.FetchAnswers.{wanted_packet}
 use Rattle.git_server.specs.FetchAnswers.{wanted_refs}
-use Rattle.git_server.specs.FetchPlaces.{IsFetchFrom, acknowledgments_from, acks_by, boundary_from}
-use Rattle.git_server.specs.FetchPlaces.{most_fetch, most_packets, place_by, wanted_from}
+use Rattle.git_server.specs.Machine.FetchPlaces.{IsFetchFrom, acknowledgments_from, acks_by, boundary_from}
+use Rattle.git_server.specs.Machine.FetchPlaces.{most_fetch, most_packets, place_by, wanted_from}
 use Rattle.git_server.specs.declared.acknowledgments.AcknowledgmentsPlace.{AcknowledgmentsPlace}
 use Rattle.git_server.specs.declared.acknowledgments.AcknowledgmentsPlace.TheVariants.{Header as AcknowledgmentsHeader, Have, Through}
 use Rattle.git_server.specs.declared.answer.Answered.TheVariants.{Part}

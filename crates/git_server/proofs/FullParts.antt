@@ -4,11 +4,11 @@ use Rattle.std.proofs.lemmas.Grind.{common_steps}
 use Rattle.git_pkt.specs.Packets.{Pkt, body_of, longest_payload}
 use Rattle.git_pkt.specs.declared.reader.PacketReader.{PacketReader}
 use Rattle.git_msg.specs.Asked.{FetchAsked}
-use Rattle.git_server.specs.FullParts.{FillsAnswer, FillsFetch, FillsPart, FillsPhase, IsFullPart}
-use Rattle.git_server.specs.PackParts.{IsGiven, IsPartRead, WritesPart, part_packet}
-use Rattle.git_server.specs.Phases.{turn_in}
+use Rattle.git_server.specs.Machine.FullParts.{FillsAnswer, FillsFetch, FillsPart, FillsPhase, IsFullPart}
+use Rattle.git_server.specs.Machine.PackParts.{IsGiven, IsPartRead, WritesPart, part_packet}
+use Rattle.git_server.specs.Machine.Phases.{turn_in}
 use Rattle.git_server.specs.Repository.{RepoState}
-use Rattle.git_server.specs.WrittenPackets.{IsAtFront}
+use Rattle.git_server.specs.Machine.WrittenPackets.{IsAtFront}
 use Rattle.git_server.specs.declared.answer.Answer.{Answer}
 use Rattle.git_server.specs.declared.answer.Answer.TheVariants.{References, Fetching, Sizes}
 use Rattle.git_server.specs.declared.fetching.FetchPlace.{FetchPlace}

@@ -7,11 +7,11 @@ use Rattle.git_server.specs.Repository.{Repository, RepoState}
 use Rattle.git_server.specs.Answers.{AllFit, spelled}
 use Rattle.git_server.specs.Sessions.{Setting, IsTail, advertised}
 use Rattle.git_server.specs.Packs.{broken}
-use Rattle.git_server.specs.Phases.{FlushIsAt, LeftIn, MayBreak, kept_in, most_owed, Owes, stored_in}
-use Rattle.git_server.specs.WrittenPackets.{Writes}
-use Rattle.git_server.specs.Server.{StandsBy, outcome_of}
-use Rattle.git_server.specs.ServerCalls.{ComesBefore, Gives, Keeps, most_left}
-use Rattle.git_msg.specs.RequestReader.{Takes, offer_of, limit_in, kept_so_far}
+use Rattle.git_server.specs.Machine.Phases.{FlushIsAt, LeftIn, MayBreak, kept_in, most_owed, Owes, stored_in}
+use Rattle.git_server.specs.Machine.WrittenPackets.{Writes}
+use Rattle.git_server.specs.Machine.Server.{StandsBy, outcome_of}
+use Rattle.git_server.specs.Machine.ServerCalls.{ComesBefore, Gives, Keeps, most_left}
+use Rattle.git_msg.specs.Machine.RequestReader.{Takes, offer_of, limit_in, kept_so_far}
 use Rattle.git_server.specs.declared.outcome.Outcome.{Outcome}
 use Rattle.git_server.specs.declared.server.Server.{Server}
 use Rattle.git_server.proofs.Outcomes.{failures_as, stays_as}

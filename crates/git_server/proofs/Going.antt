@@ -4,17 +4,17 @@ use Rattle.std.proofs.Common.{append_assoc, append-nil, subst, inl, inr}
 use Rattle.git_pkt.specs.Packets.{Pkt}
 use Rattle.git_pkt.specs.Faults.{StopsBy}
 use Rattle.git_pkt.specs.Splits.{Given}
-use Rattle.git_pkt.specs.PacketReader.{Reads, is_open, fault_of, ShownByFeed}
+use Rattle.git_pkt.specs.Machine.PacketReader.{Reads, is_open, fault_of, ShownByFeed}
 use Rattle.git_pkt.specs.declared.fault.Fault.{Fault}
 use Rattle.git_pkt.specs.declared.fault.Kind.{Kind}
 use Rattle.git_pkt.specs.declared.fault.Kind.TheVariants.{PackSource, RemoteError, Truncated, StreamTooLong}
 use Rattle.git_msg.specs.Asked.{Asked}
-use Rattle.git_msg.specs.HeldRequest.{asked_of, kept_of, stored_of}
+use Rattle.git_msg.specs.Machine.HeldRequest.{asked_of, kept_of, stored_of}
 use Rattle.git_msg.specs.Requests.{Asks}
 use Rattle.git_msg.specs.WholeRequests.{AreRequests}
 use Rattle.git_msg.proofs.PacketFaults.{NotOfPackets}
 use Rattle.git_msg.proofs.WholeRequests.{one_more_request, requests_more}
-use Rattle.git_msg.specs.RequestReader.{Takes, offer_of, limit_in, kept_so_far}
+use Rattle.git_msg.specs.Machine.RequestReader.{Takes, offer_of, limit_in, kept_so_far}
 use Rattle.git_msg.specs.declared.offers.Offer.{Offer}
 use Rattle.git_msg.specs.declared.reader.RequestReader.{RequestReader}
 use Rattle.git_msg.specs.declared.requests.Request.{Request}
@@ -25,24 +25,25 @@ use Rattle.git_server.specs.Admission.{IsToldFor}
 use Rattle.git_server.specs.Packs.{Manner, whole, broken}
 use Rattle.git_server.specs.FetchAnswers.{negotiates}
 use Rattle.git_server.specs.Answers.{AllFit, IsAnswerAs, error_packet, spelled}
-use Rattle.git_server.specs.AdvertisementLines.{advertisement_from}
+use Rattle.git_server.specs.Machine.AdvertisementLines.{advertisement_from}
 use Rattle.git_server.specs.Sessions.{Begins, IsTail, IsTailBy, Setting, IsRequest, IsSent, IsAnswering, IsEnding, IsRefused, EndsBy}
-use Rattle.git_server.specs.Phases.{FlushIsAt, LeftIn, MayBreak, Owes, kept_in, outcome_in, reads_in, phase_after, refused_by, stored_in}
-use Rattle.git_server.specs.AnsweredRequest.{IsAnswerFrom, answer_to, kept_with, stored_with, references_from, sizes_from}
-use Rattle.git_server.specs.Brought.{Brings, IsBrought, IsCovered, IsWithin}
-use Rattle.git_server.specs.Server.{IsPackLost, Running, Serves, StandsBy, outcome_of, wants_input}
-use Rattle.git_server.specs.ServerCalls.{Goes, ReadsFor, StopsInTime}
+use Rattle.git_server.specs.Machine.Phases.{FlushIsAt, LeftIn, MayBreak, Owes, kept_in, outcome_in, reads_in, phase_after, refused_by, stored_in}
+use Rattle.git_server.specs.Machine.AnsweredRequest.{IsAnswerFrom, answer_to, kept_with, stored_with, references_from, sizes_from}
+use Rattle.git_msg.specs.Machine.StreamStages.{IsWithin}
+use Rattle.git_server.specs.Machine.Brought.{Brings, IsBrought, IsCovered}
+use Rattle.git_server.specs.Machine.Server.{IsPackLost, Running, Serves, StandsBy, outcome_of, wants_input}
+use Rattle.git_server.specs.Machine.ServerCalls.{Goes, ReadsFor, StopsInTime}
 use Rattle.git_server.specs.declared.outcome.Outcome.{Outcome}
 use Rattle.git_server.specs.declared.outcome.Outcome.TheVariants.{Flush, Refused}
-use Rattle.git_server.specs.declared.requests.Brought.{Brought}
-use Rattle.git_server.specs.declared.requests.Brought.TheVariants.{Part, Whole, Stop, Refused as RefusedPacket}
+use Rattle.git_msg.specs.declared.streams.ReadGot.{ReadGot}
+use Rattle.git_msg.specs.declared.streams.ReadGot.TheVariants.{More, Request as Whole, Stop, Failed as RefusedPacket}
 use Rattle.git_server.specs.declared.server.Phase.{Phase}
 use Rattle.git_server.specs.declared.server.Phase.TheVariants.{Advertising, Between, Within, Answering, Refusing, Ended}
 use Rattle.git_server.specs.declared.server.Server.{Server}
 use Rattle.git_pkt.proofs.KnownRest.{sound_rest, none_between}
 use Rattle.git_server.proofs.Admission.{NotOfRepository, not_told_for, request_had}
 use Rattle.git_server.proofs.Begun.{begins_more, nothing_begins}
-use Rattle.git_server.proofs.Readers.{stopped_by}
+use Rattle.git_msg.proofs.StreamSteps.{stopped_by}
 use Rattle.git_server.proofs.Outcomes.{failures_as, failures_end, other_lost}
 use Rattle.git_server.proofs.FetchPackets.{some_fetch, whole_fetch}
 use Rattle.git_server.proofs.Sent.{all_sent, one_more_asked}
@@ -125,18 +126,18 @@ module _ {A : Type 0} where
   none_stored_at_end (Ended outcome) _ h = refl
 
   -- after a packet no more is stored of what is answered than is kept of it
-  covered_after : (offset : ℕ) (brought : Brought A) → IsCovered brought → stored_in (phase_after offset brought) ≤ kept_in (phase_after offset brought)
-  covered_after offset Part h = omega arith
+  covered_after : (offset : ℕ) (brought : ReadGot A) → IsCovered brought → stored_in (phase_after offset brought) ≤ kept_in (phase_after offset brought)
+  covered_after offset More h = omega arith
   covered_after offset (Whole request) h = omega (arith, h, kept_to_answer request, stored_to_answer request)
   covered_after offset Stop h = omega arith
   covered_after offset (RefusedPacket fault) h =
       omega (arith, none_stored_at_end (refused_by fault.kind fault) (Refused fault) (refused_outcome_by A fault.kind fault))
 
   -- after a packet the request is kept by the reader of requests, or by what answers it
-  kept_behind : (offset : ℕ) (brought : Brought A) (requests : RequestReader A) → IsWithin brought requests
+  kept_behind : (offset : ℕ) (brought : ReadGot A) (requests : RequestReader A) → IsWithin brought requests
       → kept_so_far requests + kept_in (phase_after offset brought) ≤ limit_in requests
-  kept_behind offset Part requests h = omega (arith, h)
-  kept_behind offset (Whole request) requests h = omega (arith, h.0, h.1, kept_to_answer request)
+  kept_behind offset More requests h = omega (arith, h)
+  kept_behind offset (Whole request) requests h = omega (arith, h.1, h.2, kept_to_answer request)
   kept_behind offset Stop requests h = omega (arith, h)
   kept_behind offset (RefusedPacket fault) requests h =
       omega (arith, h, none_kept_at_end (refused_by fault.kind fault) (Refused fault) (refused_outcome_by A fault.kind fault))
@@ -157,10 +158,10 @@ one_more [] x e = cc
 one_more (y ∷ ys) x e = cc
 
 -- no packet of a request is refused by a kind of fault that is neither a packet's nor a repository's
-not_told : {A : Type 0} (kind : Kind) (strange : NotOfPackets kind) → NotOfRepository kind → (offset : ℕ) (packets : List Given) (brought : Brought A)
+not_told : {A : Type 0} (kind : Kind) (strange : NotOfPackets kind) → NotOfRepository kind → (offset : ℕ) (packets : List Given) (brought : ReadGot A)
     (requests : RequestReader A) (repo : Repository) → IsBrought repo packets brought requests
     → (fault : Fault) → outcome_in (phase_after offset brought) ≡ Some (Refused fault) → fault.kind ≡ kind → ⊥
-not_told kind strange other offset packets Part requests repo h fault ended is = cc
+not_told kind strange other offset packets More requests repo h fault ended is = cc
 not_told kind strange other offset packets (Whole request) requests repo h fault ended is = cc
 not_told kind strange other offset packets Stop requests repo h fault ended is = cc
 not_told {A = A} kind strange other offset packets (RefusedPacket f) requests repo h fault ended is =
@@ -308,12 +309,12 @@ module _ {R A : Type 0} (state : R → RepoState) (old new : Server R A) (u : Li
       }
 
   -- what a server represents after a packet, by what the packet brought
-  packet_stands : (s : Setting) (so_far : List ℕ) (over : Bool) (before : List ℕ) (g : Given) (brought : Brought A)
+  packet_stands : (s : Setting) (so_far : List ℕ) (over : Bool) (before : List ℕ) (g : Given) (brought : ReadGot A)
       → wants_input old ≡ true → over ≡ false → (h : Serves s so_far before old) → (rest : List ℕ) → Reads new.reader 0 (so_far ++ u) (h.packets ++ g ∷ []) rest
       → fault_of new.reader ≡ None → is_open new.reader ≡ false → offer_of new.requests ≡ s.offer → limit_in new.requests ≡ s.limit
       → Brings s.repo old.requests g brought new.requests → new.phase ≡ phase_after g.offset brought
       → StandsBy (outcome_in (phase_after g.offset brought)) s (so_far ++ u) over (before ++ []) new
-  packet_stands s so_far over before g Part wants not_over h rest stream sound shut offer limit brings phase_is =
+  packet_stands s so_far over before g More wants not_over h rest stream sound shut offer limit brings phase_is =
       let (takes, unbarred) = brings.brings h.left h.takes in
       let begun = begins_more s h.left g new.requests offer limit (brings.sound refl) (brings.ready refl) h.begins takes unbarred in (
         not_over,
@@ -355,7 +356,7 @@ module _ {R A : Type 0} (state : R → RepoState) (old new : Server R A) (u : Li
       (owes_at s (refused_by fault.kind fault) owed phase_is owes)))
 
   -- a packet came of the bytes
-  pub goes_packet : (g : Given) (brought : Brought A) → IsCovered brought → wants_input old ≡ true → ReadsFor state old u (g ∷ []) new
+  pub goes_packet : (g : Given) (brought : ReadGot A) → IsCovered brought → wants_input old ≡ true → ReadsFor state old u (g ∷ []) new
       → Brings (state old.repo).answers old.requests g brought new.requests → new.phase ≡ phase_after g.offset brought
       → fault_of new.reader ≡ None → is_open new.reader ≡ false → Goes state u [] old new
   goes_packet g brought covered wants reads brings phase_is sound shut s so_far over before r =
@@ -437,7 +438,7 @@ module _ {R A : Type 0} (state : R → RepoState) (old : Server R A) (used : ℕ
       absurd (cc)
 
   -- a packet was judged
-  pub packet_in_time : (g : Given) (brought : Brought A) (requests : RequestReader A) (phase : Phase A)
+  pub packet_in_time : (g : Given) (brought : ReadGot A) (requests : RequestReader A) (phase : Phase A)
       → Brings (state old.repo).answers old.requests g brought requests → phase ≡ phase_after g.offset brought
       → StopsInTime state old used piece (outcome_in phase)
   packet_in_time g brought requests phase brings phase_is s so_far over before r wants fault ended too_long =

@@ -6,7 +6,7 @@ use Rattle.git_msg.specs.Kept.{Kept}
 use Rattle.git_msg.specs.Prefixes.{OrdersPrefixes}
 use Rattle.git_server.specs.Repository.{Repository}
 use Rattle.git_server.specs.Packs.{Manner, whole, broken}
-use Rattle.git_server.specs.AnsweredRequest.{AreReferencesFrom, IsAnswerFrom, IsNext, most_from, references_from}
+use Rattle.git_server.specs.Machine.AnsweredRequest.{AreReferencesFrom, IsAnswerFrom, IsNext, most_from, references_from}
 use Rattle.git_server.specs.declared.answer.Answer.{Answer}
 use Rattle.git_server.specs.declared.answer.Answer.TheVariants.{References}
 use Rattle.git_server.specs.declared.answer.Answered.TheVariants.{Part}

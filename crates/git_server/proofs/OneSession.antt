@@ -17,14 +17,14 @@ use Rattle.git_names.specs.ObjectName.{ObjectName}
 use Rattle.git_msg.specs.WholeRequests.{AreRequests}
 use Rattle.git_msg.proofs.WholeRequests.{NoFlush, NoRequest, none_without_flush, one_list_of_requests}
 use Rattle.git_server.specs.Repository.{Entry, Repository, RepoState}
-use Rattle.git_server.specs.AnsweredRequest.{references_from, sizes_from}
+use Rattle.git_server.specs.Machine.AnsweredRequest.{references_from, sizes_from}
 use Rattle.git_server.specs.Answers.{AllFit, asks_for_unborn, offered_line, reference_packets, shown_line, shown_refs, spelled, unborn_packet}
 use Rattle.git_server.specs.Answers.{unborn_packets, IsAnswer}
-use Rattle.git_server.specs.AdvertisementLines.{format_on, advertisement_from}
+use Rattle.git_server.specs.Machine.AdvertisementLines.{format_on, advertisement_from}
 use Rattle.git_server.specs.declared.advertisement.AdvertisementLine.TheVariants.{Version, Agent, LsRefs, Fetch, ServerOption, ObjectFormat, ObjectInfo, End}
 use Rattle.git_server.specs.Sessions.{Setting, IsRequest, AreAnswers, IsAnswered, advertised}
-use Rattle.git_server.specs.Phases.{outcome_in, Owes, reads_in}
-use Rattle.git_server.specs.Server.{Running, outcome_of, wants_input}
+use Rattle.git_server.specs.Machine.Phases.{outcome_in, Owes, reads_in}
+use Rattle.git_server.specs.Machine.Server.{Running, outcome_of, wants_input}
 use Rattle.git_server.specs.declared.advertisement.AdvertisementLine.{AdvertisementLine}
 use Rattle.git_server.specs.declared.answer.Answer.TheVariants.{References, Fetching, Sizes}
 use Rattle.git_server.specs.declared.ls_refs.ReferencesPlace.{ReferencesPlace}

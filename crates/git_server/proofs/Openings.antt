@@ -4,8 +4,8 @@ use Rattle.git_pkt.specs.Packets.{Pkt}
 use Rattle.git_msg.specs.declared.offers.Offer.{Offer}
 use Rattle.git_server.specs.Repository.{RepoState}
 use Rattle.git_server.specs.Sessions.{Setting, advertised}
-use Rattle.git_server.specs.Phases.{FlushIsAt, LeftIn, kept_in, outcome_in, MayBreak, Owes, stored_in}
-use Rattle.git_server.specs.Server.{IsFresh, IsPackLost, Running, StandsBy}
+use Rattle.git_server.specs.Machine.Phases.{FlushIsAt, LeftIn, kept_in, outcome_in, MayBreak, Owes, stored_in}
+use Rattle.git_server.specs.Machine.Server.{IsFresh, IsPackLost, Running, StandsBy}
 use Rattle.git_server.specs.declared.outcome.Outcome.{Outcome}
 use Rattle.git_server.specs.declared.server.Server.{Server}
 use Rattle.git_server.specs.declared.server.Phase.{Phase}

@@ -4,8 +4,8 @@ use Rattle.git_pkt.specs.declared.fault.Fault.{Fault}
 use Rattle.git_pkt.specs.declared.fault.Kind.{Kind}
 use Rattle.git_pkt.specs.declared.fault.Kind.TheVariants.{PackSource, StreamTooLong}
 use Rattle.git_server.specs.Repository.{Repository, RepoState}
-use Rattle.git_server.specs.Server.{HasFailed, IsPackLost}
-use Rattle.git_server.specs.ServerCalls.{IsAfterPull}
+use Rattle.git_server.specs.Machine.Server.{HasFailed, IsPackLost}
+use Rattle.git_server.specs.Machine.ServerCalls.{IsAfterPull}
 use Rattle.git_server.specs.declared.outcome.Outcome.{Outcome}
 use Rattle.git_server.specs.declared.outcome.Outcome.TheVariants.{Flush, Closed, Refused}
 

@@ -6,11 +6,11 @@ use Rattle.git_pkt.specs.Splits.{Given}
 use Rattle.git_pkt.specs.declared.fault.Fault.{Fault}
 use Rattle.git_msg.specs.declared.offers.Offer.{Offer}
 use Rattle.git_server.specs.Repository.{Repository}
-use Rattle.git_server.specs.AnsweredRequest.{IsNext, IsAnswerFrom, most_from}
+use Rattle.git_server.specs.Machine.AnsweredRequest.{IsNext, IsAnswerFrom, most_from}
 use Rattle.git_server.specs.Answers.{offered_line, error_packet, info_packet, reference_packet, shown_refs, unborn_packets}
 use Rattle.git_server.specs.Packs.{whole, broken}
-use Rattle.git_server.specs.AdvertisementLines.{format_on, advertisement_packet, advertisement_line_after, advertisement_from, advertisement_after}
-use Rattle.git_server.specs.Phases.{FlushIsAt, LeftIn, MayBreak, advertising_phase, kept_in, outcome_in, Owes, most_owed, stored_in}
+use Rattle.git_server.specs.Machine.AdvertisementLines.{format_on, advertisement_packet, advertisement_line_after, advertisement_from, advertisement_after}
+use Rattle.git_server.specs.Machine.Phases.{FlushIsAt, LeftIn, MayBreak, advertising_phase, kept_in, outcome_in, Owes, most_owed, stored_in}
 use Rattle.git_server.specs.declared.advertisement.AdvertisementLine.{AdvertisementLine}
 use Rattle.git_server.specs.declared.advertisement.AdvertisementLine.TheVariants.{Version, Agent, LsRefs, Fetch, ServerOption, ObjectFormat, ObjectInfo, End}
 use Rattle.git_server.specs.declared.answer.Answer.{Answer}

@@ -7,9 +7,9 @@ use Rattle.git_pkt.specs.Packets.{Pkt, flush, flushes, longest_payload}
 use Rattle.git_pkt.specs.Bands.{AreBands, band_packet}
 use Rattle.git_pkt.specs.declared.band.Band.TheVariants.{Pack as PackBand}
 use Rattle.git_pkt.specs.declared.reader.PacketReader.{PacketReader}
-use Rattle.git_server.specs.AnsweredRequest.{IsNext, WritesPack}
-use Rattle.git_server.specs.FetchPlaces.{IsPackfileFrom, most_packets}
-use Rattle.git_server.specs.PackParts.{IsPartRead, WritesPart, answered_by, part_packet}
+use Rattle.git_server.specs.Machine.AnsweredRequest.{IsNext, WritesPack}
+use Rattle.git_server.specs.Machine.FetchPlaces.{IsPackfileFrom, most_packets}
+use Rattle.git_server.specs.Machine.PackParts.{IsPartRead, WritesPart, answered_by, part_packet}
 use Rattle.git_server.specs.Repository.{RepoState}
 use Rattle.git_server.specs.Packs.{Manner, whole, broken, IsPackPart, EndsPack, EndsWhole, IsPackfile, pack_source_packet, packfile_header}
 use Rattle.git_server.specs.declared.packfile.PackPlace.{PackPlace}

@@ -10,9 +10,9 @@ use Rattle.git_pkt.proofs.EngineLemmas.{written_nothing, written_then, written_f
 use Rattle.git_pkt.proofs.EngineLemmas.{Moved, moved_nothing, moved_flushed, moved_unread, moved_on, moves}
 use Rattle.git_server.specs.Repository.{RepoState}
 use Rattle.git_server.specs.Sessions.{Setting}
-use Rattle.git_server.specs.Server.{Running, outcome_of, wants_input}
-use Rattle.git_server.specs.ServerCalls.{Closes, EndsAs, Goes, IsAfterPull, OwesNow, Pulls, StopsInTime, TellsPulled, given_by}
-use Rattle.git_server.specs.Runs.{EndsRun, Served, Waits, WritesAll, WritesItsEnd, WritesOn, WritesPart}
+use Rattle.git_server.specs.Machine.Server.{Running, outcome_of, wants_input}
+use Rattle.git_server.specs.Machine.ServerCalls.{Closes, EndsAs, Goes, IsAfterPull, OwesNow, Pulls, StopsInTime, TellsPulled, given_by}
+use Rattle.git_server.specs.Machine.Runs.{EndsRun, Served, Waits, WritesAll, WritesItsEnd, WritesOn, WritesPart}
 use Rattle.git_server.specs.declared.outcome.Outcome.{Outcome}
 use Rattle.git_server.specs.declared.outcome.Outcome.TheVariants.{Refused}
 use Rattle.git_server.specs.declared.server.Pulled.{Pulled}

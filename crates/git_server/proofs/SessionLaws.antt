@@ -3,13 +3,13 @@ use Rattle.std.proofs.Common.{arith, ◌≡◌, ℕ, Bool, true, false, List, []
 use Rattle.git_server.specs.Repository.{Repository, RepoState}
 use Rattle.git_server.specs.Answers.{AllFit, spelled}
 use Rattle.git_server.specs.Sessions.{Setting, Stream, GoesOn, IsTail, IsEnding, IsAnswered, IsRunning, IsSession}
-use Rattle.git_server.specs.Phases.{LeftIn, Owes, outcome_in, owes_in, reads_in, turn_in}
+use Rattle.git_server.specs.Machine.Phases.{LeftIn, Owes, outcome_in, owes_in, reads_in, turn_in}
 use Rattle.git_server.specs.declared.server.Phase.{Phase}
 use Rattle.git_server.specs.declared.server.Phase.TheVariants.{Advertising, Between, Within, Answering, Refusing, Ended}
 use Rattle.git_server.specs.declared.server.Turn.TheVariants.{Finished}
 use Rattle.git_server.specs.declared.server.Pulled.TheVariants.{Finished as FinishedNow}
-use Rattle.git_server.specs.Server.{Running, StandsBy, outcome_of, wants_input}
-use Rattle.git_server.specs.ServerCalls.{OwesNow, Pulls}
+use Rattle.git_server.specs.Machine.Server.{Running, StandsBy, outcome_of, wants_input}
+use Rattle.git_server.specs.Machine.ServerCalls.{OwesNow, Pulls}
 use Rattle.git_server.specs.declared.outcome.Outcome.{Outcome}
 use Rattle.git_server.specs.declared.server.Server.{Server}
 use Rattle.git_pkt.proofs.KnownRest.{none_between, sound_rest}

@@ -14,7 +14,7 @@ use Rattle.git_msg.specs.Asked.{LsRefsAsked}
 use Rattle.git_msg.specs.Kept.{Kept}
 use Rattle.git_msg.specs.Prefixes.{IsOrdered, OrdersPrefixes, SplitsAt, ShowAlike, goes_before, begins, is_shown, text_cmp}
 use Rattle.git_server.specs.Repository.{Entry, Repository, IsRising, comes_before}
-use Rattle.git_server.specs.AnsweredRequest.{references_from}
+use Rattle.git_server.specs.Machine.AnsweredRequest.{references_from}
 use Rattle.git_server.specs.Answers.{reference_packets, shown_refs, unborn_packets}
 use Rattle.git_server.specs.declared.ls_refs.ReferencesPlace.{ReferencesPlace}
 use Rattle.git_server.specs.declared.ls_refs.ReferencesPlace.TheVariants.{First, Entry as EntryPlace}

@@ -10,12 +10,12 @@ use Rattle.git_msg.specs.declared.reader.Part.TheVariants.{Waiting}
 use Rattle.git_msg.specs.declared.reader.RequestReader.{RequestReader}
 use Rattle.git_msg.specs.declared.reader.Taken.TheVariants.{More, Argument as TakenArgument}
 use Rattle.git_msg.specs.Arguments.{Arg, shown}
-use Rattle.git_msg.specs.RequestReader.{KeepsOn, TakesOn, WaitsBehind, WaitsFor, WaitsIn, fault_of, limit_in, offer_of}
+use Rattle.git_msg.specs.Machine.RequestReader.{KeepsOn, TakesOn, WaitsBehind, WaitsFor, WaitsIn, fault_of, limit_in, offer_of}
 use Rattle.git_msg.proofs.WholeRequests.{last_same}
 use Rattle.git_server.specs.Repository.{Repository}
 use Rattle.git_server.specs.Admission.{barred, IsAdmitted, IsBarredAtLast, IsUnbarred}
-use Rattle.git_server.specs.Brought.{Brings}
-use Rattle.git_server.specs.declared.requests.Brought.TheVariants.{Part as BroughtPart, Refused}
+use Rattle.git_server.specs.Machine.Brought.{Brings}
+use Rattle.git_msg.specs.declared.streams.ReadGot.TheVariants.{More as ReadMore, Failed}
 use Rattle.git_server.proofs.Admission.{barred_after, barred_text, fault_unbarred, plain_unbarred}
 
 module _ {A : Type 0} (repo : Repository) where
@@ -58,7 +58,7 @@ module _ {A : Type 0} (repo : Repository) where
       subst (λ (o : Offer). IsUnbarred o (limit_in new) repo packets) (sym offer) (subst (λ (n : ℕ). IsUnbarred old.offer n repo packets) (sym limit) h)
 
   -- a line that is no argument
-  pub brings_line : (old new : RequestReader A) (g : Given) → fault_of old ≡ None → TakesOn old g (Ok More) new → Brings repo old g BroughtPart new
+  pub brings_line : (old new : RequestReader A) (g : Given) → fault_of old ≡ None → TakesOn old g (Ok More) new → Brings repo old g ReadMore new
   brings_line old new g sound t = record {
     brings = λ packets takes.
         let (there, plain) = t.brings packets sound takes in
@@ -72,7 +72,7 @@ module _ {A : Type 0} (repo : Repository) where
 
   -- a packet that is refused for itself
   pub brings_fault : (old new : RequestReader A) (g : Given) (fault : Fault) → fault_of old ≡ None → TakesOn old g (Err fault) new
-      → Brings repo old g (Refused fault) new
+      → Brings repo old g (Failed fault) new
   brings_fault old new g fault sound t = record {
     brings = λ packets takes.
         let (there, first, not_for_limit) = t.brings packets sound takes in
@@ -87,7 +87,7 @@ module _ {A : Type 0} (repo : Repository) where
   module _ (old mid : RequestReader A) (g : Given) (argument : Argument) (sound : fault_of old ≡ None)
       (t : TakesOn old g (Ok (TakenArgument argument)) mid) where
     -- an argument that the repository refuses
-    pub brings_barred : (kind : Kind) → barred repo (shown argument) ≡ Some kind → Brings repo old g (Refused (record { kind = kind; offset = g.offset })) mid
+    pub brings_barred : (kind : Kind) → barred repo (shown argument) ≡ Some kind → Brings repo old g (Failed (record { kind = kind; offset = g.offset })) mid
     brings_barred kind refuses = record {
       brings = λ packets takes. inl (barred_waiting packets g (shown argument) mid kind (t.brings packets sound takes).1 refuses);
       sound = λ on. cc;
@@ -103,7 +103,7 @@ module _ {A : Type 0} (repo : Repository) where
       unbarred packets waits offer limit = unbarred_on packets mid new offer limit (unbarred_waiting packets (shown argument) mid waits admitted)
 
       -- one that is kept
-      pub brings_kept : (done : Unit {0}) → KeepsOn mid (shown argument) (Ok done) new → Brings repo old g BroughtPart new
+      pub brings_kept : (done : Unit {0}) → KeepsOn mid (shown argument) (Ok done) new → Brings repo old g ReadMore new
       brings_kept done k = record {
         brings = λ packets takes.
             let waits = (t.brings packets sound takes).1 in
@@ -116,7 +116,7 @@ module _ {A : Type 0} (repo : Repository) where
       }
 
       -- one that is not: for the limit, or since memory ran out
-      pub brings_unkept : (fault : Fault) → KeepsOn mid (shown argument) (Err fault) new → Brings repo old g (Refused fault) new
+      pub brings_unkept : (fault : Fault) → KeepsOn mid (shown argument) (Err fault) new → Brings repo old g (Failed fault) new
       brings_unkept fault k = record {
         brings = λ packets takes.
             let waits = (t.brings packets sound takes).1 in

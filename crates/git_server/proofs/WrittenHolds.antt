@@ -6,20 +6,20 @@ use Rattle.std.specs.Borrow.{Bor}
 use Rattle.std.specs.Io.{StartsWith}
 use Rattle.arrayvec.specs.ArrayVec.{ArrayVec}
 use Rattle.git_pkt.specs.Fronts.{HasFront}
-use Rattle.git_pkt.specs.LentHold.{with_hold, with_hold_by}
+use Rattle.git_pkt.specs.Machine.LentHold.{with_hold, with_hold_by}
 use Rattle.git_pkt.specs.Packets.{Pkt, body_of, longest_payload, spelling_of}
-use Rattle.git_pkt.specs.PacketReader.{Reads, bytes_held, held_of, is_open}
-use Rattle.git_pkt.specs.ReaderState.{is_open_in}
+use Rattle.git_pkt.specs.Machine.PacketReader.{Reads, bytes_held, held_of, is_open}
+use Rattle.git_pkt.specs.Machine.ReaderState.{is_open_in}
 use Rattle.git_pkt.specs.Splits.{Given}
 use Rattle.git_pkt.specs.declared.reader.PacketReader.{PacketReader}
 use Rattle.git_pkt.proofs.LentHolds.{lent_reads}
 use Rattle.git_pkt.proofs.ReaderMoves.{gathers_between}
 use Rattle.git_pkt.proofs.Written.{spells_written}
 use Rattle.git_msg.specs.WrittenRequest.{text_line}
-use Rattle.git_server.specs.PackParts.{part_packet}
+use Rattle.git_server.specs.Machine.PackParts.{part_packet}
 use Rattle.git_server.specs.Repository.{RepoState}
-use Rattle.git_server.specs.ServerCalls.{Gives, Goes, Pulls}
-use Rattle.git_server.specs.WrittenPackets.{Writes}
+use Rattle.git_server.specs.Machine.ServerCalls.{Gives, Goes, Pulls}
+use Rattle.git_server.specs.Machine.WrittenPackets.{Writes}
 use Rattle.git_server.specs.declared.packfile.PartRead.{PartRead}
 use Rattle.git_server.specs.declared.packfile.PartRead.TheVariants.{Bytes, End, Failed}
 use Rattle.git_server.specs.declared.server.Pulled.TheVariants.{Packet}

@@ -1,10 +1,10 @@
 //! The section `acknowledgments` in an answer to `fetch`, a packet at a time.
 
 ghost use Rattle.std.specs.Prelude.{◌≡◌, false};
-ghost use Rattle.git_pkt.specs.PacketReader.{is_open};
+ghost use Rattle.git_pkt.specs.Machine.PacketReader.{is_open};
 ghost use Rattle.git_server.specs.FetchAnswers.{ack_packet};
-ghost use Rattle.git_server.specs.FetchPlaces.{Acknowledges, NextCommon};
-ghost use Rattle.git_server.specs.WrittenPackets.{Writes};
+ghost use Rattle.git_server.specs.Machine.FetchPlaces.{Acknowledges, NextCommon};
+ghost use Rattle.git_server.specs.Machine.WrittenPackets.{Writes};
 
 use crate::packets::{write_line, write_packet};
 use crate::repo::Repo;

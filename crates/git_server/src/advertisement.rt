@@ -1,12 +1,12 @@
 //! The capability advertisement, a line at a time.
 
 ghost use Rattle.std.specs.Prelude.{◌≡◌, ℕ, ◌+◌, ◌≤◌, ◌<◌, List, ◌∷◌, ◌++◌, [], codes, false, length};
-ghost use Rattle.git_pkt.specs.PacketReader.{is_open};
+ghost use Rattle.git_pkt.specs.Machine.PacketReader.{is_open};
 ghost use Rattle.git_pkt.specs.Packets.{body_of, longest_payload, payload, spelling_of};
 ghost use Rattle.git_msg.specs.Features.{capability_text, fetch_features, ls_refs_features, where_offered};
-ghost use Rattle.git_server.specs.AdvertisementLines.{Names, advertisement_line_after, advertisement_packet, separator_after};
+ghost use Rattle.git_server.specs.Machine.AdvertisementLines.{Names, advertisement_line_after, advertisement_packet, separator_after};
 ghost use Rattle.git_server.specs.Answers.{advertisement_of, spelled};
-ghost use Rattle.git_server.specs.WrittenPackets.{Writes};
+ghost use Rattle.git_server.specs.Machine.WrittenPackets.{Writes};
 
 use crate::packets::append_packet;
 use arrayvec::ArrayString;

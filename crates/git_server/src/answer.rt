@@ -1,10 +1,10 @@
 //! Answers to requests, a packet at a time.
 
 ghost use Rattle.std.specs.Prelude.{◌≡◌, ◌≤◌, false};
-ghost use Rattle.git_pkt.specs.PacketReader.{is_open};
-ghost use Rattle.git_server.specs.AnsweredRequest.{WritesAnswer, answer_to, kept_with, stored_with};
-ghost use Rattle.git_server.specs.FullParts.{FillsAnswer};
-ghost use Rattle.git_server.specs.WrittenPackets.{IsAtFront};
+ghost use Rattle.git_pkt.specs.Machine.PacketReader.{is_open};
+ghost use Rattle.git_server.specs.Machine.AnsweredRequest.{WritesAnswer, answer_to, kept_with, stored_with};
+ghost use Rattle.git_server.specs.Machine.FullParts.{FillsAnswer};
+ghost use Rattle.git_server.specs.Machine.WrittenPackets.{IsAtFront};
 
 use crate::fetching::{FetchPlace, write_fetch};
 use crate::ls_refs::{ReferencesPlace, write_references};

@@ -22,7 +22,7 @@ pub struct Faulty<R> {
 }
 
 impl<R: Repo> Faulty<R> {
-    ghost use Rattle.git_server.specs.Faulty.{faulty_state, inner_of, most_of, reads_left};
+    ghost use Rattle.git_server.specs.Machine.Faulty.{faulty_state, inner_of, most_of, reads_left};
 
     /// A repository that gives at most `most` bytes of a pack a read, and fails from the read numbered `fail_from`, from
     /// 0, on.
@@ -51,7 +51,7 @@ impl<R: Repo> Faulty<R> {
 }
 
 impl<R: Repo> Repo for Faulty<R> {
-    ghost use Rattle.git_server.specs.Faulty.{faulty_state, inner_of, most_of, reads_left};
+    ghost use Rattle.git_server.specs.Machine.Faulty.{faulty_state, inner_of, most_of, reads_left};
 
     ghost state = { faulty_state R.state };
 

@@ -1,11 +1,11 @@
 //! The answer to `fetch`, a packet at a time: its sections, one after another.
 
 ghost use Rattle.std.specs.Prelude.{◌≡◌, false};
-ghost use Rattle.git_pkt.specs.PacketReader.{is_open};
-ghost use Rattle.git_server.specs.AnsweredRequest.{WritesFetch};
-ghost use Rattle.git_server.specs.FetchPlaces.{first_place};
-ghost use Rattle.git_server.specs.FullParts.{FillsFetch, FillsPart};
-ghost use Rattle.git_server.specs.WrittenPackets.{IsAtFront};
+ghost use Rattle.git_pkt.specs.Machine.PacketReader.{is_open};
+ghost use Rattle.git_server.specs.Machine.AnsweredRequest.{WritesFetch};
+ghost use Rattle.git_server.specs.Machine.FetchPlaces.{first_place};
+ghost use Rattle.git_server.specs.Machine.FullParts.{FillsFetch, FillsPart};
+ghost use Rattle.git_server.specs.Machine.WrittenPackets.{IsAtFront};
 
 use crate::acknowledgments::{Acknowledged, AcknowledgmentsPlace, write_acknowledgments};
 use crate::answer::Answered;

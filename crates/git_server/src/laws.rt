@@ -1,13 +1,13 @@
 //! What a server's contract means for the bytes alone: each function does nothing, and its contract is the law.
 
 ghost use Rattle.std.specs.Prelude.{◌≡◌, ◌+◌, ◌<◌, ◌≤◌, ◌↔◌, ℕ, Bool, true, false, None, Some, List, []};
-ghost use Rattle.git_pkt.specs.Credit.{MakesAll, credit_of};
+ghost use Rattle.git_pkt.specs.Machine.Credit.{MakesAll, credit_of};
 ghost use Rattle.git_pkt.specs.Packets.{Pkt};
 ghost use Rattle.git_msg.specs.Asked.{Asked};
 ghost use Rattle.git_server.specs.Sessions.{GoesOn, IsAnswered, IsEnding, IsOfTheBytes, IsRunning, IsSession, Setting, Stream};
 ghost use Rattle.git_server.specs.declared.outcome.Outcome.{Outcome};
-ghost use Rattle.git_server.specs.Calls.{Call, Headline, Makes};
-ghost use Rattle.git_server.specs.Server.{IsPackLost, Running, bytes_held, bytes_held_by_fields, kept_by, outcome_of, reader_of, repo_of, wants_input};
+ghost use Rattle.git_server.specs.Machine.Calls.{Call, Headline, Makes};
+ghost use Rattle.git_server.specs.Machine.Server.{IsPackLost, Running, bytes_held, bytes_held_by_fields, kept_by, outcome_of, reader_of, repo_of, wants_input};
 
 use crate::repo::Repo;
 use crate::server::Server;

@@ -83,7 +83,7 @@ pub struct ListRepo {
 
 impl ListRepo {
     ghost use Rattle.git_server.specs.Lists.{IsUnfit, Lists, lists_from, pack_for};
-    ghost use Rattle.git_server.specs.ListRepo.{lists_of};
+    ghost use Rattle.git_server.specs.Machine.ListRepo.{lists_of};
 
     /// The repository with these references, these objects with their sizes in bytes, this shallow boundary and
     /// this pack for each request, or where `filtered` is there, that for each request that has a filter. It is ready
@@ -177,7 +177,7 @@ impl ListRepo {
 }
 
 impl Repo for ListRepo {
-    ghost use Rattle.git_server.specs.ListRepo.{is_short, is_sound, lists_of, state_of};
+    ghost use Rattle.git_server.specs.Machine.ListRepo.{is_short, is_sound, lists_of, state_of};
     ghost use Rattle.git_server.specs.Lists.{pack_for};
 
     ghost state = { state_of };

@@ -4,13 +4,13 @@ ghost use Rattle.std.specs.Prelude.{◌≡◌, ◌<◌, ◌≤◌, ℕ, List, []
 ghost use Rattle.std.specs.Prelude.{codes, drop, length, slice_index_or};
 ghost use Rattle.std.specs.Option.{option_copied};
 ghost use Rattle.git_names.specs.RefName.{IsRefName};
-ghost use Rattle.git_pkt.specs.PacketReader.{is_open};
+ghost use Rattle.git_pkt.specs.Machine.PacketReader.{is_open};
 ghost use Rattle.git_msg.specs.Prefixes.{IsOrdered, SplitsAt};
 ghost use Rattle.git_msg.specs.References.{IsWritable, reference_of, shown_reference};
-ghost use Rattle.git_server.specs.AnsweredRequest.{AnswersOne};
+ghost use Rattle.git_server.specs.Machine.AnsweredRequest.{AnswersOne};
 ghost use Rattle.git_server.specs.Answers.{asks_for_unborn as asks, is_shown, reference_packet, shown_line, shown_refs, unborn_packet, unborn_packets};
 ghost use Rattle.git_server.specs.NextShown.{NextShown};
-ghost use Rattle.git_server.specs.WrittenPackets.{Writes};
+ghost use Rattle.git_server.specs.Machine.WrittenPackets.{Writes};
 ghost use Rattle.git_server.specs.Repository.{Entry, HasOneFormat, IsRising, comes_before};
 
 use crate::entry::RefEntry;

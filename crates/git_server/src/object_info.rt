@@ -1,10 +1,10 @@
 //! Answers to `object-info`, a packet at a time.
 
 ghost use Rattle.std.specs.Prelude.{◌≡◌, false};
-ghost use Rattle.git_pkt.specs.PacketReader.{is_open};
+ghost use Rattle.git_pkt.specs.Machine.PacketReader.{is_open};
 ghost use Rattle.git_server.specs.Answers.{info_packet};
-ghost use Rattle.git_server.specs.AnsweredRequest.{sizes_after, sizes_from};
-ghost use Rattle.git_server.specs.WrittenPackets.{Writes, WritesFirst};
+ghost use Rattle.git_server.specs.Machine.AnsweredRequest.{sizes_after, sizes_from};
+ghost use Rattle.git_server.specs.Machine.WrittenPackets.{Writes, WritesFirst};
 
 use crate::packets::{write_line, write_packet};
 use crate::repo::Repo;

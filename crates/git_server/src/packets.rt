@@ -3,9 +3,9 @@
 ghost use Rattle.std.specs.Prelude.{◌≡◌, ◌≤◌, ◌<◌, ◌+◌, ◌++◌, length, false};
 ghost use Rattle.git_pkt.specs.Digits.{digits_of};
 ghost use Rattle.git_pkt.specs.Packets.{body_of, seen, spelling_of, longest_payload};
-ghost use Rattle.git_pkt.specs.PacketReader.{is_open};
+ghost use Rattle.git_pkt.specs.Machine.PacketReader.{is_open};
 ghost use Rattle.git_msg.specs.WrittenRequest.{text_line};
-ghost use Rattle.git_server.specs.WrittenPackets.{Writes};
+ghost use Rattle.git_server.specs.Machine.WrittenPackets.{Writes};
 
 use git_msg::put_line;
 use git_names::lower_digit;

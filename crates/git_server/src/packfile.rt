@@ -2,12 +2,12 @@
 
 ghost use Rattle.std.specs.Prelude.{◌≡◌, drop, length, false};
 ghost use Rattle.std.specs.Io.{StartsWith};
-ghost use Rattle.git_pkt.specs.PacketReader.{is_open};
+ghost use Rattle.git_pkt.specs.Machine.PacketReader.{is_open};
 ghost use Rattle.git_pkt.specs.Packets.{spelling_of};
-ghost use Rattle.git_server.specs.AnsweredRequest.{WritesPack};
-ghost use Rattle.git_server.specs.FullParts.{FillsPart};
-ghost use Rattle.git_server.specs.PackParts.{FitsRoom, PutsPart, ReadsPart, WritesPart, part_packet};
-ghost use Rattle.git_server.specs.WrittenPackets.{IsAtFront};
+ghost use Rattle.git_server.specs.Machine.AnsweredRequest.{WritesPack};
+ghost use Rattle.git_server.specs.Machine.FullParts.{FillsPart};
+ghost use Rattle.git_server.specs.Machine.PackParts.{FitsRoom, PutsPart, ReadsPart, WritesPart, part_packet};
+ghost use Rattle.git_server.specs.Machine.WrittenPackets.{IsAtFront};
 
 use crate::answer::Answered;
 use crate::packets::write_line;

@@ -1,9 +1,9 @@
 //! The packet that reports a fault to the other end.
 
 ghost use Rattle.std.specs.Prelude.{◌≡◌, false};
-ghost use Rattle.git_pkt.specs.PacketReader.{is_open};
+ghost use Rattle.git_pkt.specs.Machine.PacketReader.{is_open};
 ghost use Rattle.git_server.specs.Answers.{error_packet};
-ghost use Rattle.git_server.specs.WrittenPackets.{Writes};
+ghost use Rattle.git_server.specs.Machine.WrittenPackets.{Writes};
 
 use crate::packets::write_line;
 use git_pkt::{Fault, PacketReader};

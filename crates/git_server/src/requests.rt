@@ -4,27 +4,15 @@ ghost use Rattle.std.specs.Prelude.{◌≡◌, false, None, ◌+◌, ◌*◌, le
 ghost use Rattle.git_names.specs.Steps.{TakesAtMost};
 ghost use Rattle.git_pkt.specs.Packets.{body_of, seen};
 ghost use Rattle.git_msg.specs.Arguments.{shown};
-ghost use Rattle.git_msg.specs.RequestReader.{fault_of, is_waiting};
+ghost use Rattle.git_msg.specs.Machine.RequestReader.{fault_of, is_waiting};
 ghost use Rattle.git_server.specs.Admission.{barred};
-ghost use Rattle.git_server.specs.Brought.{Brings, IsCovered};
+ghost use Rattle.git_server.specs.Machine.Brought.{Brings, IsCovered};
 
 use crate::repo::Repo;
-use git_msg::{Argument, Request, RequestReader, Taken};
+use git_msg::{Argument, ReadGot, RequestReader, Taken};
 use git_names::Steps;
 use git_pkt::{Fault, Kind, Packet};
 use std::alloc::Allocator;
-
-/// What a packet brought.
-#[derive(Drop)]
-pub(crate) enum Brought<A: Allocator + Copy> {
-    /// A part of a request.
-    Part,
-    /// The end of a whole request.
-    Whole(Request<A>),
-    /// The client leaves.
-    Stop,
-    Refused(Fault),
-}
 
 /// Takes a packet of a request, and keeps its argument, if it is one that the repository does not refuse.
 pub(crate) fn take_packet<R: Repo, A: Allocator + Copy>(
@@ -33,7 +21,7 @@ pub(crate) fn take_packet<R: Repo, A: Allocator + Copy>(
     packet: Packet<'_>,
     offset: u64,
     steps: &mut Steps,
-) -> Brought<A>
+) -> ReadGot<A>
     requires sound { fault_of requests.old ≡ None }
     requires ready { is_waiting requests.old ≡ false }
     ensures brings { Brings (R.state repo.now).answers requests.old (record { packet = seen packet.entry; offset = offset }) result requests.new }
@@ -42,25 +30,25 @@ pub(crate) fn take_packet<R: Repo, A: Allocator + Copy>(
 {
     match requests.take(packet, offset, steps) {
         Ok(taken) => match taken {
-            Taken::More => return Brought::Part,
+            Taken::More => return ReadGot::More,
             Taken::Argument(argument) => {
                 // The repository is asked once.
                 steps.tick(1);
                 if let Some(kind) = refusal_of(repo, &argument) {
-                    return Brought::Refused(Fault { kind, offset });
+                    return ReadGot::Failed(Fault { kind, offset });
                 }
                 match requests.keep(argument, steps) {
-                    Ok(()) => return Brought::Part,
-                    Err(fault) => return Brought::Refused(fault),
+                    Ok(()) => return ReadGot::More,
+                    Err(fault) => return ReadGot::Failed(fault),
                 }
             }
             Taken::Request(request) => {
                 let _ = request.kept();
-                return Brought::Whole(request);
+                return ReadGot::Request(request);
             }
-            Taken::Stop => return Brought::Stop,
+            Taken::Stop => return ReadGot::Stop,
         },
-        Err(fault) => return Brought::Refused(fault),
+        Err(fault) => return ReadGot::Failed(fault),
     }
 }
 

@@ -1,12 +1,12 @@
 //! A server run over a reader and a writer.
 
 ghost use Rattle.std.specs.Prelude.{◌≡◌, ◌≢◌, ◌<◌, ◌≤◌, ◌||◌, ℕ, List, [], ◌∷◌, false, true, length, Some, IsTrue, IsSome, IfOk, IfErr, OnErr, OnOk, is_err};
-ghost use Rattle.git_pkt.specs.Told.{inner_of, reads_of, has_failed, has_ended, has_wasted, IsNew};
-ghost use Rattle.git_pkt.specs.Engine.{FailsAs, IsShownBy, IsSpent};
+ghost use Rattle.git_pkt.specs.Machine.Told.{inner_of, reads_of, has_failed, has_ended, has_wasted, IsNew};
+ghost use Rattle.git_pkt.specs.Machine.Engine.{FailsAs, IsShownBy, IsSpent};
 ghost use Rattle.git_pkt.specs.Streams.{flow, is_broken, Moves};
-ghost use Rattle.git_server.specs.Runs.{Served, WritesFor, WritesItsEnd, WritesPart};
-ghost use Rattle.git_server.specs.ServerCalls.{IsAfterPull, OwesNow};
-ghost use Rattle.git_server.specs.Server.{Running, outcome_of, wants_input};
+ghost use Rattle.git_server.specs.Machine.Runs.{Served, WritesFor, WritesItsEnd, WritesPart};
+ghost use Rattle.git_server.specs.Machine.ServerCalls.{IsAfterPull, OwesNow};
+ghost use Rattle.git_server.specs.Machine.Server.{Running, outcome_of, wants_input};
 ghost use Rattle.git_server.specs.Sessions.{Setting};
 
 use crate::outcome::Outcome;

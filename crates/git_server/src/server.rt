@@ -19,17 +19,17 @@
 //! ```
 
 ghost use Rattle.std.specs.Prelude.{◌≡◌, true, false, None};
-ghost use Rattle.git_pkt.specs.PacketReader.{is_open, passes_of};
-ghost use Rattle.git_msg.specs.RequestReader.{fault_of, is_waiting};
-ghost use Rattle.git_server.specs.Phases.{advertising_phase, lost_pack, outcome_in, owes_in, phase_after, refusal_in, refused_by, turn_in};
+ghost use Rattle.git_pkt.specs.Machine.PacketReader.{is_open, passes_of};
+ghost use Rattle.git_msg.specs.Machine.RequestReader.{fault_of, is_waiting};
+ghost use Rattle.git_server.specs.Machine.Phases.{advertising_phase, lost_pack, outcome_in, owes_in, phase_after, refusal_in, refused_by, turn_in};
 
 use crate::advertisement::AdvertisementLine;
 use crate::answer::{Answer, Answered};
 use crate::outcome::Outcome;
 use crate::refusal::write_error;
 use crate::repo::Repo;
-use crate::requests::{Brought, take_packet};
-use git_msg::{Limits, Offer, RequestReader};
+use crate::requests::take_packet;
+use git_msg::{Limits, Offer, ReadGot, RequestReader};
 use git_names::Steps;
 use git_pkt::{Fault, Got, Kind, PacketReader, front_packet};
 use std::alloc::Allocator;
@@ -89,13 +89,13 @@ impl<R: Repo, A: Allocator + Copy> Server<R, A> {
     ghost use Rattle.std.specs.Io.{StartsWith};
     ghost use Rattle.std.specs.Io.BufRead.{Rests};
     ghost use Rattle.git_server.specs.contracts.server.Server.{the_row};
-    ghost use Rattle.git_pkt.specs.Credit.{Pays, credit_of};
+    ghost use Rattle.git_pkt.specs.Machine.Credit.{Pays, credit_of};
     ghost use Rattle.git_pkt.specs.Fronts.{HasFront};
     ghost use Rattle.git_pkt.specs.Packets.{Pkt, Spells};
-    ghost use Rattle.git_server.specs.Server.{IsFresh, Running, reader_of, repo_of, wants_input, outcome_of};
-    ghost use Rattle.git_server.specs.ServerCalls.{Closes, FillsOwed, Gives, Goes, IsPulled, OwesNow, Pulls, StopsInTime};
-    ghost use Rattle.git_server.specs.WrittenPackets.{IsAtFront};
-    ghost use Rattle.git_pkt.specs.PacketReader.{held_of};
+    ghost use Rattle.git_server.specs.Machine.Server.{IsFresh, Running, reader_of, repo_of, wants_input, outcome_of};
+    ghost use Rattle.git_server.specs.Machine.ServerCalls.{Closes, FillsOwed, Gives, Goes, IsPulled, OwesNow, Pulls, StopsInTime};
+    ghost use Rattle.git_server.specs.Machine.WrittenPackets.{IsAtFront};
+    ghost use Rattle.git_pkt.specs.Machine.PacketReader.{held_of};
 
     /// A server at the beginning of a session over this repository. Of each request it keeps argument lines whose texts have at
     /// most `limits.args` bytes together, in memory from `alloc`, and it gives the advertisement of the offer first where
@@ -314,14 +314,14 @@ impl<R: Repo, A: Allocator + Copy> Server<R, A> {
 }
 
 // The phase after a packet at this offset.
-fn following<A: Allocator + Copy>(brought: Brought<A>, offset: u64) -> Phase<A>
+fn following<A: Allocator + Copy>(brought: ReadGot<A>, offset: u64) -> Phase<A>
     ensures { result ≡ phase_after offset brought }
 {
     match brought {
-        Brought::Part => Phase::Within,
-        Brought::Whole(request) => Phase::Answering(Answer::new(request), offset),
-        Brought::Stop => Phase::Ended(Outcome::Flush),
-        Brought::Refused(fault) => refusal(fault),
+        ReadGot::More => Phase::Within,
+        ReadGot::Request(request) => Phase::Answering(Answer::new(request), offset),
+        ReadGot::Stop => Phase::Ended(Outcome::Flush),
+        ReadGot::Failed(fault) => refusal(fault),
     }
 }
 

@@ -1,10 +1,10 @@
 //! The section `shallow-info` in an answer to `fetch`, a packet at a time.
 
 ghost use Rattle.std.specs.Prelude.{◌≡◌, false};
-ghost use Rattle.git_pkt.specs.PacketReader.{is_open};
+ghost use Rattle.git_pkt.specs.Machine.PacketReader.{is_open};
 ghost use Rattle.git_server.specs.FetchAnswers.{boundary_packet};
-ghost use Rattle.git_server.specs.FetchPlaces.{WritesSection, boundary_from};
-ghost use Rattle.git_server.specs.WrittenPackets.{Writes};
+ghost use Rattle.git_server.specs.Machine.FetchPlaces.{WritesSection, boundary_from};
+ghost use Rattle.git_server.specs.Machine.WrittenPackets.{Writes};
 
 use crate::packets::{write_line, write_packet};
 use crate::repo::Repo;

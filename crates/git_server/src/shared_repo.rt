@@ -1,7 +1,7 @@
 //! A repository in memory that many servers share.
 
 ghost use Rattle.std.specs.Prelude.{◌≡◌, ◌<◌, ◌-◌, IfErr, IfOk, Ok, length, min};
-ghost use Rattle.git_server.specs.ListRepo.{lists_of};
+ghost use Rattle.git_server.specs.Machine.ListRepo.{lists_of};
 ghost use Rattle.git_server.specs.Lists.{pack_for};
 ghost use Rattle.git_server.specs.Packs.{IsPackPart};
 
@@ -20,8 +20,8 @@ pub struct SharedRepo {
 }
 
 impl SharedRepo {
-    ghost use Rattle.git_server.specs.ListRepo.{state_of};
-    ghost use Rattle.git_server.specs.SharedRepo.{shared_by, shared_state};
+    ghost use Rattle.git_server.specs.Machine.ListRepo.{state_of};
+    ghost use Rattle.git_server.specs.Machine.SharedRepo.{shared_by, shared_state};
 
     /// The repository, for others to share. Where memory runs out it is given back.
     pub fn new(alloc: Global, repo: ListRepo) -> Result<SharedRepo, AllocFailed<ListRepo>>
@@ -44,8 +44,8 @@ impl SharedRepo {
 }
 
 impl Repo for SharedRepo {
-    ghost use Rattle.git_server.specs.ListRepo.{is_short, is_sound};
-    ghost use Rattle.git_server.specs.SharedRepo.{shared_by, shared_state};
+    ghost use Rattle.git_server.specs.Machine.ListRepo.{is_short, is_sound};
+    ghost use Rattle.git_server.specs.Machine.SharedRepo.{shared_by, shared_state};
 
     ghost state = { shared_state };
 

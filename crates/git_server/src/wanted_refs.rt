@@ -2,11 +2,11 @@
 
 ghost use Rattle.std.specs.Prelude.{◌≡◌, false};
 ghost use Rattle.git_names.specs.RefName.{IsRefName};
-ghost use Rattle.git_pkt.specs.PacketReader.{is_open};
+ghost use Rattle.git_pkt.specs.Machine.PacketReader.{is_open};
 ghost use Rattle.git_msg.specs.ResponseLines.{wanted_of, wanted_text};
 ghost use Rattle.git_msg.specs.WrittenRequest.{text_line};
-ghost use Rattle.git_server.specs.FetchPlaces.{WritesSection, wanted_from};
-ghost use Rattle.git_server.specs.WrittenPackets.{Writes};
+ghost use Rattle.git_server.specs.Machine.FetchPlaces.{WritesSection, wanted_from};
+ghost use Rattle.git_server.specs.Machine.WrittenPackets.{Writes};
 
 use crate::packets::{write_line, write_packet};
 use crate::repo::Repo;

@@ -9,7 +9,7 @@ use Rattle.git_names.specs.declared.object_format.Format.TheVariants.{Sha1, Sha2
 use Rattle.git_pkt.specs.Packets.{longest_payload}
 use Rattle.git_msg.specs.References.{id_length}
 use Rattle.git_client.specs.Events.{EventValue, all_parts_length, parts_length, pack, progress}
-use Rattle.git_client.specs.Turns.{values_of}
+use Rattle.git_client.specs.Machine.Turns.{values_of}
 use Rattle.git_client.specs.declared.events.Event.{Event}
 use Rattle.gitwire.specs.EventAnswers.{Parts, bytes_shown, digits_shown, parts_of, telling_parts, text_shown}
 use Rattle.gitwire.specs.declared.event.GitwireEvent.{GitwireEvent}

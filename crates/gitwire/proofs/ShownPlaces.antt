@@ -1,7 +1,7 @@
 -- Where the bytes lie that C is shown of an event.
 use Rattle.std.proofs.Common.{◌≡◌, ℕ, Bor, List, refl}
 use Rattle.std.specs.Global.{Global}
-use Rattle.git_client.specs.Client.{Feeds}
+use Rattle.git_client.specs.Machine.Client.{Feeds}
 use Rattle.git_client.specs.declared.client.Client.{Client}
 use Rattle.git_client.specs.declared.events.Event.{Event}
 use Rattle.git_client.specs.declared.events.HeardGot.{HeardGot}

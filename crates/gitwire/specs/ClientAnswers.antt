@@ -8,8 +8,8 @@ use Rattle.git_pkt.specs.declared.fault.Fault.{Fault}
 use Rattle.git_pkt.specs.declared.fault.Kind.TheVariants.{Truncated}
 use Rattle.git_msg.specs.declared.offers.Caps.{Caps}
 use Rattle.git_msg.specs.declared.requests.Request.{Request}
-use Rattle.git_client.specs.Client.{Asks, Converses, EndsWithMessage, EndsWithoutMessage, Feeds, HearsOn, History, Leaves, Pulls, RefusesToAsk}
-use Rattle.git_client.specs.Client.{can_ask, caps_of, fault_of, given_by, nothing_yet, wants_input}
+use Rattle.git_client.specs.Machine.Client.{Asks, Converses, EndsWithMessage, EndsWithoutMessage, Feeds, HearsOn, History, Leaves, Pulls, RefusesToAsk}
+use Rattle.git_client.specs.Machine.Client.{can_ask, caps_of, fault_of, given_by, nothing_yet, wants_input}
 use Rattle.git_client.specs.Conversation.{HasNoted}
 use Rattle.git_client.specs.Parts.{Terms, terms_of}
 use Rattle.git_client.specs.declared.client.Client.{Client}

@@ -1,7 +1,7 @@
 -- What is reported to C of a packet reader's calls.
 use Rattle.std.specs.Prelude.{◌≡◌, ℕ, ◌+◌, ◌≤◌, ◌<◌, true, false, List, [], length, Option, Some, None}
 use Rattle.git_pkt.specs.Packets.{longest_payload}
-use Rattle.git_pkt.specs.PacketReader.{Feeds, Reads, ReadsOn, fault_of, is_open, open_length, position_of}
+use Rattle.git_pkt.specs.Machine.PacketReader.{Feeds, Reads, ReadsOn, fault_of, is_open, open_length, position_of}
 use Rattle.git_pkt.specs.declared.fault.Fault.{Fault}
 use Rattle.git_pkt.specs.declared.fault.Kind.TheVariants.{Truncated}
 use Rattle.git_pkt.specs.declared.packet.Packet.TheVariants.{Flush, Delim, RespEnd, Payload}

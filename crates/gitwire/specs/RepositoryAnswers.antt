@@ -1,9 +1,9 @@
 -- What is reported to C of a repository's calls.
 use Rattle.std.specs.Prelude.{◌≡◌, ◌⊎◌, ℕ, List, Option, Some, None}
-use Rattle.git_server.specs.SharedRepo.{shared_by}
+use Rattle.git_server.specs.Machine.SharedRepo.{shared_by}
 use Rattle.git_server.specs.declared.shared_repo.SharedRepo.{SharedRepo}
 use Rattle.git_repository.specs.Packs.{PackBytes}
-use Rattle.git_repository.specs.RepositoryFaults.{IsTextFault, IsWholeText}
+use Rattle.git_repository.specs.Machine.RepositoryFaults.{IsTextFault, IsWholeText}
 use Rattle.git_repository.specs.declared.text_faults.TextFault.TheVariants.{Bad}
 use Rattle.gitwire.specs.Answers.{answering, answering_packet}
 use Rattle.gitwire.specs.declared.answer.GitwireAnswer.{GitwireAnswer}

@@ -9,7 +9,7 @@ use Rattle.git_msg.specs.Arguments.{Arg, IsArgumentFault, ReadsAs, most_limit, w
 use Rattle.git_msg.specs.Asked.{Asked, deepen_of, deepen_since_of, deepen_nots_of, filters_of, has_flag, haves_of, oids_of, ref_prefixes_of, shallows_of}
 use Rattle.git_msg.specs.Asked.{want_refs_of, wants_of}
 use Rattle.git_msg.specs.Checks.{Passes, Refuses}
-use Rattle.git_msg.specs.HeldRequest.{IsEmpty, IsRefused, Keeps, add_checks, command_of, format_of}
+use Rattle.git_msg.specs.Machine.HeldRequest.{IsEmpty, IsRefused, Keeps, add_checks, command_of, format_of}
 use Rattle.git_msg.specs.Lines.{end_checks}
 use Rattle.git_msg.specs.declared.requests.Request.{Request}
 use Rattle.gitwire.specs.Numbers.{commands, flags, formats, given_numbers}

@@ -4,8 +4,8 @@ use Rattle.std.specs.Global.{Global}
 use Rattle.git_names.specs.declared.object_format.Format.TheVariants as Format
 use Rattle.git_pkt.specs.declared.fault.Fault.{Fault}
 use Rattle.git_msg.specs.Arguments.{most_limit}
-use Rattle.git_msg.specs.HeldRequest.{IsEmpty}
-use Rattle.git_msg.specs.RequestStreams.{Closes, Feeds, HasRead, limit_of, offer_of, wants_input}
+use Rattle.git_msg.specs.Machine.HeldRequest.{IsEmpty}
+use Rattle.git_msg.specs.Machine.RequestStreams.{Closes, Feeds, HasRead, limit_of, offer_of, wants_input}
 use Rattle.git_msg.specs.declared.arguments.Command.TheVariants as Command
 use Rattle.git_msg.specs.declared.requests.Request.{Request}
 use Rattle.git_msg.specs.declared.streams.ReadGot.{ReadGot}

@@ -3,9 +3,9 @@ use Rattle.std.specs.Prelude.{◌≡◌, ◌⊎◌, ℕ, ◌≤◌, ◌<◌, Boo
 use Rattle.std.specs.Global.{Global}
 use Rattle.git_msg.specs.Advertisement.{everything}
 use Rattle.git_msg.specs.Arguments.{most_limit}
-use Rattle.git_server.specs.Server.{Running, outcome_of, repo_of, wants_input}
-use Rattle.git_server.specs.ServerCalls.{Closes, Goes, Pulls, StopsInTime}
-use Rattle.git_server.specs.SharedRepo.{shared_by, shared_state}
+use Rattle.git_server.specs.Machine.Server.{Running, outcome_of, repo_of, wants_input}
+use Rattle.git_server.specs.Machine.ServerCalls.{Closes, Goes, Pulls, StopsInTime}
+use Rattle.git_server.specs.Machine.SharedRepo.{shared_by, shared_state}
 use Rattle.git_server.specs.declared.outcome.Outcome.TheVariants.{Flush, Closed, Refused}
 use Rattle.git_server.specs.declared.server.Pulled.{Pulled}
 use Rattle.git_server.specs.declared.server.Pulled.TheVariants.{Packet, NeedInput, Finished}

@@ -1,7 +1,7 @@
 //! A packet reader that is fed by one call alone.
 
 ghost use Rattle.std.specs.Prelude.{◌≡◌, false};
-ghost use Rattle.git_pkt.specs.PacketReader.{passes_of};
+ghost use Rattle.git_pkt.specs.Machine.PacketReader.{passes_of};
 
 use git_pkt::PacketReader;
 

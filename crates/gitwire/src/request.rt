@@ -1,7 +1,7 @@
 //! A request that C holds.
 
 ghost use Rattle.std.specs.Prelude.{◌≡◌, MatchOption, None, false, slice_get};
-ghost use Rattle.git_msg.specs.HeldRequest.{asked_of, command_of, format_of};
+ghost use Rattle.git_msg.specs.Machine.HeldRequest.{asked_of, command_of, format_of};
 ghost use Rattle.gitwire.specs.Calls.{HasNone, Of, On};
 ghost use Rattle.gitwire.specs.Handles.{request_in};
 ghost use Rattle.gitwire.specs.Numbers.{command_number, format_number, item_lists};

@@ -3,7 +3,7 @@
 ghost use Rattle.std.specs.Prelude.{slice_get};
 ghost use Rattle.std.specs.Option.{option_copied, option_map};
 ghost use Rattle.git_names.specs.ObjectName.{hex_of};
-ghost use Rattle.git_msg.specs.HeldRequest.{asked_of};
+ghost use Rattle.git_msg.specs.Machine.HeldRequest.{asked_of};
 ghost use Rattle.gitwire.specs.Numbers.{item_lists};
 ghost use Rattle.gitwire.specs.RequestAnswers.{PutsFrom, PutsItem};
 

@@ -40,6 +40,17 @@ fn any_argument(format: Format, text: &[u8]) -> Option<Argument<'_>> {
     None
 }
 
+// Adds the argument that a text is, and returns how much is kept then. None where it is no argument.
+fn added(request: &mut Request<Global>, format: Format, text: &[u8]) -> Option<Result<u32, Kind>> {
+    let Some(argument) = any_argument(format, text) else {
+        return None;
+    };
+    match request.add(argument) {
+        Ok(()) => Some(Ok(request.kept())),
+        Err(kind) => Some(Err(kind)),
+    }
+}
+
 /// The packets that are written of a request to one who advertised this, a line each.
 pub fn written(alloc: Global, request: &Request<Global>, caps: &Caps) -> Result<Vec<u8>, Trouble> {
     let mut writer = RequestWriter::new(request, caps);
@@ -63,15 +74,10 @@ impl Asking {
         request: &mut Request<Global>,
         text: &[u8],
     ) -> Result<String, Trouble> {
-        let Some(argument) = any_argument(self.format, text) else {
-            return Err(Trouble::BadCase("no argument"));
-        };
-        match request.add(argument) {
-            Ok(()) => {
-                let kept = request.kept();
-                Ok(format!(in alloc; "kept {kept}\n")?)
-            }
-            Err(kind) => Ok(format!(in alloc; "{kind}\n")?),
+        match added(request, self.format, text) {
+            Some(Ok(kept)) => Ok(format!(in alloc; "kept {kept}\n")?),
+            Some(Err(kind)) => Ok(format!(in alloc; "{kind}\n")?),
+            None => Err(Trouble::BadCase("no argument")),
         }
     }
 
@@ -95,8 +101,7 @@ impl Asking {
         let mut told = Vec::new(alloc);
         let mut last = Step::default();
         for step in script.steps.as_slice() {
-            let text = script.input.as_slice().get(last.input..step.input);
-            let line = self.told(alloc, request, text.unwrap_or(&[]))?;
+            let line = self.told(alloc, request, script.between(last, *step))?;
             append(&mut told, line.as_bytes())?;
             last = *step;
         }

@@ -1,7 +1,7 @@
 //! The packet reader and `show`: a line for each packet.
 
 ghost use Rattle.std.specs.Prelude.{◌≡◌, false};
-ghost use Rattle.git_pkt.specs.PacketReader.{passes_of};
+ghost use Rattle.git_pkt.specs.Machine.PacketReader.{passes_of};
 
 use crate::escapes::escaped;
 use crate::runs::Run;

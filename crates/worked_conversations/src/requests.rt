@@ -1,8 +1,8 @@
 //! A request reader that keeps each argument, fed by a packet reader.
 
 ghost use Rattle.std.specs.Prelude.{◌≡◌, false};
-ghost use Rattle.git_pkt.specs.PacketReader.{passes_of};
-ghost use Rattle.git_msg.specs.RequestReader.{is_waiting};
+ghost use Rattle.git_pkt.specs.Machine.PacketReader.{passes_of};
+ghost use Rattle.git_msg.specs.Machine.RequestReader.{is_waiting};
 
 use crate::escapes::escaped;
 use crate::runs::Run;

@@ -304,6 +304,12 @@ impl Script {
         Ok(())
     }
 
+    /// What comes between the ends of two steps.
+    pub fn between(&self, last: Step, next: Step) -> &[u8] {
+        let bytes = self.input.as_slice().get(last.input..next.input);
+        bytes.unwrap_or(&[])
+    }
+
     // The last step ends where the bytes so far do.
     fn mark(&mut self) {
         if !self.ending.is_empty() {

@@ -318,11 +318,11 @@ impl Table {
     pub fn goes(self, alloc: Global, script: &Script) -> Result<usize, Trouble> {
         let mut last = Step::default();
         for step in script.steps.as_slice() {
-            let text = script.input.as_slice().get(last.input..step.input);
+            let text = script.between(last, *step);
             let lines = script.given.as_slice().get(last.given..step.given);
-            let told = self.told(alloc, text.unwrap_or(&[]))?;
+            let told = self.told(alloc, text)?;
             if Some(told.as_slice()) != lines {
-                return Err(differs(alloc, text.unwrap_or(&[]), told.as_slice())?);
+                return Err(differs(alloc, text, told.as_slice())?);
             }
             last = *step;
         }

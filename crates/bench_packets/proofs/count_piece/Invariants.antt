@@ -1,5 +1,5 @@
 use Rattle.std.proofs.Common.{◌≡◌, false, length}
-use Rattle.git_pkt.specs.PacketReader.{passes_of}
+use Rattle.git_pkt.specs.Machine.PacketReader.{passes_of}
 use Rattle.bench_packets.proofs.count_piece.Given as goal
 
 abbrev pub invariant-loop-rest : goal.invariant-loop-rest

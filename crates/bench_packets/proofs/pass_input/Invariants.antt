@@ -1,4 +1,4 @@
-use Rattle.git_pkt.specs.BandReader.{MayPass}
+use Rattle.git_pkt.specs.Machine.BandReader.{MayPass}
 use Rattle.bench_packets.proofs.pass_input.Given as goal
 
 abbrev pub invariant-loop : goal.invariant-loop

@@ -1,5 +1,5 @@
 use Rattle.std.proofs.Common.{length}
-use Rattle.git_pkt.specs.BandReader.{MayPass}
+use Rattle.git_pkt.specs.Machine.BandReader.{MayPass}
 use Rattle.bench_packets.proofs.pass_piece.Given as goal
 
 abbrev pub invariant-loop-rest : goal.invariant-loop-rest

@@ -1,7 +1,7 @@
 use Rattle.std.proofs.Common.{rules, subst, ◌≡◌, true, [], take, ℕ}
 use Rattle.std.specs.Io.KnownBytes.{Consumes}
-use Rattle.git_pkt.specs.Told.{inner_of}
-use Rattle.git_server.specs.Server.{wants_input}
+use Rattle.git_pkt.specs.Machine.Told.{inner_of}
+use Rattle.git_server.specs.Machine.Server.{wants_input}
 use Rattle.git2show.proofs.OneRequestTaken.{taken_nothing, taken_unread, takes_front, takes_all, takes_taken, takes_end}
 use Rattle.git2show.proofs.one_request.take_request.Goals as goal
 

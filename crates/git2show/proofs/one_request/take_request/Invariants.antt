@@ -1,8 +1,8 @@
 -- Each turn is one read that brought some bytes, nothing has failed or ended, and all that was read was used.
 use Rattle.std.proofs.Common.{◌≡◌, false, true}
-use Rattle.git_pkt.specs.Told.{inner_of, reads_of, has_failed, has_ended, has_wasted}
+use Rattle.git_pkt.specs.Machine.Told.{inner_of, reads_of, has_failed, has_ended, has_wasted}
 use Rattle.git_pkt.specs.Streams.{flow}
-use Rattle.git_server.specs.Server.{wants_input}
+use Rattle.git_server.specs.Machine.Server.{wants_input}
 use Rattle.git2show.proofs.OneRequestTaken.{Taken}
 use Rattle.git2show.proofs.one_request.take_request.Given as goal
 

@@ -3,7 +3,7 @@ use Rattle.std.proofs.lemmas.Bool.{or_parts}
 use Rattle.std.proofs.lemmas.Result.{err_from_is_err_and}
 use Rattle.git_msg.specs.Advertisement.{noted_offer}
 use Rattle.git_msg.specs.declared.offers.Caps.{Caps}
-use Rattle.git_client.specs.Client.{caps_of}
+use Rattle.git_client.specs.Machine.Client.{caps_of}
 use Rattle.git2show_lib.proofs.CheckRuns.{advertisement_due, advertised, response_due, response_heard, comes_nearer}
 use Rattle.git2show_lib.proofs.CheckRuns.{hearing_stopped, asking_stopped, reading_stopped, seen_the_end}
 use Rattle.git2show_lib.proofs.checking.check.Goals as goal

@@ -1,11 +1,11 @@
 use Rattle.std.proofs.Common.{◌≡◌, ◌+◌, ◌-◌, ◌≤◌, ◌<◌, length, true, false}
 use Rattle.git_pkt.specs.Faults.{last_position}
 use Rattle.git_pkt.specs.Streams.{flow}
-use Rattle.git_pkt.specs.Told.{inner_of, reads_of, has_failed, has_ended, has_wasted}
-use Rattle.git_msg.specs.RequestStreams.{bytes_used, wants_input}
+use Rattle.git_pkt.specs.Machine.Told.{inner_of, reads_of, has_failed, has_ended, has_wasted}
+use Rattle.git_msg.specs.Machine.RequestStreams.{bytes_used, wants_input}
 use Rattle.git_msg.specs.declared.limits.TheConstants.Limits.{USUAL}
 use Rattle.git_client.specs.Parts.{terms_of}
-use Rattle.git_client.specs.RunSteps.{window_of}
+use Rattle.git_client.specs.Machine.RunSteps.{window_of}
 use Rattle.git2show_lib.proofs.CheckRuns.{Checking}
 use Rattle.git2show_lib.proofs.checking.check.Given as goal
 

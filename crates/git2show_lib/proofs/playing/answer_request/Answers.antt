@@ -1,7 +1,7 @@
 use Rattle.std.proofs.Common.{Bool, ◌||◌, ◌≡◌, inr, false, refl, sym, ap, ◌∙◌}
 use Rattle.std.proofs.lemmas.Result.{err_from_is_err_and}
 use Rattle.std.proofs.Math.Bool.{or-false}
-use Rattle.git_pkt.specs.Told.{has_failed}
+use Rattle.git_pkt.specs.Machine.Told.{has_failed}
 use Rattle.git_client.proofs.ClientRuns.{fails_at, shown_at}
 use Rattle.git2show_lib.proofs.PlayServers.{answers}
 use Rattle.git2show_lib.proofs.playing.answer_request.Goals as goal

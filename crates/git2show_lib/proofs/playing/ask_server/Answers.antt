@@ -1,6 +1,6 @@
 use Rattle.std.proofs.Common.{true, false, None, subst}
 use Rattle.std.proofs.lemmas.Result.{err_from_is_err_and}
-use Rattle.git_pkt.specs.Told.{inner_of}
+use Rattle.git_pkt.specs.Machine.Told.{inner_of}
 use Rattle.git_pkt.specs.Streams.{flow, WrittenAs}
 use Rattle.git_msg.specs.declared.arguments.Command.{Command}
 use Rattle.git_client.specs.Transcript.{asked_line}

@@ -1,8 +1,8 @@
 use Rattle.std.proofs.Common.{◌≡◌, true, sym, ◌∙◌}
 use Rattle.std.proofs.lemmas.Result.{err_from_is_err_and}
-use Rattle.git_pkt.specs.Told.{inner_of}
+use Rattle.git_pkt.specs.Machine.Told.{inner_of}
 use Rattle.git_pkt.specs.Streams.{flow}
-use Rattle.git_client.specs.Client.{wants_input}
+use Rattle.git_client.specs.Machine.Client.{wants_input}
 use Rattle.git2show_lib.proofs.PlayServers.{MessageHeard, end_stopped, heard_before, heard_with, message_ended, message_stopped}
 use Rattle.git2show_lib.proofs.playing.hear_message.Goals as goal
 use Rattle.git2show_lib.proofs.playing.hear_message.Goals.{then-wants_input+in_ok-hear_packet, else-wants_input}

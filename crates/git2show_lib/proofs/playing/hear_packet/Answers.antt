@@ -1,7 +1,7 @@
 use Rattle.std.proofs.Common.{rules, arith, ◌≡◌, ◌<◌, ◌≤◌, true, false, length, sym, ◌∙◌}
 use Rattle.std.proofs.lemmas.Bool.{or_parts}
 use Rattle.std.proofs.lemmas.Result.{err_from_is_err_and}
-use Rattle.git_client.specs.Client.{wants_input}
+use Rattle.git_client.specs.Machine.Client.{wants_input}
 use Rattle.git_client.proofs.HeardBytes.{nothing_heard}
 use Rattle.git_client.proofs.Phases.{not_ready_where_due, sound_where_due}
 use Rattle.git2show_lib.proofs.PlayHearing.{heard_on, hearing_stopped}

@@ -1,10 +1,10 @@
 -- The client waits for input or can ask, and no writer has failed; what the bytes used contain was written.
 use Rattle.std.proofs.Common.{◌≡◌, ◌-◌, ◌≤◌, ◌<◌, length, take, true, false, None}
-use Rattle.git_pkt.specs.Told.{inner_of, has_failed}
+use Rattle.git_pkt.specs.Machine.Told.{inner_of, has_failed}
 use Rattle.git_pkt.specs.Streams.{flow}
-use Rattle.git_client.specs.Client.{fault_of, can_ask, wants_input}
-use Rattle.git_client.specs.RunSteps.{HearsBytes}
-use Rattle.git2show_lib.specs.PlaySteps.{silent}
+use Rattle.git_client.specs.Machine.Client.{fault_of, can_ask, wants_input}
+use Rattle.git_client.specs.Machine.RunSteps.{HearsBytes}
+use Rattle.git2show_lib.specs.Machine.PlaySteps.{silent}
 use Rattle.git2show_lib.proofs.playing.hear_packet.Given as goal
 
 abbrev pub invariant-loop-used : goal.invariant-loop-used

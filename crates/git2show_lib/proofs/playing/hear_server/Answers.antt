@@ -1,8 +1,8 @@
 use Rattle.std.proofs.Common.{rules, ◌≡◌, true, false, sym, ◌∙◌, subst}
 use Rattle.std.proofs.lemmas.Result.{err_from_is_err_and}
 use Rattle.std.proofs.lemmas.Bool.{or_parts}
-use Rattle.git_client.specs.Client.{wants_input}
-use Rattle.git_server.specs.ServerCalls.{TellsPulled}
+use Rattle.git_client.specs.Machine.Client.{wants_input}
+use Rattle.git_server.specs.Machine.ServerCalls.{TellsPulled}
 use Rattle.git_server.specs.declared.server.Pulled.{Pulled}
 use Rattle.git2show_lib.proofs.PlayMeeting.{hearing_begins, hearing_on, heard_out, meeting_stopped, spent_ended, spent_waiting}
 use Rattle.git2show_lib.proofs.playing.hear_server.Goals as goal

@@ -1,8 +1,8 @@
 -- No writer has failed, and what the server gave was received, up to where the client can ask.
 use Rattle.std.proofs.Common.{◌≡◌, false}
-use Rattle.git_pkt.specs.Told.{inner_of, has_failed}
+use Rattle.git_pkt.specs.Machine.Told.{inner_of, has_failed}
 use Rattle.git_pkt.specs.Streams.{flow}
-use Rattle.git_server.specs.ServerCalls.{most_left}
+use Rattle.git_server.specs.Machine.ServerCalls.{most_left}
 use Rattle.git2show_lib.proofs.PlayMeeting.{Hearing}
 use Rattle.git2show_lib.proofs.playing.hear_server.Given as goal
 

@@ -1,6 +1,6 @@
 -- What was pulled was sent.
 use Rattle.std.proofs.Common.{length}
-use Rattle.git_client.specs.Client.{left_to_say}
+use Rattle.git_client.specs.Machine.Client.{left_to_say}
 use Rattle.git2show_lib.proofs.PlayAsking.{TellsSome}
 use Rattle.git2show_lib.proofs.playing.tell_all.Given as goal
 

@@ -1,5 +1,5 @@
 use Rattle.std.proofs.Common.{rules, arith, ◌≡◌, ◌<◌, ◌≤◌, true, false, length, sym, ◌∙◌}
-use Rattle.git_server.specs.Server.{wants_input}
+use Rattle.git_server.specs.Machine.Server.{wants_input}
 use Rattle.git2show_lib.proofs.PlayTelling.{telling_begins, telling_on, telling_ends, piece_fits, piece_some, fewer_turns}
 use Rattle.git2show_lib.proofs.playing.tell_packet.Goals as goal
 

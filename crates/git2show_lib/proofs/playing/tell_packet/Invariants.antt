@@ -1,8 +1,8 @@
 -- What is done of the packet was sent.
 use Rattle.std.proofs.Common.{length, take, drop, ◌-◌, ◌≤◌, ◌++◌, List, ℕ}
-use Rattle.git_server.specs.Server.{wants_input}
+use Rattle.git_server.specs.Machine.Server.{wants_input}
 use Rattle.git_server.specs.Sessions.{Setting}
-use Rattle.git2show_lib.specs.PlaySteps.{Stands}
+use Rattle.git2show_lib.specs.Machine.PlaySteps.{Stands}
 use Rattle.git2show_lib.proofs.PlayTelling.{Telling, turns_left}
 use Rattle.git2show_lib.proofs.playing.tell_packet.Given as goal
 

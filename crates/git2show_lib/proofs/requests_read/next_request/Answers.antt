@@ -1,6 +1,6 @@
 use Rattle.std.proofs.Common.{rules, ◌≡◌, true, false, take, refl}
 use Rattle.std.specs.Io.KnownBytes.{Consumes, Keeps}
-use Rattle.git_pkt.specs.Told.{inner_of, has_ended}
+use Rattle.git_pkt.specs.Machine.Told.{inner_of, has_ended}
 use Rattle.git_client.proofs.HearingBytes.{rest_of_window}
 use Rattle.git2show_lib.specs.declared.checking.CheckFault.TheVariants.{ReadFault}
 use Rattle.git2show_lib.proofs.RequestsRead.{reads_nothing, fed_request, fed_stop, fed_fault, fed_more, came_in_front, came_not}

@@ -1,9 +1,9 @@
 use Rattle.std.proofs.Common.{◌≡◌, ◌≤◌, ◌-◌, length, true, false, []}
-use Rattle.git_pkt.specs.Told.{inner_of, reads_of, has_failed, has_ended, has_wasted}
+use Rattle.git_pkt.specs.Machine.Told.{inner_of, reads_of, has_failed, has_ended, has_wasted}
 use Rattle.git_pkt.specs.Streams.{flow}
-use Rattle.git_msg.specs.RequestStreams.{wants_input}
-use Rattle.git_client.specs.RunSteps.{window_of}
-use Rattle.git2show_lib.specs.CheckSteps.{ReadsOn}
+use Rattle.git_msg.specs.Machine.RequestStreams.{wants_input}
+use Rattle.git_client.specs.Machine.RunSteps.{window_of}
+use Rattle.git2show_lib.specs.Machine.CheckSteps.{ReadsOn}
 use Rattle.git2show_lib.proofs.requests_read.next_request.Given as goal
 
 -- nothing has failed or ended, and bytes are wanted on; of those that came all but the window's were used, and brought nothing whole

@@ -1,8 +1,8 @@
 use Rattle.std.proofs.Common.{length, subst}
 use Rattle.std.specs.Option.{option_copied}
 use Rattle.git_msg.specs.Advertisement.{everything}
-use Rattle.git2show_lib.specs.HeldScripts.{IsLineFault}
-use Rattle.git2show_lib.specs.ScriptLines.{held}
+use Rattle.git2show_lib.specs.Machine.HeldScripts.{IsLineFault}
+use Rattle.git2show_lib.specs.Machine.ScriptLines.{held}
 use Rattle.git2show_lib.proofs.ScriptReading.{no_memory_at, refused_at, room_at_all, room_behind, started, stepped}
 use Rattle.git2show_lib.proofs.scripts.read_script.Goals as goal
 

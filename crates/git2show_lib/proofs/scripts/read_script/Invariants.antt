@@ -2,7 +2,7 @@ use Rattle.std.proofs.Common.{◌+◌, ◌≤◌, length}
 use Rattle.std.specs.Option.{option_copied}
 use Rattle.git_msg.specs.Advertisement.{everything}
 use Rattle.git_msg.proofs.TextParts.{bytes_left}
-use Rattle.git2show_lib.specs.ScriptLines.{held}
+use Rattle.git2show_lib.specs.Machine.ScriptLines.{held}
 use Rattle.git2show_lib.proofs.ScriptReading.{ReadsScript}
 use Rattle.git2show_lib.proofs.scripts.read_script.Given as goal
 

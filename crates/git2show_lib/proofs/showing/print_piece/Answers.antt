@@ -1,7 +1,7 @@
 use Rattle.std.proofs.Common.{rules, arith, []}
-use Rattle.git_pkt.specs.Told.{inner_of}
+use Rattle.git_pkt.specs.Machine.Told.{inner_of}
 use Rattle.git_pkt.specs.Streams.{flow}
-use Rattle.git2show_lib.specs.ShownStream.{WritesFront}
+use Rattle.git2show_lib.specs.Machine.ShownStream.{WritesFront}
 use Rattle.git2show_lib.proofs.Printing.{fed_failed, fed_packet, fed_packet_front, left_length, none_read, tells_by}
 use Rattle.git2show_lib.proofs.Sendings.{emits_by, front_by}
 use Rattle.git2show_lib.proofs.showing.print_piece.Goals as goal

@@ -1,8 +1,8 @@
 use Rattle.std.proofs.Common.{◌≡◌, ◌-◌, ◌≤◌, length, take, None, false}
-use Rattle.git_pkt.specs.Told.{inner_of, has_failed}
-use Rattle.git_pkt.specs.PacketReader.{fault_of, passes_of}
+use Rattle.git_pkt.specs.Machine.Told.{inner_of, has_failed}
+use Rattle.git_pkt.specs.Machine.PacketReader.{fault_of, passes_of}
 use Rattle.git_pkt.specs.Streams.{flow}
-use Rattle.git2show_lib.specs.ShownStream.{Prints}
+use Rattle.git2show_lib.specs.Machine.ShownStream.{Prints}
 use Rattle.git2show_lib.proofs.showing.print_piece.Given as goal
 
 -- the packets of what is done of the piece have been printed, and nothing has failed since the call began

@@ -2,7 +2,7 @@ use Rattle.std.proofs.Common.{rules, arith, [], take, ℕ, subst}
 use Rattle.std.proofs.lemmas.Grind.{common_steps}
 use Rattle.std.proofs.lemmas.Result.{err_from_is_err_and}
 use Rattle.std.specs.Io.KnownBytes.{Consumes}
-use Rattle.git_pkt.specs.Told.{inner_of}
+use Rattle.git_pkt.specs.Machine.Told.{inner_of}
 use Rattle.git2show_lib.proofs.Printing.{shows_more, stops_by, ends_unread, ends_spent, ends_closed}
 use Rattle.git2show_lib.proofs.showing.show.Goals as goal
 

@@ -1,10 +1,10 @@
 use Rattle.std.proofs.Common.{Result, true, false, subst}
-use Rattle.git_pkt.specs.Told.{inner_of}
+use Rattle.git_pkt.specs.Machine.Told.{inner_of}
 use Rattle.git_pkt.specs.declared.fault.RunFault.{RunFault}
 use Rattle.git_msg.specs.declared.arguments.Command.{Command}
 use Rattle.git_pkt.specs.Streams.{flow, WrittenAs}
 use Rattle.git_client.specs.Transcript.{asked_line}
-use Rattle.git_client.specs.RunSteps.{AsksTo}
+use Rattle.git_client.specs.Machine.RunSteps.{AsksTo}
 use Rattle.git_pkt.proofs.EngineLemmas.{written_nothing, at_fault}
 use Rattle.git_client.proofs.SayingSteps.{asks_unsaid, asks_said}
 use Rattle.git_client.proofs.conversing.ask_next.Goals as goal

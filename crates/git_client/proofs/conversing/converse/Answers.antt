@@ -2,16 +2,16 @@ use Rattle.std.proofs.Common.{rules, arith, Bool, ◌||◌, Err, ◌≡◌, ◌�
 use denote.Enum.Bare.{same_true, sameb}
 use Rattle.std.proofs.lemmas.Bool.{or_parts, or_from}
 use Rattle.std.specs.Io.KnownBytes.{Keeps}
-use Rattle.git_pkt.specs.Told.{inner_of, has_failed, has_ended}
+use Rattle.git_pkt.specs.Machine.Told.{inner_of, has_failed, has_ended}
 use Rattle.git_pkt.specs.declared.fault.RunFault.{RunFault}
 use Rattle.git_pkt.specs.declared.told.Told.{Told}
 use Rattle.git_client.specs.declared.client.Client.{Client}
 use Rattle.git_client.specs.declared.events.Ending.{Ending}
 use Rattle.git_client.specs.declared.events.Ending.TheVariants.{FlushOnly}
 use Rattle.git_client.specs.contracts.events.Ending.{the_type}
-use Rattle.git_client.specs.Client.{ending_of}
+use Rattle.git_client.specs.Machine.Client.{ending_of}
 use Rattle.git_pkt.specs.Streams.{flow, is_broken}
-use Rattle.git_client.specs.RunSteps.{Says, no_counts, window_of}
+use Rattle.git_client.specs.Machine.RunSteps.{Says, no_counts, window_of}
 use Rattle.git_client.proofs.AskedInTurn.{next_is, none_more, one_more}
 use Rattle.git_client.proofs.ClientRuns.{RunEnds, begins, asks_on, hears_whole, ends_at, ends_at_write, breaks_unflushed}
 use Rattle.git_client.proofs.ClientRuns.{hearing_stopped, asking_stopped, stays_to_the_end, leaving_stopped, leaves_at_the_end}

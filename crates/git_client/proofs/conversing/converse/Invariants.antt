@@ -1,10 +1,10 @@
 use Rattle.std.proofs.Common.{◌≡◌, ◌≤◌, ◌<◌, ◌++◌, length, true, false}
 use Rattle.std.specs.Vec.Iter.{into_iter_items, into_iter_len}
-use Rattle.git_pkt.specs.Told.{inner_of, reads_of, has_failed, has_ended, has_wasted}
+use Rattle.git_pkt.specs.Machine.Told.{inner_of, reads_of, has_failed, has_ended, has_wasted}
 use Rattle.git_pkt.specs.Streams.{flow}
 use Rattle.git_client.specs.Parts.{Terms}
-use Rattle.git_client.specs.Client.{History, Converses, nothing_yet, can_ask}
-use Rattle.git_client.specs.RunSteps.{no_counts, window_of}
+use Rattle.git_client.specs.Machine.Client.{History, Converses, nothing_yet, can_ask}
+use Rattle.git_client.specs.Machine.RunSteps.{no_counts, window_of}
 use Rattle.git_client.proofs.ClientRuns.{Running}
 use Rattle.git_client.proofs.conversing.converse.Given as goal
 

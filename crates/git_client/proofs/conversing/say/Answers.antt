@@ -1,7 +1,7 @@
 use Rattle.std.proofs.Common.{Result, true, false, rules}
 use Rattle.git_pkt.specs.declared.fault.RunFault.{RunFault}
 use Rattle.git_pkt.specs.Streams.{flow, is_broken}
-use Rattle.git_client.specs.RunSteps.{Says}
+use Rattle.git_client.specs.Machine.RunSteps.{Says}
 use Rattle.git_pkt.proofs.EngineLemmas.{at_fault}
 use Rattle.git_client.proofs.SayingSteps.{says_none_yet, says_packet, says_front, says_all}
 use Rattle.git_client.proofs.conversing.say.Goals as goal

@@ -1,7 +1,7 @@
 -- What was pulled was written, and nothing has failed since the call began.
 use Rattle.std.proofs.Common.{◌≡◌, false, length}
 use Rattle.git_pkt.specs.Streams.{flow}
-use Rattle.git_client.specs.Client.{left_to_say}
+use Rattle.git_client.specs.Machine.Client.{left_to_say}
 use Rattle.git_client.proofs.SayingSteps.{SaysSome}
 use Rattle.git_client.proofs.conversing.say.Given as goal
 

@@ -1,10 +1,10 @@
 use Rattle.std.proofs.Common.{rules, arith, ◌≡◌, ◌≤◌, ◌∙◌, ℕ, [], length, take, true, false, refl, subst, append-nil, length-take-le}
 use Rattle.std.specs.Io.KnownBytes.{Consumes}
 use Rattle.std.proofs.KnownBytes.{Consumes-nil}
-use Rattle.git_pkt.specs.Told.{inner_of, has_ended}
+use Rattle.git_pkt.specs.Machine.Told.{inner_of, has_ended}
 use Rattle.git_pkt.specs.declared.fault.RunFault.TheVariants.{ReadFault, WriteFault}
-use Rattle.git_client.specs.Client.{can_ask, wants_input}
-use Rattle.git_client.specs.RunSteps.{window_of}
+use Rattle.git_client.specs.Machine.Client.{can_ask, wants_input}
+use Rattle.git_client.specs.Machine.RunSteps.{window_of}
 use Rattle.git_client.proofs.HearingBytes.{heard_nothing, heard_before_read, heard_on, heard_and_flushed, heard_unread, window_length}
 use Rattle.git_client.proofs.HearingBytes.{heard_until, heard_end, hears_at, hears_from, hears_unflushed, rest_of_front, rest_of_window}
 use Rattle.git_client.proofs.Phases.{sound_where_due, sound_where_ready}

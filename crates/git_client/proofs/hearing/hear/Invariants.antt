@@ -1,8 +1,8 @@
 use Rattle.std.proofs.Common.{◌≡◌, ◌-◌, ◌≤◌, length, true, false}
-use Rattle.git_pkt.specs.Told.{inner_of, reads_of, has_failed, has_ended, has_wasted}
+use Rattle.git_pkt.specs.Machine.Told.{inner_of, reads_of, has_failed, has_ended, has_wasted}
 use Rattle.git_pkt.specs.Streams.{flow}
-use Rattle.git_client.specs.Client.{can_ask, wants_input}
-use Rattle.git_client.specs.RunSteps.{window_of}
+use Rattle.git_client.specs.Machine.Client.{can_ask, wants_input}
+use Rattle.git_client.specs.Machine.RunSteps.{window_of}
 use Rattle.git_client.proofs.HearingBytes.{HeardSoFar}
 use Rattle.git_client.proofs.hearing.hear.Given as goal
 

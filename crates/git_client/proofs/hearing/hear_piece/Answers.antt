@@ -1,12 +1,12 @@
 use Rattle.std.proofs.Common.{rules, ◌≡◌, ◌++◌, Some, false, true, refl, sym, ◌∙◌}
-use Rattle.git_pkt.specs.Told.{inner_of}
+use Rattle.git_pkt.specs.Machine.Told.{inner_of}
 use Rattle.git_pkt.specs.declared.fault.RunFault.TheVariants.{WriteFault}
 use Rattle.git_pkt.specs.Streams.{flow}
 use Rattle.git_pkt.proofs.EngineLemmas.{at_fault, written_nothing, written_whole}
-use Rattle.git_client.specs.Client.{wants_input}
-use Rattle.git_client.specs.RunSteps.{HearsPieceTo}
+use Rattle.git_client.specs.Machine.Client.{wants_input}
+use Rattle.git_client.specs.Machine.RunSteps.{HearsPieceTo}
 use Rattle.git_client.specs.Transcript.{lines_of}
-use Rattle.git_client.specs.Turns.{values_of}
+use Rattle.git_client.specs.Machine.Turns.{values_of}
 use Rattle.git_client.proofs.Phases.{not_ready_where_due, sound_where_due}
 use Rattle.git_client.proofs.HearingSteps.{heard_all, heard_failed, heard_failed_unflushed}
 use Rattle.git_client.proofs.HearingSteps.{heard_event, heard_event_front, heard_sound, heard_some, heard_to_question, used_within}

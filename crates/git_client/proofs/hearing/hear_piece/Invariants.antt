@@ -1,7 +1,7 @@
 use Rattle.std.proofs.Common.{◌≡◌, ◌-◌, ◌≤◌, ◌<◌, length, take, true, false, None}
-use Rattle.git_pkt.specs.Told.{inner_of, has_failed}
+use Rattle.git_pkt.specs.Machine.Told.{inner_of, has_failed}
 use Rattle.git_pkt.specs.Streams.{flow}
-use Rattle.git_client.specs.Client.{fault_of, can_ask, wants_input}
+use Rattle.git_client.specs.Machine.Client.{fault_of, can_ask, wants_input}
 use Rattle.git_client.proofs.WaitingLines.{HeardLines}
 use Rattle.git_client.proofs.hearing.hear_piece.Given as goal
 

@@ -2,7 +2,7 @@ use Rattle.std.proofs.Common.{◌≢◌, refl}
 use Rattle.std.proofs.lemmas.Bool.{iff_false}
 use Rattle.git_pkt.specs.Packets.{text_of}
 use Rattle.git_msg.specs.Texts.{IsErrorText}
-use Rattle.git_client.specs.Turns.{TakesLines}
+use Rattle.git_client.specs.Machine.Turns.{TakesLines}
 use Rattle.git_client.specs.declared.phase.Due.{Due}
 use Rattle.git_client.specs.declared.phase.Due.TheVariants.{Packfile, ResponseEnd}
 use Rattle.git_client.proofs.JudgedLines.{line_judged}
@@ -18,4 +18,4 @@ returns-else-is_error-clause-turn c =
     let takes : TakesLines c.args.due = takes_lines c.args.due c.in_default.not-Packfile c.in_default.not-ResponseEnd in
     let line = c.text-line.ensures in
     let no_error : ¬ IsErrorText (text_of c.args.payload.now) = rw (← line) (iff_false c.is_error.ensures.error c.if-is_error.false) in
-    (λ ending. line_judged c.args.format ending c.args.due c.args.caps c.args.payload.now _ _ takes no_error (rw (← line) c.judge_line.ensures.turn))
+    (λ ending. line_judged c.args.format ending c.args.due c.args.caps.now c.args.payload.now _ _ _ takes no_error (rw (← line) c.judge_line.ensures.turn))

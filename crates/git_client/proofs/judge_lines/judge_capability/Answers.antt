@@ -2,7 +2,7 @@ use Rattle.std.proofs.Common.{arith, ◌≡◌, ℕ, ◌+◌, Bool, Option, Some
 use Rattle.std.specs.Option.{is_some, option_copied}
 use Rattle.std.proofs.Math.Seq.{drop-append-add, take-append_seam, take-length}
 use Rattle.git_msg.specs.Capability.{IsCapability}
-use Rattle.git_client.specs.Turns.{LiesIn, value_at}
+use Rattle.git_client.specs.Machine.Turns.{LiesIn, value_at}
 use Rattle.git_client.specs.declared.phase.CapabilityPlaces.{CapabilityPlaces}
 use Rattle.git_client.proofs.judge_lines.judge_capability.Goals as goal
 

@@ -4,7 +4,7 @@ use Rattle.git_names.specs.ObjectFormat.{digits_of}
 use Rattle.git_names.specs.declared.object_format.Format.{Format}
 use Rattle.git_msg.specs.ResponseLines.{Wanted, IsWantedLine, wanted_of}
 use Rattle.git_client.specs.Places.{wanted_refs}
-use Rattle.git_client.specs.Turns.{Says}
+use Rattle.git_client.specs.Machine.Turns.{Says}
 use Rattle.git_client.specs.declared.phase.Said.TheVariants.{WantedRef}
 use Rattle.git_client.proofs.judge_lines.judge_wanted.Goals as goal
 

@@ -6,7 +6,7 @@ use Rattle.git_pkt.proofs.Sends.{puts_waiting}
 use Rattle.git_msg.specs.References.{id_text, peeled_text}
 use Rattle.git_client.specs.Events.{pack, progress}
 use Rattle.git_client.specs.Transcript.{size_shown, target_shown, value_shown}
-use Rattle.git_client.specs.LineParts.{part_shown}
+use Rattle.git_client.specs.Machine.LineParts.{part_shown}
 use Rattle.git_client.proofs.Writing.{no_lines, puts_line, puts_as}
 use Rattle.git_client.proofs.transcript.put_parts.Goals as goal
 

@@ -7,7 +7,7 @@ use Rattle.git_msg.specs.declared.capability_key.Key.{Key}
 use Rattle.git_msg.specs.declared.judge.Noted.{Noted}
 use Rattle.git_msg.specs.Texts.{IsErrorText}
 use Rattle.git_msg.specs.Checks.{Passes, Refuses}
-use Rattle.git_msg.specs.JudgedLine.{line_of}
+use Rattle.git_msg.specs.Machine.JudgedLine.{line_of}
 use Rattle.git_msg.specs.Lines.{HasKey, IsLineOf, IsCapabilityLine, capability_checks, key_checks}
 use Rattle.git_msg.proofs.judge.judge_capability.Goals as goal
 

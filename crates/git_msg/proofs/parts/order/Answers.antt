@@ -1,7 +1,7 @@
 use Rattle.std.proofs.Common.{◌∙◌, rules}
 use Rattle.std.proofs.lemmas.List.Filters.{All-dedup}
 use Rattle.std.proofs.lemmas.List.Sorted.{All-permutation, length_permutation}
-use Rattle.git_msg.specs.TextPools.{IsEnd, text_at}
+use Rattle.git_msg.specs.Machine.TextPools.{IsEnd, text_at}
 use Rattle.git_msg.proofs.PrefixOrder.{same, ordered, alike_moved, alike_pruned, prunes_texts}
 use Rattle.git_msg.proofs.parts.order.Goals as goal
 

@@ -3,7 +3,7 @@ use Rattle.std.proofs.lemmas.Cmp.{nat_list_cmp_total}
 use Rattle.std.proofs.lemmas.Fn.{always_returns_same}
 use Rattle.std.proofs.lemmas.List.Sorted.{ranks_by}
 use Rattle.std.specs.Ordering.{is_lt}
-use Rattle.git_msg.specs.TextPools.{text_at}
+use Rattle.git_msg.specs.Machine.TextPools.{text_at}
 use Rattle.git_msg.specs.Prefixes.{text_cmp}
 use Rattle.git_msg.proofs.parts.sort.Goals as goal
 

@@ -1,6 +1,6 @@
 use Rattle.std.proofs.Common.{rules}
 use Rattle.std.proofs.lemmas.List.Sorted.{IsPartitionPoint-from_clause}
-use Rattle.git_msg.specs.TextPools.{text_at}
+use Rattle.git_msg.specs.Machine.TextPools.{text_at}
 use Rattle.git_msg.specs.Prefixes.{goes_before}
 use Rattle.git_msg.proofs.parts.split_at.Goals as goal
 

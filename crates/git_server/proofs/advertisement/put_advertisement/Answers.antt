@@ -1,5 +1,5 @@
 use Rattle.std.proofs.Common.{arith, ap, length, length-append}
-use Rattle.git_server.specs.AdvertisementLines.{advertisement_after}
+use Rattle.git_server.specs.Machine.AdvertisementLines.{advertisement_after}
 use Rattle.git_server.specs.Answers.{spelled}
 use Rattle.git_server.proofs.Advertisements.{advertisement_is_short, line_appended, line_fits}
 use Rattle.git_server.proofs.advertisement.put_advertisement.Goals as goal

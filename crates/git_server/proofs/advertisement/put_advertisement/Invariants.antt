@@ -1,5 +1,5 @@
 use Rattle.std.proofs.Common.{◌≡◌, ◌++◌, length}
-use Rattle.git_server.specs.AdvertisementLines.{advertisement_after}
+use Rattle.git_server.specs.Machine.AdvertisementLines.{advertisement_after}
 use Rattle.git_server.specs.Answers.{advertisement_of, spelled}
 use Rattle.git_server.proofs.advertisement.put_advertisement.Given as goal
 

@@ -1,10 +1,10 @@
 -- What was pulled was written, and nothing has failed since the call began.
 use Rattle.std.proofs.Common.{◌≡◌, false, []}
-use Rattle.git_pkt.specs.Told.{inner_of, has_failed}
+use Rattle.git_pkt.specs.Machine.Told.{inner_of, has_failed}
 use Rattle.git_pkt.specs.Streams.{flow}
-use Rattle.git_server.specs.ServerCalls.{IsAfterPull, most_left}
-use Rattle.git_server.specs.Server.{outcome_of}
-use Rattle.git_server.specs.Runs.{WritesOn}
+use Rattle.git_server.specs.Machine.ServerCalls.{IsAfterPull, most_left}
+use Rattle.git_server.specs.Machine.Server.{outcome_of}
+use Rattle.git_server.specs.Machine.Runs.{WritesOn}
 use Rattle.git_server.proofs.run.drain.Given as goal
 
 abbrev pub invariant-loop-bytes : goal.invariant-loop-bytes

@@ -1,7 +1,7 @@
 use Rattle.std.proofs.Common.{subst, Option, [], true}
-use Rattle.git_pkt.specs.Told.{inner_of}
+use Rattle.git_pkt.specs.Machine.Told.{inner_of}
 use Rattle.git_pkt.specs.Streams.{flow}
-use Rattle.git_server.specs.Runs.{WritesFor}
+use Rattle.git_server.specs.Machine.Runs.{WritesFor}
 use Rattle.git_server.specs.declared.outcome.Outcome.{Outcome}
 use Rattle.git_server.proofs.RunLemmas.{end_flushed, on_err_at, part_flushed}
 use Rattle.git_server.proofs.run.finish.Goals as goal

@@ -1,8 +1,8 @@
 use Rattle.std.proofs.Common.{rules, subst, Option, [], take, ℕ, true}
 use Rattle.std.specs.Io.KnownBytes.{Consumes}
-use Rattle.git_pkt.specs.Told.{inner_of}
+use Rattle.git_pkt.specs.Machine.Told.{inner_of}
 use Rattle.git_pkt.specs.Streams.{flow}
-use Rattle.git_server.specs.Runs.{WritesFor}
+use Rattle.git_server.specs.Machine.Runs.{WritesFor}
 use Rattle.git_server.specs.declared.outcome.Outcome.{Outcome}
 use Rattle.git_server.proofs.RunLemmas.{serves_at, starts, part_flushed, turns_on, breaks_at_once, breaks_unflushed, breaks_off, breaks_closed}
 use Rattle.git_server.proofs.RunLemmas.{ends_at_once, ends_unread, ends_spent, ends_with, ends_closed}

@@ -1,10 +1,10 @@
 -- Each turn is one read that brought some bytes, nothing has failed or ended, and all that was given for what was read was written.
 use Rattle.std.proofs.Common.{◌≡◌, ℕ, List, false, true}
-use Rattle.git_pkt.specs.Told.{inner_of, reads_of, has_failed, has_ended, has_wasted}
+use Rattle.git_pkt.specs.Machine.Told.{inner_of, reads_of, has_failed, has_ended, has_wasted}
 use Rattle.git_pkt.specs.Streams.{flow}
 use Rattle.git_pkt.proofs.EngineLemmas.{Moved}
 use Rattle.git_server.specs.Sessions.{Setting}
-use Rattle.git_server.specs.Server.{Running, wants_input}
+use Rattle.git_server.specs.Machine.Server.{Running, wants_input}
 use Rattle.git_server.proofs.RunLemmas.{StandsAfter}
 use Rattle.git_server.proofs.run.serve.Given as goal
 

@@ -1,8 +1,8 @@
 use Rattle.std.proofs.Common.{rules, subst, Option, [], arith, ap, length, length-drop, true}
-use Rattle.git_pkt.specs.Told.{inner_of}
+use Rattle.git_pkt.specs.Machine.Told.{inner_of}
 use Rattle.git_pkt.specs.Streams.{flow}
 use Rattle.git_pkt.proofs.Pieces.{left_of}
-use Rattle.git_server.specs.Runs.{WritesFor}
+use Rattle.git_server.specs.Machine.Runs.{WritesFor}
 use Rattle.git_server.specs.declared.outcome.Outcome.{Outcome}
 use Rattle.git_server.proofs.RunLemmas.{on_err_at, writes_piece, writes_piece_end, writes_piece_part}
 use Rattle.git_server.proofs.run.serve_piece.Goals as goal

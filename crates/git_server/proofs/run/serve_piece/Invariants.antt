@@ -1,9 +1,9 @@
 -- What is done of the bytes was used, what was given for it was written, and nothing has failed since the call began.
 use Rattle.std.proofs.Common.{◌≡◌, ◌-◌, ◌≤◌, true, false, length, take}
-use Rattle.git_pkt.specs.Told.{inner_of, has_failed}
+use Rattle.git_pkt.specs.Machine.Told.{inner_of, has_failed}
 use Rattle.git_pkt.specs.Streams.{flow}
-use Rattle.git_server.specs.Server.{wants_input}
-use Rattle.git_server.specs.Runs.{WritesOn}
+use Rattle.git_server.specs.Machine.Server.{wants_input}
+use Rattle.git_server.specs.Machine.Runs.{WritesOn}
 use Rattle.git_server.proofs.run.serve_piece.Given as goal
 
 abbrev pub invariant-loop-used : goal.invariant-loop-used

@@ -2,7 +2,7 @@ use Rattle.std.proofs.Common.{List, [], ◌∷◌, ◌++◌, ap, map, ◌∙◌}
 use Rattle.git_pkt.specs.Packets.{delim}
 use Rattle.git_msg.specs.declared.Boundary.{Boundary}
 use Rattle.git_server.specs.FetchAnswers.{boundary_packet}
-use Rattle.git_server.specs.FetchPlaces.{boundary_from}
+use Rattle.git_server.specs.Machine.FetchPlaces.{boundary_from}
 use Rattle.git_server.proofs.Dropped.{dropped}
 use Rattle.git_server.proofs.shallow_info.write_shallow_info.Goals as goal
 

@@ -3,7 +3,7 @@ use Rattle.git_names.specs.ObjectName.{hex_of}
 use Rattle.git_pkt.specs.Packets.{Pkt, delim}
 use Rattle.git_pkt.specs.declared.reader.PacketReader.{PacketReader}
 use Rattle.git_msg.specs.WrittenRequest.{text_line}
-use Rattle.git_server.specs.WrittenPackets.{Writes}
+use Rattle.git_server.specs.Machine.WrittenPackets.{Writes}
 use Rattle.git_server.proofs.WantedLines.{found_named, no_more_lines, passed_over, told, within_names}
 use Rattle.git_server.proofs.wanted_refs.write_from.Goals as goal
 

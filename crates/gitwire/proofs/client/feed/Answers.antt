@@ -1,6 +1,6 @@
 use Rattle.std.proofs.Common.{rules, arith, ◌≤◌, ap, length, subst}
 use Rattle.git_pkt.specs.Packets.{longest_payload}
-use Rattle.git_client.specs.Client.{events_of}
+use Rattle.git_client.specs.Machine.Client.{events_of}
 use Rattle.git_client.specs.Events.{all_parts_length}
 use Rattle.git_client.specs.declared.events.HeardGot.{HeardGot}
 use Rattle.gitwire.specs.EventAnswers.{Parts, bytes_shown}

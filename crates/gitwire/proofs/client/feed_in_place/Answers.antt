@@ -1,6 +1,6 @@
 use Rattle.std.proofs.Common.{arith, ◌≤◌, ◌≡◌, refl, subst, sym}
 use Rattle.git_pkt.specs.Packets.{longest_payload}
-use Rattle.git_client.specs.Client.{events_of, wants_input}
+use Rattle.git_client.specs.Machine.Client.{events_of, wants_input}
 use Rattle.git_client.specs.Events.{all_parts_length}
 use Rattle.git_client.specs.declared.events.HeardGot.{HeardGot}
 use Rattle.gitwire.specs.ClientAnswers.{filled_beside, answer_of}

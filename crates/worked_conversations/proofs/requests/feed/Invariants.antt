@@ -1,5 +1,5 @@
 use Rattle.std.proofs.Common.{◌≡◌, false}
-use Rattle.git_pkt.specs.PacketReader.{passes_of}
+use Rattle.git_pkt.specs.Machine.PacketReader.{passes_of}
 use Rattle.worked_conversations.proofs.requests.feed.Given as goal
 
 abbrev pub invariant-loop : goal.invariant-loop

@@ -2,10 +2,10 @@ use Rattle.std.proofs.Common.{subst, ◌∙◌, ap, length, inl, inr}
 use Rattle.git_msg.specs.declared.arguments.Command.{Command}
 use Rattle.git_msg.specs.declared.requests.Request.{Request}
 use Rattle.git_msg.specs.Arguments.{IsArgumentFault, ReadsAs, shown, written_text}
-use Rattle.git_msg.specs.HeldRequest.{Keeps, add_checks, command_of}
+use Rattle.git_msg.specs.Machine.HeldRequest.{Keeps, add_checks, command_of}
 use Rattle.git_msg.specs.Checks.{Refuses}
-use Rattle.git2show_lib.specs.HeldScripts.{FitsIn}
-use Rattle.git2show_lib.specs.ScriptLines.{held}
+use Rattle.git2show_lib.specs.Machine.HeldScripts.{FitsIn}
+use Rattle.git2show_lib.specs.Machine.ScriptLines.{held}
 use Rattle.git2show_lib.proofs.Scripting.{none_fits, none_reads, fits_of_passes, last_now, same_held}
 use Rattle.git2show_lib.proofs.script_lines.Script.add.Goals as goal
 

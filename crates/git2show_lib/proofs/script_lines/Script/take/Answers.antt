@@ -1,5 +1,5 @@
 use Rattle.std.proofs.Common.{sym, ◌∙◌}
-use Rattle.git2show_lib.specs.ScriptLines.{held}
+use Rattle.git2show_lib.specs.Machine.ScriptLines.{held}
 use Rattle.git2show_lib.proofs.Scripting.{no_bytes, said_argument, said_command, some_bytes, takes_blank}
 use Rattle.git2show_lib.proofs.script_lines.Script.take.Goals as goal
 

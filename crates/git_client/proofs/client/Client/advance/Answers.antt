@@ -1,8 +1,8 @@
 use Rattle.std.proofs.Common.{arith, ap, ◌≡◌, ◌<◌, ◌≤◌, ◌+◌, ◌*◌, ℕ, [], List, subst, take, drop, length, ◌-◌, length-drop}
-use Rattle.git_pkt.specs.Credit.{Pays}
+use Rattle.git_pkt.specs.Machine.Credit.{Pays}
 use Rattle.git_pkt.proofs.Pieces.{left_of}
 use Rattle.git_client.specs.Events.{EventValue}
-use Rattle.git_client.specs.Client.{Comes, HearsOn, LeavesStep}
+use Rattle.git_client.specs.Machine.Client.{Comes, HearsOn, LeavesStep}
 use Rattle.git_client.specs.declared.client.Outcome.{Outcome}
 use Rattle.git_client.specs.declared.client.Outcome.TheVariants.{More}
 use Rattle.git_client.proofs.Twice.{comes_then, hears_then, leaves_then}

@@ -1,6 +1,6 @@
 use Rattle.std.proofs.Common.{length, ◌+◌, ◌-◌, ◌*◌, ◌≡◌, ◌<◌, ◌≤◌, true, take, []}
-use Rattle.git_pkt.specs.Credit.{Pays, credit_of}
-use Rattle.git_client.specs.Client.{HearsOn, reader_of, wants_input}
+use Rattle.git_pkt.specs.Machine.Credit.{Pays, credit_of}
+use Rattle.git_client.specs.Machine.Client.{HearsOn, reader_of, wants_input}
 use Rattle.git_client.proofs.client.Client.advance.Given as goal
 
 -- the bytes so far gave no event

@@ -1,6 +1,6 @@
 use Rattle.std.proofs.Common.{◌≡◌, true, false, refl, sym, ap}
-use Rattle.git_client.specs.Turns.{is_ready}
-use Rattle.git_client.specs.Client.{phase_of}
+use Rattle.git_client.specs.Machine.Turns.{is_ready}
+use Rattle.git_client.specs.Machine.Client.{phase_of}
 use Rattle.git_client.specs.declared.phase.Phase.{Phase}
 use Rattle.git_client.specs.declared.phase.Phase.TheVariants.{Ready}
 use Rattle.git_client.proofs.CanAsk.{can_ask_tells}

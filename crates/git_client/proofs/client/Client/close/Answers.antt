@@ -1,10 +1,10 @@
 use Rattle.std.proofs.Common.{arith, rules, ◌≡◌, ◌≤◌, ◌+◌, inl, inr, Some, ap, refl, sym, ◌∙◌, subst}
-use Rattle.git_pkt.specs.Credit.{credit_of}
-use Rattle.git_pkt.specs.PacketReader.{position_of, is_open, open_length, fault_of as reader_fault_of}
+use Rattle.git_pkt.specs.Machine.Credit.{credit_of}
+use Rattle.git_pkt.specs.Machine.PacketReader.{position_of, is_open, open_length, fault_of as reader_fault_of}
 use Rattle.git_pkt.specs.declared.fault.Fault.{Fault}
 use Rattle.git_pkt.specs.declared.reader.PacketReader.{PacketReader}
 use Rattle.git_pkt.proofs.OpenLengths.{failed_counts_none}
-use Rattle.git_client.specs.Client.{reader_of}
+use Rattle.git_client.specs.Machine.Client.{reader_of}
 use Rattle.git_client.proofs.Closed.{is_sound, closes, ends_between, ends_inside}
 use Rattle.git_client.proofs.client.Client.close.Goals as goal
 use Rattle.git_client.proofs.client.Client.close.Goals.{in-Ok, in-Err}

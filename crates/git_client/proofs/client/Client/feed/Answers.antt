@@ -1,11 +1,11 @@
 use Rattle.std.proofs.Common.{arith, ◌≡◌, ◌≢◌, ◌≤◌, ◌∙◌, ap, sym, refl, ℕ, zero, suc, List, [], drop, subst, take, true, false}
-use Rattle.git_pkt.specs.Credit.{Pays}
+use Rattle.git_pkt.specs.Machine.Credit.{Pays}
 use Rattle.git_pkt.specs.Packets.{longest_payload}
-use Rattle.git_pkt.specs.PacketReader.{held_of, is_open}
+use Rattle.git_pkt.specs.Machine.PacketReader.{held_of, is_open}
 use Rattle.git_client.specs.Events.{EventValue, turns_of, all_parts_length}
-use Rattle.git_client.specs.HandedOut.{IsLent}
-use Rattle.git_client.specs.Turns.{events_at, values_of}
-use Rattle.git_client.specs.Client.{EndsAt, Feeds, HearsOn, Takes, LeavesAfter, StandsAfter, phase_of, reader_of, said_last, can_ask, wants_input}
+use Rattle.git_client.specs.Machine.HandedOut.{IsLent}
+use Rattle.git_client.specs.Machine.Turns.{events_at, values_of}
+use Rattle.git_client.specs.Machine.Client.{EndsAt, Feeds, HearsOn, Takes, LeavesAfter, StandsAfter, phase_of, reader_of, said_last, can_ask, wants_input}
 use Rattle.git_client.specs.declared.events.Event.{Event}
 use Rattle.git_client.specs.declared.events.Event.TheVariants.{Pack, Progress}
 use Rattle.git_client.specs.declared.events.Heard.{Heard}

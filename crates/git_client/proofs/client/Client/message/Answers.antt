@@ -3,7 +3,7 @@ use Rattle.std.specs.List.{slice_range}
 use Rattle.git_pkt.specs.Packets.{text_of}
 use Rattle.git_pkt.specs.declared.fault.Kind.TheVariants.{RemoteError, RemoteFatal}
 use Rattle.git_pkt.proofs.Pieces.{left_of}
-use Rattle.git_client.specs.Client.{is_told}
+use Rattle.git_client.specs.Machine.Client.{is_told}
 use Rattle.git_client.proofs.Held.{HoldsMessage, holds_message, error_told, fatal_told}
 use Rattle.git_client.proofs.client.Client.message.Goals as goal
 

@@ -1,6 +1,6 @@
 use Rattle.std.proofs.Common.{arith, refl, ap, length}
-use Rattle.git_msg.specs.HeldRequest.{asked_of, format_of}
-use Rattle.git_client.specs.Turns.{fault_in, takes_packets, is_asking}
+use Rattle.git_msg.specs.Machine.HeldRequest.{asked_of, format_of}
+use Rattle.git_client.specs.Machine.Turns.{fault_in, takes_packets, is_asking}
 use Rattle.git_client.proofs.Questions.{lent, puts_next, asks_on, hears_now}
 use Rattle.git_client.proofs.client.Client.put_question.Goals as goal
 

@@ -1,9 +1,9 @@
 use Rattle.std.proofs.Common.{◌≡◌, Some, ap, refl, subst}
-use Rattle.git_pkt.specs.BandReader.{TellsBand}
-use Rattle.git_pkt.specs.PacketReader.{fault_of as reader_fault_of}
+use Rattle.git_pkt.specs.Machine.BandReader.{TellsBand}
+use Rattle.git_pkt.specs.Machine.PacketReader.{fault_of as reader_fault_of}
 use Rattle.git_pkt.specs.declared.reader.BandGot.{BandGot}
 use Rattle.git_pkt.specs.declared.reader.BandGot.TheVariants.{Failed, More, Part}
-use Rattle.git_client.specs.Turns.{fault_in}
+use Rattle.git_client.specs.Machine.Turns.{fault_in}
 use Rattle.git_client.specs.declared.phase.Due.TheVariants.{Packfile}
 use Rattle.git_client.proofs.Taken.{fed_band_packet, fed_bands, settled, taken_all, taken_failed, taken_part}
 use Rattle.git_client.proofs.client.Client.take_band.Goals as goal
@@ -37,7 +37,7 @@ returns-in-Packet-clause-takes g c =
     c.settle-outcome.result
     (fed_band_packet c.args.self.now _ c.args.piece.now c.feed_band-fed.result c.in-Packet.packet c.in-Packet.offset c.requires.hears
     c.feed_band-fed.ensures.used c.feed_band-fed.follows.holds-at-none c.in-Packet.is) c.feed_band-fed.ensures.used c.judge-judged.ensures.turn refl
-    refl refl c.settle-outcome.ensures
+    refl c.settle-outcome.ensures
 
 pub returns-in-Failed-clause-takes : goal.returns-in-Failed-clause-takes
 returns-in-Failed-clause-takes g c =

@@ -1,8 +1,8 @@
 use Rattle.std.proofs.Common.{◌≡◌, Some, ap, refl, subst}
-use Rattle.git_pkt.specs.PacketReader.{Tells, fault_of as reader_fault_of}
+use Rattle.git_pkt.specs.Machine.PacketReader.{Tells, fault_of as reader_fault_of}
 use Rattle.git_pkt.specs.declared.reader.Got.{Got}
 use Rattle.git_pkt.specs.declared.reader.Got.TheVariants.{Failed, More}
-use Rattle.git_client.specs.Turns.{fault_in}
+use Rattle.git_client.specs.Machine.Turns.{fault_in}
 use Rattle.git_client.proofs.Taken.{fed_bytes, fed_packet, settled, taken_all, taken_failed}
 use Rattle.git_client.proofs.client.Client.take_packet.Goals as goal
 
@@ -24,7 +24,7 @@ returns-in-Packet-clause-takes g c =
     c.settle-outcome.result
     (fed_packet c.args.self.now _ c.args.due c.args.piece.now c.feed-fed.result c.in-Packet.packet c.in-Packet.offset c.requires.hears
     c.requires.no_band c.feed-fed.ensures.used c.feed-fed.follows.holds-at-none c.in-Packet.is) c.feed-fed.ensures.used c.judge-judged.ensures.turn refl
-    refl refl c.settle-outcome.ensures
+    refl c.settle-outcome.ensures
 
 pub returns-in-Failed-clause-takes : goal.returns-in-Failed-clause-takes
 returns-in-Failed-clause-takes g c =

@@ -1,6 +1,6 @@
 use Rattle.std.proofs.Common.{length, ◌-◌, ◌≤◌, take, Ok}
 use Rattle.git_pkt.specs.Escape.{escaped_of}
-use Rattle.git_pkt.specs.Sends.{Puts}
+use Rattle.git_pkt.specs.Machine.Sends.{Puts}
 use Rattle.git_client.proofs.line.Lines.put_text.Given as goal
 
 -- the escapes of the bytes so far were put

@@ -1,6 +1,6 @@
 use Rattle.std.proofs.Common.{arith}
-use Rattle.git_msg.specs.Insides.{ls_refs_inside}
-use Rattle.git_msg.specs.HeldTexts.{texts_of}
+use Rattle.git_msg.specs.Machine.Insides.{ls_refs_inside}
+use Rattle.git_msg.specs.Machine.HeldTexts.{texts_of}
 use Rattle.git_msg.proofs.PrunedRequests.{counted_pruned}
 use Rattle.git_msg.proofs.ls_refs.LsRefs.put_in_order.Goals as goal
 

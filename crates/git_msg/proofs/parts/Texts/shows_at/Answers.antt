@@ -1,5 +1,5 @@
 use Rattle.std.proofs.Common.{rules, ◌<◌, ◌∙◌, arith}
-use Rattle.git_msg.specs.TextPools.{text_at}
+use Rattle.git_msg.specs.Machine.TextPools.{text_at}
 use Rattle.git_msg.proofs.PrefixOrder.{none_shown, none_counted, last_held}
 use Rattle.git_msg.proofs.parts.Texts.shows_at.Goals as goal
 

@@ -1,4 +1,4 @@
-use Rattle.git_msg.specs.TextPools.{text_at}
+use Rattle.git_msg.specs.Machine.TextPools.{text_at}
 use Rattle.git_msg.proofs.PrefixOrder.{parted, split_of_texts}
 use Rattle.git_msg.proofs.parts.Texts.split.Goals as goal
 

@@ -1,10 +1,10 @@
 use Rattle.std.proofs.Common.{◌≡◌, ap, subst, Bool}
-use Rattle.git_msg.specs.HeldRequest.{IsBounded}
+use Rattle.git_msg.specs.Machine.HeldRequest.{IsBounded}
 use Rattle.git_msg.proofs.BoundedRequests.{one_bound}
 use Rattle.std.proofs.lemmas.Result.{err_from_is_err_and}
 use Rattle.git_msg.specs.Checks.{Refuses}
 use Rattle.git_msg.specs.Lines.{capability_checks}
-use Rattle.git_msg.specs.RequestReaderSteps.{is_first}
+use Rattle.git_msg.specs.Machine.RequestReaderSteps.{is_first}
 use Rattle.git_msg.proofs.StepFacts.{first_by}
 use Rattle.git_msg.proofs.reader.RequestReader.note.Goals as goal
 

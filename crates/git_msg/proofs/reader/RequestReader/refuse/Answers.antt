@@ -1,5 +1,5 @@
 use Rattle.std.proofs.Common.{ap}
-use Rattle.git_msg.specs.HeldRequest.{IsBounded}
+use Rattle.git_msg.specs.Machine.HeldRequest.{IsBounded}
 use Rattle.git_msg.proofs.BoundedRequests.{one_bound}
 use Rattle.git_msg.specs.declared.reader.Part.TheVariants.{Failed}
 use Rattle.git_msg.proofs.reader.RequestReader.refuse.Goals as goal

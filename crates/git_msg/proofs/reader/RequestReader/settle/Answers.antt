@@ -1,7 +1,7 @@
 use Rattle.std.proofs.Common.{◌≡◌, ◌∙◌, ℕ, ap, length, max, subst, rules}
 use Rattle.git_msg.specs.Arguments.{shown, written_text}
 use Rattle.git_msg.specs.Checks.{Passes}
-use Rattle.git_msg.specs.HeldRequest.{Keeps, IsRefused, keep_checks}
+use Rattle.git_msg.specs.Machine.HeldRequest.{Keeps, IsRefused, keep_checks}
 use Rattle.git_msg.proofs.KeptArguments.{keeps_ok, keeps_err, still_bounded}
 use Rattle.git_msg.proofs.reader.RequestReader.settle.Goals as goal
 

@@ -1,7 +1,7 @@
 use Rattle.std.proofs.Common.{◌≡◌, ap, Ok, Err, None, rules}
 use Rattle.git_pkt.specs.Packets.{seen}
-use Rattle.git_msg.specs.RequestReader.{fault_of, fault_in}
-use Rattle.git_msg.specs.RequestReaderSteps.{StepsOn}
+use Rattle.git_msg.specs.Machine.RequestReader.{fault_of, fault_in}
+use Rattle.git_msg.specs.Machine.RequestReaderSteps.{StepsOn}
 use Rattle.git_msg.proofs.TakenPackets.{takes_ok, takes_err}
 use Rattle.git_msg.proofs.reader.RequestReader.take.Goals as goal
 use Rattle.git_msg.proofs.reader.RequestReader.take.Goals.{in-Capabilities, in-Arguments}

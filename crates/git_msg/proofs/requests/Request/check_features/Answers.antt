@@ -3,7 +3,7 @@ use Rattle.std.proofs.lemmas.List.Elements.{All-nil}
 use Rattle.std.proofs.lemmas.Option.{slice_get_within}
 use Rattle.git_msg.specs.Arguments.{Arg, is_offered, shown}
 use Rattle.git_msg.specs.Asked.{arguments_in}
-use Rattle.git_msg.specs.HeldRequest.{asked_of}
+use Rattle.git_msg.specs.Machine.HeldRequest.{asked_of}
 use Rattle.git_msg.proofs.KeptBytes.{all_at}
 use Rattle.git_msg.proofs.OfferedArguments.{all_more, all_of_them}
 use Rattle.git_msg.proofs.requests.Request.check_features.Goals as goal

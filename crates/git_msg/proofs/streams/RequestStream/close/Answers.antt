@@ -1,5 +1,5 @@
 use Rattle.std.proofs.Common.{refl, ap, ◌∙◌}
-use Rattle.git_pkt.specs.PacketReader.{position_of}
+use Rattle.git_pkt.specs.Machine.PacketReader.{position_of}
 use Rattle.git_msg.proofs.StreamEnds.{all_whole, closed_open, closed_within, same_reader}
 use Rattle.git_msg.proofs.streams.RequestStream.close.Goals as goal
 

@@ -1,6 +1,6 @@
 use Rattle.std.proofs.Common.{◌≡◌, true, false, length, append-nil, length-drop, arith, ap, sym, ◌∙◌, rules}
 use Rattle.git_pkt.proofs.Pieces.{left_of}
-use Rattle.git_msg.specs.RequestStreams.{wants_input}
+use Rattle.git_msg.specs.Machine.RequestStreams.{wants_input}
 use Rattle.git_msg.proofs.StreamSteps.{counts_further, leaves_further, reads_further, shows_further, steps_with}
 use Rattle.git_msg.proofs.streams.RequestStream.feed.Goals as goal
 

@@ -1,6 +1,6 @@
 use Rattle.std.proofs.Common.{length, ◌-◌, ◌≡◌, ◌++◌, false, ◌≤◌, ℕ, List, take}
 use Rattle.git_msg.specs.Asked.{Asked}
-use Rattle.git_msg.specs.RequestStreams.{HasRead, offer_of, limit_of, wants_input}
+use Rattle.git_msg.specs.Machine.RequestStreams.{HasRead, offer_of, limit_of, wants_input}
 use Rattle.git_msg.proofs.streams.RequestStream.feed.Given as goal
 
 -- what was used so far brought nothing whole, and bytes are wanted on if they were

@@ -1,7 +1,7 @@
 use Rattle.std.proofs.Common.{rules, refl, subst, take}
 use Rattle.git_pkt.specs.Packets.{seen}
 use Rattle.git_pkt.specs.Splits.{Given}
-use Rattle.git_pkt.specs.PacketReader.{ShownByFeed}
+use Rattle.git_pkt.specs.Machine.PacketReader.{ShownByFeed}
 use Rattle.git_pkt.specs.declared.fault.Fault.{Fault}
 use Rattle.git_msg.proofs.StreamSteps.{open_read, feeds_with, packet_counts, packet_leaves, packet_news, packet_read, ready_behind, refused_read}
 use Rattle.git_msg.proofs.StreamSteps.{some_taken_behind, sound_behind, within_behind}

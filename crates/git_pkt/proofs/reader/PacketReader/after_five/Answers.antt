@@ -1,7 +1,7 @@
 use Rattle.std.proofs.Common.{arith, ◌≡◌, ◌≤◌, false, true, [], length, take, drop, is_some, ap, refl, sym, ◌∙◌, subst}
 use Rattle.git_pkt.specs.Passed.{begins_band}
-use Rattle.git_pkt.specs.PacketReader.{bytes_held, rest_of}
-use Rattle.git_pkt.specs.PacketReaderSteps.{IsShown, Moves}
+use Rattle.git_pkt.specs.Machine.PacketReader.{bytes_held, rest_of}
+use Rattle.git_pkt.specs.Machine.PacketReaderSteps.{IsShown, Moves}
 use Rattle.git_pkt.specs.declared.progress.Progress.{Progress}
 use Rattle.git_pkt.specs.declared.progress.Progress.TheVariants.{Open, Whole, Failed}
 use Rattle.std.proofs.lemmas.List.{length-take-le}

@@ -1,9 +1,9 @@
 use Rattle.std.proofs.Common.{arith, ◌≡◌, ◌+◌, ◌-◌, ◌≤◌, ℕ, false, true, List, [], ◌++◌, length, take, drop, is_some, ap, sym, ◌∙◌, subst, length-append}
 use Rattle.std.proofs.lemmas.List.{append-nil, length-take, length-take-le, take-append-drop}
 use Rattle.git_pkt.specs.Passed.{begins_band}
-use Rattle.git_pkt.specs.BandReader.{ReadsBandsOn}
-use Rattle.git_pkt.specs.PacketReader.{ShownByFeed, bytes_held, held_of, rest_of}
-use Rattle.git_pkt.specs.PacketReaderSteps.{IsShown, Moves}
+use Rattle.git_pkt.specs.Machine.BandReader.{ReadsBandsOn}
+use Rattle.git_pkt.specs.Machine.PacketReader.{ShownByFeed, bytes_held, held_of, rest_of}
+use Rattle.git_pkt.specs.Machine.PacketReaderSteps.{IsShown, Moves}
 use Rattle.git_pkt.specs.declared.progress.Progress.{Progress}
 use Rattle.git_pkt.specs.declared.progress.Progress.TheVariants.{Open, Whole, Failed}
 use Rattle.git_pkt.proofs.Pieces.{left_of}

@@ -1,6 +1,6 @@
 use Rattle.std.proofs.Common.{arith, refl, ◌<◌, ◌+◌, ◌-◌, ℕ, List, ◌++◌, length, take, drop, ap, ◌∙◌, subst, length-append}
 use Rattle.std.proofs.lemmas.List.{length-take-le, take-append-drop}
-use Rattle.git_pkt.specs.BandReader.{BandMoves}
+use Rattle.git_pkt.specs.Machine.BandReader.{BandMoves}
 use Rattle.git_pkt.specs.declared.progress.BandProgress.{BandProgress}
 use Rattle.git_pkt.specs.declared.progress.BandProgress.TheVariants.{Empty}
 use Rattle.git_pkt.proofs.Pieces.{left_of}

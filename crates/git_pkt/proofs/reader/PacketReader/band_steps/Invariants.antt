@@ -1,7 +1,7 @@
 use Rattle.std.proofs.Common.{◌≡◌, ◌≤◌, ◌+◌, ◌-◌, ◌*◌, [], length, take, None}
 use Rattle.git_names.specs.Steps.{TakesAtMost}
-use Rattle.git_pkt.specs.PacketReader.{fault_of, held_of, open_length}
-use Rattle.git_pkt.specs.BandReader.{MayPass, ReadsBandsOn}
+use Rattle.git_pkt.specs.Machine.PacketReader.{fault_of, held_of, open_length}
+use Rattle.git_pkt.specs.Machine.BandReader.{MayPass, ReadsBandsOn}
 use Rattle.git_pkt.proofs.reader.PacketReader.band_steps.Given as goal
 
 -- packets so far came that give nothing

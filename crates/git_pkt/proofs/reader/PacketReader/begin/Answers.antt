@@ -1,7 +1,7 @@
 use Rattle.std.proofs.Common.{zero-add, ℕ, subst, arith, ◌≡◌, ◌+◌, ◌≤◌, length, take, refl, ◌∙◌}
 use Rattle.std.proofs.lemmas.List.{length-take-le}
 use Rattle.git_pkt.specs.Faults.{FirstBadDigit}
-use Rattle.git_pkt.specs.TellsDigits.{TellsDigits}
+use Rattle.git_pkt.specs.Machine.TellsDigits.{TellsDigits}
 use Rattle.git_pkt.specs.declared.digits.Digits.TheVariants.{Number}
 use Rattle.git_pkt.proofs.Gathered.{begun_whole, bad_digit_ends, bad_digit_of_take, field_ends, digits_of_take, number_of_take, allowed_unrefused}
 use Rattle.git_pkt.specs.declared.progress.Progress.TheVariants.{Whole}

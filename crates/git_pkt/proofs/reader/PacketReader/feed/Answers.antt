@@ -1,7 +1,7 @@
 use Rattle.std.proofs.Common.{rules, ◌≡◌, ◌++◌, ℕ, List, take, ap, arith, subst, refl, ◌∙◌}
 use Rattle.std.proofs.lemmas.List.{length-take-le}
-use Rattle.git_pkt.specs.PacketReader.{ShownByFeed}
-use Rattle.git_pkt.specs.PacketReaderSteps.{Moves, IsShown}
+use Rattle.git_pkt.specs.Machine.PacketReader.{ShownByFeed}
+use Rattle.git_pkt.specs.Machine.PacketReaderSteps.{Moves, IsShown}
 use Rattle.git_pkt.specs.declared.fault.Fault.{Fault}
 use Rattle.git_pkt.specs.declared.progress.Progress.{Progress}
 use Rattle.git_pkt.specs.declared.progress.Progress.TheVariants.{Open, Whole, Failed}

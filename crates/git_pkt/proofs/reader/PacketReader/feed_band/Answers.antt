@@ -1,5 +1,5 @@
 use Rattle.std.proofs.Common.{arith, refl, ap}
-use Rattle.git_pkt.specs.ReaderState.{fault_in}
+use Rattle.git_pkt.specs.Machine.ReaderState.{fault_in}
 use Rattle.git_pkt.proofs.Kept.{sound_unless}
 use Rattle.git_pkt.proofs.BandFeeds.{feeds_again, feeds_step, has_part}
 use Rattle.git_pkt.proofs.reader.PacketReader.feed_band.Goals as goal

@@ -1,5 +1,5 @@
 use Rattle.std.proofs.Common.{take, ℕ, List, arith, subst}
-use Rattle.git_pkt.specs.PacketReaderSteps.{Moves}
+use Rattle.git_pkt.specs.Machine.PacketReaderSteps.{Moves}
 use Rattle.git_pkt.proofs.ReaderMoves.{moves_on}
 use Rattle.git_pkt.proofs.Pieces.{take_joined}
 use Rattle.git_pkt.proofs.reader.PacketReader.gather.Goals as goal

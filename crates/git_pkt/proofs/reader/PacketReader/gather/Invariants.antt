@@ -1,7 +1,7 @@
 use Rattle.std.proofs.Common.{◌≡◌, ◌*◌, take}
 use Rattle.git_names.specs.Steps.{TakesAtMost}
-use Rattle.git_pkt.specs.PacketReader.{held_of}
-use Rattle.git_pkt.specs.PacketReaderSteps.{Moves}
+use Rattle.git_pkt.specs.Machine.PacketReader.{held_of}
+use Rattle.git_pkt.specs.Machine.PacketReaderSteps.{Moves}
 use Rattle.git_pkt.specs.declared.progress.Progress.TheVariants.{Open}
 use Rattle.git_pkt.proofs.reader.PacketReader.gather.Given as goal
 

@@ -1,6 +1,6 @@
 use Rattle.std.proofs.Common.{◌≡◌, ◌+◌, ◌≤◌, ◌++◌, length, take, ℕ, arith, ap, sym, ◌∙◌, refl, subst, length-append, List}
 use Rattle.std.proofs.lemmas.List.{length-take-le}
-use Rattle.git_pkt.specs.HeldPacket.{IsGathering}
+use Rattle.git_pkt.specs.Machine.HeldPacket.{IsGathering}
 use Rattle.git_pkt.specs.declared.progress.Progress.TheVariants.{Whole}
 use Rattle.git_pkt.proofs.Gathered.{gathering_more, gathering_whole}
 use Rattle.git_pkt.proofs.ReaderMoves.{moves_from}

@@ -1,8 +1,8 @@
 use Rattle.std.proofs.Common.{arith, ◌≡◌, inl, inr, ◌-◌, [], drop, length, take, ap, sym, ◌∙◌, refl}
 use Rattle.std.proofs.lemmas.Bool.{cases_lt}
 use Rattle.std.proofs.lemmas.List.{length-take-le}
-use Rattle.git_pkt.specs.PacketReader.{held_of}
-use Rattle.git_pkt.specs.ReaderState.{come_in, fault_in}
+use Rattle.git_pkt.specs.Machine.PacketReader.{held_of}
+use Rattle.git_pkt.specs.Machine.ReaderState.{come_in, fault_in}
 use Rattle.git_pkt.specs.declared.reader.State.{State}
 use Rattle.git_pkt.specs.declared.reader.State.TheVariants.{Passing}
 use Rattle.git_pkt.proofs.Kept.{kept_in}

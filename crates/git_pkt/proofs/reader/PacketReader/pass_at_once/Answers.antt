@@ -1,8 +1,8 @@
 use Rattle.std.proofs.Common.{arith, ◌≡◌, ◌≤◌, length, take, drop, Some, ap, refl, sym, ◌∙◌}
 use Rattle.std.proofs.lemmas.List.{length-take}
-use Rattle.git_pkt.specs.HeldPacket.{IsWhole}
+use Rattle.git_pkt.specs.Machine.HeldPacket.{IsWhole}
 use Rattle.git_pkt.specs.Passed.{band_in}
-use Rattle.git_pkt.specs.TellsDigits.{TellsDigits}
+use Rattle.git_pkt.specs.Machine.TellsDigits.{TellsDigits}
 use Rattle.git_pkt.specs.declared.digits.Digits.TheVariants.{Number}
 use Rattle.git_pkt.proofs.Gathered.{begun_whole}
 use Rattle.git_pkt.proofs.BandCarries.{band_of_take}

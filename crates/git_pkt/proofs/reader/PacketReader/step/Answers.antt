@@ -2,8 +2,8 @@ use Rattle.std.proofs.Common.{◌≡◌, ◌-◌, take, length, ℕ, List, arith
 use Rattle.std.proofs.lemmas.List.{length-take-le}
 use Rattle.std.proofs.lemmas.Grind.{common_steps}
 use Rattle.git_pkt.specs.Faults.{last_position}
-use Rattle.git_pkt.specs.PacketReader.{position_of}
-use Rattle.git_pkt.specs.PacketReaderSteps.{Moves}
+use Rattle.git_pkt.specs.Machine.PacketReader.{position_of}
+use Rattle.git_pkt.specs.Machine.PacketReaderSteps.{Moves}
 use Rattle.git_pkt.specs.declared.progress.Progress.{Progress}
 use Rattle.git_pkt.specs.declared.progress.Progress.TheVariants.{Open}
 use Rattle.git_pkt.proofs.ReaderMoves.{stopped_at_last}

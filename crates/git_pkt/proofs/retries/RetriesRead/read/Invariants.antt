@@ -1,6 +1,6 @@
 -- An interrupted read takes no bytes.
 use Rattle.std.specs.Io.KnownBytes.{Keeps}
-use Rattle.git_pkt.specs.Retries.{inner_of}
+use Rattle.git_pkt.specs.Machine.Retries.{inner_of}
 use Rattle.git_pkt.proofs.retries.RetriesRead.read.Given as goal
 
 abbrev pub invariant-loop : goal.invariant-loop

@@ -2,7 +2,7 @@ use Rattle.std.proofs.Common.{rules}
 use Rattle.std.specs.Option.{is_some}
 use Rattle.std.proofs.lemmas.List.{nil_from_length}
 use Rattle.git_server.specs.Repository.{bytes_of}
-use Rattle.git_repository.specs.DraftLists.{drafted}
+use Rattle.git_repository.specs.Machine.DraftLists.{drafted}
 use Rattle.git_repository.specs.Drafts.{head_names}
 use Rattle.git_repository.proofs.LastNames.{after_refs, after_unborn}
 use Rattle.git_repository.proofs.drafts.Draft.comes_last.Goals as goal

@@ -3,7 +3,7 @@ use Rattle.std.specs.Prelude.{All}
 use Rattle.std.proofs.lemmas.List.Elements.{All-push}
 use Rattle.git_server.specs.Repository.{Entry, IsNamed, IsOfFormat, IsRising, IsUnbornHead, comes_before}
 use Rattle.std.specs.Option.{is_some, ForSome}
-use Rattle.git_repository.specs.DraftLists.{drafted}
+use Rattle.git_repository.specs.Machine.DraftLists.{drafted}
 use Rattle.git_repository.specs.Drafts.{ComesLast, head_names, names_of}
 use Rattle.git_repository.proofs.Drafting.{pushed}
 use Rattle.git_repository.proofs.LastNames.{after_those_of_refs, still_unborn}

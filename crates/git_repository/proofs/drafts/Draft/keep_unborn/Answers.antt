@@ -1,6 +1,6 @@
 use Rattle.std.proofs.Common.{ap, List, ℕ}
 use Rattle.std.specs.Option.{is_some}
-use Rattle.git_repository.specs.DraftLists.{drafted}
+use Rattle.git_repository.specs.Machine.DraftLists.{drafted}
 use Rattle.git_repository.specs.RepositoryLines.{unborn}
 use Rattle.git_repository.specs.Drafts.{head_names, with_said}
 use Rattle.git_repository.proofs.LastNames.{head_comes_alone, no_refs_there, unborn_told}

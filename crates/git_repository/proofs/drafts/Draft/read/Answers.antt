@@ -1,4 +1,4 @@
-use Rattle.git_repository.specs.DraftLists.{drafted}
+use Rattle.git_repository.specs.Machine.DraftLists.{drafted}
 use Rattle.git_repository.specs.RepositoryLines.{shown}
 use Rattle.git_repository.proofs.Reading.{memory_ran_out_at, may_not_stand_at, says_nothing_at, stepped}
 use Rattle.git_repository.proofs.Saying.{fit_of_says}

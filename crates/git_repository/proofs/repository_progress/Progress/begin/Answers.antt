@@ -1,4 +1,4 @@
-use Rattle.git_repository.specs.DraftLists.{drafted}
+use Rattle.git_repository.specs.Machine.DraftLists.{drafted}
 use Rattle.git_repository.proofs.Reading.{started}
 use Rattle.git_repository.proofs.repository_progress.Progress.begin.Goals as goal
 

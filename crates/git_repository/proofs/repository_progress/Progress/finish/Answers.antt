@@ -1,5 +1,5 @@
-use Rattle.git_server.specs.ListRepo.{lists_of}
-use Rattle.git_repository.specs.DraftLists.{drafted}
+use Rattle.git_server.specs.Machine.ListRepo.{lists_of}
+use Rattle.git_repository.specs.Machine.DraftLists.{drafted}
 use Rattle.git_repository.specs.Packs.{packs_of}
 use Rattle.git_repository.proofs.Progressing.{some_lines}
 use Rattle.git_repository.proofs.Reading.{text_fault, whole_text}

@@ -1,6 +1,6 @@
 use Rattle.std.proofs.Common.{arith}
 use Rattle.std.specs.Option.{option_copied}
-use Rattle.git_repository.specs.DraftLists.{drafted}
+use Rattle.git_repository.specs.Machine.DraftLists.{drafted}
 use Rattle.git_repository.proofs.Progressing.{at_first, cut_within, rest_within, reads_all, reads_bad_line, reads_line}
 use Rattle.git_repository.proofs.repository_progress.Progress.read_on.Goals as goal
 

@@ -1,7 +1,7 @@
 use Rattle.std.proofs.Common.{ℕ, List, ◌≤◌, length}
 use Rattle.std.specs.Option.{option_copied}
 use Rattle.git_msg.proofs.TextParts.{bytes_left}
-use Rattle.git_repository.specs.DraftLists.{drafted}
+use Rattle.git_repository.specs.Machine.DraftLists.{drafted}
 use Rattle.git_repository.specs.LinesTold.{AreTold}
 use Rattle.git_repository.proofs.Progressing.{ReadsOn}
 use Rattle.git_repository.proofs.repository_progress.Progress.read_on.Given as goal

@@ -1,5 +1,5 @@
 use Rattle.std.proofs.Common.{List, ℕ, subst}
-use Rattle.git_repository.specs.RepositoryProgress.{HasRead, Stands}
+use Rattle.git_repository.specs.Machine.RepositoryProgress.{HasRead, Stands}
 use Rattle.git_repository.specs.declared.repository_progress.Progress.{Progress}
 use Rattle.git_msg.specs.Texts.{parts_of}
 use Rattle.git_repository.proofs.Progressing.{empty_of, some_of, end_at_start, end_behind, end_failed, end_within}

@@ -1,7 +1,7 @@
 use Rattle.std.proofs.Common.{List, ℕ, arith, ◌≡◌, ◌∷◌, ◌++◌, [], sym, subst, ◌∙◌, ap, length}
 use Rattle.git_msg.specs.Texts.{parts_of}
 use Rattle.git_repository.proofs.Progressing.{empty_of, piece_alone, piece_behind, piece_within}
-use Rattle.git_repository.specs.RepositoryProgress.{HasRead, Stands}
+use Rattle.git_repository.specs.Machine.RepositoryProgress.{HasRead, Stands}
 use Rattle.git_repository.proofs.repository_progress.Progress.with_piece.Goals as goal
 
 pub append-requires : goal.append-requires

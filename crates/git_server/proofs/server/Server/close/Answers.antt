@@ -1,7 +1,7 @@
 use Rattle.std.proofs.Common.{arith, rules, refl, ap, length, ◌∙◌}
 use Rattle.git_pkt.proofs.OpenLengths.{failed_counts_none}
-use Rattle.git_pkt.specs.Credit.{credit_of}
-use Rattle.git_pkt.specs.PacketReader.{position_of}
+use Rattle.git_pkt.specs.Machine.Credit.{credit_of}
+use Rattle.git_pkt.specs.Machine.PacketReader.{position_of}
 use Rattle.git_pkt.specs.declared.fault.Kind.TheVariants.{Truncated}
 use Rattle.git_server.proofs.Closing.{closes_between, closes_open, closes_within}
 use Rattle.git_server.proofs.Going.{is_within}

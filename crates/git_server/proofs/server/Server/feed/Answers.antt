@@ -1,9 +1,9 @@
 use Rattle.std.proofs.Common.{rules, ◌++◌, ◌⊎◌, ◌<◌, ◌≤◌, ◌*◌, inl, inr, ℕ, List, ◌≡◌, ◌+◌, ◌-◌, true, false}
 use Rattle.std.proofs.Common.{take, drop, length, arith, subst, ap, sym, ◌∙◌, [], length-drop}
-use Rattle.git_pkt.specs.Credit.{Pays}
+use Rattle.git_pkt.specs.Machine.Credit.{Pays}
 use Rattle.git_pkt.proofs.Pieces.{left_of, take_joined}
-use Rattle.git_server.specs.ServerCalls.{Goes}
-use Rattle.git_server.specs.Server.{wants_input}
+use Rattle.git_server.specs.Machine.ServerCalls.{Goes}
+use Rattle.git_server.specs.Machine.Server.{wants_input}
 use Rattle.git_server.proofs.Going.{goes_join, open_in_time}
 use Rattle.git_server.proofs.server.Server.feed.Goals as goal
 

@@ -1,7 +1,7 @@
 use Rattle.std.proofs.Common.{◌⊎◌, IsSome, length, ◌-◌, ◌+◌, ◌*◌, ◌≡◌, true, false, ◌≤◌, ◌<◌, [], take, if◌then◌else◌}
-use Rattle.git_server.specs.ServerCalls.{Goes, StopsInTime}
-use Rattle.git_pkt.specs.Credit.{Pays, credit_of}
-use Rattle.git_server.specs.Server.{reader_of, wants_input, outcome_of}
+use Rattle.git_server.specs.Machine.ServerCalls.{Goes, StopsInTime}
+use Rattle.git_pkt.specs.Machine.Credit.{Pays, credit_of}
+use Rattle.git_server.specs.Machine.Server.{reader_of, wants_input, outcome_of}
 use Rattle.git_server.proofs.server.Server.feed.Given as goal
 
 -- what was used so far was used well, and a server that does not wait for bytes, or got none, is as it was

@@ -1,6 +1,6 @@
 use Rattle.std.proofs.Common.{arith, refl, ap}
 use Rattle.git_server.specs.Answers.{error_packet}
-use Rattle.git_server.specs.Phases.{kept_in, most_owed, stored_in}
+use Rattle.git_server.specs.Machine.Phases.{kept_in, most_owed, stored_in}
 use Rattle.git_server.specs.declared.server.Phase.TheVariants.{Answering, Between, Ended}
 use Rattle.git_server.proofs.Breaking.{gives_broken}
 use Rattle.git_server.proofs.Giving.{gives}

@@ -1,8 +1,8 @@
 use Rattle.std.proofs.Common.{refl, ◌∙◌, sym}
 use Rattle.git_pkt.specs.Packets.{spelling_of}
 use Rattle.git_pkt.proofs.Written.{spells_written}
-use Rattle.git_server.specs.ServerCalls.{IsPulled}
-use Rattle.git_server.specs.WrittenPackets.{IsAtFront}
+use Rattle.git_server.specs.Machine.ServerCalls.{IsPulled}
+use Rattle.git_server.specs.Machine.WrittenPackets.{IsAtFront}
 use Rattle.git_server.specs.declared.server.Pulled.TheVariants.{Packet}
 use Rattle.git_server.proofs.FullParts.{ended_fills, filled_so}
 use Rattle.git_server.proofs.SessionLaws.{ends_now}

@@ -1,7 +1,7 @@
 use Rattle.std.proofs.Common.{refl, take}
 use Rattle.git_pkt.specs.Packets.{seen}
 use Rattle.git_server.proofs.Going.{goes_packet, goes_refused, open_in_time, packet_in_time, fault_in_time}
-use Rattle.git_server.proofs.Readers.{feeds_with}
+use Rattle.git_msg.proofs.StreamSteps.{feeds_with}
 use Rattle.git_server.proofs.server.Server.step.Goals as goal
 
 pub returns-in-Packet-clause-goes : goal.returns-in-Packet-clause-goes

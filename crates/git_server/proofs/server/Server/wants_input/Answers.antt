@@ -1,7 +1,7 @@
 use Rattle.std.proofs.Common.{◌≡◌, ◌↔◌, IsTrue, Bool, false, None, [], refl, subst}
-use Rattle.git_server.specs.Phases.{reads_in}
-use Rattle.git_server.specs.Server.{outcome_of}
-use Rattle.git_server.specs.ServerCalls.{OwesNow}
+use Rattle.git_server.specs.Machine.Phases.{reads_in}
+use Rattle.git_server.specs.Machine.Server.{outcome_of}
+use Rattle.git_server.specs.Machine.ServerCalls.{OwesNow}
 use Rattle.git_server.specs.declared.server.Phase.{Phase}
 use Rattle.git_server.specs.declared.server.Phase.TheVariants.{Advertising, Between, Within, Answering, Refusing, Ended}
 use Rattle.git_server.proofs.OneSession.{waits_where_none_owed}

@@ -1,0 +1,94 @@
+-- What the steps of a check do: the next request is read, and then what is left over of the responses.
+use Rattle.std.specs.Prelude.{◌≡◌, ◌⊎◌, ℕ, ◌<◌, Bool, true, false, List, [], ◌∷◌, ◌++◌, length, Option, Some, None, Result, Ok, Err}
+use Rattle.std.specs.Io.KnownBytes.{Consumes}
+use Rattle.git_pkt.specs.Splits.{Given}
+use Rattle.git_pkt.specs.Faults.{IsOpen}
+use Rattle.git_pkt.specs.Streams.{Flow, IsTimely}
+use Rattle.git_pkt.specs.declared.fault.Fault.{Fault}
+use Rattle.git_pkt.specs.declared.fault.Kind.TheVariants.{UnexpectedPacket}
+use Rattle.git_msg.specs.Asked.{Asked}
+use Rattle.git_msg.specs.Machine.HeldRequest.{asked_of, format_of}
+use Rattle.git_msg.specs.Requests.{IsStop}
+use Rattle.git_msg.specs.Machine.RequestStreams.{HasRead, AreAsked, IsRefusedAs, limit_of, offer_of, wants_input}
+use Rattle.git_msg.specs.Machine.StreamStages.{AreBegun}
+use Rattle.git_msg.specs.declared.requests.Request.{Request}
+use Rattle.git_msg.specs.declared.streams.RequestStream.{RequestStream}
+use Rattle.git_client.specs.Machine.RunSteps.{window_of}
+use Rattle.git_client.specs.declared.hearing.Window.{Window}
+use Rattle.git2show_lib.specs.declared.checking.CheckFault.{CheckFault}
+use Rattle.git2show_lib.specs.declared.checking.CheckFault.TheVariants.{Requests, Responses, ReadFault, ReadLimit}
+
+module _ {A : Type 0} where
+  -- of the bytes that waited and those that came, all but the last were used, and they ask this
+  pub record ReadsOn (old new : RequestStream A) (asked : List Asked) (waiting unused : List ℕ) (reader : Flow) : Type 0 where
+    pub came : List ℕ
+    pub used : List ℕ
+    pub read : Consumes reader.before reader.after came
+    pub parts : waiting ++ came ≡ used ++ unused
+    pub reads : (before : List ℕ) (known : List Asked) → HasRead before known old → HasRead (before ++ used) (known ++ asked) new
+    pub offer : offer_of new ≡ offer_of old
+    pub limit : limit_of new ≡ limit_of old
+
+  -- what the bytes used so far ask, whatever they are, with what comes after the last whole request
+  abbrev pub Asking : RequestStream A → (List ℕ → List Given → List ℕ → Type 0) → Type 0
+  Asking s Stands =
+      (before : List ℕ) (known : List Asked) → HasRead before known s
+      → (left : List Given) × (rest : List ℕ) × AreAsked (offer_of s) (limit_of s) before known left rest × Stands before left rest
+
+  -- a request was read whole, and nothing after it
+  pub record ReadsRequest (ended : Bool) (old new : RequestStream A) (request : Request A) (waiting unused : List ℕ) (reader : Flow) : Type 0 where
+    pub reads : ReadsOn old new (asked_of request ∷ []) waiting unused reader
+    pub onward : wants_input new ≡ true
+    pub can_come : ended ≡ false
+    pub format : format_of request ≡ (offer_of new).format
+    pub some : 0 < length reads.used
+    pub alone : Asking new (λ used left rest. (left ≡ []) × (rest ≡ []))
+
+  -- no further request comes: a flush comes instead of one, or the input ended after a whole one
+  pub record ReadsNoMore (ended : Bool) (old new : RequestStream A) (waiting : List ℕ) (reader : Flow) : Type 0 where
+    pub unused : List ℕ
+    pub reads : ReadsOn old new [] waiting unused reader
+    pub over : Asking new (λ used left rest. (rest ≡ []) × (IsStop left ⊎ ((left ≡ []) × (unused ≡ []) × (ended ≡ true))))
+
+  -- all bytes were read, and more can come
+  pub record ReadsAll (ended : Bool) (old new : RequestStream A) (waiting : List ℕ) (reader : Flow) : Type 0 where
+    pub reads : ReadsOn old new [] waiting [] reader
+    pub begun : Asking new (λ used left rest. AreBegun (offer_of new) (limit_of new) left × IsOpen rest)
+    pub can_come : ended ≡ false
+
+  -- what comes instead of a request is refused
+  pub record ReadsFault (fault : Fault) (ended : Bool) (old new : RequestStream A) (waiting : List ℕ) (reader : Flow) : Type 0 where
+    pub unused : List ℕ
+    pub reads : ReadsOn old new [] waiting unused reader
+    pub refused : Asking new (λ used left rest. IsRefusedAs (offer_of new) (limit_of new) left rest (length used) fault)
+    pub timely : IsTimely fault.kind ended unused
+
+  -- how the next request was read
+  abbrev pub ReadsTo : Result (Option (Request A)) CheckFault → Bool → RequestStream A → RequestStream A → List ℕ → Window → List ℕ → Flow → Type 0
+  ReadsTo (Ok (Some request)) ended old new waiting window piece reader =
+      ReadsRequest ended old new request waiting (window_of window piece) reader
+  ReadsTo (Ok None) ended old new waiting window piece reader = ReadsNoMore ended old new waiting reader
+  ReadsTo (Err (Requests fault)) ended old new waiting window piece reader = ReadsFault fault ended old new waiting reader
+  ReadsTo (Err ReadFault) ended old new waiting window piece reader = ReadsAll ended old new waiting reader
+  ReadsTo (Err ReadLimit) ended old new waiting window piece reader = ReadsAll ended old new waiting reader
+  ReadsTo (Err fault) ended old new waiting window piece reader = ⊥
+
+-- bytes came of the responses where nothing is asked any more, or waited
+pub record SeesMore (waiting : List ℕ) (reader : Flow) : Type 0 where
+  pub came : List ℕ
+  pub read : Consumes reader.before reader.after came
+  pub some : 0 < length (waiting ++ came)
+
+-- nothing waited, and nothing came
+pub record SeesNone (waiting : List ℕ) (reader : Flow) : Type 0 where
+  pub none_waits : waiting ≡ []
+  pub read : Consumes reader.before reader.after []
+
+-- what was seen of what is left over, where so many bytes were used
+abbrev pub SeesEnd : Result (Unit {0}) CheckFault → Bool → ℕ → List ℕ → Flow → Type 0
+SeesEnd (Ok done) ended position waiting reader = SeesNone waiting reader × (ended ≡ true)
+SeesEnd (Err (Responses fault)) ended position waiting reader =
+    SeesMore waiting reader × (fault ≡ record { kind = UnexpectedPacket; offset = position })
+SeesEnd (Err ReadFault) ended position waiting reader = SeesNone waiting reader
+SeesEnd (Err ReadLimit) ended position waiting reader = SeesNone waiting reader
+SeesEnd (Err fault) ended position waiting reader = ⊥

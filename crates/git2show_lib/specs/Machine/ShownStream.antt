@@ -1,0 +1,66 @@
+-- What showing a stream results in.
+use Rattle.std.specs.Prelude.{◌≡◌, ℕ, ◌-◌, ◌≤◌, Bool, true, false, List, [], ◌∷◌, ◌++◌, length, take, Result, Ok, Err, Option, Some, None}
+use Rattle.git_pkt.specs.Splits.{Given, Splits}
+use Rattle.git_pkt.specs.Faults.{IsOpen, StopsBy}
+use Rattle.git_pkt.specs.Machine.PacketReader.{ReadsOn, ShownByFeed, fault_of}
+use Rattle.git_pkt.specs.declared.fault.Fault.{Fault}
+use Rattle.git_pkt.specs.Streams.{Flow, WrittenAs, IsTimely}
+use Rattle.git_pkt.specs.declared.fault.RunFault.{RunFault}
+use Rattle.git_pkt.specs.declared.fault.RunFault.TheVariants.{ReadFault, WriteFault, ReadLimit, Refused}
+use Rattle.git_pkt.specs.declared.reader.PacketReader.{PacketReader}
+use Rattle.git2show_lib.specs.PacketLines.{lines_of}
+use Rattle.git2show_lib.specs.Machine.LineBuffer.{Emits}
+
+-- how the run ended: well where the input did, between two packets; else the rest shows why, or a stream failed. Where its
+-- reads were spent each of them had brought some bytes.
+abbrev pub EndsAs : Result (Unit {0}) RunFault → Bool → ℕ → List ℕ → List ℕ → List ℕ → Type 0
+EndsAs (Ok done) ended turns used rest unused = (rest ≡ []) × (unused ≡ []) × (ended ≡ true)
+EndsAs (Err ReadFault) ended turns used rest unused = IsOpen rest × (unused ≡ [])
+EndsAs (Err ReadLimit) ended turns used rest unused = IsOpen rest × (unused ≡ []) × (turns ≤ length used)
+EndsAs (Err WriteFault) ended turns used rest unused = Unit {0}
+EndsAs (Err (Refused f)) ended turns used rest unused =
+    StopsBy (length used - length rest) rest (length used) f.kind f.offset × IsTimely f.kind ended unused
+
+-- the lines given are those of the packets of what was read, up to where reading stopped
+pub record Shows (result : Result (Unit {0}) RunFault) (ended : Bool) (turns : ℕ) (read given : List (List ℕ)) : Type 0 where
+  pub used : List ℕ
+  pub unused : List ℕ
+  pub packets : List Given
+  pub rest : List ℕ
+  pub cut : read ≡ (used ++ unused) ∷ []
+  pub splits : Splits 0 used packets rest
+  pub lines : given ≡ lines_of packets ∷ []
+  pub ends : EndsAs result ended turns used rest unused
+
+-- the reader went on over these bytes, and the lines of its packets were sent or wait
+pub record Prints (old new : PacketReader) (bytes waiting : List ℕ) (writer : Flow) : Type 0 where
+  pub packets : List Given
+  pub reads : ReadsOn old bytes packets new
+  pub emits : Emits writer.before writer.after [] (lines_of packets) waiting
+
+-- the reader went on over these bytes, and the lines of its packets were written, or a front of them
+pub record Writes (broken : Bool) (old new : PacketReader) (bytes : List ℕ) (writer : Flow) : Type 0 where
+  pub packets : List Given
+  pub reads : ReadsOn old bytes packets new
+  pub written : WrittenAs broken writer (lines_of packets)
+
+-- the reader met this fault when it had used so many bytes of the piece
+pub record Meets (f : Fault) (new : PacketReader) (piece : List ℕ) (used : ℕ) : Type 0 where
+  pub told : fault_of new ≡ Some f
+  pub shown : ShownByFeed f used piece
+
+-- all of the piece was used and printed, or a front of it up to a fault
+abbrev pub PrintsPiece : Option Fault → PacketReader → PacketReader → List ℕ → List ℕ → Flow → Type 0
+PrintsPiece None old new piece waiting writer = Prints old new piece waiting writer × (fault_of new ≡ None)
+PrintsPiece (Some f) old new piece waiting writer = (used : ℕ) × Prints old new (take used piece) waiting writer × Meets f new piece used
+
+-- a front of the piece was used, and a front of its lines written
+abbrev pub WritesFront : PacketReader → PacketReader → List ℕ → Flow → Type 0
+WritesFront old new piece writer = (used : ℕ) × Writes true old new (take used piece) writer
+
+-- all of the piece was used and its lines were written, or those of a front of it up to a fault; or a write failed somewhere in it
+abbrev pub ShowsPiece : Result (Unit {0}) RunFault → PacketReader → PacketReader → List ℕ → Flow → Type 0
+ShowsPiece (Ok done) old new piece writer = Writes false old new piece writer × (fault_of new ≡ None)
+ShowsPiece (Err WriteFault) old new piece writer = WritesFront old new piece writer
+ShowsPiece (Err (Refused f)) old new piece writer = (used : ℕ) × Writes false old new (take used piece) writer × Meets f new piece used
+ShowsPiece (Err fault) old new piece writer = ⊥

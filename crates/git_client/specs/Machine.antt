@@ -1,0 +1,8 @@
+-- The state and the calls of the client and of the runs that feed it. No definition beside this folder cites them.
+pub mod Turns
+pub mod Client
+pub mod HandedOut
+pub mod LineParts
+pub mod Runs
+pub mod RunSteps
+pub mod Calls

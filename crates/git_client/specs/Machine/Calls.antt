@@ -1,0 +1,104 @@
+-- Calls of a client, one after the other, and what is promised after any of them.
+use Rattle.std.specs.Prelude.{◌≡◌, ◌≢◌, ℕ, ◌+◌, ◌*◌, ◌≤◌, true, List, [], ◌∷◌, ◌++◌, length, take, sum_by, Some, None}
+use Rattle.git_pkt.specs.Machine.Credit.{Pays, credit_of}
+use Rattle.git_pkt.specs.Machine.PacketReader.{bytes_held as held_in_packet}
+use Rattle.git_pkt.specs.Splits.{Given, Splits}
+use Rattle.git_pkt.specs.declared.fault.Fault.{Fault}
+use Rattle.git_pkt.specs.declared.fault.Kind.TheVariants.{Truncated, StreamTooLong}
+use Rattle.git_msg.specs.Machine.HeldRequest.{asked_of}
+use Rattle.git_msg.specs.declared.requests.Request.{Request}
+use Rattle.git_client.specs.Parts.{Terms}
+use Rattle.git_client.specs.Events.{pack_bytes}
+use Rattle.git_client.specs.Packs.{HasPack}
+use Rattle.git_client.specs.Conversation.{HasEvents, HasNoted, FirstMalformed, GoesWell, IsConversation}
+use Rattle.git_client.specs.Machine.Client.{History, Converses, HearsOn, Asks, RefusesToAsk, Leaves, Pulls, Feeds, given_by, events_of}
+use Rattle.git_client.specs.Machine.Client.{bytes_held, stored_in, kept_by, limit_of, reader_of, request_of, caps_of, fault_of, can_ask, wants_input}
+use Rattle.git_client.specs.Machine.Client.{left_to_say, said_of, spelled}
+use Rattle.git_client.specs.declared.client.Client.{Client}
+use Rattle.git_client.specs.declared.events.Heard.{Heard}
+use Rattle.git_client.specs.declared.events.Sent.{Sent}
+
+-- a call that may change a client: what it was handed, and what it answered
+pub data Call (A : Type 0) : Type 0 where
+  ask : Request A → Call A
+  ask_refused : (request handed_back : Request A) (fault : Fault) → Call A
+  leave : Call A
+  pull : Sent → Call A
+  feed : (piece : List ℕ) (answer : Heard) → Call A
+  close : Fault → Call A
+
+module _ {A : Type 0} where
+  -- what a call of `close` does, which is made where input is wanted
+  pub record Closes (old : Client A) (fault : Fault) (new : Client A) : Type 0 where
+    pub waits : wants_input old ≡ true
+    pub carries : HearsOn old [] [] new
+    pub refused : fault_of new ≡ Some fault
+    pub kind : fault.kind ≡ Truncated
+    pub offset : (t : Terms) (h : History) (given : List Given) (rest : List ℕ) → Converses t h old → Splits 0 h.used given rest
+        → fault.offset + length rest ≡ length h.used
+    pub credit : credit_of (reader_of new) ≤ credit_of (reader_of old)
+
+  -- each call did to the client what the contract of its method states; `feed` alone has the counter, which the others leave as it is
+  abbrev pub Makes : Call A → ℕ → Client A → ℕ → Client A → Type 0
+  Makes (ask request) before old after new = Asks old request new × (after ≡ before)
+  Makes (ask_refused request handed_back fault) before old after new = RefusesToAsk old request handed_back fault new × (after ≡ before)
+  Makes leave before old after new = Leaves old new × (after ≡ before)
+  Makes (pull sent) before old after new = Pulls old sent new × (after ≡ before)
+  Makes (feed piece answer) before old after new =
+      Feeds old piece answer new × (answer.used ≤ length piece)
+      × Pays answer.used before after (credit_of (reader_of old)) (credit_of (reader_of new))
+  Makes (close fault) before old after new = Closes old fault new × (after ≡ before)
+
+  -- what a call adds to the history
+  abbrev pub after_call : History → Call A → History
+  after_call h (ask request) = record h { asked = h.asked ++ asked_of request ∷ [] }
+  after_call h (ask_refused request handed_back fault) = h
+  after_call h leave = record h { left = true }
+  after_call h (pull sent) = record h { given = h.given ++ given_by sent }
+  after_call h (feed piece answer) = record h { used = h.used ++ take answer.used piece; events = h.events ++ events_of answer.got }
+  after_call h (close fault) = h
+
+  -- what calls one after the other add to it
+  abbrev pub history_after : History → List (Call A) → History
+  history_after h [] = h
+  history_after h (call ∷ calls) = history_after (after_call h call) calls
+
+  abbrev pub feeds_by : Call A → ℕ
+  feeds_by (feed piece answer) = 1
+  feeds_by call = 0
+
+  -- how many of the calls are of `feed`
+  abbrev pub feeds_in : List (Call A) → ℕ
+  feeds_in calls = sum_by feeds_by calls
+
+  -- What is promised of a client after any calls: these resulted in this history, so many of them were of `feed`, and the counter of steps
+  -- went from `before` to `after`.
+  pub record Headline (t : Terms) (h : History) (feeds before after : ℕ) (client : Client A) : Type 0 where
+    -- the client has no more bytes than the longest packet and the limit of the request that it asks
+    pub held : bytes_held client ≤ 65520 + limit_of client
+    -- of packets it has no more than the longest, whatever was received
+    pub hold : held_in_packet (reader_of client) ≤ 65520
+    -- of the request it stores no more bytes than the argument lines have, and these have no more than the limit
+    pub stored : stored_in (request_of client) ≤ kept_by client
+    pub kept : kept_by client ≤ limit_of client
+    -- all calls together took at most 64 steps for each byte used and for each call of `feed`, and none set the counter back
+    pub rises : before ≤ after
+    pub steps : after ≤ before + 64 * (length h.used + feeds)
+    -- the events are those of the bytes used, up to the first packet that is refused and with what has come of an open one; the same
+    -- bytes gave what was noted
+    pub events : HasEvents t h.asked h.used h.events
+    pub noted : HasNoted t h.asked h.used (caps_of client)
+    -- where no packet is owed, just what is written of the requests was given, and the flush where the client has left
+    pub given : left_to_say client ≡ [] → h.given ≡ spelled (said_of t.format (caps_of client) h.asked h.left)
+    -- the pack bytes among the events are the pack of the bytes used: at any time, and after a refusal too
+    pub pack : (bytes : List ℕ) → HasPack t h.asked h.used bytes → bytes ≡ pack_bytes h.events
+    -- where the client can ask, each response is whole
+    pub whole : can_ask client ≡ true → IsConversation t h.asked h.used h.events
+    -- a client that has refused did so at the first malformed packet, and one that has not received none
+    pub refused : (fault : Fault) → fault_of client ≡ Some fault → FirstMalformed t h.asked h.used fault
+    pub unrefused : fault_of client ≡ None → GoesWell t h.asked h.used h.events
+    -- the bytes have no other first malformed packet; an end of the input or of the stream's positions has one offset
+    pub one_refusal : (fault other : Fault) → fault_of client ≡ Some fault → FirstMalformed t h.asked h.used other
+        → fault.kind ≢ Truncated → fault.kind ≢ StreamTooLong → fault ≡ other
+    pub one_by_name : (fault other : Fault) → fault_of client ≡ Some fault → FirstMalformed t h.asked h.used other
+        → fault.kind ≡ other.kind → fault ≡ other

@@ -1,0 +1,518 @@
+-- What a client represents: what it was asked to ask, the bytes that it used, the events that it handed out and the bytes
+-- that it gave.
+use Rattle.std.specs.Prelude.{◌≡◌, ◌≢◌, ◌⊎◌, ℕ, suc, ◌+◌, ◌-◌, ◌<◌, ◌≤◌, Bool, true, false, List, [], ◌∷◌, ◌++◌, length, map, take, drop, flat_map, Option}
+use Rattle.std.specs.Prelude.{Some, None, Result, Ok, Err}
+use Rattle.git_names.specs.declared.object_format.Format.{Format}
+use Rattle.git_pkt.specs.Packets.{Pkt, flush, payload, Spells, spelling_of, text_of, flushes, longest_payload}
+use Rattle.git_pkt.specs.Splits.{Given, Splits}
+use Rattle.git_pkt.specs.Machine.Credit.{credit_of}
+use Rattle.git_pkt.specs.Faults.{StopsBy, last_position}
+use Rattle.git_pkt.specs.Passed.{on}
+use Rattle.git_pkt.specs.Machine.PacketReader.{Reads, bytes_held as held_in_packet, position_of, ShownByFeed, is_open, held_of, fault_of as reader_fault_of}
+use Rattle.git_pkt.specs.declared.band.Band.TheVariants.{Fatal}
+use Rattle.git_pkt.specs.declared.fault.Fault.{Fault}
+use Rattle.git_pkt.specs.declared.fault.Kind.{Kind}
+use Rattle.git_pkt.specs.declared.fault.Kind.TheVariants.{RemoteError, RemoteFatal, NotAdvertised, WrongFormat, Truncated}
+use Rattle.git_pkt.specs.declared.reader.PacketReader.{PacketReader}
+use Rattle.git_msg.specs.Advertisement.{noted_of, noted_offer, offers_command}
+use Rattle.git_msg.specs.Asked.{Asked, command_asked, AreOffered}
+use Rattle.git_msg.specs.Checks.{Check, check, Refuses as RefusesBy, Passes}
+use Rattle.git_msg.specs.Machine.HeldRequest.{asked_of, format_of as request_format, kept_of, limit_of as request_limit, stored_of}
+use Rattle.git_msg.specs.Lines.{end_checks}
+use Rattle.git_msg.specs.Texts.{IsErrorOf}
+use Rattle.git_msg.specs.WrittenRequest.{lines_written}
+use Rattle.git_msg.specs.Machine.RequestWriter.{written_of}
+use Rattle.git_msg.specs.declared.offers.Caps.{Caps}
+use Rattle.git_msg.specs.declared.requests.Request.{Request}
+use Rattle.git_client.specs.Parts.{Terms, Part, opening, advertisement, listing, sections, informing, closing}
+use Rattle.git_client.specs.Parts.{nearest, advertisement_of, message_of, is_end_due, part_of}
+use Rattle.git_client.specs.Sections.{is_empty, is_header_due, section_of, lines_of, allowed_after, acks_in}
+use Rattle.git_client.specs.Events.{EventValue, all_parts_length}
+use Rattle.git_client.specs.Places.{place_after}
+use Rattle.git_client.specs.Opened.{events_on, opened_in}
+use Rattle.git_client.specs.Conversation.{GiveAll, RefusesAt, HasDue}
+use Rattle.git_client.specs.Machine.Turns.{takes_packets, fault_in, is_ready, has_left_in, left_in, phase_in, question_in, values_of, events_at, Fits}
+use Rattle.git_client.specs.Machine.Turns.{after_acknowledgments}
+use Rattle.git_client.specs.declared.sections.Section.{Section}
+use Rattle.git_client.specs.declared.sections.Section.TheVariants.{Acknowledgments as AcknowledgmentsSection, ShallowInfo as ShallowInfoSection}
+use Rattle.git_client.specs.declared.sections.Section.TheVariants.{WantedRefs as WantedRefsSection, Packfile as PackfileSection}
+use Rattle.git_client.specs.declared.phase.Phase.{Phase}
+use Rattle.git_client.specs.declared.phase.Phase.TheVariants.{Hearing, Asking, Failed as FailedPhase}
+use Rattle.git_client.specs.declared.phase.Due.{Due}
+use Rattle.git_client.specs.declared.phase.Due.TheVariants.{Version, Capabilities, References, Header, Acknowledgments, ShallowInfo, WantedRefs}
+use Rattle.git_client.specs.declared.phase.Due.TheVariants.{Packfile, SizeLine, Sizes, ResponseEnd}
+use Rattle.git_client.specs.declared.phase.Said.{Said}
+use Rattle.git_client.specs.declared.phase.Said.TheVariants.{Nothing, Offered as OfferedSaid, Ended as EndedSaid}
+use Rattle.git_client.specs.declared.phase.Turn.{Turn}
+use Rattle.git_client.specs.declared.client.Advance.{Advance}
+use Rattle.git_client.specs.declared.client.Client.{Client}
+use Rattle.git_client.specs.declared.client.Outcome.{Outcome}
+use Rattle.git_client.specs.declared.client.Outcome.TheVariants.{More as NothingYet, Event as EventNow, Passed as PassedNow, Failed as FailedNow}
+use Rattle.git_client.specs.declared.events.Ending.{Ending}
+use Rattle.git_client.specs.declared.events.Event.{Event}
+use Rattle.git_client.specs.declared.events.Event.TheVariants.{Offered, Ended, Pack as PackEvent, Progress as ProgressEvent}
+use Rattle.git_client.specs.declared.events.Heard.{Heard}
+use Rattle.git_client.specs.declared.events.HeardGot.{HeardGot}
+use Rattle.git_client.specs.declared.events.HeardGot.TheVariants.{More, Event as EventGot, Failed}
+use Rattle.git_client.specs.declared.events.Sent.{Sent}
+use Rattle.git_client.specs.declared.events.Sent.TheVariants.{Packet, NeedInput, CanAsk, Finished, Failed as FailedSent}
+
+-- all that came and went between a client and those around it
+pub record History : Type 0 where
+  pub asked : List Asked
+  pub left : Bool
+  pub used : List ℕ
+  pub events : List EventValue
+  pub given : List ℕ
+
+abbrev pub nothing_yet : History
+nothing_yet = record { asked = []; left = false; used = []; events = []; given = [] }
+
+-- the bytes of packets as they are written
+abbrev pub spelled : List Pkt → List ℕ
+spelled = flat_map spelling_of
+
+-- what is written of each request, where this was advertised
+abbrev pub questions_of : Format → Caps → List Asked → List Pkt
+questions_of format caps = flat_map (lines_written caps.agent caps.object_format format)
+
+-- what is written at leaving: the flush of a request for nothing
+abbrev pub farewell : Bool → List Pkt
+farewell true = flush ∷ []
+farewell false = []
+
+-- all that a client sends
+abbrev pub said_of : Format → Caps → List Asked → Bool → List Pkt
+said_of format caps asked left = questions_of format caps asked ++ farewell left
+
+-- 1 where a response end is due, whose flush is counted already; else 0
+abbrev pub awaits_end : Due → ℕ
+awaits_end ResponseEnd = 1
+awaits_end due = 0
+
+-- the packets so far end inside this section
+pub record IsInside (section : Section) (message : List Pkt) : Type 0 where
+  pub inside : is_header_due message ≡ false
+  pub begun : section_of message ≡ Some section
+
+-- after these packets of a message that belong to this part, this is due
+abbrev pub IsDueIn : Part → List Pkt → Due → Type 0
+IsDueIn opening message Version = Unit {0}
+IsDueIn advertisement message Capabilities = Unit {0}
+IsDueIn listing message References = Unit {0}
+IsDueIn (sections done) message (Header allowed) = (is_header_due message ≡ true) × (allowed ≡ allowed_after done message)
+IsDueIn (sections done) message (Acknowledgments told) =
+    IsInside AcknowledgmentsSection message × (told ≡ acks_in (lines_of message)) × (allowed_after done message ≡ after_acknowledgments)
+IsDueIn (sections done) message (ShallowInfo allowed) = IsInside ShallowInfoSection message × (allowed ≡ allowed_after done message)
+IsDueIn (sections done) message (WantedRefs allowed) = IsInside WantedRefsSection message × (allowed ≡ allowed_after done message)
+IsDueIn (sections done) message Packfile = IsInside PackfileSection message
+IsDueIn informing message SizeLine = is_empty message ≡ true
+IsDueIn informing message Sizes = is_empty message ≡ false
+IsDueIn closing message ResponseEnd = Unit {0}
+IsDueIn part message due = ⊥
+
+-- this is due after these packets, as many messages as were asked for aside
+pub record IsDue (t : Terms) (asked : List Asked) (before : List Pkt) (due : Due) : Type 0 where
+  pub part : Part
+  pub is_part : part_of t asked before ≡ Some part
+  pub counts : flushes before ≡ length asked + awaits_end due
+  pub same_lines : flushes before ≡ 0 → message_of before ≡ advertisement_of before
+  pub is_due : IsDueIn part (message_of before) due
+
+-- the packets are a whole advertisement and a whole response to each request
+pub record AreWhole (t : Terms) (asked : List Asked) (before : List Pkt) : Type 0 where
+  pub all_flushes : flushes before ≡ suc (length asked)
+  pub no_end_due : is_end_due t.ending before ≡ false
+  pub no_message : message_of before ≡ []
+
+-- the last request is being asked after the responses to all before it
+pub record IsAsked (t : Terms) (asked : List Asked) (before : List Pkt) (question : Option Asked) : Type 0 where
+  pub earlier : List Asked
+  pub last : Asked
+  pub asked_is : asked ≡ earlier ++ last ∷ []
+  pub question_is : question ≡ Some last
+  pub whole : AreWhole t earlier before
+
+module _ {A : Type 0} where
+  -- how many bytes are stored of a request that is asked
+  abbrev pub stored_in : Option (Request A) → ℕ
+  stored_in None = 0
+  stored_in (Some request) = stored_of request
+
+  -- how many bytes its argument lines have
+  abbrev pub kept_in : Option (Request A) → ℕ
+  kept_in None = 0
+  kept_in (Some request) = kept_of request
+
+  -- how many bytes they may have
+  abbrev pub limit_in : Option (Request A) → ℕ
+  limit_in None = 0
+  limit_in (Some request) = request_limit request
+
+  -- the fault that ended the conversation
+  abbrev pub fault_of : Client A → Option Fault
+  fault_of client = fault_in client.phase
+
+  -- the advertisement is whole, as is the response to each request, and the client has not left
+  abbrev pub can_ask : Client A → Bool
+  can_ask client = is_ready client.phase
+
+  -- bytes of the server are due
+  abbrev pub wants_input : Client A → Bool
+  wants_input client = takes_packets client.phase
+
+  -- the conversation was left
+  abbrev pub has_left : Client A → Bool
+  has_left client = has_left_in client.phase
+
+  -- the object format that the client speaks
+  abbrev pub format_of : Client A → Format
+  format_of client = client.format
+
+  -- how each response ends
+  abbrev pub ending_of : Client A → Ending
+  ending_of client = client.ending
+
+  -- how many bytes were used
+  abbrev pub bytes_used : Client A → ℕ
+  bytes_used client = position_of client.reader
+
+  -- what was noted of the advertisement
+  abbrev pub caps_of : Client A → Caps
+  caps_of client = client.caps
+
+  -- the reader of the client's packets
+  abbrev pub reader_of : Client A → PacketReader
+  reader_of client = client.reader
+
+  abbrev pub phase_of : Client A → Phase
+  phase_of client = client.phase
+
+  -- what the last packet was found to contain
+  abbrev pub said_last : Client A → Said
+  said_last client = client.said
+
+  -- the request that is being asked
+  abbrev pub request_of : Client A → Option (Request A)
+  request_of client = client.request
+
+  -- the packets that are still to be pulled
+  abbrev pub left_to_say : Client A → List Pkt
+  left_to_say client = left_in client.phase client.request
+
+  -- how many bytes the client has: those of the hold of its packet reader, and those stored of the request that it asks
+  abbrev pub bytes_held : Client A → ℕ
+  bytes_held client = held_in_packet client.reader + stored_in client.request
+
+  -- the same with each field named, so that none can be added without being counted
+  abbrev pub bytes_held_by_fields : Client A → ℕ
+  bytes_held_by_fields client =
+      let record {
+        reader = reader;
+        format = format;
+        ending = ending;
+        phase = phase;
+        caps = caps;
+        request = request;
+        said = said;
+        sound = sound;
+        shut = shut;
+        gathers = gathers;
+        passes = passes;
+        owes = owes;
+        freed = freed;
+        formats = formats;
+        covered = covered;
+        within = within;
+      } = client in
+      held_in_packet reader + stored_in request
+
+  -- how many bytes the argument lines of that request have, or 0 where none is asked
+  abbrev pub kept_by : Client A → ℕ
+  kept_by client = kept_in client.request
+
+  -- the limit of that request, or 0 where none is asked
+  abbrev pub limit_of : Client A → ℕ
+  limit_of client = limit_in client.request
+
+-- what packets, the nearest first, come before this phase
+abbrev pub Behind : Terms → List Asked → List Pkt → Option Asked → Phase → Type 0
+Behind t asked before question (Hearing due) = IsDue t asked before due
+Behind t asked before question (Asking writer) = IsAsked t asked before question
+Behind t asked before question (FailedPhase fault) = ⊥
+Behind t asked before question phase = AreWhole t asked before
+
+-- the packet after the clean ones is refused; nothing was used after it, and it lies in the hold
+pub record RefusedPacket (t : Terms) (asked : List Asked) (clean given : List Given) (rest : List ℕ) (fault : Fault) (reader : PacketReader) : Type 0 where
+  pub bad : Given
+  pub cut : given ≡ clean ++ bad ∷ []
+  pub nothing : rest ≡ []
+  pub refused : RefusesAt t asked (nearest clean []) bad.packet fault.kind
+  pub at : fault.offset ≡ bad.offset
+  pub held : Spells bad.packet (held_of reader)
+
+-- the bytes after the packets, of which none is refused, are no packet and can't become one, or ended in one
+pub record RefusedBytes (t : Terms) (asked : List Asked) (clean given : List Given) (rest : List ℕ) (end : ℕ) (fault : Fault) : Type 0 where
+  pub cut : given ≡ clean
+  pub due : HasDue t asked (nearest clean [])
+  pub by : StopsBy (end - length rest) rest end fault.kind fault.offset
+
+-- the input ended after a whole packet, where more was due
+pub record EndedEarly (t : Terms) (asked : List Asked) (clean given : List Given) (rest : List ℕ) (end : ℕ) (fault : Fault) : Type 0 where
+  pub cut : given ≡ clean
+  pub nothing : rest ≡ []
+  pub due : HasDue t asked (nearest clean [])
+  pub kind : fault.kind ≡ Truncated
+  pub at : fault.offset ≡ end
+
+-- no packet so far has a fault, and neither have the bytes after them; none have come where no input is wanted
+pub record Goes (t : Terms) (asked : List Asked) (clean given : List Given) (rest : List ℕ)
+    (question : Option Asked) (phase : Phase) (reader : PacketReader) : Type 0 where
+  pub cut : given ≡ clean
+  pub sound : reader_fault_of reader ≡ None
+  pub behind : Behind t asked (nearest clean []) question phase
+  pub shut : takes_packets phase ≡ false → rest ≡ []
+
+-- what holds of the conversation in this phase
+abbrev pub StandsIn : Phase → Terms → List Asked → List Given → List Given → List ℕ → ℕ → Option Asked → PacketReader → Type 0
+StandsIn (FailedPhase fault) t asked clean given rest end question reader =
+    RefusedPacket t asked clean given rest fault reader
+    ⊎ (RefusedBytes t asked clean given rest end fault ⊎ EndedEarly t asked clean given rest end fault)
+StandsIn phase t asked clean given rest end question reader = Goes t asked clean given rest question phase reader
+
+-- the events of an answer
+abbrev pub events_of : HeardGot → List EventValue
+events_of More = []
+events_of (EventGot event) = values_of event
+events_of (Failed fault) = []
+
+-- the bytes of an answer of `pull`
+abbrev pub given_by : Sent → List ℕ
+given_by (Packet bytes) = bytes.now
+given_by sent = []
+
+-- the phase after a packet that was judged
+abbrev pub phase_judged : ℕ → Result Turn Kind → Phase
+phase_judged offset (Ok turn) = phase_in turn
+phase_judged offset (Err kind) = FailedPhase (record { kind = kind; offset = offset })
+
+abbrev pub outcome_said : Said → Outcome
+outcome_said Nothing = NothingYet
+outcome_said said = EventNow
+
+abbrev pub outcome_judged : ℕ → Said → Result Turn Kind → Outcome
+outcome_judged offset said (Ok turn) = outcome_said said
+outcome_judged offset said (Err kind) = FailedNow (record { kind = kind; offset = offset })
+
+module _ {A : Type 0} where
+  -- what holds of a client on these terms after this history
+  pub record Converses (t : Terms) (h : History) (client : Client A) : Type 0 where
+    pub given : List Given
+    pub rest : List ℕ
+    pub clean : List Given
+    pub format_is : format_of client ≡ t.format
+    pub ending_is : ending_of client ≡ t.ending
+    pub reads : Reads (reader_of client) 0 h.used given rest
+    pub whole : List EventValue
+    pub gives : GiveAll t h.asked [] clean whole
+    pub events_are : h.events ≡ whole ++ opened_in (place_after t h.asked (nearest clean [])) rest
+    pub notes : caps_of client ≡ noted_of (advertisement_of (nearest clean []))
+    pub stands : StandsIn (phase_of client) t h.asked clean given rest (length h.used) (question_in (request_of client)) (reader_of client)
+    pub left : h.left ≡ has_left client
+    pub spoken : h.given ++ spelled (left_to_say client) ≡ spelled (said_of t.format (caps_of client) h.asked h.left)
+
+  -- whatever the history was, it goes on by a request
+  abbrev pub AsksOn : Client A → Asked → Client A → Type 0
+  AsksOn old question new =
+      (t : Terms) (h : History) → Converses t h old → Converses t (record h { asked = h.asked ++ question ∷ [] }) new
+
+  -- it goes on by leaving
+  abbrev pub LeavesOn : Client A → Client A → Type 0
+  LeavesOn old new = (t : Terms) (h : History) → Converses t h old → Converses t (record h { left = true }) new
+
+  -- it goes on by the bytes used and the events handed out
+  abbrev pub HearsOn : Client A → List ℕ → List EventValue → Client A → Type 0
+  HearsOn old used more new =
+      (t : Terms) (h : History) → Converses t h old → Converses t (record h { used = h.used ++ used; events = h.events ++ more }) new
+
+  -- it goes on by the bytes given
+  abbrev pub SaysOn : Client A → List ℕ → Client A → Type 0
+  SaysOn old more new = (t : Terms) (h : History) → Converses t h old → Converses t (record h { given = h.given ++ more }) new
+
+  -- what refuses a request: its format, its command and then its arguments where they are not offered, and what is
+  -- judged at a request's end
+  abbrev pub ask_checks : Format → Caps → Request A → List Check
+  ask_checks format caps request =
+      check (request_format request ≡ format) (request_format request ≢ format) WrongFormat
+      ∷ check (offers_command caps (command_asked (asked_of request)) ≡ true) (offers_command caps (command_asked (asked_of request)) ≡ false) NotAdvertised
+      ∷ check (AreOffered (noted_offer caps format) (asked_of request)) (¬ AreOffered (noted_offer caps format) (asked_of request)) NotAdvertised
+      ∷ end_checks (asked_of request)
+
+  -- a request that was taken: all of it is owed
+  pub record Asks (old : Client A) (request : Request A) (new : Client A) : Type 0 where
+    pub passes : Passes (ask_checks (format_of old) (caps_of old) request)
+    pub asks : AsksOn old (asked_of request) new
+    pub owes : left_to_say new ≡ written_of request (caps_of old)
+    pub no_more : can_ask new ≡ false
+    pub credit : credit_of (reader_of new) ≤ credit_of (reader_of old)
+
+  -- a request that was refused: it is handed back, and the client stays as it was
+  pub record RefusesToAsk (old : Client A) (request handed_back : Request A) (fault : Fault) (new : Client A) : Type 0 where
+    pub refused : RefusesBy (ask_checks (format_of old) (caps_of old) request) fault.kind
+    pub at : fault.offset ≡ bytes_used old
+    pub back : handed_back ≡ request
+    pub stays : new ≡ old
+
+  -- what a call of `leave` does
+  pub record Leaves (old new : Client A) : Type 0 where
+    pub leaves : LeavesOn old new
+    pub owes : left_to_say new ≡ flush ∷ []
+    pub no_more : has_left new ≡ true
+    pub credit : credit_of (reader_of new) ≤ credit_of (reader_of old)
+
+  -- the state that an event leaves the client in
+  abbrev pub LeavesAfter : Event → Client A → Type 0
+  LeavesAfter Offered new = can_ask new ≡ true
+  LeavesAfter Ended new = can_ask new ≡ true
+  LeavesAfter event new = wants_input new ≡ true
+
+  -- bytes that passed: they are the last of those used, and all that the piece, or the stream, has of their packet from there on
+  pub record IsPassed (bytes : List ℕ) (used : ℕ) (piece : List ℕ) (new : Client A) : Type 0 where
+    pub front : List ℕ
+    pub lies : take used piece ≡ front ++ bytes
+    pub all : is_open (reader_of new) ≡ true → (used ≡ length piece) ⊎ (bytes_used new ≡ last_position)
+
+  -- after an event no packet is open, but after bytes of the pack or of the progress more of theirs may come
+  abbrev pub EndsAt : Event → ℕ → List ℕ → Client A → Type 0
+  EndsAt (PackEvent bytes) used piece new = IsPassed bytes.now used piece new
+  EndsAt (ProgressEvent bytes) used piece new = IsPassed bytes.now used piece new
+  EndsAt event used piece new = is_open (reader_of new) ≡ false
+
+  -- what each answer of `feed` means; there is something to each event
+  abbrev pub Tells : HeardGot → ℕ → List ℕ → Client A → Client A → Type 0
+  Tells More used piece old new = wants_input old ≡ true → (used ≡ length piece) × (wants_input new ≡ true)
+  Tells (EventGot event) used piece old new =
+      (0 < used) × EndsAt event used piece new × (values_of event ≢ []) × LeavesAfter event new
+  Tells (Failed fault) used piece old new = fault_of new ≡ Some fault
+
+  -- a client that had no fault reports only a fault that the piece shows
+  abbrev pub IsNews : Client A → List ℕ → Heard → Type 0
+  IsNews old piece heard = (f : Fault) → fault_of old ≡ None → heard.got ≡ Failed f → ShownByFeed f heard.used piece
+
+  -- a client with this fault uses nothing and answers it again
+  abbrev pub Repeats : Client A → Heard → Client A → Type 0
+  Repeats old heard new = (f : Fault) → fault_of old ≡ Some f → (heard.used ≡ 0) × (heard.got ≡ Failed f) × (new ≡ old)
+
+  -- a client that waits for no input uses nothing
+  abbrev pub Waits : Client A → Heard → Client A → Type 0
+  Waits old heard new =
+      wants_input old ≡ false → fault_of old ≡ None → (heard.used ≡ 0) × (heard.got ≡ More) × (new ≡ old)
+
+  -- what a call of `feed` does
+  pub record Feeds (old : Client A) (piece : List ℕ) (heard : Heard) (new : Client A) : Type 0 where
+    pub hears : HearsOn old (take heard.used piece) (events_of heard.got) new
+    pub tells : Tells heard.got heard.used piece old new
+    pub news : IsNews old piece heard
+    pub stays : Repeats old heard new
+    pub waits : Waits old heard new
+
+  -- one packet of those that were owed was given; the client receives after the last of a request, and has left after the flush
+  pub record GivesOne (old new : Client A) (bytes : List ℕ) : Type 0 where
+    pub packet : Pkt
+    pub first : left_to_say old ≡ packet ∷ left_to_say new
+    pub written : bytes ≡ spelling_of packet
+    pub same_leaving : has_left new ≡ has_left old
+    pub sound : fault_of new ≡ None
+    pub not_ready : can_ask new ≡ false
+
+  -- what each answer of `pull` means
+  abbrev pub TellsSent : Sent → Client A → Client A → Type 0
+  TellsSent (Packet bytes) old new = GivesOne old new bytes.now
+  TellsSent NeedInput old new = (wants_input old ≡ true) × (new ≡ old)
+  TellsSent CanAsk old new = (can_ask old ≡ true) × (new ≡ old)
+  TellsSent Finished old new = (has_left old ≡ true) × (left_to_say old ≡ []) × (new ≡ old)
+  TellsSent (FailedSent fault) old new = (fault_of old ≡ Some fault) × (new ≡ old)
+
+  -- what a call of `pull` does
+  pub record Pulls (old : Client A) (sent : Sent) (new : Client A) : Type 0 where
+    pub says : SaysOn old (given_by sent) new
+    pub tells : TellsSent sent old new
+    pub credit : credit_of (reader_of new) ≤ credit_of (reader_of old)
+
+  -- a client that owes a packet has put it into its hold
+  pub record Puts (old new : Client A) : Type 0 where
+    pub says : SaysOn old (held_of (reader_of new)) new
+    pub gives : GivesOne old new (held_of (reader_of new))
+    pub credit : credit_of (reader_of new) ≡ 0
+
+-- the server's message in a payload that is refused by this name
+abbrev pub IsMessage : Kind → List ℕ → List ℕ → Type 0
+IsMessage RemoteError line message = IsErrorOf (text_of line) message
+IsMessage RemoteFatal line message = line ≡ 3 ∷ message
+IsMessage kind line message = ⊥
+
+-- the bytes end with a packet in which the server reports a fault, with this message
+pub record EndsWithMessage (t : Terms) (asked : List Asked) (bytes message : List ℕ) : Type 0 where
+  pub clean : List Given
+  pub bad : Given
+  pub rest : List ℕ
+  pub line : List ℕ
+  pub kind : Kind
+  pub splits : Splits 0 bytes (clean ++ bad ∷ []) rest
+  pub refused : RefusesAt t asked (nearest clean []) bad.packet kind
+  pub packet : bad.packet ≡ payload line
+  pub says : IsMessage kind line message
+
+-- by these names the server reports its own faults
+abbrev pub is_told : Kind → Bool
+is_told RemoteError = true
+is_told RemoteFatal = true
+is_told kind = false
+
+module _ {A : Type 0} where
+  -- the conversation was not ended by a fault that the server reported
+  abbrev pub EndsWithoutMessage : Client A → Type 0
+  EndsWithoutMessage client = (f : Fault) → fault_of client ≡ Some f → is_told f.kind ≡ false
+
+  -- the events of an outcome, whose bytes lie in the hold, or are the last of those used
+  abbrev pub Comes : Outcome → List EventValue → ℕ → List ℕ → Client A → Type 0
+  Comes NothingYet events used piece new = events ≡ []
+  Comes (PassedNow passed) events used piece new =
+      (bytes : List ℕ) × (length bytes ≡ passed.count) × (0 < passed.count) × (passed.band ≢ Fatal) × IsPassed bytes used piece new
+      × (events ≡ events_on (map (on passed.band) bytes))
+  Comes EventNow events used piece new =
+      (events ≡ events_at (said_last new) (drop 4 (held_of (reader_of new)))) × (said_last new ≢ Nothing)
+      × Fits (said_last new) (drop 4 (held_of (reader_of new)))
+  Comes (FailedNow fault) events used piece new = events ≡ []
+
+  -- a packet that was judged is settled; the reader is left alone
+  pub record Settles (old : Client A) (judged : Result Turn Kind) (offset : ℕ) (outcome : Outcome) (new : Client A) : Type 0 where
+    pub reader : reader_of new ≡ reader_of old
+    pub format : format_of new ≡ format_of old
+    pub ending : ending_of new ≡ ending_of old
+    pub request : request_of new ≡ request_of old
+    pub phase : phase_of new ≡ phase_judged offset judged
+    pub caps : caps_of new ≡ caps_of old
+    pub said : said_last new ≡ said_last old
+    pub tells : outcome ≡ outcome_judged offset (said_last old) judged
+
+  -- whether the client can ask or receives more, after a packet that contained this
+  abbrev pub StandsAfter : Said → Client A → Type 0
+  StandsAfter OfferedSaid new = can_ask new ≡ true
+  StandsAfter EndedSaid new = can_ask new ≡ true
+  StandsAfter said new = wants_input new ≡ true
+
+  -- the state that a step leaves the client in
+  abbrev pub LeavesStep : Outcome → ℕ → List ℕ → Client A → Type 0
+  LeavesStep NothingYet used piece new = (wants_input new ≡ true) × (0 < length piece → 0 < used)
+  LeavesStep EventNow used piece new = (0 < used) × (is_open (reader_of new) ≡ false) × StandsAfter (said_last new) new
+  LeavesStep (PassedNow passed) used piece new = (0 < used) × (wants_input new ≡ true)
+  LeavesStep (FailedNow fault) used piece new = (fault_of new ≡ Some fault) × ShownByFeed fault used piece
+
+  -- a client that waits for input has used some of the piece
+  pub record Takes (old : Client A) (piece : List ℕ) (step : Advance) (new : Client A) : Type 0 where
+    pub events : List EventValue
+    pub comes : Comes step.outcome events step.used piece new
+    pub hears : HearsOn old (take step.used piece) events new
+    pub leaves : LeavesStep step.outcome step.used piece new
+    pub fits : all_parts_length events ≤ longest_payload

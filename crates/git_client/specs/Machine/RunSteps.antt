@@ -1,0 +1,183 @@
+-- What the steps of a run do: a client receives the next response, and sends the next request.
+use Rattle.std.specs.Prelude.{◌≡◌, ◌⊎◌, ℕ, ◌+◌, ◌-◌, ◌≤◌, ◌<◌, Bool, true, false, List, [], ◌∷◌, ◌++◌, length, take, drop, Some, None, Result, Ok, Err}
+use Rattle.std.specs.Io.KnownBytes.{Appends, Consumes}
+use Rattle.git_pkt.specs.Packets.{Pkt, spelling_of}
+use Rattle.git_pkt.specs.Streams.{Flow, WrittenAs, IsTimely}
+use Rattle.git_pkt.specs.Machine.PacketReader.{ShownByFeed}
+use Rattle.git_pkt.specs.declared.fault.Fault.{Fault}
+use Rattle.git_pkt.specs.declared.fault.RunFault.{RunFault}
+use Rattle.git_pkt.specs.declared.fault.RunFault.TheVariants.{ReadFault, WriteFault, ReadLimit, Refused}
+use Rattle.git_msg.specs.Asked.{command_asked}
+use Rattle.git_msg.specs.Checks.{Passes, Refuses as RefusesBy}
+use Rattle.git_msg.specs.Machine.HeldRequest.{asked_of}
+use Rattle.git_msg.specs.declared.requests.Request.{Request}
+use Rattle.git_client.specs.Parts.{Terms}
+use Rattle.git_client.specs.Events.{EventValue, offered, ended as response_ended, pack_bytes, progress_bytes}
+use Rattle.git_client.specs.Transcript.{transcript_from, asked_line}
+use Rattle.git_client.specs.Machine.Client.{History, Converses, HearsOn, SaysOn, ask_checks, bytes_used, can_ask, caps_of, fault_of, format_of}
+use Rattle.git_client.specs.Machine.Client.{has_left, left_to_say, wants_input}
+use Rattle.git_client.specs.declared.client.Client.{Client}
+use Rattle.git_client.specs.declared.hearing.Counts.{Counts}
+use Rattle.git_client.specs.declared.hearing.Window.{Window}
+
+abbrev pub no_counts : Counts
+no_counts = record { pack = 0; progress = 0 }
+
+-- the counts after these events of a response
+abbrev pub counts_with : Counts → List EventValue → Counts
+counts_with counts events = record {
+  pack = counts.pack + length (pack_bytes events);
+  progress = counts.progress + length (progress_bytes events);
+}
+
+-- the counts do not reach their end by these events
+pub record CanCount (counts : Counts) (events : List EventValue) : Type 0 where
+  pub pack : counts.pack + length (pack_bytes events) ≤ 18446744073709551615
+  pub progress : counts.progress + length (progress_bytes events) ≤ 18446744073709551615
+
+-- the events are all of one response, or of the advertisement: its end is the last, and after it alone the client can ask
+abbrev pub IsOneTurn : List EventValue → Bool → Type 0
+IsOneTurn [] asks = asks ≡ false
+IsOneTurn (offered ∷ events) asks = (events ≡ []) × (asks ≡ true)
+IsOneTurn (response_ended ∷ events) asks = (events ≡ []) × (asks ≡ true)
+IsOneTurn (event ∷ events) asks = IsOneTurn events asks
+
+-- the bytes of a piece that nobody used yet
+abbrev pub window_of : Window → List ℕ → List ℕ
+window_of window piece = take (window.end - window.start) (drop window.start piece)
+
+-- of the packets given all before the last were written whole, and of that one a front
+pub record BreaksOff (stream : Flow) (given : List ℕ) : Type 0 where
+  pub whole : List ℕ
+  pub front : List ℕ
+  pub rest : List ℕ
+  pub parts : given ≡ whole ++ (front ++ rest)
+  pub written : Appends stream.before stream.after (whole ++ front)
+  pub one_packet : (front ++ rest ≡ []) ⊎ ((packet : Pkt) × (front ++ rest ≡ spelling_of packet))
+
+module _ {A : Type 0} where
+  -- these bytes were received: the lines of the transcript for them were written, after what was counted of the response before, and
+  -- their bytes of the pack and of the progress
+  pub record HearsBytes (broken : Bool) (old new : Client A) (counts counts_after : Counts) (used : List ℕ) (out packs progress : Flow) : Type 0 where
+    pub events : List EventValue
+    pub hears : HearsOn old used events new
+    pub one_turn : IsOneTurn events (can_ask new)
+    pub counted : CanCount counts events → counts_after ≡ counts_with counts events
+    pub told : CanCount counts events → WrittenAs broken out (transcript_from [] counts.pack counts.progress events)
+    pub sent : WrittenAs broken packs (pack_bytes events)
+    pub reported : WrittenAs broken progress (progress_bytes events)
+
+  -- all of the piece was used, or the client can ask
+  pub record HearsInPiece (old new : Client A) (counts counts_after : Counts) (piece : List ℕ) (used : ℕ) (out packs progress : Flow) : Type 0 where
+    pub hears : HearsBytes false old new counts counts_after (take used piece) out packs progress
+    pub within : used ≤ length piece
+    pub all : wants_input new ≡ true → used ≡ length piece
+    pub sound : fault_of new ≡ None
+    pub whole : wants_input new ≡ false → can_ask new ≡ true
+    pub moves : 0 < length piece → 0 < used
+
+  -- a fault was met in the piece
+  pub record HearsToFault (fault : Fault) (old new : Client A) (counts counts_after : Counts) (piece : List ℕ) (out packs progress : Flow) : Type 0 where
+    pub used : ℕ
+    pub hears : HearsBytes false old new counts counts_after (take used piece) out packs progress
+    pub told : fault_of new ≡ Some fault
+    pub shown : ShownByFeed fault used piece
+
+  -- a write or a flush failed; a fault that the client has is one that the piece shows
+  pub record HearsPieceBroken (old new : Client A) (counts counts_after : Counts) (piece : List ℕ) (out packs progress : Flow) : Type 0 where
+    pub used : ℕ
+    pub hears : HearsBytes true old new counts counts_after (take used piece) out packs progress
+    pub shown : (fault : Fault) → fault_of new ≡ Some fault → ShownByFeed fault used piece
+
+  -- how a piece was received
+  abbrev pub HearsPieceTo : Result ℕ RunFault → Client A → Client A → Counts → Counts → List ℕ → Flow → Flow → Flow → Type 0
+  HearsPieceTo (Ok used) old new counts counts_after piece out packs progress = HearsInPiece old new counts counts_after piece used out packs progress
+  HearsPieceTo (Err WriteFault) old new counts counts_after piece out packs progress = HearsPieceBroken old new counts counts_after piece out packs progress
+  HearsPieceTo (Err (Refused fault)) old new counts counts_after piece out packs progress =
+      HearsToFault fault old new counts counts_after piece out packs progress
+  HearsPieceTo (Err fault) old new counts counts_after piece out packs progress = ⊥
+
+  -- a fault that the client has is truncated only where the input has ended, and too long only where one more byte was read
+  abbrev pub FaultsInTime : Client A → Bool → List ℕ → Type 0
+  FaultsInTime client ended unused = (fault : Fault) → fault_of client ≡ Some fault → IsTimely fault.kind ended unused
+
+  -- of the bytes that waited and those that came, all but the last were received
+  pub record HearsFrom (broken : Bool) (old new : Client A) (waiting unused : List ℕ) (reader out packs progress : Flow) : Type 0 where
+    pub came : List ℕ
+    pub used : List ℕ
+    pub counts : Counts
+    pub read : Consumes reader.before reader.after came
+    pub parts : waiting ++ came ≡ used ++ unused
+    pub bytes : HearsBytes broken old new no_counts counts used out packs progress
+
+  -- a response was received whole
+  pub record HearsWhole (window : Window) (old new : Client A) (waiting piece : List ℕ) (reader out packs progress : Flow) : Type 0 where
+    pub hears : HearsFrom false old new waiting (window_of window piece) reader out packs progress
+    pub ordered : window.start ≤ window.end
+    pub within : window.end ≤ length piece
+    pub can_ask_on : can_ask new ≡ true
+
+  -- all bytes were received, and more are due
+  pub record HearsAll (old new : Client A) (waiting : List ℕ) (reader out packs progress : Flow) : Type 0 where
+    pub hears : HearsFrom false old new waiting [] reader out packs progress
+    pub due : wants_input new ≡ true
+
+  -- a fault was met
+  pub record HearsFault (fault : Fault) (ended : Bool) (old new : Client A) (waiting : List ℕ) (reader out packs progress : Flow) : Type 0 where
+    pub unused : List ℕ
+    pub hears : HearsFrom false old new waiting unused reader out packs progress
+    pub told : fault_of new ≡ Some fault
+    pub timely : IsTimely fault.kind ended unused
+
+  -- a write or a flush failed; a fault that the client has came in time
+  pub record HearsBroken (ended : Bool) (old new : Client A) (waiting : List ℕ) (reader out packs progress : Flow) : Type 0 where
+    pub unused : List ℕ
+    pub hears : HearsFrom true old new waiting unused reader out packs progress
+    pub timely : FaultsInTime new ended unused
+
+  -- how a response was received
+  abbrev pub HearsTo : Result Window RunFault → Bool → Client A → Client A → List ℕ → List ℕ → Flow → Flow → Flow → Flow → Type 0
+  HearsTo (Ok window) ended old new waiting piece reader out packs progress = HearsWhole window old new waiting piece reader out packs progress
+  HearsTo (Err ReadFault) ended old new waiting piece reader out packs progress = HearsAll old new waiting reader out packs progress
+  HearsTo (Err ReadLimit) ended old new waiting piece reader out packs progress = HearsAll old new waiting reader out packs progress
+  HearsTo (Err WriteFault) ended old new waiting piece reader out packs progress = HearsBroken ended old new waiting reader out packs progress
+  HearsTo (Err (Refused fault)) ended old new waiting piece reader out packs progress = HearsFault fault ended old new waiting reader out packs progress
+
+  -- packets that were owed were given, and written; all of them, unless a write failed, and then no more were given than that
+  pub record Says (broken : Bool) (old new : Client A) (writer : Flow) : Type 0 where
+    pub given : List ℕ
+    pub written : WrittenAs broken writer given
+    pub last : broken ≡ true → BreaksOff writer given
+    pub says : SaysOn old given new
+    pub all : broken ≡ false → left_to_say new ≡ []
+    pub same_leaving : has_left new ≡ has_left old
+    pub sound : fault_of new ≡ None
+    pub not_ready : can_ask new ≡ false
+
+  -- the request may be asked and was, with its line in the transcript; also where a write failed the client has no fault, and can ask
+  -- no other
+  pub record AsksNext (broken : Bool) (old new : Client A) (request : Request A) (writer out : Flow) : Type 0 where
+    pub passes : Passes (ask_checks (format_of old) (caps_of old) request)
+    pub given : List ℕ
+    pub said : WrittenAs broken writer given
+    pub told : WrittenAs broken out (asked_line (command_asked (asked_of request)))
+    pub last : broken ≡ true → BreaksOff writer given
+    pub sound : fault_of new ≡ None
+    pub not_ready : can_ask new ≡ false
+    pub goes : (t : Terms) (h : History) → Converses t h old
+        → Converses t (record h { asked = h.asked ++ asked_of request ∷ []; given = h.given ++ given }) new
+
+  -- the request was refused, and nothing is changed
+  pub record AsksNot (fault : Fault) (old new : Client A) (request : Request A) (writer out : Flow) : Type 0 where
+    pub refused : RefusesBy (ask_checks (format_of old) (caps_of old) request) fault.kind
+    pub at : fault.offset ≡ bytes_used old
+    pub stays : new ≡ old
+    pub said : WrittenAs false writer []
+    pub told : WrittenAs false out []
+
+  -- how a request was asked
+  abbrev pub AsksTo : Result (Unit {0}) RunFault → Client A → Client A → Request A → Flow → Flow → Type 0
+  AsksTo (Ok done) old new request writer out = AsksNext false old new request writer out × (wants_input new ≡ true)
+  AsksTo (Err WriteFault) old new request writer out = AsksNext true old new request writer out
+  AsksTo (Err (Refused fault)) old new request writer out = AsksNot fault old new request writer out
+  AsksTo (Err fault) old new request writer out = ⊥

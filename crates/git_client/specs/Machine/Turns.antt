@@ -1,0 +1,266 @@
+-- What the judge of packets answers by what is due, without the packets before.
+use Rattle.std.specs.Prelude.{◌≡◌, ℕ, ◌+◌, ◌<◌, ◌≤◌, Bool, true, false, List, [], ◌∷◌, length, take, drop, Option, Some, None, map, Result, Ok, Err}
+use Rattle.std.specs.Prelude.{if◌then◌else◌}
+use Rattle.std.specs.Option.{option_copied}
+use Rattle.git_names.specs.ObjectFormat.{digits_of}
+use Rattle.git_names.specs.ObjectName.{ObjectName}
+use Rattle.git_names.specs.declared.object_format.Format.{Format}
+use Rattle.git_pkt.specs.Packets.{Pkt, flush, delim, resp_end, payload, text_of, body_of}
+use Rattle.git_pkt.specs.declared.fault.Fault.{Fault}
+use Rattle.git_msg.specs.Advertisement.{noted_of, is_spoken}
+use Rattle.git_msg.specs.Capability.{IsCapability}
+use Rattle.git_msg.specs.References.{reference_of, reference_at, FitsIn}
+use Rattle.git_msg.specs.ResponseLines.{Wanted, wanted_of}
+use Rattle.git_msg.specs.Asked.{Asked, ls_refs, fetch, object_info}
+use Rattle.git_msg.specs.Machine.HeldRequest.{asked_of}
+use Rattle.git_msg.specs.Machine.RequestWriter.{left_to_write}
+use Rattle.git_msg.specs.declared.requests.Request.{Request}
+use Rattle.git_msg.specs.declared.capabilities.Capability.{Capability}
+use Rattle.git_msg.specs.declared.offers.Caps.{Caps}
+use Rattle.git_client.specs.Sections.{section_named, next_allowed, acks_with, allowed_after}
+use Rattle.git_client.specs.Places.{Place, version, capabilities, references, header, acknowledgments, shallow_info, wanted_refs, packfile}
+use Rattle.git_client.specs.Places.{size_line, sizes, response_end}
+use Rattle.git_client.specs.Events.{EventValue, capability, offered, reference, ack, nak, ready, shallow, unshallow, wanted_ref, pack, progress, info, ended}
+use Rattle.git_client.specs.Events.{SaysLine, Gives, Refuses, IsLineFault}
+use Rattle.git_client.specs.declared.events.Ending.{Ending}
+use Rattle.git_client.specs.declared.events.Ending.TheVariants.{FlushOnly, ResponseEnd as WithResponseEnd}
+use Rattle.git_client.specs.declared.events.Event.{Event}
+use Rattle.git_client.specs.declared.events.Event.TheVariants.{Capability as CapabilityEvent, Offered as OfferedEvent, Reference as ReferenceEvent}
+use Rattle.git_client.specs.declared.events.Event.TheVariants.{Ack as AckEvent, Nak as NakEvent, Ready as ReadyEvent}
+use Rattle.git_client.specs.declared.events.Event.TheVariants.{Shallow as ShallowEvent, Unshallow as UnshallowEvent, WantedRef as WantedRefEvent}
+use Rattle.git_client.specs.declared.events.Event.TheVariants.{Info as InfoEvent, Pack as PackEvent, Progress as ProgressEvent, Ended as EndedEvent}
+use Rattle.git_client.specs.declared.sections.Section.{Section}
+use Rattle.git_client.specs.declared.sections.Section.TheVariants.{Acknowledgments as AcknowledgmentsSection, ShallowInfo as ShallowInfoSection}
+use Rattle.git_client.specs.declared.sections.Section.TheVariants.{WantedRefs as WantedRefsSection, Packfile as PackfileSection}
+use Rattle.git_client.specs.declared.sections.Allowed.{Allowed}
+use Rattle.git_pkt.specs.declared.fault.Kind.{Kind}
+use Rattle.git_client.specs.declared.phase.Phase.{Phase}
+use Rattle.git_client.specs.declared.phase.Phase.TheVariants.{Hearing, Ready as ReadyPhase, Asking, Leaving, Left, Failed}
+use Rattle.git_client.specs.declared.phase.Due.{Due}
+use Rattle.git_client.specs.declared.phase.Due.TheVariants.{Version, Capabilities, References, Header, Acknowledgments, ShallowInfo, WantedRefs}
+use Rattle.git_client.specs.declared.phase.Due.TheVariants.{Packfile, SizeLine, Sizes, ResponseEnd}
+use Rattle.git_client.specs.declared.phase.Said.{Said}
+use Rattle.git_client.specs.declared.phase.Said.TheVariants.{Nothing, Capability as SaidCapability, Offered, Reference, Ack, Nak, Ready}
+use Rattle.git_client.specs.declared.phase.Said.TheVariants.{Shallow, Unshallow, WantedRef, Info as SaidInfo, Ended}
+use Rattle.git_client.specs.declared.phase.CapabilityPlaces.{CapabilityPlaces}
+use Rattle.git_client.specs.declared.phase.Turn.{Turn}
+use Rattle.git_client.specs.declared.phase.Turn.TheVariants.{Hearing as HearingTurn, Ready as ReadyTurn}
+
+-- the place where this is due
+abbrev pub place_due : Caps → Format → Due → Place
+place_due caps format Version = version
+place_due caps format Capabilities = capabilities (is_spoken caps format)
+place_due caps format References = references
+place_due caps format (Header allowed) = header allowed
+place_due caps format (Acknowledgments told) = acknowledgments told
+place_due caps format (ShallowInfo allowed) = shallow_info
+place_due caps format (WantedRefs allowed) = wanted_refs
+place_due caps format Packfile = packfile
+place_due caps format SizeLine = size_line
+place_due caps format Sizes = sizes
+place_due caps format ResponseEnd = response_end
+
+-- text lines are due
+abbrev pub TakesLines : Due → Type 0
+TakesLines Packfile = ⊥
+TakesLines ResponseEnd = ⊥
+TakesLines due = Unit {0}
+
+-- the value of a capability line whose parts lie there
+abbrev pub value_at : CapabilityPlaces → List ℕ → Option (List ℕ)
+value_at places text = if places.has_value then Some (drop (places.key_length + 1) text) else None
+
+abbrev pub wanted_at : ObjectName → List ℕ → Wanted
+wanted_at id text = wanted_of id (drop (digits_of id.format + 1) text)
+
+-- the events that a text line was found to give
+abbrev pub line_events : Said → List ℕ → List EventValue
+line_events Nothing text = []
+line_events (SaidCapability places) text = capability (take places.key_length text) (value_at places text) ∷ []
+line_events Offered text = offered ∷ []
+line_events (Reference places) text = reference (reference_at places text) ∷ []
+line_events (Ack id) text = ack id ∷ []
+line_events Nak text = nak ∷ []
+line_events Ready text = ready ∷ []
+line_events (Shallow id) text = shallow id ∷ []
+line_events (Unshallow id) text = unshallow id ∷ []
+line_events (WantedRef id) text = wanted_ref (wanted_at id text) ∷ []
+line_events (SaidInfo told) text = info told ∷ []
+line_events Ended text = ended ∷ []
+
+-- the events that a payload was found to give
+abbrev pub events_at : Said → List ℕ → List EventValue
+events_at said bytes = line_events said (text_of bytes)
+
+-- the parts of a capability line lie within it
+pub record LiesIn (places : CapabilityPlaces) (text : List ℕ) : Type 0 where
+  pub key : places.key_length ≤ length text
+  pub value : places.has_value ≡ true → places.key_length < length text
+
+-- what a text line was found to contain lies within it
+abbrev pub FitsLine : Said → List ℕ → Type 0
+FitsLine (SaidCapability places) text = LiesIn places text
+FitsLine (Reference places) text = FitsIn places (length text)
+FitsLine (WantedRef id) text = digits_of id.format < length text
+FitsLine said text = Unit {0}
+
+-- what a payload was found to contain lies within it
+abbrev pub Fits : Said → List ℕ → Type 0
+Fits said bytes = FitsLine said (text_of bytes)
+
+-- a text line at the place was found to contain this
+pub record Says (place : Place) (format : Format) (text : List ℕ) (said : Said) : Type 0 where
+  pub says : SaysLine place format text (line_events said text)
+  pub fits : FitsLine said text
+
+-- a capability line was found, after which this is noted
+pub record FindsCapability (caps : Caps) (text : List ℕ) (places : CapabilityPlaces) (after : Caps) : Type 0 where
+  pub is_line : IsCapability text (take places.key_length text) (value_at places text)
+  pub within : LiesIn places text
+  pub notes : (packets : List Pkt) (line : List ℕ) → text_of line ≡ text → caps ≡ noted_of packets → after ≡ noted_of (payload line ∷ packets)
+
+-- what is due after the header of a section
+abbrev pub due_in : Allowed → Section → Due
+due_in allowed AcknowledgmentsSection = Acknowledgments (record { any = false; nak = false; ready = false })
+due_in allowed ShallowInfoSection = ShallowInfo (next_allowed allowed ShallowInfoSection)
+due_in allowed WantedRefsSection = WantedRefs (next_allowed allowed WantedRefsSection)
+due_in allowed PackfileSection = Packfile
+
+abbrev pub due_after_header : Allowed → Option Section → Due
+due_after_header allowed None = Header allowed
+due_after_header allowed (Some section) = due_in allowed section
+
+-- what is due after a text line
+abbrev pub due_after_line : Due → List ℕ → Due
+due_after_line Version text = Capabilities
+due_after_line (Header allowed) text = due_after_header allowed (section_named text)
+due_after_line (Acknowledgments told) text = Acknowledgments (acks_with told text)
+due_after_line SizeLine text = Sizes
+due_after_line due text = due
+
+-- after the acknowledgments each other section may come
+abbrev pub after_acknowledgments : Allowed
+after_acknowledgments = record { acknowledgments = false; shallow_info = true; wanted_refs = true }
+
+-- what is due after a delimiter
+abbrev pub due_after_delimiter : Due → Due
+due_after_delimiter (Acknowledgments told) = Header after_acknowledgments
+due_after_delimiter (ShallowInfo allowed) = Header allowed
+due_after_delimiter (WantedRefs allowed) = Header allowed
+due_after_delimiter due = due
+
+-- the phase of a conversation where it is this one's turn
+abbrev pub phase_in : Turn → Phase
+phase_in (HearingTurn due) = Hearing due
+phase_in ReadyTurn = ReadyPhase
+
+-- the phase of a conversation after the flush of a response
+abbrev pub phase_after_response : Ending → Phase
+phase_after_response FlushOnly = ReadyPhase
+phase_after_response WithResponseEnd = Hearing ResponseEnd
+
+-- the phase of a conversation after a packet that has no fault
+abbrev pub phase_after : Ending → Due → Pkt → Phase
+phase_after ending due (payload bytes) = Hearing (due_after_line due (text_of bytes))
+phase_after ending due delim = Hearing (due_after_delimiter due)
+phase_after ending Capabilities flush = ReadyPhase
+phase_after ending due flush = phase_after_response ending
+phase_after ending due resp_end = ReadyPhase
+
+-- what the flush of a response contains
+abbrev pub said_after_flush : Ending → Said
+said_after_flush FlushOnly = Ended
+said_after_flush WithResponseEnd = Nothing
+
+-- what is noted after a packet that has no fault: a line of the advertisement adds to it
+abbrev pub NotesAfter : Due → Caps → Pkt → Caps → Type 0
+NotesAfter Capabilities caps (payload line) after = (packets : List Pkt) → caps ≡ noted_of packets → after ≡ noted_of (payload line ∷ packets)
+NotesAfter due caps p after = after ≡ caps
+
+-- what the judge found of a packet that has no fault: what it contains, what is noted after it, and whose turn it is then
+pub record IsTurn (format : Format) (ending : Ending) (due : Due) (caps : Caps) (p : Pkt) (said : Said) (after : Caps) (turn : Turn) : Type 0 where
+  pub gives : Gives format ending (place_due caps format due) p (events_at said (body_of p))
+  pub fits : Fits said (body_of p)
+  pub notes : NotesAfter due caps p after
+  pub next : phase_in turn ≡ phase_after ending due p
+
+-- what the judge answers of a packet: of one that is refused nothing is noted
+abbrev pub Judges : Format → Ending → Due → Caps → Pkt → Said → Caps → Result Turn Kind → Type 0
+Judges format ending due caps p said after (Ok turn) = IsTurn format ending due caps p said after turn
+Judges format ending due caps p said after (Err kind) = Refuses format ending (place_due caps format due) p kind × (after ≡ caps)
+
+-- what it found of a text line
+pub record IsLineTurn (format : Format) (due : Due) (caps : Caps) (text : List ℕ) (said : Said) (after : Caps) (turn : Turn) : Type 0 where
+  pub says : Says (place_due caps format due) format text said
+  pub notes : (line : List ℕ) → text_of line ≡ text → NotesAfter due caps (payload line) after
+  pub next : phase_in turn ≡ Hearing (due_after_line due text)
+
+-- what it answers of one
+abbrev pub JudgesLine : Format → Due → Caps → List ℕ → Said → Caps → Result Turn Kind → Type 0
+JudgesLine format due caps text said after (Ok turn) = IsLineTurn format due caps text said after turn
+JudgesLine format due caps text said after (Err kind) = IsLineFault (place_due caps format due) format text kind × (after ≡ caps)
+
+-- the phase takes packets
+abbrev pub takes_packets : Phase → Bool
+takes_packets (Hearing due) = true
+takes_packets _ = false
+
+-- the phase takes bytes on bands
+abbrev pub takes_bands : Phase → Bool
+takes_bands (Hearing Packfile) = true
+takes_bands _ = false
+
+-- the fault of a phase
+abbrev pub fault_in : Phase → Option Fault
+fault_in (Failed fault) = Some fault
+fault_in phase = None
+
+abbrev pub is_ready : Phase → Bool
+is_ready ReadyPhase = true
+is_ready phase = false
+
+abbrev pub is_asking : Phase → Bool
+is_asking (Asking writer) = true
+is_asking phase = false
+
+abbrev pub has_left_in : Phase → Bool
+has_left_in Leaving = true
+has_left_in Left = true
+has_left_in phase = false
+
+-- the packets that are still owed in a phase
+abbrev pub left_in : {A : Type 0} → Phase → Option (Request A) → List Pkt
+left_in (Asking writer) (Some request) = left_to_write writer request
+left_in Leaving request = flush ∷ []
+left_in phase request = []
+
+-- what is asked by the request that is kept
+abbrev pub question_in : {A : Type 0} → Option (Request A) → Option Asked
+question_in None = None
+question_in (Some request) = Some (asked_of request)
+
+-- what is due first of a response
+abbrev pub first_due : Asked → Due
+first_due (ls_refs q) = References
+first_due (fetch q) = Header (allowed_after q.done [])
+first_due (object_info q) = SizeLine
+
+-- the capability that a borrowed one shows
+abbrev pub capability_value : Capability → EventValue
+capability_value c = capability c.key.now (option_copied c.value)
+
+-- the events of a borrowed one: of bytes of the pack or of the progress one for each byte
+abbrev pub values_of : Event → List EventValue
+values_of (CapabilityEvent c) = capability_value c ∷ []
+values_of OfferedEvent = offered ∷ []
+values_of (ReferenceEvent id name target peeled) = reference (reference_of (option_copied id) name.now (option_copied target) (option_copied peeled)) ∷ []
+values_of (AckEvent id) = ack id.now ∷ []
+values_of NakEvent = nak ∷ []
+values_of ReadyEvent = ready ∷ []
+values_of (ShallowEvent id) = shallow id.now ∷ []
+values_of (UnshallowEvent id) = unshallow id.now ∷ []
+values_of (WantedRefEvent id name) = wanted_ref (wanted_of id.now name.now) ∷ []
+values_of (InfoEvent id size) = info (record { id = id.now; size = size }) ∷ []
+values_of (PackEvent bytes) = map pack bytes.now
+values_of (ProgressEvent bytes) = map progress bytes.now
+values_of EndedEvent = ended ∷ []

@@ -1,0 +1,13 @@
+-- The state and the calls of what reads, keeps and writes requests. No definition beside this folder cites them.
+pub mod HeldRequest
+pub mod HeldTexts
+pub mod Insides
+pub mod JudgedLine
+pub mod RequestReader
+pub mod RequestReaderSteps
+pub mod TextPools
+pub mod RequestWriter
+pub mod StreamStages
+pub mod RequestStreams
+pub mod RequestStreamSteps
+pub mod Listings

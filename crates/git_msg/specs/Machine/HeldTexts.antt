@@ -1,0 +1,19 @@
+-- What a pool of texts holds.
+use Rattle.std.specs.Prelude.{ℕ, ◌+◌, ◌*◌, List, length, map}
+use Rattle.git_msg.specs.declared.parts.Texts.{Texts}
+use Rattle.git_msg.specs.Machine.TextPools.{text_at}
+
+module _ {A : Type 0} where
+  -- the texts, in the order of their ends
+  abbrev pub texts_of : Texts A → List (List ℕ)
+  texts_of t = map (text_at t.bytes.items) t.ends.items
+
+  -- how many bytes they take: their own, two for the length and four for the end of each
+  abbrev pub texts_stored : Texts A → ℕ
+  texts_stored t = length t.bytes.items + 4 * length t.ends.items
+
+  -- the same with each field named, so that none can be added without being counted
+  abbrev pub texts_stored_by_fields : Texts A → ℕ
+  texts_stored_by_fields t =
+      let record { bytes = bytes; ends = ends; sound = sound } = t in
+      length bytes.items + 4 * length ends.items

@@ -1,0 +1,80 @@
+-- The stage of a reader of requests from bytes, and what a packet brings to it.
+use Rattle.std.specs.Prelude.{◌≡◌, ◌≤◌, ℕ, Bool, true, false, Option, None, Some, List, [], ◌∷◌, ◌++◌}
+use Rattle.git_pkt.specs.Splits.{Given}
+use Rattle.git_pkt.specs.declared.fault.Fault.{Fault}
+use Rattle.git_msg.specs.declared.offers.Offer.{Offer}
+use Rattle.git_msg.specs.Machine.HeldRequest.{asked_of, format_of, kept_of, limit_of}
+use Rattle.git_msg.specs.Lines.{Line}
+use Rattle.git_msg.specs.Requests.{AreLines, Asks, IsTold, IsStop}
+use Rattle.git_msg.specs.Machine.RequestReader.{Takes, offer_of, limit_in, kept_so_far, fault_of, is_waiting}
+use Rattle.git_msg.specs.declared.reader.RequestReader.{RequestReader}
+use Rattle.git_msg.specs.declared.streams.Stage.{Stage}
+use Rattle.git_msg.specs.declared.streams.Stage.TheVariants.{Between, Within, Stopped, Failed as FailedStage}
+use Rattle.git_msg.specs.declared.streams.ReadGot.{ReadGot}
+use Rattle.git_msg.specs.declared.streams.ReadGot.TheVariants.{More, Request, Stop, Failed}
+
+-- the packets are lines that begin a request
+abbrev pub AreBegun : Offer → ℕ → List Given → Type 0
+AreBegun offer limit left = (lines : List Line) × AreLines offer limit [] left lines
+
+-- the fault of a stage
+abbrev pub fault_in : Stage → Option Fault
+fault_in (FailedStage fault) = Some fault
+fault_in stage = None
+
+-- bytes are read on
+abbrev pub takes_bytes : Stage → Bool
+takes_bytes Between = true
+takes_bytes Within = true
+takes_bytes stage = false
+
+-- no request is begun
+abbrev pub stage_is_between : Stage → Bool
+stage_is_between Between = true
+stage_is_between stage = false
+
+module _ {A : Type 0} where
+  -- some packets are what the reader has taken since the last request began
+  abbrev pub HasTaken : RequestReader A → Type 0
+  HasTaken r = (left : List Given) × Takes left r
+
+  -- the stage of a reader after a packet that brought this
+  abbrev pub stage_brought : ReadGot A → Stage
+  stage_brought More = Within
+  stage_brought (Request request) = Between
+  stage_brought Stop = Stopped
+  stage_brought (Failed fault) = FailedStage fault
+
+  -- what was brought, where the reader was after these packets
+  abbrev pub IsBrought : List Given → ReadGot A → RequestReader A → Type 0
+  IsBrought packets More new = Takes packets new × AreBegun (offer_of new) (limit_in new) packets
+  IsBrought packets (Request request) new =
+      Takes [] new × Asks (offer_of new) (limit_in new) packets (asked_of request) (kept_of request) × (format_of request ≡ (offer_of new).format)
+  IsBrought packets Stop new = IsStop packets
+  IsBrought packets (Failed fault) new = IsTold (offer_of new) (limit_in new) packets fault
+
+  -- the reading goes on
+  abbrev pub goes_on : ReadGot A → Bool
+  goes_on More = true
+  goes_on (Request request) = true
+  goes_on Stop = false
+  goes_on (Failed fault) = false
+
+  -- what is kept is within the limit; what was kept of a whole request is given away with it, under the same limit
+  abbrev pub IsWithin : ReadGot A → RequestReader A → Type 0
+  IsWithin (Request request) new = (limit_of request ≡ limit_in new) × (kept_of request ≤ limit_in new) × (kept_so_far new ≡ 0)
+  IsWithin got new = kept_so_far new ≤ limit_in new
+
+  -- what a packet does, by what may be brought after all packets since the last request
+  pub record BringsBy (MayBring : List Given → ReadGot A → RequestReader A → Type 0) (old : RequestReader A) (g : Given) (got : ReadGot A)
+      (new : RequestReader A) : Type 0 where
+    pub brings : (packets : List Given) → Takes packets old → MayBring (packets ++ g ∷ []) got new
+    pub sound : goes_on got ≡ true → fault_of new ≡ None
+    pub ready : goes_on got ≡ true → is_waiting new ≡ false
+    pub offer : offer_of new ≡ offer_of old
+    pub limit : limit_in new ≡ limit_in old
+    pub within : kept_so_far old ≤ limit_in old → IsWithin got new
+
+  -- what it does where nothing refuses an argument
+  abbrev pub Brings : RequestReader A → Given → ReadGot A → RequestReader A → Type 0
+  Brings = BringsBy IsBrought

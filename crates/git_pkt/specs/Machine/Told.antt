@@ -1,0 +1,42 @@
+-- What a clause sees of a `Told`, and what its calls do to that.
+use Rattle.std.specs.Prelude.{◌≡◌, ℕ, ◌==◌, Bool, false, not, ◌&&◌, List, length, Result, Ok, Err}
+use Rattle.git_pkt.specs.declared.told.Told.{Told}
+
+module _ {T : Type 0} where
+  -- the reader or writer inside
+  abbrev pub inner_of : Told T → T
+  inner_of told = told.inner
+
+  -- how many reads were made, or `u64::MAX` where there were more
+  abbrev pub reads_of : Told T → ℕ
+  reads_of told = told.reads
+
+  -- a call has failed
+  abbrev pub has_failed : Told T → Bool
+  has_failed told = told.has_failed
+
+  -- a read into a buffer that is not empty gave no bytes
+  abbrev pub has_ended : Told T → Bool
+  has_ended told = told.has_ended
+
+  -- a read was made that could bring nothing: into an empty buffer, or after the input's end
+  abbrev pub has_wasted : Told T → Bool
+  has_wasted told = told.has_wasted
+
+  -- nothing has been done yet
+  pub record IsNew (told : Told T) : Type 0 where
+    pub unread : reads_of told ≡ 0
+    pub sound : has_failed told ≡ false
+    pub open_ended : has_ended told ≡ false
+    pub useful : has_wasted told ≡ false
+
+  -- no read was made
+  pub record ReadsNothing (old new : Told T) : Type 0 where
+    pub reads : reads_of new ≡ reads_of old
+    pub ended : has_ended new ≡ has_ended old
+    pub wasted : has_wasted new ≡ has_wasted old
+
+-- a read into this buffer gave no bytes, though there was room for some
+abbrev pub gave_nothing : {E : Type 0} → Result ℕ E → List ℕ → Bool
+gave_nothing (Ok n) buf = (n == 0) && not (length buf == 0)
+gave_nothing (Err e) buf = false

@@ -1,0 +1,23 @@
+-- What a `RepositoryReader` has read.
+use Rattle.std.specs.Prelude.{◌≡◌, ℕ, ◌+◌, ◌<◌, List, length, vec_capacity}
+use Rattle.git_msg.specs.Texts.{parts_of}
+use Rattle.git_repository.specs.Machine.RepositoryProgress.{HasFailed, Stands}
+use Rattle.git_repository.specs.declared.repository_reader.RepositoryReader.{RepositoryReader}
+
+-- a line was refused
+abbrev pub HasRefused : RepositoryReader → Type 0
+HasRefused reader = HasFailed reader.progress
+
+-- there is no room for so many bytes beside the line that is open
+abbrev pub LacksRoom : RepositoryReader → ℕ → Type 0
+LacksRoom reader bytes = vec_capacity reader.begun < length reader.begun.items + bytes
+
+-- the reader was fed this text, or as much of it as shows the line that it refused
+abbrev pub Reads : RepositoryReader → List ℕ → Type 0
+Reads reader text = Stands reader.progress reader.begun.items (parts_of 10 text)
+
+-- what was read and what has begun are as they were
+pub record Stays (old new : RepositoryReader) : Type 0 where
+  pub progress : new.progress ≡ old.progress
+  pub begun : new.begun.items ≡ old.begun.items
+  pub room : vec_capacity new.begun ≡ vec_capacity old.begun

@@ -1,0 +1,131 @@
+-- A request that is answered, and one packet more of its answer.
+use Rattle.std.specs.Prelude.{◌≡◌, ◌<◌, ℕ, Option, Some, None, List, [], ◌∷◌, ◌++◌, drop, length, map}
+use Rattle.git_pkt.specs.Packets.{Pkt, flush}
+use Rattle.git_pkt.specs.declared.reader.PacketReader.{PacketReader}
+use Rattle.git_msg.specs.Asked.{FetchAsked, LsRefsAsked, ObjectInfoAsked}
+use Rattle.git_msg.specs.declared.requests.Request.{Request}
+use Rattle.git_msg.specs.declared.requests.Request.TheVariants.{LsRefs as OfLsRefs, Fetch as OfFetch, ObjectInfo as OfObjectInfo}
+use Rattle.git_server.specs.Repository.{Repository, RepoState}
+use Rattle.git_server.specs.Answers.{info_packet, ls_refs_answer, object_info_answer, reference_packets}
+use Rattle.git_server.specs.Packs.{Manner, whole, broken}
+use Rattle.git_server.specs.Machine.WrittenPackets.{Writes}
+use Rattle.git_server.specs.declared.packfile.PackPlace.{PackPlace}
+use Rattle.git_server.specs.declared.fetching.FetchPlace.{FetchPlace}
+use Rattle.git_server.specs.Machine.FetchPlaces.{IsFetchFrom, IsPackfileFrom, first_place, most_fetch, most_packets}
+use Rattle.git_server.specs.declared.answer.Answered.{Answered}
+use Rattle.git_server.specs.declared.answer.Answered.TheVariants.{Part, Whole, Broken}
+use Rattle.git_server.specs.declared.answer.Answer.{Answer}
+use Rattle.git_server.specs.declared.answer.Answer.TheVariants.{References, Fetching, Sizes}
+use Rattle.git_server.specs.declared.ls_refs.ReferencesPlace.{ReferencesPlace}
+use Rattle.git_server.specs.declared.ls_refs.ReferencesPlace.TheVariants.{First, Entry}
+use Rattle.git_server.specs.declared.object_info.SizesPlace.{SizesPlace}
+use Rattle.git_server.specs.declared.object_info.SizesPlace.TheVariants.{Header as SizesHeader, Object}
+
+-- the packets of an answer for references, from this place on
+abbrev pub references_from : LsRefsAsked → Repository → ReferencesPlace → List Pkt
+references_from q repo First = ls_refs_answer q repo
+references_from q repo (Entry next) = reference_packets q (drop next repo.refs)
+
+-- the packets end an answer for references, which never breaks off, from this place on
+abbrev pub AreReferencesFrom : Manner → LsRefsAsked → Repository → ReferencesPlace → List Pkt → Type 0
+AreReferencesFrom whole q repo place later = later ≡ references_from q repo place
+AreReferencesFrom broken q repo place later = ⊥
+
+-- the packets of an answer about objects, from this place on
+abbrev pub sizes_from : ObjectInfoAsked → Repository → SizesPlace → List Pkt
+sizes_from q repo SizesHeader = object_info_answer q repo
+sizes_from q repo (Object next) = map (info_packet repo) (drop next q.oids) ++ flush ∷ []
+
+-- the packets end an answer about objects, which never breaks off, from this place on
+abbrev pub AreSizesFrom : Manner → ObjectInfoAsked → Repository → SizesPlace → List Pkt → Type 0
+AreSizesFrom whole q repo place later = later ≡ sizes_from q repo place
+AreSizesFrom broken q repo place later = ⊥
+
+module _ {A : Type 0} where
+  -- how many bytes the argument lines of the request have
+  abbrev pub kept_with : Answer A → ℕ
+  kept_with (References request place) = request.kept
+  kept_with (Fetching request place) = request.kept
+  kept_with (Sizes request place) = request.kept
+
+  -- how many bytes are stored of the request
+  abbrev pub stored_with : Answer A → ℕ
+  stored_with (References request place) = request.stored
+  stored_with (Fetching request place) = request.stored
+  stored_with (Sizes request place) = request.stored
+
+  -- the answer to a request, of which nothing was given
+  abbrev pub answer_to : Request A → Answer A
+  answer_to (OfLsRefs request) = References request First
+  answer_to (OfFetch request) = Fetching request (first_place request.asked)
+  answer_to (OfObjectInfo request) = Sizes request SizesHeader
+
+  -- from its place on, the packets end the answer
+  abbrev pub IsAnswerFrom : Manner → Repository → Answer A → List Pkt → Type 0
+  IsAnswerFrom manner repo (References request place) later = AreReferencesFrom manner request.asked repo place later
+  IsAnswerFrom manner repo (Fetching request place) later = IsFetchFrom manner repo request.asked place later
+  IsAnswerFrom manner repo (Sizes request place) later = AreSizesFrom manner request.asked repo place later
+
+  -- no more packets than these end it
+  abbrev pub most_from : Repository → Answer A → ℕ
+  most_from repo (References request place) = length (references_from request.asked repo place)
+  most_from repo (Fetching request place) = most_fetch repo request.asked place
+  most_from repo (Sizes request place) = length (sizes_from request.asked repo place)
+
+-- the packets from a place on, or none where the answer ended
+abbrev pub references_after : LsRefsAsked → Repository → Option ReferencesPlace → List Pkt
+references_after q repo (Some place) = references_from q repo place
+references_after q repo None = []
+
+-- the first packet of what is owed was written, and this place is the next
+pub record AnswersOne (asked : LsRefsAsked) (repo : Repository) (place : ReferencesPlace) (old : PacketReader) (after : Option ReferencesPlace)
+    (new : PacketReader) : Type 0 where
+  pub packet : Pkt
+  pub owed : references_from asked repo place ≡ packet ∷ references_after asked repo after
+  pub writes : Writes old packet new
+
+-- the packets from a place on, or none where the answer ended
+abbrev pub sizes_after : ObjectInfoAsked → Repository → Option SizesPlace → List Pkt
+sizes_after q repo (Some next) = sizes_from q repo next
+sizes_after q repo None = []
+
+-- the packet is the next one of what is owed from a place on, which becomes less by it, or ends with it
+abbrev pub IsNext : {P : Type 0} → (Manner → P → List Pkt → Type 0) → (P → ℕ) → P → Answered → P → Pkt → Type 0
+IsNext OwesFrom most old Part new packet =
+    ((manner : Manner) (later : List Pkt) → OwesFrom manner new later → OwesFrom manner old (packet ∷ later)) × (most new < most old)
+IsNext OwesFrom most old Whole new packet = OwesFrom whole old (packet ∷ [])
+IsNext OwesFrom most old Broken new packet = OwesFrom broken old (packet ∷ [])
+
+-- a read failed exactly where the answer broke off
+abbrev pub FailsBy : Answered → ℕ → ℕ → Type 0
+FailsBy Broken before now = before < now
+FailsBy _ before now = now ≡ before
+
+-- what a repository answers stays, and a read failed exactly where the answer broke off
+pub record ReadsPack (answered : Answered) (old new : RepoState) : Type 0 where
+  pub answers : new.answers ≡ old.answers
+  pub failures : FailsBy answered old.failures new.failures
+
+-- the next packet of what is owed from a place on was written
+pub record WritesNext {P : Type 0} (OwesFrom : Manner → P → List Pkt → Type 0) (most : P → ℕ) (repo_old : RepoState) (old : P) (reader_old : PacketReader)
+    (answered : Answered) (repo_new : RepoState) (new : P) (reader_new : PacketReader) : Type 0 where
+  pub packet : Pkt
+  pub writes : Writes reader_old packet reader_new
+  pub is_next : IsNext OwesFrom most old answered new packet
+  pub reads : ReadsPack answered repo_old repo_new
+
+-- the next packet of the section of this pack was written
+abbrev pub WritesPack : List ℕ → RepoState → PackPlace → PacketReader → Answered → RepoState → PackPlace → PacketReader → Type 0
+WritesPack pack = WritesNext (λ manner place later. IsPackfileFrom manner pack place later) (most_packets pack)
+
+-- the next packet of the answer to this fetch was written
+abbrev pub WritesFetch : FetchAsked → RepoState → FetchPlace → PacketReader → Answered → RepoState → FetchPlace → PacketReader → Type 0
+WritesFetch q repo_old old reader_old answered repo_new new reader_new =
+    WritesNext (λ manner place later. IsFetchFrom manner repo_old.answers q place later) (most_fetch repo_old.answers q)
+    repo_old old reader_old answered repo_new new reader_new
+
+-- the next packet of an answer was written
+abbrev pub WritesAnswer : {A : Type 0} → RepoState → Answer A → PacketReader → Answered → RepoState → Answer A → PacketReader → Type 0
+WritesAnswer repo_old old reader_old answered repo_new new reader_new =
+    WritesNext (λ manner answer later. IsAnswerFrom manner repo_old.answers answer later) (most_from repo_old.answers)
+    repo_old old reader_old answered repo_new new reader_new

@@ -1,0 +1,124 @@
+-- What is owed of the answer to a fetch, by the place that it has reached.
+use Rattle.std.specs.Prelude.{◌≡◌, ℕ, ◌+◌, ◌-◌, ◌<◌, Bool, true, false, Option, MatchOption, List, [], ◌∷◌, ◌++◌, drop, length, slice_index_or, codes, map}
+use Rattle.std.specs.List.{filter_map}
+use Rattle.git_names.specs.ObjectName.{ObjectName}
+use Rattle.git_pkt.specs.Packets.{Pkt, flush, delim}
+use Rattle.git_pkt.specs.declared.reader.PacketReader.{PacketReader}
+use Rattle.git_msg.specs.declared.Boundary.{Boundary}
+use Rattle.git_msg.specs.Asked.{FetchAsked}
+use Rattle.git_msg.specs.WrittenRequest.{text_line}
+use Rattle.git_server.specs.Repository.{Repository}
+use Rattle.git_server.specs.Packs.{Manner, EndsPack, IsPackfile}
+use Rattle.git_server.specs.Machine.WrittenPackets.{Writes, WritesFirst}
+use Rattle.git_server.specs.declared.packfile.PackPlace.{PackPlace}
+use Rattle.git_server.specs.declared.packfile.PackPlace.TheVariants.{Header as PackHeader, Pack}
+use Rattle.git_server.specs.declared.acknowledgments.AcknowledgmentsPlace.{AcknowledgmentsPlace}
+use Rattle.git_server.specs.declared.acknowledgments.AcknowledgmentsPlace.TheVariants.{Header as AcknowledgmentsHeader, Have, Through}
+use Rattle.git_server.specs.declared.acknowledgments.Acknowledged.{Acknowledged}
+use Rattle.git_server.specs.declared.acknowledgments.Acknowledged.TheVariants.{Part, Ready, Whole}
+use Rattle.git_server.specs.declared.sections.SectionPlace.{SectionPlace}
+use Rattle.git_server.specs.declared.sections.SectionPlace.TheVariants.{Header, Line}
+use Rattle.git_server.specs.declared.sections.SectionPart.{SectionPart}
+use Rattle.git_server.specs.declared.sections.SectionPart.TheVariants.{Absent, Line as WroteLine, Over}
+use Rattle.git_server.specs.declared.fetching.FetchPlace.{FetchPlace}
+use Rattle.git_server.specs.declared.fetching.FetchPlace.TheVariants.{Acknowledgments, Delimiter, ShallowInfo, WantedRefs, Packfile}
+use Rattle.git_server.specs.FetchAnswers.{EndsWithBoundary, EndsWithRefs, IsAfter, IsNegotiated, ack_packet, acknowledgments, boundary_packet}
+use Rattle.git_server.specs.FetchAnswers.{common, is_ready_for, nak_or_acks, negotiates, shallow_info, wanted_packet, wanted_refs}
+
+-- Acknowledgments.
+
+-- the lines of these common objects, where some were sent before them or none was
+abbrev pub acks_by : Bool → List ObjectName → List Pkt
+acks_by true ids = map ack_packet ids
+acks_by false ids = nak_or_acks ids
+
+-- the section of acknowledgments from a place on, but for its end
+abbrev pub acknowledgments_from : Repository → FetchAsked → AcknowledgmentsPlace → List Pkt
+acknowledgments_from repo q AcknowledgmentsHeader = acknowledgments repo q
+acknowledgments_from repo q (Have next told) = acks_by told (common repo.has (drop next q.haves))
+acknowledgments_from repo q Through = []
+
+-- the packet is the next one of the section, or its end: what came of it shows whether the pack follows
+abbrev pub IsNextAcknowledgment : Repository → FetchAsked → AcknowledgmentsPlace → Acknowledged → Pkt → Type 0
+IsNextAcknowledgment repo q place (Part next) packet = acknowledgments_from repo q place ≡ packet ∷ acknowledgments_from repo q next
+IsNextAcknowledgment repo q place Ready packet =
+    (acknowledgments_from repo q place ≡ []) × (is_ready_for repo q ≡ true) × (packet ≡ text_line (codes "ready"))
+IsNextAcknowledgment repo q place Whole packet = (acknowledgments_from repo q place ≡ []) × (is_ready_for repo q ≡ false) × (packet ≡ flush)
+
+-- the next packet of the section was written
+pub record Acknowledges (repo : Repository) (q : FetchAsked) (place : AcknowledgmentsPlace) (old : PacketReader) (came : Acknowledged) (new : PacketReader)
+    : Type 0 where
+  pub packet : Pkt
+  pub is_next : IsNextAcknowledgment repo q place came packet
+  pub writes : Writes old packet new
+
+-- the first common object of those from a place on is at `at`
+pub record IsNextCommon (has : ObjectName → Bool) (haves : List ObjectName) (from at : ℕ) : Type 0 where
+  pub within : at < length haves
+  pub first : (d : ObjectName) → common has (drop from haves) ≡ slice_index_or haves at d ∷ common has (drop (at + 1) haves)
+
+-- where that is, or that there is none
+abbrev pub NextCommon : (ObjectName → Bool) → List ObjectName → ℕ → Option ℕ → Type 0
+NextCommon has haves from found = MatchOption found (common has (drop from haves) ≡ []) (IsNextCommon has haves from)
+
+-- The sections of lines.
+
+-- the section of the shallow boundary from a place on
+abbrev pub boundary_from : List Boundary → SectionPlace → List Pkt
+boundary_from boundaries Header = shallow_info boundaries
+boundary_from boundaries (Line next) = map boundary_packet (drop next boundaries) ++ delim ∷ []
+
+-- the section of wanted references from a place on
+abbrev pub wanted_from : Repository → List (List ℕ) → SectionPlace → List Pkt
+wanted_from repo names Header = wanted_refs repo names
+wanted_from repo names (Line next) = filter_map (wanted_packet repo) (drop next names) ++ delim ∷ []
+
+-- of a section of which this is owed, by place, the next packet was written, or the answer does not have it
+abbrev pub WritesSection : (SectionPlace → List Pkt) → SectionPlace → PacketReader → SectionPart → PacketReader → Type 0
+WritesSection owed place old Absent new = (owed place ≡ []) × (new ≡ old)
+WritesSection owed place old (WroteLine next) new = WritesFirst (owed place) old (owed (Line next)) new
+WritesSection owed place old Over new = WritesFirst (owed place) old [] new
+
+-- The pack.
+
+-- the packets end the section of the pack, from this place on
+abbrev pub IsPackfileFrom : Manner → List ℕ → PackPlace → List Pkt → Type 0
+IsPackfileFrom manner pack PackHeader later = IsPackfile manner pack later
+IsPackfileFrom manner pack (Pack offset) later = EndsPack manner (drop offset pack) later
+
+-- no more packets than these end it
+abbrev pub most_packets : List ℕ → PackPlace → ℕ
+most_packets pack PackHeader = length pack + 2
+most_packets pack (Pack offset) = length pack - offset + 1
+
+-- The whole answer.
+
+-- where an answer begins
+abbrev pub place_by : Bool → FetchPlace
+place_by true = Acknowledgments AcknowledgmentsHeader
+place_by false = ShallowInfo Header
+
+abbrev pub first_place : FetchAsked → FetchPlace
+first_place q = place_by (negotiates q)
+
+-- the packets end the answer, from this place on
+abbrev pub IsFetchFrom : Manner → Repository → FetchAsked → FetchPlace → List Pkt → Type 0
+IsFetchFrom manner repo q (Acknowledgments place) later = IsNegotiated (is_ready_for repo q) (acknowledgments_from repo q place) manner repo q later
+IsFetchFrom manner repo q Delimiter later = IsAfter (delim ∷ []) (EndsWithBoundary manner repo q) later
+IsFetchFrom manner repo q (ShallowInfo place) later = IsAfter (boundary_from (repo.boundaries q) place) (EndsWithRefs manner repo q) later
+IsFetchFrom manner repo q (WantedRefs place) later = IsAfter (wanted_from repo q.want_refs place) (IsPackfile manner (repo.pack q)) later
+IsFetchFrom manner repo q (Packfile place) later = IsPackfileFrom manner (repo.pack q) place later
+
+-- no more packets than these end it
+abbrev pub most_from_refs : Repository → FetchAsked → SectionPlace → ℕ
+most_from_refs repo q place = length (wanted_from repo q.want_refs place) + most_packets (repo.pack q) PackHeader
+
+abbrev pub most_from_boundary : Repository → FetchAsked → SectionPlace → ℕ
+most_from_boundary repo q place = length (boundary_from (repo.boundaries q) place) + most_from_refs repo q Header
+
+abbrev pub most_fetch : Repository → FetchAsked → FetchPlace → ℕ
+most_fetch repo q (Acknowledgments place) = length (acknowledgments_from repo q place) + 2 + most_from_boundary repo q Header
+most_fetch repo q Delimiter = 1 + most_from_boundary repo q Header
+most_fetch repo q (ShallowInfo place) = most_from_boundary repo q place
+most_fetch repo q (WantedRefs place) = most_from_refs repo q place
+most_fetch repo q (Packfile place) = most_packets (repo.pack q) place

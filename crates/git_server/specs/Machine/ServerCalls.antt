@@ -1,0 +1,130 @@
+-- What each call does to all that a server used and gave.
+use Rattle.std.specs.Prelude.{◌≡◌, ◌⊎◌, ℕ, ◌<◌, ◌≤◌, Bool, true, List, [], ◌∷◌, ◌++◌, length, Option, Some, None}
+use Rattle.std.specs.Io.{StartsWith}
+use Rattle.git_pkt.specs.Machine.Credit.{credit_of}
+use Rattle.git_pkt.specs.Packets.{Pkt, body_of, longest_payload, spelling_of}
+use Rattle.git_pkt.specs.Splits.{Given}
+use Rattle.git_pkt.specs.Machine.PacketReader.{ReadsOn, held_of}
+use Rattle.git_msg.specs.Asked.{FetchAsked}
+use Rattle.git_server.specs.Machine.FullParts.{FillsPhase}
+use Rattle.git_server.specs.Repository.{RepoState}
+use Rattle.git_server.specs.Sessions.{Setting, IsSession}
+use Rattle.git_server.specs.Machine.Phases.{MayBreak, Owes, most_owed}
+use Rattle.git_server.specs.Machine.Server.{IsPackLost, Running, outcome_of, wants_input}
+use Rattle.git_pkt.specs.declared.fault.Fault.{Fault}
+use Rattle.git_pkt.specs.declared.fault.Kind.TheVariants.{StreamTooLong, Truncated}
+use Rattle.git_server.specs.declared.outcome.Outcome.{Outcome}
+use Rattle.git_server.specs.declared.outcome.Outcome.TheVariants.{Closed, Refused}
+use Rattle.git_server.specs.declared.server.Server.{Server}
+use Rattle.git_server.specs.declared.server.Pulled.{Pulled}
+use Rattle.git_server.specs.declared.server.Pulled.TheVariants.{Packet, NeedInput, Finished}
+
+-- the outcome of a server whose input ended: it was closed between two requests, or cut short inside one
+abbrev pub IsClosing : Option Outcome → Type 0
+IsClosing o = (o ≡ Some Closed) ⊎ ((fault : Fault) × (o ≡ Some (Refused fault)) × (fault.kind ≡ Truncated))
+
+-- what a pull makes of the outcome: once there is one it stays, and by a pull none comes but that of a pack whose source
+-- failed
+abbrev pub IsAfterPull : Option Outcome → Option Outcome → Type 0
+IsAfterPull (Some outcome) now = now ≡ Some outcome
+IsAfterPull None now = (now ≡ None) ⊎ IsPackLost now
+
+-- what was pulled, as bytes
+abbrev pub given_by : Pulled → List ℕ
+given_by (Packet bytes) = bytes.now
+given_by NeedInput = []
+given_by (Finished outcome) = []
+
+-- what was pulled is this packet
+abbrev pub IsPulled : Pulled → Pkt → Type 0
+IsPulled pulled packet = given_by pulled ≡ spelling_of packet
+
+module _ {R A : Type 0} where
+  -- the call used and gave these bytes: what held before holds with them
+  abbrev pub Goes : (R → RepoState) → List ℕ → List ℕ → Server R A → Server R A → Type 0
+  Goes state used given old new =
+      (s : Setting) (so_far : List ℕ) (over : Bool) (before : List ℕ) → Running state s so_far over before old
+      → Running state s (so_far ++ used) over (before ++ given) new
+
+  -- the input ended here: the session was closed between two requests, or cut short inside one
+  abbrev pub Closes : (R → RepoState) → Server R A → Server R A → Type 0
+  Closes state old new =
+      (s : Setting) (so_far : List ℕ) (over : Bool) (before : List ℕ) → Running state s so_far over before old
+      → Running state s so_far true before new × IsClosing (outcome_of new)
+
+  -- the stream is too long only where there was one byte more than was used
+  abbrev pub StopsInTime : (R → RepoState) → Server R A → ℕ → List ℕ → Option Outcome → Type 0
+  StopsInTime state old used piece outcome =
+      (s : Setting) (so_far : List ℕ) (over : Bool) (before : List ℕ) → Running state s so_far over before old → wants_input old ≡ true
+      → (fault : Fault) → outcome ≡ Some (Refused fault) → fault.kind ≡ StreamTooLong → used < length piece
+
+  -- these packets may be all that is still to be pulled, in this order
+  abbrev pub OwesNow : (R → RepoState) → Server R A → List Pkt → Type 0
+  OwesNow state server later = Owes server.offer (state server.repo).answers server.phase later
+
+  -- how many wait at the most
+  abbrev pub most_left : (R → RepoState) → Server R A → ℕ
+  most_left state server = most_owed server.offer (state server.repo).answers server.phase
+
+  -- the packet that waits: where it is of a pack, it has all that the repository gives for one
+  abbrev pub FillsOwed : (R → FetchAsked → ℕ → ℕ → ℕ → Type 0) → Server R A → (Pkt → Type 0) → Type 0
+  FillsOwed gives server Is = FillsPhase (gives server.repo) server.phase Is
+
+  -- the packet comes before whatever waits now
+  abbrev pub ComesBefore : (R → RepoState) → Pkt → Server R A → Server R A → Type 0
+  ComesBefore state packet old new = (later : List Pkt) → OwesNow state new later → OwesNow state old (packet ∷ later)
+
+  -- with the packet the answer breaks off, and the session ends
+  pub record BreaksOff (state : R → RepoState) (packet : Pkt) (old new : Server R A) : Type 0 where
+    pub went_on : outcome_of old ≡ None
+    pub breaks : MayBreak (state old.repo).answers old.phase (packet ∷ [])
+    pub lost : IsPackLost (outcome_of new)
+    pub nothing : OwesNow state new []
+
+  -- the packet comes before whatever waits now, or with it the answer breaks off
+  abbrev pub ComesFirst : (R → RepoState) → Pkt → Server R A → Server R A → Type 0
+  ComesFirst state packet old new = ComesBefore state packet old new ⊎ BreaksOff state packet old new
+
+  -- what was used and given is a session that ended so
+  abbrev pub EndsAs : (R → RepoState) → Server R A → Outcome → Type 0
+  EndsAs state server outcome =
+      (s : Setting) (used : List ℕ) (over : Bool) (given : List ℕ) → Running state s used over given server → IsSession s used over given outcome
+
+  -- what each answer of `pull` means
+  abbrev pub TellsPulled : (R → RepoState) → Server R A → Pulled → Server R A → Type 0
+  TellsPulled state old (Packet bytes) new =
+      (packet : Pkt) × ComesFirst state packet old new × (bytes.now ≡ spelling_of packet) × (most_left state new < most_left state old)
+  TellsPulled state old NeedInput new = (wants_input old ≡ true) × (new ≡ old)
+  TellsPulled state old (Finished outcome) new =
+      (outcome_of old ≡ Some outcome) × OwesNow state old [] × (new ≡ old) × EndsAs state old outcome
+
+  -- what a call of `pull` does
+  pub record Pulls (state : R → RepoState) (old : Server R A) (pulled : Pulled) (new : Server R A) : Type 0 where
+    pub goes : Goes state [] (given_by pulled) old new
+    pub tells : TellsPulled state old pulled new
+    pub outcome : IsAfterPull (outcome_of old) (outcome_of new)
+    pub fits : length (given_by pulled) ≤ 65520
+    pub credit : credit_of new.reader ≤ credit_of old.reader
+
+  -- the reader used these bytes, which gave these packets; the offer and the repository are as they were
+  pub record ReadsFor (state : R → RepoState) (old : Server R A) (used : List ℕ) (packets : List Given) (new : Server R A) : Type 0 where
+    pub offer : new.offer ≡ old.offer
+    pub repo : state new.repo ≡ state old.repo
+    pub reads : ReadsOn old.reader used packets new.reader
+
+  -- the offer, the repository and what was taken of a request are as they were
+  pub record Keeps (state : R → RepoState) (old new : Server R A) : Type 0 where
+    pub offer : new.offer ≡ old.offer
+    pub repo : state new.repo ≡ state old.repo
+    pub requests : new.requests ≡ old.requests
+
+  -- the hold begins with the next packet that is owed, which is given with it
+  pub record Gives (state : R → RepoState) (old new : Server R A) : Type 0 where
+    pub packet : Pkt
+    pub owed : ComesFirst state packet old new
+    pub less : most_left state new < most_left state old
+    pub held : StartsWith (held_of new.reader) (spelling_of packet)
+    pub fits : length (body_of packet) ≤ longest_payload
+    pub credit : credit_of new.reader ≡ 0
+    pub goes : Goes state [] (spelling_of packet) old new
+    pub outcome : IsAfterPull (outcome_of old) (outcome_of new)
