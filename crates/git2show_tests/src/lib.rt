@@ -15,6 +15,7 @@ mod clients;
 mod conversing;
 #[cfg(test)]
 mod escapes;
+#[cfg(test)]
 mod expecting;
 #[cfg(test)]
 mod faults;
