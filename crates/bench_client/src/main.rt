@@ -63,10 +63,7 @@ impl Counts {
 /// A request for the pack of one object.
 fn request(alloc: Global) -> Result<Request<Global>, Kind> {
     let wanted = Oid::read(Format::Sha1, WANTED, &mut Steps::new())?;
-    let limits = Limits {
-        args: Limits::USUAL,
-    };
-    let mut request = Request::new(alloc, Command::Fetch, Format::Sha1, limits);
+    let mut request = Request::new(alloc, Command::Fetch, Format::Sha1, Limits::DEFAULT);
     request.add(Argument::Want(wanted))?;
     request.add(Argument::IsDone)?;
     Ok(request)

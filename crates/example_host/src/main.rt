@@ -49,10 +49,7 @@ fn main(rt: HostRuntime) -> io::Result<ExitCode> {
         return Ok(ExitCode::FAILURE);
     };
     let offer = Offer::nothing(repo.format());
-    let limits = Limits {
-        args: Limits::USUAL,
-    };
-    let mut server = Server::new(alloc, repo, offer, limits, true);
+    let mut server = Server::new(alloc, repo, offer, Limits::DEFAULT, true);
     let mut input = BufReader::new(alloc, rt.stdin())?;
     let mut output = rt.stdout();
     match host(&mut input, &mut output, &mut server)? {

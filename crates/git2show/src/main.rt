@@ -298,11 +298,12 @@ fn service_of(matches: &ArgMatches<'_>) -> Service {
 
 /// How much is kept of a request, by the command line. clap refuses more than the most, which is tested once more for the prover.
 fn limits_of(matches: &ArgMatches<'_>) -> Limits {
-    let args = match matches.get_one::<u32>("limit") {
-        Some(args) => args.min(MOST_KEPT),
-        None => Limits::USUAL,
-    };
-    Limits { args }
+    match matches.get_one::<u32>("limit") {
+        Some(args) => Limits {
+            args: args.min(MOST_KEPT),
+        },
+        None => Limits::DEFAULT,
+    }
 }
 
 /// Serves the repository whose files are named, on standard input and output.
@@ -409,10 +410,7 @@ fn judge_script(
     script: &[u8],
     format: Format,
 ) -> Result<Vec<Request<Global>>, ProgramFault> {
-    let limits = Limits {
-        args: Limits::USUAL,
-    };
-    match read_script(alloc, script, format, limits) {
+    match read_script(alloc, script, format, Limits::DEFAULT) {
         Ok(requests) => Ok(requests),
         Err(TextFault::Bad { line }) => Err(ProgramFault::Script(line)),
         Err(TextFault::OutOfMemory) => Err(ProgramFault::OutOfMemory),

@@ -105,10 +105,7 @@ pub fn check<Q: Read, R: Read, O: Write, A: Allocator + Copy>(
         &mut Discard,
         turns,
     )?;
-    let limits = Limits {
-        args: Limits::USUAL,
-    };
-    let mut asking = RequestStream::new(alloc, client.caps().offer(format), limits);
+    let mut asking = RequestStream::new(alloc, client.caps().offer(format), Limits::DEFAULT);
     while let Some(request) = next_request(
         &mut asking,
         requests,

@@ -10,7 +10,8 @@ ghost use Rattle.git_client.specs.Parts.{terms_of};
 ghost use Rattle.git_client.specs.Machine.RunSteps.{HearsPieceTo};
 ghost use Rattle.git_server.specs.Machine.Server.{outcome_of};
 ghost use Rattle.git_both_ends.specs.Plays.{CanFail, Played, setting_of};
-ghost use Rattle.git2show_lib.specs.Machine.PlaySteps.{AnswersTo, AsksServerTo, EndsMessageTo, HearsMessageTo, HearsServerTo, Stands, StandsOn, TellsAll, silent};
+ghost use Rattle.git2show_lib.specs.Machine.PlaySteps.{AnswersTo, AsksServerTo, EndsMessageTo, HearsMessageTo, HearsServerTo};
+ghost use Rattle.git2show_lib.specs.Machine.PlaySteps.{Stands, StandsOn, TellsAll, silent};
 
 use git_client::{Client, Counts, Ending, Sent, hear_piece, write_asked};
 use git_msg::{Limits, Offer, Request};
@@ -316,8 +317,5 @@ fn new_server<R: Repo, A: Allocator + Copy>(alloc: A, repo: R, advertise: bool) 
     ensures goes_on { outcome_of result ≡ None }
 {
     let offer = Offer::everything(repo.format());
-    let limits = Limits {
-        args: Limits::USUAL,
-    };
-    Server::new(alloc, repo, offer, limits, advertise)
+    Server::new(alloc, repo, offer, Limits::DEFAULT, advertise)
 }

@@ -56,10 +56,7 @@ pub fn requests(
     rt: &(impl Abort + AllocGlobal),
     script: &[u8],
 ) -> Result<Vec<Request<Global>>, Fail> {
-    let limits = Limits {
-        args: Limits::USUAL,
-    };
-    let read = read_script(rt.alloc(), script, Format::Sha1, limits);
+    let read = read_script(rt.alloc(), script, Format::Sha1, Limits::DEFAULT);
     Ok(read.expect(rt, "a script"))
 }
 

@@ -90,10 +90,7 @@ fn add_all(rt: &impl Abort, request: &mut Request<&LocalHeap>) -> Result<(), Kin
 
 /// A request for a pack, where there is memory for it.
 fn request<'h>(rt: &impl Abort, heap: &'h LocalHeap) -> Option<Request<&'h LocalHeap>> {
-    let limits = Limits {
-        args: Limits::USUAL,
-    };
-    let mut request = new_request(heap, Command::Fetch, limits);
+    let mut request = new_request(heap, Command::Fetch, Limits::DEFAULT);
     match add_all(rt, &mut request) {
         Ok(()) => Some(request),
         Err(_) => None,
@@ -148,10 +145,7 @@ fn ask(rt: &impl Abort, heap: &LocalHeap, input: &[u8], packets: usize) -> usize
 /// Feeds a reader of requests, lets each request go, and drops it. How much memory there was at the most.
 fn read(heap: &LocalHeap, input: &[u8]) -> usize {
     let offer = Offer::everything(Format::Sha1);
-    let limits = Limits {
-        args: Limits::USUAL,
-    };
-    let mut reader = RequestStream::new(heap, offer, limits);
+    let mut reader = RequestStream::new(heap, offer, Limits::DEFAULT);
     let mut rest = input;
     let mut most = 0;
     for _ in 0..PACKETS {

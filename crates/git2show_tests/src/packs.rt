@@ -48,10 +48,7 @@ fn check_read<R: Repo>(
     repo: &mut R,
     expected: (&[u8], u32, Option<PackFault>),
 ) -> Result<(), Fail> {
-    let limits = Limits {
-        args: Limits::USUAL,
-    };
-    let request = Request::new(rt.alloc(), Command::Fetch, repo.format(), limits);
+    let request = Request::new(rt.alloc(), Command::Fetch, repo.format(), Limits::DEFAULT);
     let mut pack = Vec::new(rt.alloc());
     if let Request::Fetch(fetch) = &request {
         let (reads, fault) = read_pack(repo, fetch, &mut pack)?;

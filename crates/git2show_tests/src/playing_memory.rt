@@ -38,10 +38,7 @@ struct Played {
 
 /// The requests of the script, where the heap has room for them.
 fn requests<'h>(heap: &'h LocalHeap) -> Option<Vec<Request<&'h LocalHeap>, &'h LocalHeap>> {
-    let limits = Limits {
-        args: Limits::USUAL,
-    };
-    read_script(heap, SCRIPT, Format::Sha1, limits).ok()
+    read_script(heap, SCRIPT, Format::Sha1, Limits::DEFAULT).ok()
 }
 
 /// Plays the requests, in small pieces.

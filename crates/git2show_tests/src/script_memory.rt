@@ -9,11 +9,6 @@ use linked_list_allocator::LocalHeap;
 use std::alloc::{AllocError, Allocator, Global};
 use std::process::Abort;
 
-/// The usual limit of a request.
-const LIMITS: Limits = Limits {
-    args: Limits::USUAL,
-};
-
 /// A heap gives blocks of this many bytes, and multiples of them.
 const BLOCK: usize = 16;
 
@@ -79,7 +74,7 @@ fn append_written<A: Allocator + Copy>(
 fn least_memory(rt: &impl Abort, alloc: Global, script: &[u8]) -> Result<usize, AllocError> {
     for size in (0..ENOUGH).step_by(BLOCK) {
         let heap = LocalHeap::new(alloc, size)?;
-        let fault = read_script(&heap, script, Format::Sha1, LIMITS).err();
+        let fault = read_script(&heap, script, Format::Sha1, Limits::DEFAULT).err();
         assert_eq!(rt; heap.used(), 0, "of {size} bytes");
         match fault {
             Some(fault) => expect(rt, &fault, &TextFault::OutOfMemory),
@@ -117,7 +112,7 @@ fn with_room_enough_a_script_gives_its_requests(rt: HostRuntime) -> Result<(), A
     let least = least_memory(&rt, rt.alloc(), script.as_slice())?;
     for size in (least..ENOUGH).step_by(1_024) {
         let heap = LocalHeap::new(rt.alloc(), size)?;
-        let requests = read_script(&heap, script.as_slice(), Format::Sha1, LIMITS);
+        let requests = read_script(&heap, script.as_slice(), Format::Sha1, Limits::DEFAULT);
         let requests = requests.expect(&rt, "a script");
         let mut written = Vec::new(rt.alloc());
         for request in &requests {

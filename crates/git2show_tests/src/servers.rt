@@ -26,9 +26,7 @@ pub struct Setup {
 pub fn usual() -> Setup {
     Setup {
         format: Format::Sha1,
-        limits: Limits {
-            args: Limits::USUAL,
-        },
+        limits: Limits::DEFAULT,
         advertise: false,
     }
 }

@@ -66,10 +66,7 @@ fn add_times<A: Allocator + Copy>(
 fn check_kept(rt: &impl Abort, alloc: Global, text: &Text, times: usize) -> Result<(), Fail> {
     let counted = text.counted.saturating_mul(times);
     let heap = LocalHeap::new(alloc, counted.saturating_mul(text.halves) / 2)?;
-    let limits = Limits {
-        args: Limits::USUAL,
-    };
-    let mut request = new_request(&heap, text.command, limits);
+    let mut request = new_request(&heap, text.command, Limits::DEFAULT);
     assert_eq!(rt;
         add_times(&mut request, text, times),
         Ok(()),

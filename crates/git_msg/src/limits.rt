@@ -15,7 +15,14 @@ pub struct Limits {
 impl Limits {
     /// The usual limit: 16,777,216 bytes.
     pub const USUAL: u32 = 16_777_216;
+
+    /// The usual limit alone.
+    pub const DEFAULT: Limits = Limits {
+        args: Limits::USUAL,
+    };
 }
+
+const _: () = prove!(Limits::DEFAULT.args == Limits::USUAL);
 
 /// How many bytes the texts of a request's argument lines may have, and how many they had so far.
 #[derive(Clone, Copy, Debug)]

@@ -29,7 +29,13 @@ impl<A: Allocator + Copy> Model for ObjectInfo<A> {
 
     ghost use Rattle.git_msg.specs.Machine.Insides.{object_info_inside, object_info_stored};
 
-    ghost view = { λ q. record { format = q.format; asked = object_info_inside q; kept = q.budget.kept; limit = q.budget.limit; stored = object_info_stored q } };
+    ghost view = { λ q. record {
+      format = q.format;
+      asked = object_info_inside q;
+      kept = q.budget.kept;
+      limit = q.budget.limit;
+      stored = object_info_stored q;
+    } };
 
     ghost invariant = { λ q. IsCovered q.format (object_info (object_info_inside q)) q.budget.kept (object_info_stored q) };
 }

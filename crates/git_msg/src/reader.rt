@@ -56,7 +56,8 @@ impl<A: Allocator + Copy> RequestReader<A> {
     ghost use Rattle.git_msg.specs.Checks.{Refuses};
     ghost use Rattle.git_msg.specs.Machine.HeldRequest.{IsEmpty};
     ghost use Rattle.git_msg.specs.Lines.{capability_checks};
-    ghost use Rattle.git_msg.specs.Machine.RequestReader.{Takes, TakesOn, KeepsOn, GivesKeepable, counted_as, offer_of, limit_in, kept_so_far, fault_of, is_waiting};
+    ghost use Rattle.git_msg.specs.Machine.RequestReader.{Takes, TakesOn, KeepsOn, GivesKeepable, counted_as};
+    ghost use Rattle.git_msg.specs.Machine.RequestReader.{offer_of, limit_in, kept_so_far, fault_of, is_waiting};
     ghost use Rattle.git_msg.specs.Machine.RequestReaderSteps.{Notes, IsDue, IsUndue, StepsOn, is_first, restarted};
 
     /// A reader at the beginning of a request. It takes memory from `alloc` when an argument with a text or an object

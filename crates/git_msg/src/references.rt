@@ -141,7 +141,5 @@ pub(crate) fn append_id(hold: &mut Hold, id: &Oid)
     ensures appended { hold.new.items ≡ hold.old.items ++ hex_of id.now }
     ensures reads_back { IsObjectName id.now.format (hex_of id.now) id.now }
 {
-    let mut digits = [0; 64];
-    let count = id.write(&mut digits);
-    append(hold, &digits[..count]);
+    append(hold, id.written(&mut [0; 64]));
 }

@@ -54,9 +54,7 @@ pub(crate) fn put_name_line(hold: &mut Hold, word: &[u8], id: &Oid)
     ensures reads_back { IsObjectName id.now.format (hex_of id.now) id.now }
     ensures fits { length (word.now ++ hex_of id.now) < longest_payload }
 {
-    let mut digits = [0; 64];
-    let count = id.write(&mut digits);
-    put_line(hold, word, &digits[..count]);
+    put_line(hold, word, id.written(&mut [0; 64]));
 }
 
 /// Makes the hold the packet of the line of a word and a number.

@@ -74,6 +74,15 @@ impl Oid {
         digits
     }
 
+    /// The name in lower case digits, which are put at the front of the room.
+    pub fn written<'a>(&self, room: &'a mut [u8; 64]) -> &'a [u8]
+        ensures text { result.now ≡ hex_of self.now }
+        ensures reads_back { IsObjectName self.now.format (hex_of self.now) self.now }
+    {
+        let count = self.write(room);
+        &room[..count]
+    }
+
     /// The format of the name.
     pub fn format(&self) -> Format
         ensures value { result ≡ self.now.format }

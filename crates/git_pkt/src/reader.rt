@@ -115,7 +115,8 @@ pub struct PacketReader {
 }
 
 impl PacketReader {
-    ghost use Rattle.git_pkt.specs.Machine.PacketReader.{Reads, ReadsOn, Feeds, Holds, position_of, fault_of, rest_of, open_length, held_of, is_open, passes_of};
+    ghost use Rattle.git_pkt.specs.Machine.PacketReader.{Reads, ReadsOn, Feeds, Holds};
+    ghost use Rattle.git_pkt.specs.Machine.PacketReader.{position_of, fault_of, rest_of, open_length, held_of, is_open, passes_of};
     ghost use Rattle.git_pkt.specs.Machine.BandReader.{BandMoves, FeedsBand, MayPass, ReadsBandsOn};
     ghost use Rattle.git_pkt.specs.contracts.reader.PacketReader.{the_row};
     ghost use Rattle.git_pkt.specs.Machine.LentHold.{LendsHold};

@@ -220,7 +220,5 @@ fn put_digits(room: &mut [u8], at: usize, id: Option<&Oid>) -> usize
     let Some(id) = id else {
         return at;
     };
-    let mut digits = [0; 64];
-    let count = id.write(&mut digits);
-    put_at(room, at, &digits[..count])
+    put_at(room, at, id.written(&mut [0; 64]))
 }

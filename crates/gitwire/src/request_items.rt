@@ -53,7 +53,5 @@ fn put_name_if_any(id: Option<&Oid>, room: &mut [u8]) -> GitwireAnswer
     let Some(id) = id else {
         return GitwireAnswer::of(What::Nothing);
     };
-    let mut digits = [0; 64];
-    let length = id.write(&mut digits);
-    fill(&digits[..length], room)
+    fill(id.written(&mut [0; 64]), room)
 }

@@ -5,7 +5,6 @@ ghost use Rattle.std.specs.Prelude.{◌<◌};
 use crate::runs::{Due, Known, Run, compare};
 use crate::script::Script;
 use crate::sessions::{Contents, repository};
-use crate::setup::limits;
 use crate::texts::copied;
 use crate::trouble::Trouble;
 use git_client::Ending;
@@ -47,7 +46,7 @@ fn played(
     let mut out = Sink::new(Vec::new(alloc), usize::MAX, u32::MAX);
     let mut pack = Sink::new(Vec::new(alloc), usize::MAX, u32::MAX);
     let text = script.input.as_slice();
-    let requests = match read_script(alloc, text, repo.format(), limits(Limits::USUAL)) {
+    let requests = match read_script(alloc, text, repo.format(), Limits::DEFAULT) {
         Ok(requests) => requests,
         Err(TextFault::OutOfMemory) => return Err(Trouble::OutOfMemory),
         Err(TextFault::Bad { line }) => {

@@ -83,9 +83,7 @@ fn append_objects(
     ids: &[Oid],
 ) -> Result<(), AllocError> {
     for id in ids {
-        let mut digits = [0; 64];
-        let end = id.write(&mut digits).min(64);
-        append_text(alloc, lines, word, &digits[..end])?;
+        append_text(alloc, lines, word, id.written(&mut [0; 64]))?;
     }
     Ok(())
 }

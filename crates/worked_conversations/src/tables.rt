@@ -69,9 +69,7 @@ fn say_payload(alloc: Global, lines: &mut Vec<u8>, payload: &[u8]) -> Result<(),
 
 // Appends the line of an object name, as it is written.
 fn say_object(alloc: Global, lines: &mut Vec<u8>, word: &str, id: Oid) -> Result<(), AllocError> {
-    let mut digits = [0; 64];
-    let end = id.write(&mut digits).min(64);
-    say(alloc, lines, word, Said::Bytes(&digits[..end]))
+    say(alloc, lines, word, Said::Bytes(id.written(&mut [0; 64])))
 }
 
 // Appends the line of a number.
