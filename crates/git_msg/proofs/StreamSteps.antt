@@ -1,6 +1,6 @@
 -- A reader of requests from bytes, a packet at a time.
 use Rattle.std.proofs.Common.{◌≡◌, ◌≢◌, ℕ, ◌+◌, ◌-◌, ◌<◌, ◌≤◌, true, false, List, [], ◌∷◌, ◌++◌, length, take, drop, length-drop, Some, None, rules}
-use Rattle.std.proofs.Common.{refl, sym, ap, ◌⊎◌, ◌∙◌, subst, append-nil, append_assoc, zero-add, inr, arith}
+use Rattle.std.proofs.Common.{refl, sym, ap, ◌⊎◌, ◌∙◌, subst, append-nil, append_assoc, zero-add, inl, inr, arith}
 use Rattle.std.proofs.Props.{props}
 use Rattle.std.proofs.Math.Logic.{∥∥₁_elim, ∥∥₁_prop}
 use Rattle.git_pkt.specs.Faults.{StopsBy}
@@ -17,6 +17,7 @@ use Rattle.git_pkt.proofs.KnownRest.{sound_rest, none_between}
 use Rattle.git_pkt.proofs.Pieces.{joined, left_of}
 use Rattle.git_pkt.proofs.Streams.{one_split}
 use Rattle.git_msg.specs.declared.offers.Offer.{Offer}
+use Rattle.git_msg.specs.Admission.{nothing_barred}
 use Rattle.git_msg.specs.Asked.{Asked}
 use Rattle.git_msg.specs.Requests.{IsTold}
 use Rattle.git_msg.specs.Machine.RequestReader.{Takes, offer_of as offer_in, limit_in, kept_so_far, fault_of as reader_fault, is_waiting}
@@ -31,9 +32,9 @@ use Rattle.git_msg.specs.declared.streams.ReadRequest.{ReadRequest}
 use Rattle.git_msg.specs.declared.streams.RequestStream.{RequestStream}
 use Rattle.git_msg.specs.declared.streams.Stage.{Stage}
 use Rattle.git_msg.specs.declared.streams.Stage.TheVariants.{Between, Within, Stopped, Failed as FailedStage}
+use Rattle.git_msg.proofs.Admission.{told_by_none}
 use Rattle.git_msg.proofs.PacketFaults.{NotOfPackets, told_of_packets}
 use Rattle.git_msg.proofs.WholeRequests.{left_at_the_end, one_more_request, requests_more}
-use Rattle.std.proofs.lemmas.Grind.{common_steps}
 
 -- ---- the reader of packets
 
@@ -92,7 +93,7 @@ module _ {A : Type 0} where
   brought_goes_on Stop on = absurd (cc)
   brought_goes_on (Failed fault) on = absurd (cc)
 
-  taken_behind : (old new : RequestReader A) (g : Given) (got : ReadGot A) → Brings old g got new → goes_on got ≡ true → HasTaken old → HasTaken new
+  taken_behind : (old new : RequestReader A) (g : Given) (got : ReadGot A) → Brings nothing_barred old g got new → goes_on got ≡ true → HasTaken old → HasTaken new
   taken_behind old new g More brings on (left, takes) = (left ++ g ∷ [], (brings.brings left takes).0)
   taken_behind old new g (Request request) brings on (left, takes) = ([], (brings.brings left takes).0)
   taken_behind old new g Stop brings on (left, takes) = absurd (cc)
@@ -103,7 +104,7 @@ module _ {A : Type 0} where
   within_limit got new h = h
 
   module _ (old : RequestStream A) (new : RequestReader A) (g : Given) (got : ReadGot A) (stage : Stage)
-      (wants : wants_input old ≡ true) (brings : Brings old.requests g got new) (stage_is : stage ≡ stage_brought got) where
+      (wants : wants_input old ≡ true) (brings : Brings nothing_barred old.requests g got new) (stage_is : stage ≡ stage_brought got) where
     goes_in : takes_bytes stage ≡ true → goes_on got ≡ true
     goes_in on = brought_goes_on got (sym (ap takes_bytes stage_is) ∙ on)
 
@@ -124,7 +125,11 @@ module _ {A : Type 0} where
     pub packet_news : (fault : Fault) (used : ℕ) (piece : List ℕ) → got ≡ Failed fault → ShownByFeed fault used piece
     packet_news fault used piece is =
         let told : HasTaken old.requests → (left : List Given) × IsTold (offer_in new) (limit_in new) (left ++ g ∷ []) fault =
-        λ (left, takes). (left, subst (λ (o : ReadGot A). IsBrought (left ++ g ∷ []) o new) is (brings.brings left takes)) in
+        λ (left, takes). (
+          left,
+          told_by_none (offer_in new) (limit_in new) (left ++ g ∷ []) fault
+              (subst (λ (o : ReadGot A). IsBrought nothing_barred (left ++ g ∷ []) o new) is (brings.brings left takes)),
+        ) in
         let other : (kind : Kind) → NotOfPackets kind → fault.kind ≢ kind =
         λ kind strange name. ∥∥₁_elim (old.taken wants) (λ x y. absurd x) (λ (h : HasTaken old.requests).
         let (left, t) = told h in told_of_packets kind strange (offer_in new) (limit_in new) (left ++ g ∷ []) fault t name) in
@@ -133,7 +138,7 @@ module _ {A : Type 0} where
 module _ {A : Type 0} (old new : RequestStream A) (g : Given) (used : ℕ) (piece : List ℕ) (wants : wants_input old ≡ true) (some : 0 < used)
     (shut : is_open new.packets ≡ false) where
   -- how a reader of bytes is left after a packet
-  pub packet_leaves : (got : ReadGot A) → Brings old.requests g got new.requests → new.stage ≡ stage_brought got → StepLeaves got used piece old new
+  pub packet_leaves : (got : ReadGot A) → Brings nothing_barred old.requests g got new.requests → new.stage ≡ stage_brought got → StepLeaves got used piece old new
   packet_leaves More brings is = (some, ap takes_bytes is)
   packet_leaves (Request request) brings is = (
     some,
@@ -218,7 +223,7 @@ module _ {A : Type 0} (old new : RequestStream A) (u : List ℕ) (wants : wants_
       (λ on. absurd (cc))
 
   -- they end a packet
-  pub packet_read : (g : Given) (got : ReadGot A) → Brings old.requests g got new.requests → new.stage ≡ stage_brought got
+  pub packet_read : (g : Given) (got : ReadGot A) → Brings nothing_barred old.requests g got new.requests → new.stage ≡ stage_brought got
       → packet_fault new.packets ≡ None → is_open new.packets ≡ false → ReadsOn old.packets u (g ∷ []) new.packets
       → HasRead (used ++ u) (asked ++ asked_by got) new
   packet_read g got brings is sound shut reads =
@@ -235,14 +240,17 @@ module _ {A : Type 0} (old new : RequestStream A) (u : List ℕ) (wants : wants_
       none_more = search (rules, append-nil, with_packet)
 
       by : (rest : List ℕ) → Reads new.packets 0 (used ++ u) (h.packets ++ g ∷ []) rest → rest ≡ [] → (got : ReadGot A)
-          → Brings old.requests g got new.requests → new.stage ≡ stage_brought got → HasRead (used ++ u) (asked ++ asked_by got) new
+          → Brings nothing_barred old.requests g got new.requests → new.stage ≡ stage_brought got → HasRead (used ++ u) (asked ++ asked_by got) new
       by rest stream none More brings is = search (rules, takes, has_read, none_more, some_left)
       by rest stream none (Request request) brings is = search (rules, takes, has_read, one_more_request, with_packet)
       by rest stream none Stop brings is = search (rules, has_read, none_more, takes)
-      by rest stream none (Failed fault) brings is = grind (arith, common_steps, has_read, none_more, begun_before, takes)
+      by rest stream none (Failed fault) brings is =
+          let told = told_by_none (offer_of new) (limit_of new) (h.left ++ g ∷ []) fault (brings.brings h.left takes) in
+          has_read (h.packets ++ g ∷ []) (h.left ++ g ∷ []) rest (asked ++ []) (FailedStage fault) is stream none_more
+          (inl (record { front = h.left; last = g; whole = refl; begun = begun_before; told = told; no_rest = none })) (λ on. absurd (cc))
 
   -- a request that they end is the last in the bytes
-  pub packet_counts : (g : Given) (got : ReadGot A) → Brings old.requests g got new.requests → packet_fault new.packets ≡ None
+  pub packet_counts : (g : Given) (got : ReadGot A) → Brings nothing_barred old.requests g got new.requests → packet_fault new.packets ≡ None
       → is_open new.packets ≡ false → ReadsOn old.packets u (g ∷ []) new.packets → EndsWith got (used ++ u) new
   packet_counts g More brings sound shut reads = tt
   packet_counts g Stop brings sound shut reads = tt

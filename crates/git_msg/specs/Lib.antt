@@ -1,3 +1,4 @@
+pub mod Admission
 pub mod Advertisement
 pub mod Arguments
 pub mod Asked

@@ -2,6 +2,7 @@
 //! read, kept and written, and the lines of responses.
 #![tactic(auto)]
 
+mod admits;
 mod arguments;
 mod capabilities;
 mod capability_key;
@@ -27,6 +28,7 @@ mod texts;
 mod writer;
 mod writing;
 
+pub use crate::admits::{Admits, AdmitsAll};
 pub use crate::arguments::{Argument, Command, read_argument};
 pub use crate::capabilities::{AGENT_LINE, Capability, read_capability};
 pub use crate::fetch::Fetch;
@@ -46,7 +48,7 @@ pub use crate::response_lines::{
     Boundary, Info, WantedRef, put_ack, put_boundary, put_info, put_wanted, read_ack,
     read_boundary, read_info, read_wanted,
 };
-pub use crate::streams::{ReadGot, ReadRequest, RequestStream};
+pub use crate::streams::{ReadGot, ReadRequest, RequestStream, take_packet};
 pub use crate::texts::{after, error_message, is_error, is_word, split_at_first};
 pub use crate::writer::RequestWriter;
 pub use crate::writing::put_line;

@@ -1,11 +1,13 @@
 //! Requests, read from bytes that come in pieces.
 
-ghost use Rattle.std.specs.Prelude.{◌≡◌, ◌<◌, ◌≤◌, [], None, true, false, length};
-ghost use Rattle.git_pkt.specs.Packets.{seen};
+ghost use Rattle.std.specs.Prelude.{◌≡◌, ◌<◌, ◌≤◌, ◌+◌, ◌*◌, [], None, true, false, length};
+ghost use Rattle.git_names.specs.Steps.{TakesAtMost};
+ghost use Rattle.git_pkt.specs.Packets.{body_of, seen};
 ghost use Rattle.git_pkt.specs.Machine.PacketReader.{passes_of, fault_of as packet_fault};
 ghost use Rattle.git_msg.specs.Machine.RequestReader.{fault_of as reader_fault, is_waiting, kept_so_far, limit_in};
-ghost use Rattle.git_msg.specs.Machine.StreamStages.{Brings, HasTaken, stage_brought, takes_bytes};
+ghost use Rattle.git_msg.specs.Machine.StreamStages.{Brings, HasTaken, IsCovered, stage_brought, takes_bytes};
 
+use crate::admits::{Admits, AdmitsAll};
 use crate::limits::Limits;
 use crate::offers::Offer;
 use crate::reader::{RequestReader, Taken};
@@ -166,7 +168,7 @@ impl<A: Allocator + Copy> RequestStream<A> {
                 }
             }
             Got::Packet(packet, offset) => {
-                let got = take_packet(&mut self.requests, packet, offset);
+                let got = take_packet(&mut self.requests, &AdmitsAll, packet, offset, &mut steps);
                 self.stage = stage_after(&got);
                 ReadRequest { used, got }
             }
@@ -174,25 +176,39 @@ impl<A: Allocator + Copy> RequestStream<A> {
     }
 }
 
-/// Takes a packet of a request, and keeps its argument, if it is one.
-fn take_packet<A: Allocator + Copy>(
+/// Takes a packet of a request, and keeps its argument, if it is one that is not refused. A fault is that of the packet, or by which its
+/// argument is refused, at its offset; after it the reader takes no packet more.
+pub fn take_packet<A: Allocator + Copy, B: Admits>(
     requests: &mut RequestReader<A>,
+    admits: &B,
     packet: Packet<'_>,
     offset: u64,
+    steps: &mut Steps,
 ) -> ReadGot<A>
     requires sound { reader_fault requests.old ≡ None }
     requires ready { is_waiting requests.old ≡ false }
-    ensures { Brings requests.old (record { packet = seen packet.entry; offset = offset }) result requests.new }
+    ensures brings { Brings (B.refused_as admits.now) requests.old (record { packet = seen packet.entry; offset = offset }) result requests.new }
+    ensures cost { TakesAtMost (53 * (length (body_of (seen packet.entry)) + 1)) steps.old steps.new }
+    ensures covered { IsCovered result }
 {
-    let mut steps = Steps::new();
-    match requests.take(packet, offset, &mut steps) {
+    match requests.take(packet, offset, steps) {
         Ok(taken) => match taken {
             Taken::More => return ReadGot::More,
-            Taken::Argument(argument) => match requests.keep(argument, &mut steps) {
-                Ok(()) => return ReadGot::More,
-                Err(fault) => return ReadGot::Failed(fault),
-            },
-            Taken::Request(request) => return ReadGot::Request(request),
+            Taken::Argument(argument) => {
+                // What may refuse it is asked once.
+                steps.tick(1);
+                if let Some(kind) = admits.refusal_of(&argument) {
+                    return ReadGot::Failed(Fault { kind, offset });
+                }
+                match requests.keep(argument, steps) {
+                    Ok(()) => return ReadGot::More,
+                    Err(fault) => return ReadGot::Failed(fault),
+                }
+            }
+            Taken::Request(request) => {
+                let _ = request.kept();
+                return ReadGot::Request(request);
+            }
             Taken::Stop => return ReadGot::Stop,
         },
         Err(fault) => return ReadGot::Failed(fault),

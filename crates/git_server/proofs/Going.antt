@@ -8,6 +8,7 @@ use Rattle.git_pkt.specs.Machine.PacketReader.{Reads, is_open, fault_of, ShownBy
 use Rattle.git_pkt.specs.declared.fault.Fault.{Fault}
 use Rattle.git_pkt.specs.declared.fault.Kind.{Kind}
 use Rattle.git_pkt.specs.declared.fault.Kind.TheVariants.{PackSource, RemoteError, Truncated, StreamTooLong}
+use Rattle.git_msg.specs.Admission.{IsToldFor}
 use Rattle.git_msg.specs.Asked.{Asked}
 use Rattle.git_msg.specs.Machine.HeldRequest.{asked_of, kept_of, stored_of}
 use Rattle.git_msg.specs.Requests.{Asks}
@@ -21,7 +22,7 @@ use Rattle.git_msg.specs.declared.requests.Request.{Request}
 use Rattle.git_msg.specs.declared.requests.Request.TheVariants.{LsRefs as OfLsRefs, Fetch as OfFetch, ObjectInfo as OfObjectInfo}
 use Rattle.git_server.specs.declared.answer.Answer.TheVariants.{References, Fetching, Sizes}
 use Rattle.git_server.specs.Repository.{Repository, RepoState}
-use Rattle.git_server.specs.Admission.{IsToldFor}
+use Rattle.git_server.specs.Admission.{barred}
 use Rattle.git_server.specs.Packs.{Manner, whole, broken}
 use Rattle.git_server.specs.FetchAnswers.{negotiates}
 use Rattle.git_server.specs.Answers.{AllFit, IsAnswerAs, error_packet, spelled}
@@ -29,8 +30,7 @@ use Rattle.git_server.specs.Machine.AdvertisementLines.{advertisement_from}
 use Rattle.git_server.specs.Sessions.{Begins, IsTail, IsTailBy, Setting, IsRequest, IsSent, IsAnswering, IsEnding, IsRefused, EndsBy}
 use Rattle.git_server.specs.Machine.Phases.{FlushIsAt, LeftIn, MayBreak, Owes, kept_in, outcome_in, reads_in, phase_after, refused_by, stored_in}
 use Rattle.git_server.specs.Machine.AnsweredRequest.{IsAnswerFrom, answer_to, kept_with, stored_with, references_from, sizes_from}
-use Rattle.git_msg.specs.Machine.StreamStages.{IsWithin}
-use Rattle.git_server.specs.Machine.Brought.{Brings, IsBrought, IsCovered}
+use Rattle.git_msg.specs.Machine.StreamStages.{Brings, IsBrought, IsCovered, IsWithin}
 use Rattle.git_server.specs.Machine.Server.{IsPackLost, Running, Serves, StandsBy, outcome_of, wants_input}
 use Rattle.git_server.specs.Machine.ServerCalls.{Goes, ReadsFor, StopsInTime}
 use Rattle.git_server.specs.declared.outcome.Outcome.{Outcome}
@@ -41,7 +41,7 @@ use Rattle.git_server.specs.declared.server.Phase.{Phase}
 use Rattle.git_server.specs.declared.server.Phase.TheVariants.{Advertising, Between, Within, Answering, Refusing, Ended}
 use Rattle.git_server.specs.declared.server.Server.{Server}
 use Rattle.git_pkt.proofs.KnownRest.{sound_rest, none_between}
-use Rattle.git_server.proofs.Admission.{NotOfRepository, not_told_for, request_had}
+use Rattle.git_server.proofs.Admitted.{NotOfRepository, not_told_for, request_had}
 use Rattle.git_server.proofs.Begun.{begins_more, nothing_begins}
 use Rattle.git_msg.proofs.StreamSteps.{stopped_by}
 use Rattle.git_server.proofs.Outcomes.{failures_as, failures_end, other_lost}
@@ -159,7 +159,7 @@ one_more (y ∷ ys) x e = cc
 
 -- no packet of a request is refused by a kind of fault that is neither a packet's nor a repository's
 not_told : {A : Type 0} (kind : Kind) (strange : NotOfPackets kind) → NotOfRepository kind → (offset : ℕ) (packets : List Given) (brought : ReadGot A)
-    (requests : RequestReader A) (repo : Repository) → IsBrought repo packets brought requests
+    (requests : RequestReader A) (repo : Repository) → IsBrought (barred repo) packets brought requests
     → (fault : Fault) → outcome_in (phase_after offset brought) ≡ Some (Refused fault) → fault.kind ≡ kind → ⊥
 not_told kind strange other offset packets More requests repo h fault ended is = cc
 not_told kind strange other offset packets (Whole request) requests repo h fault ended is = cc
@@ -312,11 +312,11 @@ module _ {R A : Type 0} (state : R → RepoState) (old new : Server R A) (u : Li
   packet_stands : (s : Setting) (so_far : List ℕ) (over : Bool) (before : List ℕ) (g : Given) (brought : ReadGot A)
       → wants_input old ≡ true → over ≡ false → (h : Serves s so_far before old) → (rest : List ℕ) → Reads new.reader 0 (so_far ++ u) (h.packets ++ g ∷ []) rest
       → fault_of new.reader ≡ None → is_open new.reader ≡ false → offer_of new.requests ≡ s.offer → limit_in new.requests ≡ s.limit
-      → Brings s.repo old.requests g brought new.requests → new.phase ≡ phase_after g.offset brought
+      → Brings (barred s.repo) old.requests g brought new.requests → new.phase ≡ phase_after g.offset brought
       → StandsBy (outcome_in (phase_after g.offset brought)) s (so_far ++ u) over (before ++ []) new
   packet_stands s so_far over before g More wants not_over h rest stream sound shut offer limit brings phase_is =
-      let (takes, unbarred) = brings.brings h.left h.takes in
-      let begun = begins_more s h.left g new.requests offer limit (brings.sound refl) (brings.ready refl) h.begins takes unbarred in (
+      let (takes, lines, unbarred) = brings.brings h.left h.takes in
+      let begun = begins_more s h.left g new.requests offer limit h.begins lines unbarred in (
         not_over,
         packet_serves s so_far before h.asked (h.packets ++ g ∷ []) (h.left ++ g ∷ []) rest h.sent Within stream sound
             (with_packet s so_far before h g) takes begun phase_is (one_more h.left g) tt
@@ -324,7 +324,7 @@ module _ {R A : Type 0} (state : R → RepoState) (old new : Server R A) (u : Li
             (λ owed breaks. absurd breaks) h.given_is h.fit,
       )
   packet_stands s so_far over before g (Whole request) wants not_over h rest stream sound shut offer limit brings phase_is =
-      let (takes, asks) = brings.brings h.left h.takes in
+      let (takes, asks, of_format) = brings.brings h.left h.takes in
       let asks_here : Asks s.offer s.limit (h.left ++ g ∷ []) (asked_of request) (kept_of request) =
       subst (λ (n : ℕ). Asks s.offer n (h.left ++ g ∷ []) (asked_of request) (kept_of request)) limit
       (subst (λ (o : Offer). Asks o (limit_in new.requests) (h.left ++ g ∷ []) (asked_of request) (kept_of request)) offer asks) in
@@ -344,9 +344,9 @@ module _ {R A : Type 0} (state : R → RepoState) (old new : Server R A) (u : Li
       (with_packet s so_far before h g)
       (brings.brings h.left h.takes, no_rest _ _ rest sound shut stream) owed (sym (owes_at s (Ended Flush) owed phase_is owes))
   packet_stands s so_far over before g (RefusedPacket fault) wants not_over h rest stream sound shut offer limit brings phase_is =
-      let told : IsToldFor s.offer s.limit s.repo (h.left ++ g ∷ []) fault =
-      subst (λ (n : ℕ). IsToldFor s.offer n s.repo (h.left ++ g ∷ []) fault) limit
-      (subst (λ (o : Offer). IsToldFor o (limit_in new.requests) s.repo (h.left ++ g ∷ []) fault) offer (brings.brings h.left h.takes)) in
+      let told : IsToldFor s.offer s.limit (barred s.repo) (h.left ++ g ∷ []) fault =
+      subst (λ (n : ℕ). IsToldFor s.offer n (barred s.repo) (h.left ++ g ∷ []) fault) limit
+      (subst (λ (o : Offer). IsToldFor o (limit_in new.requests) (barred s.repo) (h.left ++ g ∷ []) fault) offer (brings.brings h.left h.takes)) in
       subst (λ (o : Option Outcome). StandsBy o s (so_far ++ u) over (before ++ []) new) (sym (refused_outcome_by A fault.kind fault))
       (λ owed owes. ended_at s so_far over before (h.left ++ g ∷ []) (h.packets ++ g ∷ []) rest (Refused fault) wants h stream
       (with_packet s so_far before h g)
@@ -357,7 +357,7 @@ module _ {R A : Type 0} (state : R → RepoState) (old new : Server R A) (u : Li
 
   -- a packet came of the bytes
   pub goes_packet : (g : Given) (brought : ReadGot A) → IsCovered brought → wants_input old ≡ true → ReadsFor state old u (g ∷ []) new
-      → Brings (state old.repo).answers old.requests g brought new.requests → new.phase ≡ phase_after g.offset brought
+      → Brings (barred (state old.repo).answers) old.requests g brought new.requests → new.phase ≡ phase_after g.offset brought
       → fault_of new.reader ≡ None → is_open new.reader ≡ false → Goes state u [] old new
   goes_packet g brought covered wants reads brings phase_is sound shut s so_far over before r =
       let (not_over, h) = stands_of s so_far over before wants r in
@@ -366,7 +366,7 @@ module _ {R A : Type 0} (state : R → RepoState) (old new : Server R A) (u : Li
       let limit = brings.limit ∙ r.limit in
       let open_ended = no_outcome old.phase wants in
       let kept : kept_so_far old.requests ≤ limit_in old.requests = omega (arith, r.within, r.limit, none_kept old.phase wants) in
-      let brings_here = subst (λ (p : Repository). Brings p old.requests g brought new.requests) r.repo brings in
+      let brings_here = subst (λ (p : Repository). Brings (barred p) old.requests g brought new.requests) r.repo brings in
       record {
         offer = reads.offer ∙ r.offer;
         reads_for = offer;
@@ -439,7 +439,7 @@ module _ {R A : Type 0} (state : R → RepoState) (old : Server R A) (used : ℕ
 
   -- a packet was judged
   pub packet_in_time : (g : Given) (brought : ReadGot A) (requests : RequestReader A) (phase : Phase A)
-      → Brings (state old.repo).answers old.requests g brought requests → phase ≡ phase_after g.offset brought
+      → Brings (barred (state old.repo).answers) old.requests g brought requests → phase ≡ phase_after g.offset brought
       → StopsInTime state old used piece (outcome_in phase)
   packet_in_time g brought requests phase brings phase_is s so_far over before r wants fault ended too_long =
       let h = serves_of state old old [] s so_far over before wants r in

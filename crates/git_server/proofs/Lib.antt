@@ -1,5 +1,5 @@
 pub mod Adjacent
-pub mod Admission
+pub mod Admitted
 pub mod EachSoFar
 pub mod NameOrder
 pub mod FirstOfKey
@@ -7,7 +7,6 @@ pub mod FoundReference
 pub mod FoundObject
 pub mod BoundaryLines
 pub mod Skipped
-pub mod TakenArguments
 pub mod Readers
 pub mod Openings
 pub mod Begun

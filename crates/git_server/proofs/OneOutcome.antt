@@ -9,19 +9,20 @@ use Rattle.git_pkt.specs.declared.fault.Kind.TheVariants.{StreamTooLong, Truncat
 use Rattle.git_pkt.proofs.Cuttings.{one_offset, stops_once, not_open}
 use Rattle.git_pkt.proofs.Streams.{one_split}
 use Rattle.git_msg.specs.declared.offers.Offer.{Offer}
+use Rattle.git_msg.specs.Admission.{IsToldFor}
 use Rattle.git_msg.specs.Asked.{Asked}
 use Rattle.git_msg.specs.Lines.{Line, commands_of, HasFault}
 use Rattle.git_msg.specs.Requests.{AreLines, Asks, IsStop}
 use Rattle.git_msg.specs.WholeRequests.{AreRequests}
 use Rattle.git_msg.proofs.WholeRequests.{NoFlush, NoRequest, flush_inside, flush_is_no_line, last_same, whole_then}
+use Rattle.git_msg.proofs.Admission.{admitted_unbarred, no_flush_barred, one_barred}
 use Rattle.git_msg.proofs.FaultLaws.{no_fault_in_lines, no_fault_in_request, one_first_fault}
-use Rattle.git_server.specs.Admission.{IsToldFor}
+use Rattle.git_server.specs.Admission.{barred}
 use Rattle.git_server.specs.Sessions.{Setting, Begins, FirstMalformed, GoesOn, IsRequest, EndsBy, IsOfTheBytes, IsRefusedAsRead, IsRefusedAtPacket}
 use Rattle.git_server.specs.Sessions.{IsSession, Stream}
 use Rattle.git_server.specs.Sessions.{WantsMemory, WantsPack}
 use Rattle.git_server.specs.declared.outcome.Outcome.{Outcome}
 use Rattle.git_server.specs.declared.outcome.Outcome.TheVariants.{Flush, Closed, Refused}
-use Rattle.git_server.proofs.Admission.{admitted_unbarred, no_flush_barred, one_barred}
 use Rattle.git_server.proofs.Begun.{begun_has_no_flush}
 use Rattle.git_server.proofs.OneSession.{no_request, one_list}
 
@@ -81,9 +82,9 @@ module _ (s : Setting) where
 
   -- a whole request is not refused at its last packet
   not_told_whole : (left : List Given) (q : Asked) (kept : ℕ) (fault : Fault) → Asks s.offer s.limit left q kept
-      → IsToldFor s.offer s.limit s.repo left fault → ⊥
+      → IsToldFor s.offer s.limit (barred s.repo) left fault → ⊥
   not_told_whole left q kept fault asks (inl b) =
-      no_flush_barred s.offer s.limit s.repo left asks.front asks.last fault.kind fault.offset asks.whole asks.ends b
+      no_flush_barred s.offer s.limit (barred s.repo) left asks.front asks.last fault.kind fault.offset asks.whole asks.ends b
   not_told_whole left q kept fault asks (inr (unbarred, inl first)) = no_fault_in_request s.offer s.limit left q kept fault.kind fault.offset asks first
   not_told_whole left q kept fault asks (inr (unbarred, inr w)) =
       let same : w.last ≡ asks.last = last_same w.front asks.front w.last asks.last (sym w.whole ∙ asks.whole) in
@@ -109,8 +110,8 @@ module _ (s : Setting) where
   none_at_end over left rest end (Refused fault) has_pack (inr r) = absurd (has_pack r.name)
 
   -- a flush alone is no fault
-  stop_or_told : (left : List Given) (fault : Fault) → IsStop left → IsToldFor s.offer s.limit s.repo left fault → ⊥
-  stop_or_told left fault stop (inl b) = no_flush_barred s.offer s.limit s.repo left [] stop.last fault.kind fault.offset stop.alone stop.ends b
+  stop_or_told : (left : List Given) (fault : Fault) → IsStop left → IsToldFor s.offer s.limit (barred s.repo) left fault → ⊥
+  stop_or_told left fault stop (inl b) = no_flush_barred s.offer s.limit (barred s.repo) left [] stop.last fault.kind fault.offset stop.alone stop.ends b
   stop_or_told left fault stop (inr (unbarred, inl first)) =
       let here = sym first.whole ∙ stop.alone in
       let lines : first.lines ≡ [] = no_lines_alone s.offer s.limit first.front first.back first.bad stop.last first.lines here first.taken in
@@ -127,9 +128,9 @@ module _ (s : Setting) where
   stop_or_begun left stop none = let it = subst NoFlush stop.alone none in it.0 stop.ends
 
   told_once : (left : List Given) (f g : Fault) → ¬ WantsMemory (Refused f) → ¬ WantsMemory (Refused g)
-      → IsToldFor s.offer s.limit s.repo left f → IsToldFor s.offer s.limit s.repo left g → f ≡ g
+      → IsToldFor s.offer s.limit (barred s.repo) left f → IsToldFor s.offer s.limit (barred s.repo) left g → f ≡ g
   told_once left f g a b (inl h) (inl k) =
-      let same = one_barred s.offer s.limit s.repo left f.kind g.kind f.offset g.offset h k in same_fault f g same.0 same.1
+      let same = one_barred s.offer s.limit (barred s.repo) left f.kind g.kind f.offset g.offset h k in same_fault f g same.0 same.1
   told_once left f g a b (inl h) (inr (unbarred, k)) = absurd (unbarred f.kind f.offset h)
   told_once left f g a b (inr (unbarred, h)) (inl k) = absurd (unbarred g.kind g.offset k)
   told_once left f g a b (inr (none, inl h)) (inr (clear, inl k)) =
@@ -137,9 +138,9 @@ module _ (s : Setting) where
   told_once left f g a b (inr (none, inr w)) (inr (clear, k)) = absurd (a w.name)
   told_once left f g a b (inr (none, inl h)) (inr (clear, inr w)) = absurd (b w.name)
 
-  told_in_lines : (left : List Given) (f : Fault) → ¬ WantsMemory (Refused f) → IsToldFor s.offer s.limit s.repo left f → Begins s left → ⊥
+  told_in_lines : (left : List Given) (f : Fault) → ¬ WantsMemory (Refused f) → IsToldFor s.offer s.limit (barred s.repo) left f → Begins s left → ⊥
   told_in_lines left f a (inl h) begins =
-      admitted_unbarred s.offer s.limit s.repo left begins.lines begins.taken begins.admitted f.kind f.offset h
+      admitted_unbarred s.offer s.limit (barred s.repo) left begins.lines begins.taken begins.admitted f.kind f.offset h
   told_in_lines left f a (inr (unbarred, inl h)) begins = no_fault_in_lines s.offer s.limit left begins.lines f.kind f.offset begins.taken h
   told_in_lines left f a (inr (unbarred, inr w)) begins = a w.name
 

@@ -8,7 +8,7 @@ use Rattle.git_pkt.specs.declared.fault.Kind.TheVariants.{PackSource, StreamTooL
 use Rattle.git_server.specs.Sessions.{Setting, EndsBy, IsRefused, IsSession}
 use Rattle.git_server.specs.declared.outcome.Outcome.{Outcome}
 use Rattle.git_server.specs.declared.outcome.Outcome.TheVariants.{Refused}
-use Rattle.git_server.proofs.Admission.{not_told_for}
+use Rattle.git_server.proofs.Admitted.{not_told_for}
 
 refused_too_long : (s : Setting) (over : Bool) (left : List Given) (rest : List ℕ) (end : ℕ) (fault : Fault) → IsRefused s over left rest end fault
     → fault.kind ≡ StreamTooLong → (over ≡ false) × (end ≡ last_position)

@@ -4,7 +4,6 @@ pub mod Faulty
 pub mod SharedRepo
 pub mod AdvertisementLines
 pub mod WrittenPackets
-pub mod Brought
 pub mod FetchPlaces
 pub mod AnsweredRequest
 pub mod PackParts

@@ -7,12 +7,13 @@ use Rattle.git_pkt.specs.declared.fault.Fault.{Fault}
 use Rattle.git_pkt.specs.declared.fault.Kind.{Kind}
 use Rattle.git_pkt.specs.declared.fault.Kind.TheVariants.{OutOfMemory, PackSource, Truncated}
 use Rattle.git_msg.specs.declared.offers.Offer.{Offer}
+use Rattle.git_msg.specs.Admission.{AreAdmitted, IsToldFor}
 use Rattle.git_msg.specs.Asked.{Asked}
 use Rattle.git_msg.specs.Lines.{Line}
 use Rattle.git_msg.specs.Requests.{AreLines, Asks, IsStop}
 use Rattle.git_msg.specs.WholeRequests.{AreRequests}
 use Rattle.git_server.specs.Repository.{Repository}
-use Rattle.git_server.specs.Admission.{AreAdmitted, HasAsked, IsToldFor}
+use Rattle.git_server.specs.Admission.{barred, HasAsked}
 use Rattle.git_server.specs.Packs.{Manner, whole, broken}
 use Rattle.git_server.specs.Answers.{AllFit, spelled, advertisement_of, refusal_by, IsAnswer, IsAnswerAs}
 use Rattle.git_server.specs.declared.outcome.Outcome.{Outcome}
@@ -51,7 +52,7 @@ pub record Stream (s : Setting) (used : List ℕ) (asked : List Asked) (left : L
 pub record Begins (s : Setting) (left : List Given) : Type 0 where
   pub lines : List Line
   pub taken : AreLines s.offer s.limit [] left lines
-  pub admitted : AreAdmitted s.repo lines
+  pub admitted : AreAdmitted (barred s.repo) lines
 
 -- one of the packets is refused, or memory ran out while its argument was kept; of those before the last none is
 -- refused, and no byte comes after the last
@@ -60,7 +61,7 @@ pub record IsRefusedAtPacket (s : Setting) (left : List Given) (rest : List ℕ)
   pub last : Given
   pub whole : left ≡ front ++ last ∷ []
   pub begins : Begins s front
-  pub told : IsToldFor s.offer s.limit s.repo left fault
+  pub told : IsToldFor s.offer s.limit (barred s.repo) left fault
   pub no_rest : rest ≡ []
 
 -- the bytes after the packets, of which none is refused, are no packet's; the input goes on

@@ -3,6 +3,7 @@
 #![tactic(auto)]
 
 mod acknowledgments;
+mod admission;
 mod advertisement;
 mod answer;
 mod entry;
@@ -17,7 +18,6 @@ mod packets;
 mod packfile;
 mod refusal;
 mod repo;
-mod requests;
 mod run;
 mod sections;
 mod server;

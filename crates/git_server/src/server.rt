@@ -23,13 +23,13 @@ ghost use Rattle.git_pkt.specs.Machine.PacketReader.{is_open, passes_of};
 ghost use Rattle.git_msg.specs.Machine.RequestReader.{fault_of, is_waiting};
 ghost use Rattle.git_server.specs.Machine.Phases.{advertising_phase, lost_pack, outcome_in, owes_in, phase_after, refusal_in, refused_by, turn_in};
 
+use crate::admission::Admission;
 use crate::advertisement::AdvertisementLine;
 use crate::answer::{Answer, Answered};
 use crate::outcome::Outcome;
 use crate::refusal::write_error;
 use crate::repo::Repo;
-use crate::requests::take_packet;
-use git_msg::{Limits, Offer, ReadGot, RequestReader};
+use git_msg::{Limits, Offer, ReadGot, RequestReader, take_packet};
 use git_names::Steps;
 use git_pkt::{Fault, Got, Kind, PacketReader, front_packet};
 use std::alloc::Allocator;
@@ -301,7 +301,8 @@ impl<R: Repo, A: Allocator + Copy> Server<R, A> {
         match fed.got {
             Got::More => used,
             Got::Packet(packet, offset) => {
-                let brought = take_packet(&mut self.requests, &self.repo, packet, offset, steps);
+                let admission = Admission { repo: &self.repo };
+                let brought = take_packet(&mut self.requests, &admission, packet, offset, steps);
                 self.phase = following(brought, offset);
                 used
             }

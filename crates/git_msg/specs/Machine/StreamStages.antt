@@ -1,11 +1,14 @@
 -- The stage of a reader of requests from bytes, and what a packet brings to it.
-use Rattle.std.specs.Prelude.{◌≡◌, ◌≤◌, ℕ, Bool, true, false, Option, None, Some, List, [], ◌∷◌, ◌++◌}
+use Rattle.std.specs.Prelude.{◌≡◌, ◌≤◌, ◌⊎◌, ℕ, Bool, true, false, Option, None, Some, List, [], ◌∷◌, ◌++◌}
 use Rattle.git_pkt.specs.Splits.{Given}
 use Rattle.git_pkt.specs.declared.fault.Fault.{Fault}
+use Rattle.git_pkt.specs.declared.fault.Kind.{Kind}
 use Rattle.git_msg.specs.declared.offers.Offer.{Offer}
-use Rattle.git_msg.specs.Machine.HeldRequest.{asked_of, format_of, kept_of, limit_of}
+use Rattle.git_msg.specs.Admission.{IsToldFor, IsUnbarred}
+use Rattle.git_msg.specs.Arguments.{Arg}
+use Rattle.git_msg.specs.Machine.HeldRequest.{asked_of, format_of, kept_of, limit_of, stored_of}
 use Rattle.git_msg.specs.Lines.{Line}
-use Rattle.git_msg.specs.Requests.{AreLines, Asks, IsTold, IsStop}
+use Rattle.git_msg.specs.Requests.{AreLines, Asks, IsStop}
 use Rattle.git_msg.specs.Machine.RequestReader.{Takes, offer_of, limit_in, kept_so_far, fault_of, is_waiting}
 use Rattle.git_msg.specs.declared.reader.RequestReader.{RequestReader}
 use Rattle.git_msg.specs.declared.streams.Stage.{Stage}
@@ -45,13 +48,19 @@ module _ {A : Type 0} where
   stage_brought Stop = Stopped
   stage_brought (Failed fault) = FailedStage fault
 
-  -- what was brought, where the reader was after these packets
-  abbrev pub IsBrought : List Given → ReadGot A → RequestReader A → Type 0
-  IsBrought packets More new = Takes packets new × AreBegun (offer_of new) (limit_in new) packets
-  IsBrought packets (Request request) new =
+  -- what was brought, where the reader was after these packets, by what refuses an argument
+  abbrev pub IsBrought : (Arg → Option Kind) → List Given → ReadGot A → RequestReader A → Type 0
+  IsBrought barred packets More new =
+      Takes packets new × AreBegun (offer_of new) (limit_in new) packets × IsUnbarred (offer_of new) (limit_in new) barred packets
+  IsBrought barred packets (Request request) new =
       Takes [] new × Asks (offer_of new) (limit_in new) packets (asked_of request) (kept_of request) × (format_of request ≡ (offer_of new).format)
-  IsBrought packets Stop new = IsStop packets
-  IsBrought packets (Failed fault) new = IsTold (offer_of new) (limit_in new) packets fault
+  IsBrought barred packets Stop new = IsStop packets
+  IsBrought barred packets (Failed fault) new = IsToldFor (offer_of new) (limit_in new) barred packets fault
+
+  -- no more is stored of a whole request than is kept of it
+  abbrev pub IsCovered : ReadGot A → Type 0
+  IsCovered (Request request) = stored_of request ≤ kept_of request
+  IsCovered _ = Unit {0}
 
   -- the reading goes on
   abbrev pub goes_on : ReadGot A → Bool
@@ -65,16 +74,17 @@ module _ {A : Type 0} where
   IsWithin (Request request) new = (limit_of request ≡ limit_in new) × (kept_of request ≤ limit_in new) × (kept_so_far new ≡ 0)
   IsWithin got new = kept_so_far new ≤ limit_in new
 
-  -- what a packet does, by what may be brought after all packets since the last request
-  pub record BringsBy (MayBring : List Given → ReadGot A → RequestReader A → Type 0) (old : RequestReader A) (g : Given) (got : ReadGot A)
-      (new : RequestReader A) : Type 0 where
-    pub brings : (packets : List Given) → Takes packets old → MayBring (packets ++ g ∷ []) got new
+  -- after a fault the reader takes no packet more: it stays at the fault, or an argument waits in it that was refused
+  abbrev pub IsStopped : ReadGot A → RequestReader A → Type 0
+  IsStopped (Failed fault) new = (fault_of new ≡ Some fault) ⊎ (is_waiting new ≡ true)
+  IsStopped got new = Unit {0}
+
+  -- what a packet does, whatever packets came since the last request
+  pub record Brings (barred : Arg → Option Kind) (old : RequestReader A) (g : Given) (got : ReadGot A) (new : RequestReader A) : Type 0 where
+    pub brings : (packets : List Given) → Takes packets old → IsBrought barred (packets ++ g ∷ []) got new
     pub sound : goes_on got ≡ true → fault_of new ≡ None
     pub ready : goes_on got ≡ true → is_waiting new ≡ false
+    pub stopped : IsStopped got new
     pub offer : offer_of new ≡ offer_of old
     pub limit : limit_in new ≡ limit_in old
     pub within : kept_so_far old ≤ limit_in old → IsWithin got new
-
-  -- what it does where nothing refuses an argument
-  abbrev pub Brings : RequestReader A → Given → ReadGot A → RequestReader A → Type 0
-  Brings = BringsBy IsBrought

@@ -17,11 +17,11 @@ invariant_of-self-in-Packet g c =
     let feeds = feeds_with old.packets c.feed-fed.follows.lender-at-none c.args.piece.now c.feed-fed.result _ c.in-Packet.is c.feed-fed.follows.holds-at-none in
     record {
       sound = λ on. feeds.tells.1;
-      open_ended = sound_behind old new given got stage c.requires.waits c.take_packet-got.ensures c.stage_after-self.ensures;
-      ready = ready_behind old new given got stage c.requires.waits c.take_packet-got.ensures c.stage_after-self.ensures;
+      open_ended = sound_behind old new given got stage c.requires.waits c.take_packet-got.ensures.brings c.stage_after-self.ensures;
+      ready = ready_behind old new given got stage c.requires.waits c.take_packet-got.ensures.brings c.stage_after-self.ensures;
       gathers = c.feed-fed.follows.holds-at-none.gathers;
-      taken = some_taken_behind old new given got stage c.requires.waits c.take_packet-got.ensures c.stage_after-self.ensures;
-      within = within_behind old new given got stage c.requires.waits c.take_packet-got.ensures c.stage_after-self.ensures;
+      taken = some_taken_behind old new given got stage c.requires.waits c.take_packet-got.ensures.brings c.stage_after-self.ensures;
+      within = within_behind old new given got stage c.requires.waits c.take_packet-got.ensures.brings c.stage_after-self.ensures;
     }
 
 pub returns-in-Packet-clause-steps : goal.returns-in-Packet-clause-steps
@@ -31,7 +31,7 @@ returns-in-Packet-clause-steps g c =
     let fed = c.feed-fed.result in
     let given : Given = record { packet = seen c.in-Packet.packet; offset = c.in-Packet.offset } in
     let got = c.take_packet-got.result in
-    let brings = c.take_packet-got.ensures in
+    let brings = c.take_packet-got.ensures.brings in
     let feeds = feeds_with old.packets c.feed-fed.follows.lender-at-none piece fed _ c.in-Packet.is c.feed-fed.follows.holds-at-none in
     record {
       reads = λ used asked h.

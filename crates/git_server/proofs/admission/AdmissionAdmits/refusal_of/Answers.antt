@@ -1,18 +1,18 @@
 use Rattle.std.proofs.Common.{◌≡◌, refl}
 use Rattle.git_server.specs.Repository.{Repository, found_ref}
 use Rattle.git_server.proofs.FoundReference.{found_is}
-use Rattle.git_server.proofs.requests.refusal_of.Goals as goal
+use Rattle.git_server.proofs.admission.AdmissionAdmits.refusal_of.Goals as goal
 
 pub returns-in-Some : goal.returns-in-Some
 returns-in-Some g c =
-    let repo : Repository = (g.R.Repo.state c.args.repo.now).answers in
+    let repo : Repository = (g.R.Repo.state c.args.self.now.repo.now).answers in
     let found : found_ref repo.refs c.in-WantRef.name.now ≡ c.find.result =
-    found_is repo.refs c.in-WantRef.name.now c.find.result (g.met.R.Repo.sound c.args.repo.now).rising c.find.ensures in
+    found_is repo.refs c.in-WantRef.name.now c.find.result (g.met.R.Repo.sound c.args.self.now.repo.now).rising c.find.ensures in
     rw (c.in-WantRef.is, found, c.in-Some.is) refl
 
 pub returns-in-None : goal.returns-in-None
 returns-in-None g c =
-    let repo : Repository = (g.R.Repo.state c.args.repo.now).answers in
+    let repo : Repository = (g.R.Repo.state c.args.self.now.repo.now).answers in
     let found : found_ref repo.refs c.in-WantRef.name.now ≡ c.find.result =
-    found_is repo.refs c.in-WantRef.name.now c.find.result (g.met.R.Repo.sound c.args.repo.now).rising c.find.ensures in
+    found_is repo.refs c.in-WantRef.name.now c.find.result (g.met.R.Repo.sound c.args.self.now.repo.now).rising c.find.ensures in
     rw (c.in-WantRef.is, found, c.in-None.is) refl

@@ -1,0 +1,52 @@
+-- Arguments that are well formed and refused all the same, by what may refuse one: a server's repository, or nothing.
+use Rattle.std.specs.Prelude.{◌≡◌, ◌⊎◌, ℕ, true, All, Option, Some, None, List, [], ◌∷◌, ◌++◌}
+use Rattle.git_pkt.specs.Packets.{Pkt, payload, text_of}
+use Rattle.git_pkt.specs.Splits.{Given}
+use Rattle.git_pkt.specs.declared.fault.Fault.{Fault}
+use Rattle.git_pkt.specs.declared.fault.Kind.{Kind}
+use Rattle.git_msg.specs.declared.offers.Offer.{Offer}
+use Rattle.git_msg.specs.Arguments.{Arg}
+use Rattle.git_msg.specs.Lines.{Line, arguments_of, has_delimiter, IsArgumentText}
+use Rattle.git_msg.specs.Requests.{AreLines, IsTold}
+
+-- by which name an argument is refused where none is
+abbrev pub nothing_barred : Arg → Option Kind
+nothing_barred arg = None
+
+-- the argument is refused by no name
+abbrev pub IsAdmitted : (Arg → Option Kind) → Arg → Type 0
+IsAdmitted barred arg = barred arg ≡ None
+
+-- nor is any argument of these lines
+abbrev pub AreAdmitted : (Arg → Option Kind) → List Line → Type 0
+AreAdmitted barred lines = All (IsAdmitted barred) (arguments_of lines)
+
+-- after these lines, the packet is an argument that is refused by this name
+pub record IsBarred (offer : Offer) (barred : Arg → Option Kind) (before : List Line) (packet : Pkt) (kind : Kind) : Type 0 where
+  pub bytes : List ℕ
+  pub arg : Arg
+  pub behind : has_delimiter before ≡ true
+  pub data_packet : packet ≡ payload bytes
+  pub is_text : IsArgumentText offer before (text_of bytes) arg
+  pub refuses : barred arg ≡ Some kind
+
+-- the last of the packets is such an argument, and those before it are lines of a request
+pub record IsBarredAtLast (offer : Offer) (limit : ℕ) (barred : Arg → Option Kind) (packets : List Given) (kind : Kind) (offset : ℕ) : Type 0 where
+  pub front : List Given
+  pub last : Given
+  pub lines : List Line
+  pub whole : packets ≡ front ++ last ∷ []
+  pub taken : AreLines offer limit [] front lines
+  pub is_barred : IsBarred offer barred lines last.packet kind
+  pub at : offset ≡ last.offset
+
+-- the last of the packets is no argument that is refused so
+abbrev pub IsUnbarred : Offer → ℕ → (Arg → Option Kind) → List Given → Type 0
+IsUnbarred offer limit barred packets = (kind : Kind) (offset : ℕ) → ¬ IsBarredAtLast offer limit barred packets kind offset
+
+-- a fault of these packets: what the last, an argument, is refused for so, which comes before the limit and before want
+-- of memory, or else what a reader of requests reports
+abbrev pub IsToldFor : Offer → ℕ → (Arg → Option Kind) → List Given → Fault → Type 0
+IsToldFor offer limit barred packets fault =
+    IsBarredAtLast offer limit barred packets fault.kind fault.offset
+    ⊎ (IsUnbarred offer limit barred packets × IsTold offer limit packets fault)

@@ -1,0 +1,31 @@
+//! What may refuse an argument of a request that is well formed.
+
+ghost use Rattle.std.specs.Prelude.{◌≡◌, Option};
+ghost use Rattle.git_pkt.specs.declared.fault.Kind.{Kind};
+ghost use Rattle.git_msg.specs.Arguments.{Arg, shown};
+ghost use Rattle.git_msg.specs.Admission.{nothing_barred};
+
+use crate::arguments::Argument;
+use git_pkt::Kind;
+
+/// What may refuse an argument of a request that is well formed: a server's repository, or nothing.
+pub trait Admits {
+    /// By which name an argument is refused, where it is.
+    ghost refused_as: { Self → Arg → Option Kind };
+
+    /// By which name it refuses the argument, if it does.
+    fn refusal_of(&self, argument: &Argument<'_>) -> Option<Kind>
+        ensures { result ≡ refused_as self.now (shown argument.now) };
+}
+
+/// It refuses no argument.
+#[derive(Clone, Copy, Debug)]
+pub struct AdmitsAll;
+
+impl Admits for AdmitsAll {
+    ghost refused_as = { λ all. nothing_barred };
+
+    fn refusal_of(&self, _argument: &Argument<'_>) -> Option<Kind> {
+        None
+    }
+}

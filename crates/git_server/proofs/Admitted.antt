@@ -1,0 +1,92 @@
+-- What follows of requests of which the repository refuses an argument, or none.
+use Rattle.std.proofs.Common.{◌≡◌, ◌≢◌, ℕ, Bool, true, false, if◌then◌else◌, All, IfSome, Option, Some, None, List, [], ◌∷◌, ◌++◌}
+use Rattle.std.proofs.Common.{refl, sym, ap, ◌∙◌, subst, inl, inr}
+use Rattle.std.proofs.lemmas.List.Elements.{All-weaker}
+use Rattle.git_names.specs.ObjectName.{ObjectName}
+use Rattle.git_pkt.specs.Splits.{Given}
+use Rattle.git_pkt.specs.declared.fault.Fault.{Fault}
+use Rattle.git_pkt.specs.declared.fault.Kind.{Kind}
+use Rattle.git_pkt.specs.declared.fault.Kind.TheVariants.{NotOurs, UnknownRef}
+use Rattle.git_msg.specs.declared.offers.Offer.{Offer}
+use Rattle.git_msg.specs.declared.arguments.Command.{Command}
+use Rattle.git_msg.specs.declared.arguments.Command.TheVariants.{LsRefs, Fetch, ObjectInfo}
+use Rattle.git_msg.specs.Admission.{AreAdmitted, IsAdmitted, IsToldFor}
+use Rattle.git_msg.specs.Arguments.{Arg, Value, Word, id_value, of_flag, text_value, want, want_ref}
+use Rattle.git_msg.specs.declared.flags.Flag.{Flag}
+use Rattle.git_msg.specs.Asked.{Asked, asked_by, id_in, text_in}
+use Rattle.git_msg.specs.Lines.{Line, arguments_of}
+use Rattle.git_msg.specs.Requests.{AreLines, Asks}
+use Rattle.git_msg.proofs.FoundParts.{All-filter_map}
+use Rattle.git_msg.proofs.LineLaws.{fronts_same, one_list_of_lines}
+use Rattle.git_msg.proofs.PacketFaults.{NotOfPackets, told_of_packets}
+use Rattle.git_server.specs.Repository.{Repository, found_ref}
+use Rattle.git_server.specs.Admission.{barred, barred_ref, barred_value, HasAsked}
+
+had_by : (b : Bool) → (if b then None else Some NotOurs) ≡ None → b ≡ true
+had_by true h = refl
+had_by false h = absurd (cc)
+
+found_by : (found : Option ObjectName) → barred_ref found ≡ None → found ≢ None
+found_by (Some id) h none = cc
+found_by None h none = cc
+
+-- not one of the names by which a repository refuses an argument
+pub record NotOfRepository (kind : Kind) : Type 0 where
+  pub not_ours : kind ≢ NotOurs
+  pub not_unknown : kind ≢ UnknownRef
+
+barred_by : (b : Bool) (kind : Kind) → NotOfRepository kind → (if b then None else Some NotOurs) ≡ Some kind → ⊥
+barred_by true kind other h = cc
+barred_by false kind other h = other.not_ours (cc)
+
+unfound_by : (found : Option ObjectName) (kind : Kind) → NotOfRepository kind → barred_ref found ≡ Some kind → ⊥
+unfound_by (Some id) kind other h = cc
+unfound_by None kind other h = other.not_unknown (cc)
+
+value_not_barred : (repo : Repository) (word : Word) (value : Value) (kind : Kind) → NotOfRepository kind → barred_value repo word value ≡ Some kind → ⊥
+value_not_barred repo want (id_value id) kind other h = barred_by (repo.has id) kind other h
+value_not_barred repo want_ref (text_value name) kind other h = unfound_by (found_ref repo.refs name) kind other h
+value_not_barred repo word value kind other h = absurd (cc)
+
+not_barred : (repo : Repository) (arg : Arg) (kind : Kind) → NotOfRepository kind → barred repo arg ≡ Some kind → ⊥
+not_barred repo arg kind other h = value_not_barred repo arg.word arg.value kind other h
+
+want_had : (repo : Repository) (word : Word) (value : Value) → barred_value repo word value ≡ None
+    → IfSome (id_in want (record { word = word; value = value })) (λ id. repo.has id ≡ true)
+want_had repo want (id_value id) h = had_by (repo.has id) h
+want_had repo (of_flag Flag.Size) value h = tt
+want_had repo word value h = tt
+
+ref_found : (repo : Repository) (word : Word) (value : Value) → barred_value repo word value ≡ None
+    → IfSome (text_in want_ref (record { word = word; value = value })) (λ name. found_ref repo.refs name ≢ None)
+ref_found repo want_ref (text_value name) h = found_by (found_ref repo.refs name) h
+ref_found repo (of_flag Flag.Size) value h = tt
+ref_found repo word value h = tt
+
+-- a request of admitted arguments asks for objects and references that the repository has
+asked_had : (repo : Repository) (c : Command) (args : List Arg) → All (IsAdmitted (barred repo)) args → HasAsked repo (asked_by c args)
+asked_had repo LsRefs args h = tt
+asked_had repo ObjectInfo args h = tt
+asked_had repo Fetch args h = (
+  All-filter_map (λ id. repo.has id ≡ true) (id_in want) args
+      (All-weaker (IsAdmitted (barred repo)) (λ arg. IfSome (id_in want arg) (λ id. repo.has id ≡ true)) (λ arg. want_had repo arg.word arg.value) args h),
+  All-filter_map (λ name. found_ref repo.refs name ≢ None) (text_in want_ref) args
+      (All-weaker (IsAdmitted (barred repo)) (λ arg. IfSome (text_in want_ref arg) (λ name. found_ref repo.refs name ≢ None))
+      (λ arg. ref_found repo arg.word arg.value) args h),
+)
+
+module _ (offer : Offer) (limit : ℕ) (repo : Repository) where
+  -- a fault of the packets that no packet is refused for, but by a repository
+  pub not_told_for : (packets : List Given) (fault : Fault) (kind : Kind) → NotOfPackets kind → NotOfRepository kind
+      → IsToldFor offer limit (barred repo) packets fault → fault.kind ≢ kind
+  not_told_for packets fault kind strange other (inl b) is =
+      not_barred repo b.is_barred.arg kind other (b.is_barred.refuses ∙ ap Some is)
+  not_told_for packets fault kind strange other (inr (unbarred, told)) is = told_of_packets kind strange offer limit packets fault told is
+
+  -- what a whole request asks for, whose lines are admitted
+  pub request_had : (left : List Given) (g : Given) (lines : List Line) (q : Asked) (kept : ℕ) → AreLines offer limit [] left lines
+      → AreAdmitted (barred repo) lines → Asks offer limit (left ++ g ∷ []) q kept → HasAsked repo q
+  request_had left g lines q kept are admitted asks =
+      let its_lines = subst (λ (gs : List Given). AreLines offer limit [] gs lines) (fronts_same left asks.front g asks.last asks.whole) are in
+      let same = one_list_of_lines offer limit [] asks.front lines asks.lines its_lines asks.taken in
+      subst (HasAsked repo) (sym asks.asked_is) (asked_had repo asks.command (arguments_of asks.lines) (subst (AreAdmitted (barred repo)) same admitted))

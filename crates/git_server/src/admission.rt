@@ -1,0 +1,35 @@
+//! What a repository refuses of a request.
+
+ghost use Rattle.std.specs.Prelude.{◌≡◌};
+ghost use Rattle.git_server.specs.Admission.{barred};
+
+use crate::repo::Repo;
+use git_msg::{Admits, Argument};
+use git_pkt::Kind;
+
+/// A repository, as what refuses an argument of a request: a want of an object or a reference that it does not have.
+#[derive(Drop)]
+pub(crate) struct Admission<'r, R> {
+    /// The repository that is asked.
+    pub(crate) repo: &'r R,
+}
+
+impl<'r, R: Repo> Admits for Admission<'r, R> {
+    ghost refused_as = { λ admission. barred (R.state admission.repo.now).answers };
+
+    fn refusal_of(&self, argument: &Argument<'_>) -> Option<Kind> {
+        match argument {
+            Argument::Want(id) => {
+                if self.repo.has(id) {
+                    return None;
+                }
+                Some(Kind::NotOurs)
+            }
+            Argument::WantRef(name) => match self.repo.find(name) {
+                Some(_) => None,
+                None => Some(Kind::UnknownRef),
+            },
+            _ => None,
+        }
+    }
+}
