@@ -137,7 +137,8 @@ module _ (offer : Offer) (limit : ℕ) (barred : Arg → Option Kind) where
         is_barred = b;
         at = refl;
       })) in
-      let both = All-append (IsAdmitted barred) (arguments_of h.front) (option_to_list (argument_in h.last)) (subst (AreAdmitted barred) fronts admitted) last in
+      let before_last = subst (AreAdmitted barred) fronts admitted in
+      let both = All-append (IsAdmitted barred) (arguments_of h.front) (option_to_list (argument_in h.last)) before_last last in
       subst (AreAdmitted barred) (sym h.whole) (subst (All (IsAdmitted barred)) (sym (arguments_snoc h.front h.last)) both)
 
   -- of admitted lines the last is not barred

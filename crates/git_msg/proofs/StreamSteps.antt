@@ -93,7 +93,8 @@ module _ {A : Type 0} where
   brought_goes_on Stop on = absurd (cc)
   brought_goes_on (Failed fault) on = absurd (cc)
 
-  taken_behind : (old new : RequestReader A) (g : Given) (got : ReadGot A) → Brings nothing_barred old g got new → goes_on got ≡ true → HasTaken old → HasTaken new
+  taken_behind : (old new : RequestReader A) (g : Given) (got : ReadGot A) → Brings nothing_barred old g got new → goes_on got ≡ true → HasTaken old
+      → HasTaken new
   taken_behind old new g More brings on (left, takes) = (left ++ g ∷ [], (brings.brings left takes).0)
   taken_behind old new g (Request request) brings on (left, takes) = ([], (brings.brings left takes).0)
   taken_behind old new g Stop brings on (left, takes) = absurd (cc)
@@ -138,7 +139,8 @@ module _ {A : Type 0} where
 module _ {A : Type 0} (old new : RequestStream A) (g : Given) (used : ℕ) (piece : List ℕ) (wants : wants_input old ≡ true) (some : 0 < used)
     (shut : is_open new.packets ≡ false) where
   -- how a reader of bytes is left after a packet
-  pub packet_leaves : (got : ReadGot A) → Brings nothing_barred old.requests g got new.requests → new.stage ≡ stage_brought got → StepLeaves got used piece old new
+  pub packet_leaves : (got : ReadGot A) → Brings nothing_barred old.requests g got new.requests → new.stage ≡ stage_brought got
+      → StepLeaves got used piece old new
   packet_leaves More brings is = (some, ap takes_bytes is)
   packet_leaves (Request request) brings is = (
     some,

@@ -8,10 +8,8 @@ use Rattle.std.proofs.lemmas.List.{ext_get_or, get_or_append_left, get_or-append
 use Rattle.std.proofs.lemmas.List.{get_or-take, take_all, length-append, length-drop, length-replicate, length-take-le}
 use Rattle.std.proofs.lemmas.List.FromFn.{get_or-map-range_with_len}
 use Rattle.std.proofs.Math.Seq.{take-append_seam, drop-append_seam}
-use Rattle.git_names.specs.declared.object_format.Format.{Format}
 use Rattle.git_names.specs.declared.object_format.Format.TheVariants.{Sha1, Sha256}
-use Rattle.git_names.specs.ObjectFormat.{digits_of}
-use Rattle.git_names.specs.Digits.{AreDigits, HaveValues, IsHexDigit, digit_value}
+use Rattle.git_names.specs.Digits.{AreDigits, HaveValues, digit_value}
 use Rattle.git_names.specs.ObjectName.{IsNoObjectName, IsObjectName}
 use Rattle.git_names.proofs.Pairs.{pairs_from}
 use Rattle.git_names.proofs.WrittenForms.{digits-object_name}

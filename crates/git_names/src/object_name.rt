@@ -74,7 +74,7 @@ impl Oid {
         digits
     }
 
-    /// The name in lower case digits, which are put at the front of the room.
+    /// The name in lower case digits, which are put at the front of the room. What the room has after them means nothing.
     pub fn written<'a>(&self, room: &'a mut [u8; 64]) -> &'a [u8]
         ensures text { result.now ≡ hex_of self.now }
         ensures reads_back { IsObjectName self.now.format (hex_of self.now) self.now }

@@ -342,7 +342,7 @@ module _ {R A : Type 0} (state : R → RepoState) (old new : Server R A) (u : Li
   packet_stands s so_far over before g Stop wants not_over h rest stream sound shut offer limit brings phase_is =
       λ owed owes. ended_at s so_far over before (h.left ++ g ∷ []) (h.packets ++ g ∷ []) rest Flush wants h stream
       (with_packet s so_far before h g)
-      (brings.brings h.left h.takes, no_rest _ _ rest sound shut stream) owed (sym (owes_at s (Ended Flush) owed phase_is owes))
+      ((brings.brings h.left h.takes).1, no_rest _ _ rest sound shut stream) owed (sym (owes_at s (Ended Flush) owed phase_is owes))
   packet_stands s so_far over before g (RefusedPacket fault) wants not_over h rest stream sound shut offer limit brings phase_is =
       let told : IsToldFor s.offer s.limit (barred s.repo) (h.left ++ g ∷ []) fault =
       subst (λ (n : ℕ). IsToldFor s.offer n (barred s.repo) (h.left ++ g ∷ []) fault) limit

@@ -54,7 +54,7 @@ module _ {A : Type 0} where
       Takes packets new × AreBegun (offer_of new) (limit_in new) packets × IsUnbarred (offer_of new) (limit_in new) barred packets
   IsBrought barred packets (Request request) new =
       Takes [] new × Asks (offer_of new) (limit_in new) packets (asked_of request) (kept_of request) × (format_of request ≡ (offer_of new).format)
-  IsBrought barred packets Stop new = IsStop packets
+  IsBrought barred packets Stop new = Takes [] new × IsStop packets
   IsBrought barred packets (Failed fault) new = IsToldFor (offer_of new) (limit_in new) barred packets fault
 
   -- no more is stored of a whole request than is kept of it
@@ -74,8 +74,10 @@ module _ {A : Type 0} where
   IsWithin (Request request) new = (limit_of request ≡ limit_in new) × (kept_of request ≤ limit_in new) × (kept_so_far new ≡ 0)
   IsWithin got new = kept_so_far new ≤ limit_in new
 
-  -- after a fault the reader takes no packet more: it stays at the fault, or an argument waits in it that was refused
+  -- after the flush by which the other end leaves the reader has no fault, and no argument waits in it; after a fault it takes no packet
+  -- more: it stays at the fault, or an argument waits in it that was refused
   abbrev pub IsStopped : ReadGot A → RequestReader A → Type 0
+  IsStopped Stop new = (fault_of new ≡ None) × (is_waiting new ≡ false)
   IsStopped (Failed fault) new = (fault_of new ≡ Some fault) ⊎ (is_waiting new ≡ true)
   IsStopped got new = Unit {0}
 

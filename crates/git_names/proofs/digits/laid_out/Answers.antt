@@ -1,4 +1,4 @@
-use Rattle.std.proofs.Common.{arith, sym, ◌∙◌}
+use Rattle.std.proofs.Common.{arith, sym}
 use Rattle.std.proofs.lemmas.List.{length-take-le}
 use Rattle.git_names.proofs.Joined.{laid_out_by_parts}
 use Rattle.git_names.proofs.digits.laid_out.Goals as goal
