@@ -19,6 +19,7 @@ pub mod Held
 pub mod Closed
 pub mod Determined
 pub mod Writing
+pub mod EventLines
 pub mod Faults
 pub mod OneFault
 pub mod Packs

@@ -13,6 +13,7 @@ use Rattle.git_client.specs.declared.events.Event.{Event}
 use Rattle.git_client.specs.declared.events.Event.TheVariants.{Pack, Progress}
 use Rattle.git_client.specs.declared.hearing.Counts.{Counts}
 use Rattle.git_client.proofs.Counting.{counts_of, same_counts}
+use Rattle.git_client.proofs.EventLines.{no_lines_of_pack, no_lines_of_progress}
 use Rattle.git_client.proofs.PlaceLines.{band_is}
 use Rattle.git_pkt.proofs.EngineLemmas.{written_nothing, written_whole}
 
@@ -31,14 +32,6 @@ written_by (Err WriteFault) before after bytes whole front failed = front
 written_by (Err fault) before after bytes whole front failed = absurd (cc)
 
 -- ---- bytes of the pack and of the progress
-
-no_lines_of_pack : (bytes : List ℕ) (p q : ℕ) → lines_of (map pack bytes) p q ≡ []
-no_lines_of_pack [] p q = refl
-no_lines_of_pack (byte ∷ bytes) p q = no_lines_of_pack bytes p q
-
-no_lines_of_progress : (bytes : List ℕ) (p q : ℕ) → lines_of (map progress bytes) p q ≡ []
-no_lines_of_progress [] p q = refl
-no_lines_of_progress (byte ∷ bytes) p q = no_lines_of_progress bytes p q
 
 no_progress_of_pack : (bytes : List ℕ) → progress_bytes (map pack bytes) ≡ []
 no_progress_of_pack [] = refl

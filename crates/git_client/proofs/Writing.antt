@@ -1,5 +1,5 @@
 -- A line that is written part after part.
-use Rattle.std.proofs.Common.{Bool, true, false, ◌||◌, ◌≡◌, ℕ, ◌+◌, ◌-◌, ◌<◌, ◌≤◌, List, [], ◌∷◌, ◌++◌, take, drop, length, map, codes, slice_index_or, Option}
+use Rattle.std.proofs.Common.{Bool, true, false, ◌||◌, ◌≡◌, ℕ, ◌+◌, ◌-◌, ◌<◌, ◌≤◌, List, [], ◌∷◌, ◌++◌, take, drop, length, codes, slice_index_or, Option}
 use Rattle.std.proofs.Common.{Result, Ok, Err, IsErrAnd, refl, ap, ap₂, sym, ◌∙◌, subst, append_assoc, append-nil}
 use Rattle.std.proofs.Common.{arith, take-add, take-take, take_at, drop_at}
 use Rattle.std.proofs.lemmas.List.{drop_more, drop_all}
@@ -13,8 +13,6 @@ use Rattle.git_pkt.specs.declared.told.Told.{Told}
 use Rattle.git_pkt.proofs.Escapes.{escaped-append, escaped-parts}
 use Rattle.git_pkt.proofs.EngineLemmas.{take-next}
 use Rattle.git_pkt.proofs.Sends.{puts_then, puts_front, sends_all, sends_stopped}
-use Rattle.git_client.specs.Events.{EventValue}
-use Rattle.git_client.specs.Transcript.{line_of, lines_of}
 use Rattle.git_client.specs.Machine.LineParts.{part_shown, line_shown}
 use Rattle.git_client.specs.declared.line.Part.{Part}
 
@@ -73,7 +71,7 @@ abbrev pub joined : List (List ℕ) → List ℕ
 joined [] = []
 joined (part ∷ parts) = part ++ joined parts
 
-one_line : (so_far : List ℕ) (parts : List (List ℕ)) → so_far ++ joined parts ≡ after_all so_far parts
+pub one_line : (so_far : List ℕ) (parts : List (List ℕ)) → so_far ++ joined parts ≡ after_all so_far parts
 one_line so_far [] = append-nil so_far
 one_line so_far (part ∷ parts) = sym (append_assoc so_far part (joined parts)) ∙ one_line (so_far ++ part) parts
 
@@ -94,20 +92,9 @@ line_same [] (others ∷ rest) same = absurd same
 line_same (bytes ∷ more) [] same = absurd same
 
 module _ {W T : Type 0} {contents : W → Option (List ℕ)} {a c : Told W} {s t : List ℕ} {result : Result T RunFault} where
-  pub puts_line : (so_far : List ℕ) (parts : List (List ℕ)) → Puts contents a s (so_far ++ joined parts) result c t
-      → Puts contents a s (after_all so_far parts) result c t
-  puts_line so_far parts puts = subst (λ (l : List ℕ). Puts contents a s l result c t) (one_line so_far parts) puts
-
   pub puts_as : (given shown : List (List ℕ)) → AreSame given shown → Puts contents a s (line_by given) result c t
       → Puts contents a s (line_by shown) result c t
   puts_as given shown same puts = subst (λ (l : List ℕ). Puts contents a s l result c t) (line_same given shown same) puts
-
--- events of which each has no line have none
-pub no_lines : (say : ℕ → EventValue) (packed told : ℕ) → ((byte : ℕ) → line_of (say byte) packed told ≡ []) → (bytes : List ℕ)
-    → lines_of (map say bytes) packed told ≡ []
-no_lines say packed told none [] = refl
-no_lines say packed told none (byte ∷ bytes) =
-    ap (λ (l : List ℕ). l ++ lines_of (map say bytes) packed told) (none byte) ∙ no_lines say packed told none bytes
 
 pub no_failure : (now was first : Bool) → now ≡ (was || false) → was ≡ first → now ≡ first
 no_failure now true first e h = e ∙ h

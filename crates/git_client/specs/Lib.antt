@@ -5,5 +5,6 @@ pub mod Events
 pub mod Opened
 pub mod Conversation
 pub mod Packs
+pub mod EventParts
 pub mod Transcript
 pub mod Machine

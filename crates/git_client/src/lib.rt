@@ -4,6 +4,7 @@
 mod asking;
 mod client;
 mod conversing;
+mod event_parts;
 mod events;
 mod hearing;
 mod judge;
@@ -16,6 +17,7 @@ mod transcript;
 
 pub use crate::client::Client;
 pub use crate::conversing::{ask_next, converse};
+pub use crate::event_parts::{EventKind, EventParts};
 pub use crate::events::{Ending, Event, Heard, HeardGot, Sent};
 pub use crate::hearing::{Counts, Window, hear, hear_piece};
 pub use crate::transcript::{write_asked, write_event};

@@ -1,13 +1,14 @@
 //! The transcript of a conversation: one line of text for each event.
 
-ghost use Rattle.std.specs.Prelude.{◌≡◌, ◌++◌, codes};
+ghost use Rattle.std.specs.Prelude.{◌≡◌};
 ghost use Rattle.std.specs.Option.{option_copied};
 ghost use Rattle.git_pkt.specs.Machine.Sends.{Puts, Sends};
-ghost use Rattle.git_msg.specs.References.{id_text, peeled_text};
+ghost use Rattle.git_msg.specs.References.{peeled_text};
 ghost use Rattle.git_client.specs.Machine.Turns.{values_of};
-ghost use Rattle.git_client.specs.Transcript.{lines_of, shown_after, size_shown, asked_line};
-ghost use Rattle.git_client.specs.Machine.LineParts.{part_shown};
+ghost use Rattle.git_client.specs.Transcript.{lines_of, shown_after, asked_line};
+ghost use Rattle.git_client.specs.Machine.LineParts.{part_shown, count_after, object_shown, size_after, text_word};
 
+use crate::event_parts::EventKind;
 use crate::events::Event;
 use crate::line::{Lines, Part};
 use git_msg::Command;
@@ -54,7 +55,7 @@ pub(crate) fn put_event<W: Write>(
     }
 }
 
-/// Puts the line of any event, part after part.
+/// Puts the line of any event: the word of its kind, and after it each part that the event has.
 #[inline(never)]
 fn put_parts<W: Write>(
     lines: &mut Lines,
@@ -65,49 +66,23 @@ fn put_parts<W: Write>(
 ) -> Result<(), RunFault>
     ensures { Puts W.contents out.old lines.old (lines_of (values_of event.now) pack progress) result out.new lines.new }
 {
-    match event {
-        Event::Capability(capability) => {
-            let key = Part::Text(b"capability ", capability.key);
-            lines.put_line(out, &[key, text_part(b"=", capability.value)])
-        }
-        Event::Offered => lines.put_line(out, &[Part::Word(b"offered")]),
-        Event::Reference {
-            id,
-            name,
-            target,
-            peeled,
-        } => {
-            let target = text_part(b" symref-target:", *target);
-            lines.put_line(
-                out,
-                &[
-                    object_part(*id),
-                    Part::Text(b" ", name),
-                    target,
-                    peeled_part(*peeled),
-                ],
-            )
-        }
-        Event::Ack(id) => lines.put_line(out, &[Part::Name(b"ack ", id)]),
-        Event::Nak => lines.put_line(out, &[Part::Word(b"nak")]),
-        Event::Ready => lines.put_line(out, &[Part::Word(b"ready")]),
-        Event::Shallow(id) => lines.put_line(out, &[Part::Name(b"shallow ", id)]),
-        Event::Unshallow(id) => lines.put_line(out, &[Part::Name(b"unshallow ", id)]),
-        Event::WantedRef { id, name } => lines.put_line(
-            out,
-            &[Part::Name(b"wanted-ref ", id), Part::Text(b" ", name)],
-        ),
-        Event::Info { id, size } => lines.put_line(
-            out,
-            &[Part::Name(b"info ", id), size_part(*size)],
-        ),
-        Event::Pack(_) => Ok(()),
-        Event::Progress(_) => Ok(()),
-        Event::Ended => lines.put_line(
-            out,
-            &[Part::Number(b"end ", pack), Part::Number(b" ", progress)],
-        ),
-    }
+    let parts = event.parts();
+    let Some(word) = parts.kind.word() else {
+        return Ok(());
+    };
+    lines.put_line(
+        out,
+        &[
+            Part::Word(word),
+            object_part(parts.kind, parts.id),
+            text_part(b" ", parts.name),
+            text_part(text_word(parts.kind), parts.text),
+            peeled_part(parts.peeled),
+            size_part(parts.kind, parts.size),
+            count_part(parts.kind, pack),
+            count_part(parts.kind, progress),
+        ],
+    )
 }
 
 /// Writes the transcript's line of a request, and nothing else, on the terms of [`write_event`].
@@ -125,13 +100,16 @@ pub fn write_asked<W: Write>(out: &mut Told<W>, command: Command) -> Result<(), 
     lines.drain(out)
 }
 
-/// The object that a reference points to, or that it is unborn.
-fn object_part<'a>(id: Option<&'a Oid>) -> Part<'a>
-    ensures { part_shown result ≡ codes "ref " ++ id_text (option_copied id.entry) }
+/// The object that the event is about. A reference that has none is unborn.
+fn object_part<'a>(kind: EventKind, id: Option<&'a Oid>) -> Part<'a>
+    ensures { part_shown result ≡ object_shown kind (option_copied id.entry) }
 {
     match id {
-        Some(id) => Part::Name(b"ref ", id),
-        None => Part::Word(b"ref unborn"),
+        Some(id) => Part::Name(b" ", id),
+        None => match kind {
+            EventKind::Reference => Part::Word(b" unborn"),
+            _ => Part::Word(b""),
+        },
     }
 }
 
@@ -155,12 +133,35 @@ fn text_part<'a>(word: &'a [u8], text: Option<&'a [u8]>) -> Part<'a>
     }
 }
 
-/// The size of an object, or a dash where there is none.
-fn size_part<'a>(size: Option<u64>) -> Part<'a>
-    ensures { part_shown result ≡ codes " " ++ size_shown size }
+/// The word before the text of an event: the value of a capability, or the target of a reference.
+fn text_word(kind: EventKind) -> &'static [u8]
+    ensures { result.now ≡ text_word kind }
+{
+    match kind {
+        EventKind::Capability => b"=",
+        _ => b" symref-target:",
+    }
+}
+
+/// The size of an object, or a dash where what is known of one has none.
+fn size_part<'a>(kind: EventKind, size: Option<u64>) -> Part<'a>
+    ensures { part_shown result ≡ size_after kind size }
 {
     match size {
         Some(size) => Part::Number(b" ", size),
-        None => Part::Word(b" -"),
+        None => match kind {
+            EventKind::Info => Part::Word(b" -"),
+            _ => Part::Word(b""),
+        },
+    }
+}
+
+/// A number of the line of a response's end.
+fn count_part<'a>(kind: EventKind, count: u64) -> Part<'a>
+    ensures { part_shown result ≡ count_after kind count }
+{
+    match kind {
+        EventKind::Ended => Part::Number(b" ", count),
+        _ => Part::Word(b""),
     }
 }

@@ -8,10 +8,11 @@ use Rattle.git_names.specs.declared.object_format.Format.{Format}
 use Rattle.git_names.specs.declared.object_format.Format.TheVariants.{Sha1, Sha256}
 use Rattle.git_pkt.specs.Packets.{longest_payload}
 use Rattle.git_msg.specs.References.{id_length}
+use Rattle.git_client.specs.EventParts.{Parts, parts_of}
 use Rattle.git_client.specs.Events.{EventValue, all_parts_length, parts_length, pack, progress}
 use Rattle.git_client.specs.Machine.Turns.{values_of}
 use Rattle.git_client.specs.declared.events.Event.{Event}
-use Rattle.gitwire.specs.EventAnswers.{Parts, bytes_shown, digits_shown, parts_of, telling_parts, text_shown}
+use Rattle.gitwire.specs.EventAnswers.{bytes_shown, digits_shown, telling_parts, text_shown}
 use Rattle.gitwire.specs.declared.event.GitwireEvent.{GitwireEvent}
 
 hex_length : (bytes : List ℕ) → length (hex_text bytes) ≡ 2 * length bytes
@@ -39,15 +40,16 @@ text_length : (text : Option (List ℕ)) → length (text_shown text) ≡ option
 text_length None = refl
 text_length (Some text) = refl
 
-shown_length : (p : Parts) → length (bytes_shown p) ≡ length (digits_shown p.id) + length p.name + length (text_shown p.text) + length (digits_shown p.peeled)
+shown_length : (p : Parts) → length (bytes_shown p) ≡ length (digits_shown p.id) + length (text_shown p.name) + length (text_shown p.text) + length (digits_shown p.peeled)
 shown_length p =
     let id = digits_shown p.id in
+    let name = text_shown p.name in
     let text = text_shown p.text in
     omega (
       arith,
-      length-append (id ++ p.name ++ text) (digits_shown p.peeled),
-      length-append (id ++ p.name) text,
-      length-append id p.name,
+      length-append (id ++ name ++ text) (digits_shown p.peeled),
+      length-append (id ++ name) text,
+      length-append id name,
     )
 
 -- bytes of a band have a part of one byte each

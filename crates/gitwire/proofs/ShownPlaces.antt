@@ -3,11 +3,12 @@ use Rattle.std.proofs.Common.{◌≡◌, ℕ, Bor, List, refl}
 use Rattle.std.specs.Global.{Global}
 use Rattle.git_client.specs.Machine.Client.{Feeds}
 use Rattle.git_client.specs.declared.client.Client.{Client}
+use Rattle.git_client.specs.EventParts.{parts_of}
 use Rattle.git_client.specs.declared.events.Event.{Event}
 use Rattle.git_client.specs.declared.events.HeardGot.{HeardGot}
 use Rattle.git_client.specs.declared.events.HeardGot.TheVariants as Got
 use Rattle.gitwire.specs.ClientAnswers.{LieInPiece, filled_beside}
-use Rattle.gitwire.specs.EventAnswers.{bytes_shown, parts_of}
+use Rattle.gitwire.specs.EventAnswers.{bytes_shown}
 use Rattle.gitwire.specs.Rooms.{put_before}
 
 -- bytes of the pack and of the progress are bytes of the piece

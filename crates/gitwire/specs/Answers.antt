@@ -2,12 +2,12 @@
 use Rattle.std.specs.Prelude.{ℕ, Bool, true, false}
 use Rattle.git_pkt.specs.FaultNames.{kind_number}
 use Rattle.git_pkt.specs.declared.fault.Fault.{Fault}
+use Rattle.git_client.specs.declared.event_parts.EventKind.{EventKind}
 use Rattle.gitwire.specs.declared.answer.GitwireAnswer.{GitwireAnswer}
 use Rattle.gitwire.specs.declared.answer.What.{What}
 use Rattle.gitwire.specs.declared.answer.What.TheVariants.{Done, More, Failed, NoHandle, RoomTooSmall, NotNow, OutOfMemory, BadValue, Nothing}
 use Rattle.gitwire.specs.declared.answer.What.TheVariants.{Payload, Flush, Delim, ResponseEnd, Request, Stop, Packet, NeedInput, EndedByFlush}
-use Rattle.gitwire.specs.declared.answer.What.TheVariants.{EndedByClose, CanAsk, Finished, Capability, Offered, Reference, Ack, Nak, Ready}
-use Rattle.gitwire.specs.declared.answer.What.TheVariants.{Shallow, Unshallow, WantedRef, Info, Pack, Progress, Ended}
+use Rattle.gitwire.specs.declared.answer.What.TheVariants.{EndedByClose, CanAsk, Finished, Event}
 
 -- the number by which C knows it
 abbrev pub what_number : What → ℕ
@@ -32,19 +32,19 @@ what_number EndedByFlush = 17
 what_number EndedByClose = 18
 what_number CanAsk = 19
 what_number Finished = 20
-what_number Capability = 21
-what_number Offered = 22
-what_number Reference = 23
-what_number Ack = 24
-what_number Nak = 25
-what_number Ready = 26
-what_number Shallow = 27
-what_number Unshallow = 28
-what_number WantedRef = 29
-what_number Info = 30
-what_number Pack = 31
-what_number Progress = 32
-what_number Ended = 33
+what_number (Event EventKind.Capability) = 21
+what_number (Event EventKind.Offered) = 22
+what_number (Event EventKind.Reference) = 23
+what_number (Event EventKind.Ack) = 24
+what_number (Event EventKind.Nak) = 25
+what_number (Event EventKind.Ready) = 26
+what_number (Event EventKind.Shallow) = 27
+what_number (Event EventKind.Unshallow) = 28
+what_number (Event EventKind.WantedRef) = 29
+what_number (Event EventKind.Info) = 30
+what_number (Event EventKind.Pack) = 31
+what_number (Event EventKind.Progress) = 32
+what_number (Event EventKind.Ended) = 33
 
 -- what is reported of a piece where nothing else is: more is to come, or none was due
 abbrev pub more_of : Bool → What

@@ -12,6 +12,7 @@ use Rattle.git_client.specs.Machine.Client.{Asks, Converses, EndsWithMessage, En
 use Rattle.git_client.specs.Machine.Client.{can_ask, caps_of, fault_of, given_by, nothing_yet, wants_input}
 use Rattle.git_client.specs.Conversation.{HasNoted}
 use Rattle.git_client.specs.Parts.{Terms, terms_of}
+use Rattle.git_client.specs.EventParts.{parts_of}
 use Rattle.git_client.specs.declared.client.Client.{Client}
 use Rattle.git_client.specs.declared.events.Ending.{Ending}
 use Rattle.git_client.specs.declared.events.Ending.TheVariants.{FlushOnly, ResponseEnd}
@@ -20,7 +21,7 @@ use Rattle.git_client.specs.declared.events.Heard.{Heard}
 use Rattle.git_client.specs.declared.events.HeardGot.{HeardGot}
 use Rattle.git_client.specs.declared.events.HeardGot.TheVariants as Got
 use Rattle.git_client.specs.declared.events.Sent.{Sent}
-use Rattle.gitwire.specs.EventAnswers.{bytes_shown, parts_of, telling_none, telling_parts, answering_refusal}
+use Rattle.gitwire.specs.EventAnswers.{bytes_shown, telling_none, telling_parts, answering_refusal}
 use Rattle.gitwire.specs.Offers.{features_shown}
 use Rattle.gitwire.specs.Rooms.{put_before}
 use Rattle.gitwire.specs.Answers.{more_of, answering, answering_fault, answering_packet, what_number}

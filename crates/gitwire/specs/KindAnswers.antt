@@ -1,5 +1,6 @@
 -- The names of what is reported, by their numbers.
 use Rattle.std.specs.Prelude.{◌≡◌, ◌≢◌, ℕ, List, Option, Some, None, codes}
+use Rattle.git_client.specs.declared.event_parts.EventKind.{EventKind}
 use Rattle.gitwire.specs.Rooms.{Puts}
 use Rattle.gitwire.specs.Answers.{what_number}
 use Rattle.gitwire.specs.declared.answer.What.{What}
@@ -27,19 +28,19 @@ what_name What.EndedByFlush = codes "EndedByFlush"
 what_name What.EndedByClose = codes "EndedByClose"
 what_name What.CanAsk = codes "CanAsk"
 what_name What.Finished = codes "Finished"
-what_name What.Capability = codes "Capability"
-what_name What.Offered = codes "Offered"
-what_name What.Reference = codes "Reference"
-what_name What.Ack = codes "Ack"
-what_name What.Nak = codes "Nak"
-what_name What.Ready = codes "Ready"
-what_name What.Shallow = codes "Shallow"
-what_name What.Unshallow = codes "Unshallow"
-what_name What.WantedRef = codes "WantedRef"
-what_name What.Info = codes "Info"
-what_name What.Pack = codes "Pack"
-what_name What.Progress = codes "Progress"
-what_name What.Ended = codes "Ended"
+what_name (What.Event EventKind.Capability) = codes "Capability"
+what_name (What.Event EventKind.Offered) = codes "Offered"
+what_name (What.Event EventKind.Reference) = codes "Reference"
+what_name (What.Event EventKind.Ack) = codes "Ack"
+what_name (What.Event EventKind.Nak) = codes "Nak"
+what_name (What.Event EventKind.Ready) = codes "Ready"
+what_name (What.Event EventKind.Shallow) = codes "Shallow"
+what_name (What.Event EventKind.Unshallow) = codes "Unshallow"
+what_name (What.Event EventKind.WantedRef) = codes "WantedRef"
+what_name (What.Event EventKind.Info) = codes "Info"
+what_name (What.Event EventKind.Pack) = codes "Pack"
+what_name (What.Event EventKind.Progress) = codes "Progress"
+what_name (What.Event EventKind.Ended) = codes "Ended"
 
 -- what has the number, or nothing has it
 abbrev pub IsWhatOf : ℕ → Option What → Type 0

@@ -2,6 +2,7 @@
 
 ghost use Rattle.std.specs.Prelude.{◌≡◌};
 
+use git_client::EventKind;
 use git_pkt::Fault;
 
 /// What one call did. Fields without a meaning are 0.
@@ -65,32 +66,8 @@ pub enum What {
     CanAsk,
     /// The client has left, and nothing more is to be sent.
     Finished,
-    /// A capability of the server.
-    Capability,
-    /// The advertisement is whole.
-    Offered,
-    /// A reference.
-    Reference,
-    /// An object that both ends have.
-    Ack,
-    /// The server has none of the objects named so far.
-    Nak,
-    /// The server is ready to send the pack.
-    Ready,
-    /// A commit whose parents are left out.
-    Shallow,
-    /// A commit whose parents are left out no longer.
-    Unshallow,
-    /// A reference that was wanted by its name.
-    WantedRef,
-    /// What is known of an object.
-    Info,
-    /// Bytes of the pack.
-    Pack,
-    /// Progress, a text for the user.
-    Progress,
-    /// The response is whole.
-    Ended,
+    /// An event of a client.
+    Event(EventKind),
 }
 
 impl What {
@@ -132,19 +109,19 @@ impl What {
             What::EndedByClose => 18,
             What::CanAsk => 19,
             What::Finished => 20,
-            What::Capability => 21,
-            What::Offered => 22,
-            What::Reference => 23,
-            What::Ack => 24,
-            What::Nak => 25,
-            What::Ready => 26,
-            What::Shallow => 27,
-            What::Unshallow => 28,
-            What::WantedRef => 29,
-            What::Info => 30,
-            What::Pack => 31,
-            What::Progress => 32,
-            What::Ended => 33,
+            What::Event(EventKind::Capability) => 21,
+            What::Event(EventKind::Offered) => 22,
+            What::Event(EventKind::Reference) => 23,
+            What::Event(EventKind::Ack) => 24,
+            What::Event(EventKind::Nak) => 25,
+            What::Event(EventKind::Ready) => 26,
+            What::Event(EventKind::Shallow) => 27,
+            What::Event(EventKind::Unshallow) => 28,
+            What::Event(EventKind::WantedRef) => 29,
+            What::Event(EventKind::Info) => 30,
+            What::Event(EventKind::Pack) => 31,
+            What::Event(EventKind::Progress) => 32,
+            What::Event(EventKind::Ended) => 33,
         }
     }
 }

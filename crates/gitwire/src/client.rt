@@ -1,21 +1,22 @@
 //! A client that C holds.
 
 ghost use Rattle.std.specs.Prelude.{◌≡◌, ◌≤◌, None, MatchResult, length, slice_get};
+ghost use Rattle.git_client.specs.EventParts.{parts_of};
 ghost use Rattle.git_client.specs.declared.events.HeardGot.TheVariants as Got;
 ghost use Rattle.gitwire.specs.Calls.{HasNone, Of, On};
 ghost use Rattle.gitwire.specs.ClientAnswers.{AsksIn, BeginsBy, CapsAnswers, ClosesAnswers, FeedsInRoom, HearsNone, filled_beside, filled_by};
 ghost use Rattle.gitwire.specs.ClientAnswers.{LeavesRequest, LeavesAnswers, MessageAnswers, PullsInRoom, TakesRequest, endings};
-ghost use Rattle.gitwire.specs.EventAnswers.{bytes_shown, parts_of, telling_parts};
+ghost use Rattle.gitwire.specs.EventAnswers.{bytes_shown, telling_parts};
 ghost use Rattle.gitwire.specs.Handles.{client_in, request_in};
 ghost use Rattle.gitwire.specs.Numbers.{formats};
 ghost use Rattle.gitwire.specs.Answers.{answering, what_number};
 
 use crate::answer::{GitwireAnswer, What};
-use crate::event::{EventParts, GitwireEvent};
+use crate::event::GitwireEvent;
 use crate::handles::{GitwireClient, GitwireRequest, Holds, fill};
 use crate::numbers::format_numbered;
 use crate::offer::features_noted;
-use git_client::{Client, Ending, Event, HeardGot, Sent};
+use git_client::{Client, Ending, Event, EventKind, HeardGot, Sent};
 use git_msg::{Command, Limits, Request};
 use git_names::{Format, Steps};
 use git_pkt::LONGEST_PACKET;
@@ -131,7 +132,7 @@ fn feed(client: &mut Client<Global>, piece: &[u8], room: &mut [u8]) -> GitwireEv
     let heard = client.feed(piece, &mut Steps::new());
     match heard.got {
         HeardGot::More => GitwireEvent::none(heard.used, What::more(due)),
-        HeardGot::Event(event) => EventParts::of(event).show(heard.used, room),
+        HeardGot::Event(event) => GitwireEvent::of_parts(heard.used, event.parts(), room),
         HeardGot::Failed(fault) => GitwireEvent::of_fault(heard.used, fault),
     }
 }
@@ -158,9 +159,9 @@ fn show_in_place(event: Event<'_>, used: usize, room: &mut [u8]) -> GitwireEvent
     ensures room { room.new ≡ filled_beside (Got.Event event.entry) room.old }
 {
     match event {
-        Event::Pack(bytes) => GitwireEvent::of_bytes(used, What::Pack, bytes.len()),
-        Event::Progress(bytes) => GitwireEvent::of_bytes(used, What::Progress, bytes.len()),
-        _ => EventParts::of(event).show(used, room),
+        Event::Pack(bytes) => GitwireEvent::of_bytes(used, EventKind::Pack, bytes.len()),
+        Event::Progress(bytes) => GitwireEvent::of_bytes(used, EventKind::Progress, bytes.len()),
+        _ => GitwireEvent::of_parts(used, event.parts(), room),
     }
 }
 

@@ -2,11 +2,12 @@
 
 ghost use Rattle.std.specs.Prelude.{◌≡◌, ◌+◌, ◌≤◌, ◌++◌, ℕ, List, length, take, drop};
 ghost use Rattle.std.specs.Option.{option_copied};
+ghost use Rattle.git_client.specs.EventParts.{of_text, parts_shown};
 ghost use Rattle.gitwire.specs.EventAnswers.{digits_shown, text_shown};
 ghost use Rattle.gitwire.specs.Rooms.{put_before};
 
 use crate::answer::What;
-use git_client::Event;
+use git_client::{EventKind, EventParts};
 use git_names::Oid;
 use git_pkt::{Fault, put_at};
 
@@ -41,104 +42,19 @@ pub struct GitwireEvent {
     pub has_size: bool,
 }
 
-/// The parts of an event, as C is shown them.
-#[derive(Clone, Copy)]
-pub(crate) struct EventParts<'a> {
-    what: What,
-    id: Option<&'a Oid>,
-    name: &'a [u8],
-    text: Option<&'a [u8]>,
-    peeled: Option<&'a Oid>,
-    size: Option<u64>,
-}
+impl GitwireEvent {
+    ghost use Rattle.gitwire.specs.EventAnswers.{bytes_shown, telling_none, telling_parts, answering_refusal};
 
-impl<'a> EventParts<'a> {
-    ghost use Rattle.gitwire.specs.EventAnswers.{bare, bytes_shown, of_object, of_text, parts_of, parts_shown, telling_parts};
-
-    /// The parts of the event.
-    pub(crate) fn of(event: Event<'a>) -> EventParts<'a>
-        ensures { parts_shown result ≡ parts_of event.entry }
+    /// The event: its texts are written to the front of the room, one after another.
+    pub(crate) fn of_parts(used: usize, parts: EventParts<'_>, room: &mut [u8]) -> GitwireEvent
+        requires { length (bytes_shown (parts_shown parts)) ≤ length room.old }
+        ensures answer { result ≡ telling_parts used (parts_shown parts.entry) }
+        ensures room { room.new ≡ put_before (bytes_shown (parts_shown parts.entry)) room.old }
     {
-        match event {
-            Event::Capability(capability) => EventParts {
-                name: capability.key,
-                text: capability.value,
-                ..EventParts::bare(What::Capability)
-            },
-            Event::Offered => EventParts::bare(What::Offered),
-            Event::Reference {
-                id,
-                name,
-                target,
-                peeled,
-            } => EventParts {
-                name,
-                text: target,
-                id,
-                peeled,
-                ..EventParts::bare(What::Reference)
-            },
-            Event::Ack(id) => EventParts::of_object(What::Ack, id),
-            Event::Nak => EventParts::bare(What::Nak),
-            Event::Ready => EventParts::bare(What::Ready),
-            Event::Shallow(id) => EventParts::of_object(What::Shallow, id),
-            Event::Unshallow(id) => EventParts::of_object(What::Unshallow, id),
-            Event::WantedRef { id, name } => EventParts {
-                name,
-                ..EventParts::of_object(What::WantedRef, id)
-            },
-            Event::Info { id, size } => EventParts {
-                size,
-                ..EventParts::of_object(What::Info, id)
-            },
-            Event::Pack(bytes) => EventParts::of_text(What::Pack, bytes),
-            Event::Progress(bytes) => EventParts::of_text(What::Progress, bytes),
-            Event::Ended => EventParts::bare(What::Ended),
-        }
-    }
-
-    /// That it came, and nothing more.
-    fn bare(what: What) -> EventParts<'a>
-        ensures { parts_shown result ≡ bare what }
-    {
-        EventParts {
-            what,
-            id: None,
-            name: b"",
-            text: None,
-            peeled: None,
-            size: None,
-        }
-    }
-
-    fn of_object(what: What, id: &'a Oid) -> EventParts<'a>
-        ensures { parts_shown result ≡ of_object what id.now }
-    {
-        EventParts {
-            id: Some(id),
-            ..EventParts::bare(what)
-        }
-    }
-
-    fn of_text(what: What, text: &'a [u8]) -> EventParts<'a>
-        ensures { parts_shown result ≡ of_text what text.now }
-    {
-        EventParts {
-            text: Some(text),
-            ..EventParts::bare(what)
-        }
-    }
-
-    /// Writes the texts to the front of the room, one after another, and returns how long they are.
-    pub(crate) fn show(self, used: usize, room: &mut [u8]) -> GitwireEvent
-        requires { length (bytes_shown (parts_shown self)) ≤ length room.old }
-        ensures answer { result ≡ telling_parts used (parts_shown self.entry) }
-        ensures room { room.new ≡ put_before (bytes_shown (parts_shown self.entry)) room.old }
-    {
-        let id_end = put_digits(room, 0, self.id);
-        let name_end = put_at(room, id_end, self.name);
-        let text_end = put_at(room, name_end, bytes_of(self.text));
-        let end = put_digits(room, text_end, self.peeled);
+        let id_end = put_digits(room, 0, parts.id);
+        let name_end = put_at(room, id_end, bytes_of(parts.name));
+        let text_end = put_at(room, name_end, bytes_of(parts.text));
+        let end = put_digits(room, text_end, parts.peeled);
         GitwireEvent {
             used,
             offset: 0,
@@ -146,17 +62,13 @@ impl<'a> EventParts<'a> {
             name_length: name_end - id_end,
             text_length: text_end - name_end,
             peeled_length: end - text_end,
-            size: self.size.unwrap_or(0),
-            kind: self.what.number(),
+            size: parts.size.unwrap_or(0),
+            kind: What::Event(parts.kind).number(),
             fault: 0,
-            has_text: self.text.is_some(),
-            has_size: self.size.is_some(),
+            has_text: parts.text.is_some(),
+            has_size: parts.size.is_some(),
         }
     }
-}
-
-impl GitwireEvent {
-    ghost use Rattle.gitwire.specs.EventAnswers.{of_text, telling_none, telling_parts, answering_refusal};
 
     /// No event.
     pub(crate) fn none(used: usize, what: What) -> GitwireEvent
@@ -178,13 +90,13 @@ impl GitwireEvent {
     }
 
     /// So many bytes that lie elsewhere.
-    pub(crate) fn of_bytes(used: usize, what: What, count: usize) -> GitwireEvent
-        ensures { (bytes : List ℕ) → length bytes ≡ count → result ≡ telling_parts used (of_text what bytes) }
+    pub(crate) fn of_bytes(used: usize, kind: EventKind, count: usize) -> GitwireEvent
+        ensures { (bytes : List ℕ) → length bytes ≡ count → result ≡ telling_parts used (of_text kind bytes) }
     {
         GitwireEvent {
             text_length: count,
             has_text: true,
-            ..GitwireEvent::none(used, what)
+            ..GitwireEvent::none(used, What::Event(kind))
         }
     }
 

@@ -5,6 +5,7 @@ ghost use Rattle.gitwire.specs.KindAnswers.{IsWhatOf, TellsKind, what_name};
 
 use crate::answer::What;
 use crate::rooms::put_bytes;
+use git_client::EventKind;
 
 /// Writes the name of a kind of what is reported to the front of the room, as `NeedInput`, and returns how long it is: 0 where no kind has
 /// the number, or the room is too small.
@@ -44,19 +45,19 @@ fn what_of(number: u8) -> Option<What>
         18 => Some(What::EndedByClose),
         19 => Some(What::CanAsk),
         20 => Some(What::Finished),
-        21 => Some(What::Capability),
-        22 => Some(What::Offered),
-        23 => Some(What::Reference),
-        24 => Some(What::Ack),
-        25 => Some(What::Nak),
-        26 => Some(What::Ready),
-        27 => Some(What::Shallow),
-        28 => Some(What::Unshallow),
-        29 => Some(What::WantedRef),
-        30 => Some(What::Info),
-        31 => Some(What::Pack),
-        32 => Some(What::Progress),
-        33 => Some(What::Ended),
+        21 => Some(What::Event(EventKind::Capability)),
+        22 => Some(What::Event(EventKind::Offered)),
+        23 => Some(What::Event(EventKind::Reference)),
+        24 => Some(What::Event(EventKind::Ack)),
+        25 => Some(What::Event(EventKind::Nak)),
+        26 => Some(What::Event(EventKind::Ready)),
+        27 => Some(What::Event(EventKind::Shallow)),
+        28 => Some(What::Event(EventKind::Unshallow)),
+        29 => Some(What::Event(EventKind::WantedRef)),
+        30 => Some(What::Event(EventKind::Info)),
+        31 => Some(What::Event(EventKind::Pack)),
+        32 => Some(What::Event(EventKind::Progress)),
+        33 => Some(What::Event(EventKind::Ended)),
         _ => None,
     }
 }
@@ -86,18 +87,18 @@ fn name_of(what: What) -> &'static str
         What::EndedByClose => "EndedByClose",
         What::CanAsk => "CanAsk",
         What::Finished => "Finished",
-        What::Capability => "Capability",
-        What::Offered => "Offered",
-        What::Reference => "Reference",
-        What::Ack => "Ack",
-        What::Nak => "Nak",
-        What::Ready => "Ready",
-        What::Shallow => "Shallow",
-        What::Unshallow => "Unshallow",
-        What::WantedRef => "WantedRef",
-        What::Info => "Info",
-        What::Pack => "Pack",
-        What::Progress => "Progress",
-        What::Ended => "Ended",
+        What::Event(EventKind::Capability) => "Capability",
+        What::Event(EventKind::Offered) => "Offered",
+        What::Event(EventKind::Reference) => "Reference",
+        What::Event(EventKind::Ack) => "Ack",
+        What::Event(EventKind::Nak) => "Nak",
+        What::Event(EventKind::Ready) => "Ready",
+        What::Event(EventKind::Shallow) => "Shallow",
+        What::Event(EventKind::Unshallow) => "Unshallow",
+        What::Event(EventKind::WantedRef) => "WantedRef",
+        What::Event(EventKind::Info) => "Info",
+        What::Event(EventKind::Pack) => "Pack",
+        What::Event(EventKind::Progress) => "Progress",
+        What::Event(EventKind::Ended) => "Ended",
     }
 }

@@ -1,8 +1,12 @@
 -- The parts that a line of text is written in, and lines that wait for their writer.
-use Rattle.std.specs.Prelude.{◌≡◌, ℕ, Bool, false, List, [], ◌∷◌, ◌++◌, codes, decimal}
-use Rattle.git_names.specs.ObjectName.{hex_of}
+use Rattle.std.specs.Prelude.{◌≡◌, ℕ, Bool, false, List, [], ◌∷◌, ◌++◌, codes, decimal, Option, Some, None, unwrap_or}
+use Rattle.git_names.specs.ObjectName.{ObjectName, hex_of}
 use Rattle.git_pkt.specs.Escape.{escaped_of}
 use Rattle.git_pkt.specs.Streams.{Flow, WrittenAs}
+use Rattle.git_msg.specs.References.{peeled_text}
+use Rattle.git_client.specs.EventParts.{Parts, word_of}
+use Rattle.git_client.specs.Transcript.{shown_after}
+use Rattle.git_client.specs.declared.event_parts.EventKind.{EventKind}
 use Rattle.git_client.specs.declared.line.Part.{Part}
 use Rattle.git_client.specs.declared.line.Part.TheVariants.{Word, Text, Name, Number}
 
@@ -17,6 +21,34 @@ part_shown (Number word number) = word.now ++ decimal number
 abbrev pub line_shown : List Part → List ℕ
 line_shown [] = codes "\n"
 line_shown (part ∷ parts) = part_shown part ++ line_shown parts
+
+-- the object of an event after its word: a reference that has none is unborn
+abbrev pub object_shown : EventKind → Option ObjectName → List ℕ
+object_shown kind (Some id) = codes " " ++ hex_of id
+object_shown EventKind.Reference None = codes " unborn"
+object_shown kind None = []
+
+-- the word before the text of an event
+abbrev pub text_word : EventKind → List ℕ
+text_word EventKind.Capability = codes "="
+text_word kind = codes " symref-target:"
+
+-- the size of an object, or that it is not there
+abbrev pub size_after : EventKind → Option ℕ → List ℕ
+size_after kind (Some size) = codes " " ++ decimal size
+size_after EventKind.Info None = codes " -"
+size_after kind None = []
+
+-- a number of the line of a response's end
+abbrev pub count_after : EventKind → ℕ → List ℕ
+count_after EventKind.Ended count = codes " " ++ decimal count
+count_after kind count = []
+
+-- the bytes of an event's line, part after part
+abbrev pub row_of : Parts → (packed told : ℕ) → List (List ℕ)
+row_of p packed told =
+    unwrap_or (word_of p.kind) [] ∷ object_shown p.kind p.id ∷ shown_after (codes " ") p.name ∷ shown_after (text_word p.kind) p.text
+    ∷ peeled_text p.peeled ∷ size_after p.kind p.size ∷ count_after p.kind packed ∷ count_after p.kind told ∷ []
 
 -- The bytes came to those that waited for the writer: of all these the first were written, and the others wait. Where a write failed, a
 -- front of the first was written.

@@ -1,0 +1,69 @@
+-- The line of an event is the word of its kind and its parts, one after another.
+use Rattle.std.proofs.Common.{◌≡◌, ℕ, List, [], ◌∷◌, map, codes, decimal, Option, Some, None, Bor, refl, sym, subst}
+use Rattle.std.specs.Option.{option_copied}
+use Rattle.git_names.specs.ObjectName.{hex_of}
+use Rattle.git_pkt.specs.Escape.{escaped_of}
+use Rattle.git_msg.specs.References.{peeled_text}
+use Rattle.git_client.specs.EventParts.{Parts, parts_of, word_of}
+use Rattle.git_client.specs.Events.{pack, progress}
+use Rattle.git_client.specs.Machine.LineParts.{row_of}
+use Rattle.git_client.specs.Machine.Turns.{values_of}
+use Rattle.git_client.specs.Transcript.{lines_of, target_shown, value_shown}
+use Rattle.git_client.specs.declared.events.Event.{Event}
+use Rattle.git_client.proofs.Writing.{line_by, one_line}
+
+pub no_lines_of_pack : (bytes : List ℕ) (p q : ℕ) → lines_of (map pack bytes) p q ≡ []
+no_lines_of_pack [] p q = refl
+no_lines_of_pack (byte ∷ bytes) p q = no_lines_of_pack bytes p q
+
+pub no_lines_of_progress : (bytes : List ℕ) (p q : ℕ) → lines_of (map progress bytes) p q ≡ []
+no_lines_of_progress [] p q = refl
+no_lines_of_progress (byte ∷ bytes) p q = no_lines_of_progress bytes p q
+
+-- the line of a row, where the kind has a word for it
+abbrev pub IsLineOfRow : Option (List ℕ) → (row line : List ℕ) → Type 0
+IsLineOfRow None row line = line ≡ []
+IsLineOfRow (Some word) row line = row ≡ line
+
+pub row_line : (event : Event) (packed told : ℕ)
+    → IsLineOfRow (word_of (parts_of event).kind) (line_by (row_of (parts_of event) packed told)) (lines_of (values_of event) packed told)
+row_line (Event.Capability c) packed told =
+    one_line (codes "capability ") (escaped_of c.key.now ∷ value_shown (option_copied c.value) ∷ codes "\n" ∷ [] ∷ [])
+row_line Event.Offered packed told = refl
+row_line (Event.Reference None name target peeled) packed told =
+    one_line (codes "ref unborn ")
+    (escaped_of name.now ∷ target_shown (option_copied target) ∷ peeled_text (option_copied peeled) ∷ codes "\n" ∷ [] ∷ [])
+row_line (Event.Reference (Some id) name target peeled) packed told =
+    one_line (codes "ref ") (hex_of id.now ∷ codes " " ∷ escaped_of name.now ∷ target_shown (option_copied target)
+    ∷ peeled_text (option_copied peeled) ∷ codes "\n" ∷ [] ∷ [])
+row_line (Event.Ack id) packed told = one_line (codes "ack ") (hex_of id.now ∷ codes "\n" ∷ [] ∷ [])
+row_line Event.Nak packed told = refl
+row_line Event.Ready packed told = refl
+row_line (Event.Shallow id) packed told = one_line (codes "shallow ") (hex_of id.now ∷ codes "\n" ∷ [] ∷ [])
+row_line (Event.Unshallow id) packed told = one_line (codes "unshallow ") (hex_of id.now ∷ codes "\n" ∷ [] ∷ [])
+row_line (Event.WantedRef id name) packed told =
+    one_line (codes "wanted-ref ") (hex_of id.now ∷ codes " " ∷ escaped_of name.now ∷ codes "\n" ∷ [] ∷ [])
+row_line (Event.Info id None) packed told = one_line (codes "info ") (hex_of id.now ∷ codes " " ∷ codes "-" ∷ codes "\n" ∷ [] ∷ [])
+row_line (Event.Info id (Some size)) packed told =
+    one_line (codes "info ") (hex_of id.now ∷ codes " " ∷ decimal size ∷ codes "\n" ∷ [] ∷ [])
+row_line (Event.Pack bytes) packed told = no_lines_of_pack bytes.now packed told
+row_line (Event.Progress bytes) packed told = no_lines_of_progress bytes.now packed told
+row_line Event.Ended packed told =
+    one_line (codes "end ") (decimal packed ∷ codes " " ∷ decimal told ∷ codes "\n" ∷ [] ∷ [])
+
+module _ (event : Event) (packed told : ℕ) (p : Parts) (same : p ≡ parts_of event) where
+  row_is : IsLineOfRow (word_of p.kind) (line_by (row_of p packed told)) (lines_of (values_of event) packed told)
+  row_is =
+      subst (λ (q : Parts). IsLineOfRow (word_of q.kind) (line_by (row_of q packed told)) (lines_of (values_of event) packed told)) (sym same)
+      (row_line event packed told)
+
+  abbrev RowFor : Option (List ℕ) → Type 0
+  RowFor word = IsLineOfRow word (line_by (row_of p packed told)) (lines_of (values_of event) packed told)
+
+  pub no_row : (word : Option (Bor (List ℕ))) → option_copied word ≡ word_of p.kind → ((some : Bor (List ℕ)) → word ≡ Some some → ⊥)
+      → lines_of (values_of event) packed told ≡ []
+  no_row None is none = subst RowFor (sym is) row_is
+  no_row (Some word) is none = absurd (none word refl)
+
+  pub row_shown : (word : Bor (List ℕ)) → option_copied (Some word) ≡ word_of p.kind → line_by (row_of p packed told) ≡ lines_of (values_of event) packed told
+  row_shown word is = subst RowFor (sym is) row_is
