@@ -30,8 +30,8 @@ use Rattle.git_client.specs.Transcript.{transcript_of}
 use Rattle.git_client.specs.declared.client.Client.{Client}
 use Rattle.git_client.specs.declared.hearing.Window.{Window}
 use Rattle.git_client.proofs.AskedInTurn.{commands_advertised}
-use Rattle.git_client.proofs.ClientRuns.{Running, Ran, ran, ran_as, ran_unasked, begins, asks_on, hears_on, hears_whole, interrupted, read_on, refused_next}
-use Rattle.git_client.proofs.EventsHeard.{has_events, has_noted, is_whole, position_is}
+use Rattle.git_client.proofs.ClientRuns.{Running, Ran, ran, ran_as, ran_unasked, begins, asks_on, hears_on, hears_whole, read_on, refused_next}
+use Rattle.git_client.proofs.EventsHeard.{awaits_more, has_events, has_noted, is_whole, position_is}
 use Rattle.git_client.proofs.Faults.{first_fault}
 use Rattle.git2show_lib.specs.Machine.CheckFaults.{run_fault, run_result, standing_of}
 use Rattle.git2show_lib.specs.Machine.CheckSteps.{Asking, ReadsAll, ReadsNoMore, ReadsOn, ReadsRequest, ReadsTo, SeesEnd}
@@ -295,12 +295,12 @@ module _ (A : Type 0) (t : Terms) (limit : ℕ) {Q R : Type 0} (of_requests : To
         → CheckEnds (Err (fault_of_responses fault)) requests (flow before after) (flow out_before out_after)
     hearing_stopped ReadFault piece turns written F W step told shown =
         heard_up_to (Err CheckReadFault) [] step.hears
-        (λ h stands all_asked. inl (record { all_asked = all_asked; interrupted = interrupted t h new stands step.due }, told.0))
+        (λ h stands all_asked. inl (record { all_asked = all_asked; all_used = refl; goes_on = awaits_more t h new stands step.due }, told.0))
     hearing_stopped WriteFault piece turns written F W step told shown =
         heard_up_to (Err CheckWriteFault) step.unused step.hears (λ h stands all_asked. all_asked)
     hearing_stopped ReadLimit piece turns written F W step told shown =
         heard_up_to (Err CheckReadLimit) [] step.hears
-        (λ h stands all_asked. inl (record { all_asked = all_asked; interrupted = interrupted t h new stands step.due }, shown.open_ended))
+        (λ h stands all_asked. inl (record { all_asked = all_asked; all_used = refl; goes_on = awaits_more t h new stands step.due }, shown.open_ended))
     hearing_stopped (Refused fault) piece turns written F W step told shown =
         heard_up_to (Err (Responses fault)) step.unused step.hears (λ h stands all_asked.
         inl (record { all_asked = all_asked; malformed = record { first = first_fault t h new fault stands step.told; timely = step.timely } }))

@@ -102,7 +102,7 @@ module _ {R A : Type 0} (state : R → RepoState) where
       given = [];
       used = [];
       parts = refl;
-      heard = nothing_heard client counts told sent None (not_ready_where_due (phase_of client) waits);
+      heard = nothing_heard client counts told sent None waits;
       server_goes = gives_still server;
     };
     due = λ _. refl;

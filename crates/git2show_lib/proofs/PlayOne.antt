@@ -104,7 +104,7 @@ module _ {R A : Type 0} {state : R → RepoState} {t : Terms} {limit : ℕ} {s0 
     pub one_stopped : (requests later : List (Request A)) (request : Request A) (fault : RunFault) {new : Client A} {after : Server R A}
         {o2 p2 : Option (List ℕ)} → requests ≡ front ++ request ∷ later
         → AnswersTo state (Err fault) [] old new request server after (flow o1 o2) (flow p1 p2)
-        → PlayEnds t (CanFail state s0.failures) limit s0 requests (Err fault) (flow o0 o2) (flow p0 p2)
+        → PlayEnds t (CanFail state s0) limit s0 requests (Err fault) (flow o0 o2) (flow p0 p2)
     one_stopped requests later request fault split step =
         answer_stopped requests p later request fault split (λ asking told written step. (_, next_turn request asking told step)) step
 
@@ -118,7 +118,7 @@ module _ {R A : Type 0} {state : R → RepoState} {t : Terms} {limit : ℕ} {s0 
 
     -- all requests were answered, and the client left the server
     pub one_end : {requests : List (Request A)} {mid new : Client A} {after : Server R A} → requests ≡ front ++ [] → Leaves old mid
-        → TellsAll state mid new server after → PlayEnds t (CanFail state s0.failures) limit s0 requests (Ok tt) (flow o0 o1) (flow p0 p1)
+        → TellsAll state mid new server after → PlayEnds t (CanFail state s0) limit s0 requests (Ok tt) (flow o0 o1) (flow p0 p1)
     one_end {requests} {mid} {new} {after} split leaving tells =
         let h = p.h in
         let s = setting_of t limit s0 true in
@@ -142,7 +142,7 @@ module _ {R A : Type 0} {state : R → RepoState} {t : Terms} {limit : ℕ} {s0 
           questions_count t.format all.caps h.asked,
           advertises_once s refl,
         )) in
-        play_ends t (CanFail state s0.failures) limit s0 requests (Ok tt) now front [] new split at (record {
+        play_ends t (CanFail state s0) limit s0 requests (Ok tt) now front [] new split at (record {
           first = talk_of given h.used;
           later = [];
           run = record { all = refl; whole = is_whole t h old p.runs.along.stands p.ready; leaves = ap leaves_last (sym ending); said = all };

@@ -22,10 +22,10 @@ use Rattle.git_client.specs.declared.events.Ending.TheVariants.{FlushOnly, Respo
 use Rattle.git_client.specs.declared.hearing.Counts.{Counts}
 use Rattle.git_client.proofs.AskedInTurn.{has_asked}
 use Rattle.git_client.proofs.Carries.{is_quiet, owes_nothing}
-use Rattle.git_client.proofs.ClientRuns.{Ran, Running, anew, asks_on, begins, hears_on, quietly_said, ran, ran_unasked, refused_next, stayed}
+use Rattle.git_client.proofs.ClientRuns.{Ran, Running, anew, asks_on, begins, has_said, hears_on, quietly_said, ran, ran_unasked, refused_next, stayed}
 use Rattle.git_client.proofs.EventsHeard.{all_is_said, has_events, is_whole}
 use Rattle.git_client.proofs.Faults.{first_fault}
-use Rattle.git_client.proofs.Phases.{quiet_where_due, quiet_where_failed, quiet_where_ready}
+use Rattle.git_client.proofs.Phases.{quiet_where_failed, quiet_where_ready}
 use Rattle.git_server.specs.Repository.{RepoState}
 use Rattle.git_server.specs.Machine.Server.{wants_input as waits_for_input}
 use Rattle.git_server.specs.Sessions.{IsAnswered, advertised}
@@ -84,10 +84,6 @@ module _ {A : Type 0} (t : Terms) where
 
 -- ---- the servers
 
--- more reads of the repository can fail than had failed at the beginning
-abbrev pub MayFail : {R : Type 0} → (R → RepoState) → RepoState → Type 0
-MayFail state s0 = CanFail state s0.failures
-
 -- all servers are at rest: each gave all that its session gives for what was sent to it, and the client received it
 pub record AtRest (Fails : Type 0) (t : Terms) (limit : ℕ) (s0 : RepoState) (h : History) : Type 0 where
   pub first : Talk
@@ -129,10 +125,10 @@ module _ {R A : Type 0} (state : R → RepoState) (t : Terms) (limit : ℕ) (s0 
     pub all_said : (all : List ℕ) (caps : Caps) (x : List ℕ) → HasNoted t h.asked (h.used ++ x) caps
         → AreSaid t.ending (first all) (later all) h.given (said_each t caps h.asked)
     pub gave : (all : List ℕ) → spelled before ++ (all ++ spelled tail) ≡ (first all).given ++ flat_map with_end (later all)
-    pub talks : (all : List ℕ) → IsTalk (MayFail state s0) (setting_of t limit s0 advertise) (talk_of said all)
-        → AreAll (IsTalk (MayFail state s0)) t limit s0 (first all) (later all)
-    pub done : (all : List ℕ) → IsDone (MayFail state s0) (setting_of t limit s0 advertise) (talk_of said all)
-        → AreAll (IsDone (MayFail state s0)) t limit s0 (first all) (later all)
+    pub talks : (all : List ℕ) → IsTalk (CanFail state s0) (setting_of t limit s0 advertise) (talk_of said all)
+        → AreAll (IsTalk (CanFail state s0)) t limit s0 (first all) (later all)
+    pub done : (all : List ℕ) → IsDone (CanFail state s0) (setting_of t limit s0 advertise) (talk_of said all)
+        → AreAll (IsDone (CanFail state s0)) t limit s0 (first all) (later all)
     pub answered : (all : List ℕ) → IsAnswered (setting_of t limit s0 advertise) said all
         → AreAll (λ s talk. IsAnswered s talk.said talk.given) t limit s0 (first all) (later all)
 
@@ -142,7 +138,7 @@ module _ {R A : Type 0} (state : R → RepoState) (t : Terms) (limit : ℕ) (s0 
     pub h : History
     pub runs : Runs t false h front client no_counts out pack
     pub ready : can_ask client ≡ true
-    pub rest : AtRest (MayFail state s0) t limit s0 h
+    pub rest : AtRest (CanFail state s0) t limit s0 h
     pub stands : StandsBy h server
 
 -- a message was received, as far as that went
@@ -177,8 +173,8 @@ module _ {R A : Type 0} {state : R → RepoState} {t : Terms} {limit : ℕ} {s0 
         later = λ all. [];
         all_said = λ all caps x noted. all_said all caps;
         gave = λ all. refl;
-        talks = λ all talk. (talk, All-nil (IsTalk (MayFail state s0) (setting_of t limit s0 false)));
-        done = λ all done. (done, All-nil (IsDone (MayFail state s0) (setting_of t limit s0 false)));
+        talks = λ all talk. (talk, All-nil (IsTalk (CanFail state s0) (setting_of t limit s0 false)));
+        done = λ all done. (done, All-nil (IsDone (CanFail state s0) (setting_of t limit s0 false)));
         answered = λ all answered. (answered, All-nil (λ (talk : Talk). IsAnswered (setting_of t limit s0 false) talk.said talk.given));
       }
 
@@ -197,7 +193,7 @@ module _ {R A : Type 0} {state : R → RepoState} {t : Terms} {limit : ℕ} {s0 
     gave_all = simp (turn.used_is, append_assoc, hears.parts)
 
     -- what was received comes of the servers
-    served : (events : List EventValue) → IsServed (MayFail state s0) t limit s0 (record h { used = h.used ++ hears.used; events = events })
+    served : (events : List EventValue) → IsServed (CanFail state s0) t limit s0 (record h { used = h.used ++ hears.used; events = events })
     served events =
         let all = turn.given ++ hears.given in
         record {
@@ -210,7 +206,7 @@ module _ {R A : Type 0} {state : R → RepoState} {t : Terms} {limit : ℕ} {s0 
 
     -- nothing more is given
     all_done : IsSpent state after
-        → AreAll (IsDone (MayFail state s0)) t limit s0 (turn.first (turn.given ++ hears.given)) (turn.later (turn.given ++ hears.given))
+        → AreAll (IsDone (CanFail state s0)) t limit s0 (turn.first (turn.given ++ hears.given)) (turn.later (turn.given ++ hears.given))
     all_done spent = turn.done (turn.given ++ hears.given) (done turn.closes settled turn.said_is spent)
 
     -- a message was received whole
@@ -230,7 +226,7 @@ module _ {R A : Type 0} {state : R → RepoState} {t : Terms} {limit : ℕ} {s0 
       pub waits : waits_for_input after ≡ true
       waits = waits_on turn.closes settled turn.said_is enough
 
-      pub rested : Rests (MayFail state s0) (setting_of t limit s0 advertise) (flushes turn.asks + flushes (advertised (setting_of t limit s0 advertise))) said
+      pub rested : Rests (CanFail state s0) (setting_of t limit s0 advertise) (flushes turn.asks + flushes (advertised (setting_of t limit s0 advertise))) said
           (turn.given ++ hears.given)
       rested = rests turn.closes settled turn.said_is enough
 
@@ -252,7 +248,7 @@ module _ {R A : Type 0} {state : R → RepoState} {t : Terms} {limit : ℕ} {s0 
       pub used_all : h.used ++ hears.used ≡ spelled before ++ ((turn.given ++ hears.given) ++ spelled tail)
       used_all = sym (append-nil (h.used ++ hears.used)) ∙ ap (λ (l : List ℕ). (h.used ++ hears.used) ++ l) (sym none_unheard) ∙ gave_all
 
-      pub at_rest : AtRest (MayFail state s0) t limit s0 (record h { used = h.used ++ hears.used; events = events })
+      pub at_rest : AtRest (CanFail state s0) t limit s0 (record h { used = h.used ++ hears.used; events = events })
       at_rest =
           let all = turn.given ++ hears.given in
           record {
@@ -305,21 +301,18 @@ module _ {R A : Type 0} {state : R → RepoState} {t : Terms} {limit : ℕ} {s0 
         → wants_input old ≡ true
         → Turn state t limit s0 advertise before tail said h server → Runs t false h front old no_counts (flow o0 o1) (flow p0 p1)
         → HearsMessageTo state (Err fault) (spelled tail) old new server after (flow o1 o2) (flow p1 p2)
-        → PlayEnds t (MayFail state s0) limit s0 requests (Err fault) (flow o0 o2) (flow p0 p2)
+        → PlayEnds t (CanFail state s0) limit s0 requests (Err fault) (flow o0 o2) (flow p0 p2)
     unfolding served
     stopped ReadFault front rest new after split due turn r (ended, counts, none) = absurd none
     stopped ReadLimit front rest new after split due turn r (ended, counts, none) = absurd none
     stopped WriteFault {h = h} front rest {old} new after split due turn r (ended, counts, (unheard, hears)) =
-        let all = quietly_said t h old r.along.stands (quiet_where_due (phase_of old) due) in
         let now : History = record h { used = h.used ++ hears.used; events = h.events ++ hears.heard.events } in
-        play_ends t (MayFail state s0) limit s0 requests (Err WriteFault) now front rest new split (ran (heard_runs r due hears)) (record {
-          said = now;
+        let on = heard_runs r due hears in
+        play_ends t (CanFail state s0) limit s0 requests (Err WriteFault) now front rest new split (ran on) (record {
+          reached = now;
           same_used = refl;
           asked = inl refl;
-          before = h.used;
-          heard = hears.used;
-          cut = refl;
-          all_said = record { caps = all.caps; noted = all.noted; said = all.said };
+          all_said = has_said t now new on.along.stands hears.heard.owes;
           is_served = served turn hears now.events;
         })
     stopped (Refused fault) {h = h} front rest new after split due turn r (ended, counts, (unheard, step)) =
@@ -328,7 +321,7 @@ module _ {R A : Type 0} {state : R → RepoState} {t : Terms} {limit : ℕ} {s0 
         let on = heard_runs r due hears in
         let quietly = quiet_where_failed (phase_of new) fault step.told in
         let given = served turn hears now.events in
-        play_ends t (MayFail state s0) limit s0 requests (Err (Refused fault)) now front rest new split (ran on) (record {
+        play_ends t (CanFail state s0) limit s0 requests (Err (Refused fault)) now front rest new split (ran on) (record {
           first = turn.first (turn.given ++ hears.given);
           later = turn.later (turn.given ++ hears.given);
           unheard = unheard;
@@ -345,7 +338,7 @@ module _ {R A : Type 0} {state : R → RepoState} {t : Terms} {limit : ℕ} {s0 
     pub advertising_stopped : (fault : RunFault) {old : Client A} (new : Client A) {server : Server R A} (after : Server R A) {o1 o2 p1 p2 : Option (List ℕ)}
         → wants_input old ≡ true → Converses t nothing_yet old → Stands state (setting_of t limit s0 true) [] [] server
         → HearsMessageTo state (Err fault) [] old new server after (flow o1 o2) (flow p1 p2)
-        → PlayEnds t (MayFail state s0) limit s0 requests (Err fault) (flow o1 o2) (flow p1 p2)
+        → PlayEnds t (CanFail state s0) limit s0 requests (Err fault) (flow o1 o2) (flow p1 p2)
     advertising_stopped fault {old} new {server} after {o1} {p1 = p1} due stands st step =
         stopped fault [] requests new after refl due (first_turn server st) (begun t old o1 p1 due stands) step
 
@@ -360,25 +353,21 @@ module _ {R A : Type 0} {state : R → RepoState} {t : Terms} {limit : ℕ} {s0 
       -- it was refused, or its line could not be written
       asking_stopped : (fault : RunFault) (new : Client A) (next after : Server R A) {o2 : Option (List ℕ)} → requests ≡ front ++ request ∷ later
           → AsksServerTo state (Err fault) old new request next after (flow o1 o2)
-          → PlayEnds t (MayFail state s0) limit s0 requests (Err fault) (flow o0 o2) (flow p0 p1)
+          → PlayEnds t (CanFail state s0) limit s0 requests (Err fault) (flow o0 o2) (flow p0 p1)
       asking_stopped ReadFault new next after split step = absurd step
       asking_stopped ReadLimit new next after split step = absurd step
       asking_stopped WriteFault new next after split step =
-          let all = quietly_said t p.h old p.runs.along.stands (quiet_where_ready (phase_of old) p.ready) in
-          play_ends t (MayFail state s0) limit s0 requests (Err WriteFault) _ (front ++ request ∷ []) later new
+          play_ends t (CanFail state s0) limit s0 requests (Err WriteFault) _ (front ++ request ∷ []) later new
           (split ∙ sym (append_assoc front (request ∷ []) later)) (ran (asks_on t true front old new request no_counts [] p.runs p.ready step)) (record {
-            said = p.h;
+            reached = p.h;
             same_used = refl;
             asked = inr (asked_of request, refl);
-            before = p.h.used;
-            heard = [];
-            cut = sym (append-nil p.h.used);
-            all_said = record { caps = all.caps; noted = all.noted; said = all.said };
+            all_said = quietly_said t p.h old p.runs.along.stands (quiet_where_ready (phase_of old) p.ready);
             is_served = record { first = p.rest.first; later = p.rest.later; unheard = []; served = still_served; sessions = p.rest.talks };
           })
       asking_stopped (Refused fault) new next after split (step, same) =
           let stands = p.runs.along.stands in
-          play_ends t (MayFail state s0) limit s0 requests (Err (Refused fault)) p.h front (request ∷ later) old split (ran_unasked t p.runs step) (record {
+          play_ends t (CanFail state s0) limit s0 requests (Err (Refused fault)) p.h front (request ∷ later) old split (ran_unasked t p.runs step) (record {
             first = p.rest.first;
             later = p.rest.later;
             unheard = [];
@@ -398,11 +387,11 @@ module _ {R A : Type 0} {state : R → RepoState} {t : Terms} {limit : ℕ} {s0 
           → (said : List ℕ) × Turn state t limit s0 advertise before tail said
           (record p.h { asked = p.h.asked ++ asked_of request ∷ []; given = p.h.given ++ step.asks.given }) told)
           → AnswersTo state (Err fault) (spelled tail) old new request next after (flow o1 o2) (flow p1 p2)
-          → PlayEnds t (MayFail state s0) limit s0 requests (Err fault) (flow o0 o2) (flow p0 p2)
+          → PlayEnds t (CanFail state s0) limit s0 requests (Err fault) (flow o0 o2) (flow p0 p2)
       answer_stopped fault {new} {after = after} split turns (inl a) =
           let (said, turn) = turns a.asking a.told a.written a.asks in
           stopped fault (front ++ request ∷ []) later new after (split ∙ sym (append_assoc front (request ∷ []) later)) a.asks.waits turn
           (asks_on t false front old a.asking request no_counts [] p.runs p.ready a.asks.asks) a.hears
       answer_stopped fault {new} {next} {after} {o2 = o2} split turns (inr (step, same)) =
-          subst (λ (p2 : Option (List ℕ)). PlayEnds t (MayFail state s0) limit s0 requests (Err fault) (flow o0 o2) (flow p0 p2)) (sym same)
+          subst (λ (p2 : Option (List ℕ)). PlayEnds t (CanFail state s0) limit s0 requests (Err fault) (flow o0 o2) (flow p0 p2)) (sym same)
           (asking_stopped fault new next after split step)

@@ -14,8 +14,8 @@ use Rattle.git_client.specs.Machine.Client.{can_ask, phase_of, wants_input}
 use Rattle.git_client.specs.Machine.RunSteps.{HearsInPiece, HearsPieceTo, no_counts}
 use Rattle.git_client.specs.declared.client.Client.{Client}
 use Rattle.git_client.specs.declared.hearing.Counts.{Counts}
-use Rattle.git_client.proofs.HeardBytes.{heard_flushed, heard_quietly, heard_then}
-use Rattle.git_client.proofs.Phases.{not_ready_where_due, not_ready_where_failed}
+use Rattle.git_client.proofs.HeardBytes.{heard_flushed, heard_then, heard_to_fault}
+use Rattle.git_client.proofs.Phases.{not_ready_where_due}
 use Rattle.git_server.specs.Repository.{RepoState}
 use Rattle.git_server.specs.declared.server.Server.{Server}
 use Rattle.git2show_lib.specs.Machine.PlaySteps.{AnswersTo, AsksServer, EndsMessageTo, Hears, HearsMessageTo, HearsOut, HearsServerTo}
@@ -138,7 +138,7 @@ module _ {R A : Type 0} (state : R → RepoState) where
     message_ended (Err (RefusedRun fault)) closed (waits, hears, failed, kind) =
         let flushed = hears_flushed false in
         let (all, spent) = heard.due waits in
-        let nothing = heard_quietly heard.counts hears (not_ready_where_failed (phase_of closed) fault failed) (written_nothing told_after)
+        let nothing = heard_to_fault heard.counts hears fault failed (written_nothing told_after)
         (written_nothing sent_after) (written_nothing None) in (
           true,
           heard.counts,

@@ -30,6 +30,10 @@ spelled-append ps qs = flat_map-append spelling_of ps qs
 abbrev pub talk_of : List ℕ → List ℕ → Talk
 talk_of said given = record { said = said; given = given }
 
+-- the repository of a server, as it was at its beginning
+abbrev pub state_of : Setting → RepoState
+state_of s = record { answers = s.repo; failures = s.failures }
+
 -- all was given that is due for what was sent
 pub record Rests (Fails : Type 0) (s : Setting) (count : ℕ) (said given : List ℕ) : Type 0 where
   pub talk : IsTalk Fails s (talk_of said given)
@@ -78,11 +82,11 @@ module _ {R A : Type 0} {state : R → RepoState} {s : Setting} {qs : List Pkt} 
 module _ {R A : Type 0} {state : R → RepoState} {s : Setting} {qs : List Pkt} {said given : List ℕ} {server : Server R A} (closes : Closes qs)
     (st : Settled state s said given server) (is : said ≡ spelled qs) where
   -- a pack was lost after a read that failed
-  lost_for : (outcome : Outcome) → outcome_of server ≡ Some outcome → IsLostFor (CanFail state s.failures) outcome
-  lost_for outcome some lost = (repo_of server, st.runs.failures.risen (subst IsPackLost (sym some) lost))
+  lost_for : (outcome : Outcome) → outcome_of server ≡ Some outcome → IsLostFor (CanFail state (state_of s)) outcome
+  lost_for outcome some lost = (repo_of server, st.runs.repo, st.runs.failures.risen (subst IsPackLost (sym some) lost))
 
   talk_by : (o : Option Outcome) → outcome_of server ≡ o → StandsBy o s st.used false given server
-      → IsTalk (CanFail state s.failures) s (talk_of said given)
+      → IsTalk (CanFail state (state_of s)) s (talk_of said given)
   talk_by None none h =
       let goes = going state server s st.used false given st.runs h in
       record { used = st.used; unused = st.unused; parts = st.parts; runs = inl (st.settled none, goes.1) }
@@ -90,11 +94,11 @@ module _ {R A : Type 0} {state : R → RepoState} {s : Setting} {qs : List Pkt} 
       let (owed, owes) = owes_some server.offer s.repo server.phase in
       record { used = st.used; unused = st.unused; parts = st.parts; runs = inr (outcome, owed, h owed owes, lost_for outcome some) }
 
-  pub talk : IsTalk (CanFail state s.failures) s (talk_of said given)
+  pub talk : IsTalk (CanFail state (state_of s)) s (talk_of said given)
   talk = talk_by (outcome_of server) refl st.runs.stands
 
   -- a server that gives nothing more
-  pub done : IsSpent state server → IsDone (CanFail state s.failures) s (talk_of said given)
+  pub done : IsSpent state server → IsDone (CanFail state (state_of s)) s (talk_of said given)
   done (inl waits) = record {
     used = st.used;
     unused = st.unused;
@@ -113,7 +117,7 @@ module _ {R A : Type 0} {state : R → RepoState} {s : Setting} {qs : List Pkt} 
   waits_on enough =
       (at_rest state server s qs st.used st.unused given st.runs (sym is ∙ st.parts) (ends_closed qs closes) enough st.in_time).waits
 
-  pub rests : Enough s qs given → Rests (CanFail state s.failures) s (flushes qs + flushes (advertised s)) said given
+  pub rests : Enough s qs given → Rests (CanFail state (state_of s)) s (flushes qs + flushes (advertised s)) said given
   rests enough =
       let rest = at_rest state server s qs st.used st.unused given st.runs (sym is ∙ st.parts) (ends_closed qs closes) enough st.in_time in
       let used_all : said ≡ st.used = rw (rest.all, append-nil st.used) at st.parts in

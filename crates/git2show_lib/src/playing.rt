@@ -240,7 +240,7 @@ pub fn play<R: Repo + Drop, O: Write, P: Output, A: Allocator + Copy>(
     requires sound_out { has_failed out.old ≡ false }
     requires sound_pack { P.failed pack.old ≡ false }
     ensures played { Moves (is_broken result)
-        (Played (CanFail R.state (R.state repo).failures) (terms_of (R.state repo).answers.format ending) Limits.USUAL (R.state repo)
+        (Played (CanFail R.state (R.state repo)) (terms_of (R.state repo).answers.format ending) Limits.USUAL (R.state repo)
         requests.items result) []
         (flow (O.contents (inner_of out.old)) (O.contents (inner_of out.new)) ∷ flow (P.contents pack.old) (P.contents pack.new) ∷ []) }
     ensures fault { IfErr result (IsShownBy ⊥ (IsTrue (has_failed out.new || P.failed pack.new)) ⊥) }
@@ -265,7 +265,7 @@ fn play_one<R: Repo + Drop, O: Write, P: Output, A: Allocator + Copy>(
     requires sound_out { has_failed out.old ≡ false }
     requires sound_pack { P.failed pack.old ≡ false }
     ensures played { Moves (is_broken result)
-        (Played (CanFail R.state (R.state repo).failures) (terms_of (R.state repo).answers.format Ending.FlushOnly) Limits.USUAL
+        (Played (CanFail R.state (R.state repo)) (terms_of (R.state repo).answers.format Ending.FlushOnly) Limits.USUAL
         (R.state repo) requests.items result) []
         (flow (O.contents (inner_of out.old)) (O.contents (inner_of out.new)) ∷ flow (P.contents pack.old) (P.contents pack.new) ∷ []) }
     ensures fault { IfErr result (IsShownBy ⊥ (IsTrue (has_failed out.new || P.failed pack.new)) ⊥) }
@@ -295,7 +295,7 @@ fn play_each<R: Repo + Drop, O: Write, P: Output, A: Allocator + Copy>(
     requires sound_out { has_failed out.old ≡ false }
     requires sound_pack { P.failed pack.old ≡ false }
     ensures played { Moves (is_broken result)
-        (Played (CanFail R.state (R.state repo).failures) (terms_of (R.state repo).answers.format Ending.ResponseEnd) Limits.USUAL
+        (Played (CanFail R.state (R.state repo)) (terms_of (R.state repo).answers.format Ending.ResponseEnd) Limits.USUAL
         (R.state repo) requests.items result) []
         (flow (O.contents (inner_of out.old)) (O.contents (inner_of out.new)) ∷ flow (P.contents pack.old) (P.contents pack.new) ∷ []) }
     ensures fault { IfErr result (IsShownBy ⊥ (IsTrue (has_failed out.new || P.failed pack.new)) ⊥) }

@@ -39,9 +39,9 @@ pub record Talk : Type 0 where
   pub said : List ℕ
   pub given : List ℕ
 
--- more reads of the repository can fail than have failed so far
-abbrev pub CanFail : {R : Type 0} → (R → RepoState) → ℕ → Type 0
-CanFail {R} state failures = (repo : R) × (failures < (state repo).failures)
+-- a repository that answers as this one does can be left with more failed reads
+abbrev pub CanFail : {R : Type 0} → (R → RepoState) → RepoState → Type 0
+CanFail {R} state before = (repo : R) × ((state repo).answers ≡ before.answers) × (before.failures < (state repo).failures)
 
 -- a pack was lost only where its reads can fail
 abbrev pub IsLostFor : Type 0 → Outcome → Type 0
@@ -108,17 +108,14 @@ AreWholeSessions Fails ResponseEnd t limit state first later = AreAll (λ s talk
 
 -- ---- how a play ended
 
--- a write failed: what was received comes of the servers, to which all was sent that is written of the requests when these bytes had
--- been received; the last request may not have been sent yet
+-- a write failed: what was received comes of the servers, to which all was sent that is written of the requests; the last request may
+-- not have reached them yet
 pub record IsBrokenPlay (Fails : Type 0) (t : Terms) (limit : ℕ) (state : RepoState) (h : History) : Type 0 where
-  pub said : History
-  pub same_used : h.used ≡ said.used
-  pub asked : (h.asked ≡ said.asked) ⊎ ((last : Asked) × (h.asked ≡ said.asked ++ last ∷ []))
-  pub before : List ℕ
-  pub heard : List ℕ
-  pub cut : said.used ≡ before ++ heard
-  pub all_said : HasSaid t (record said { used = before })
-  pub is_served : IsServed Fails t limit state said
+  pub reached : History
+  pub same_used : h.used ≡ reached.used
+  pub asked : (h.asked ≡ reached.asked) ⊎ ((last : Asked) × (h.asked ≡ reached.asked ++ last ∷ []))
+  pub all_said : HasSaid t reached
+  pub is_served : IsServed Fails t limit state reached
 
 module _ {A : Type 0} where
   -- each request was asked, answered and received whole, and all that was given was received

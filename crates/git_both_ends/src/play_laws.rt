@@ -19,7 +19,7 @@ use std::alloc::Allocator;
 /// requests it asks only what holds of each that is kept: its values are allowed in a request of its format.
 pub fn played_as_told<R: Repo, A: Allocator + Copy>()
     ensures told { (t : Terms) (limit : ℕ) (state : RepoState) (requests : List (Request A)) (done : Unit {0}) (read given : List (List ℕ))
-        → Played (CanFail R.state state.failures) t limit state requests (Ok done) read given
+        → Played (CanFail R.state state) t limit state requests (Ok done) read given
         → IsSound state.answers → CanBeWritten state.answers → state.answers.format ≡ t.format
         → All (λ request. HasValues (format_of request) (asked_of request)) requests
         → let asked = map asked_of requests in

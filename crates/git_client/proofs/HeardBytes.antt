@@ -1,17 +1,20 @@
 -- Bytes of a response that were received, one part after another: their events, their lines, and their bytes of the pack and the progress.
-use Rattle.std.proofs.Common.{◌≡◌, ℕ, Bool, false, List, [], ◌++◌, Option, sym, ap, ◌∙◌, subst, append_assoc, append-nil}
+use Rattle.std.proofs.Common.{◌≡◌, ℕ, Bool, true, false, List, [], ◌++◌, Option, Some, sym, ap, ◌∙◌, subst, append_assoc, append-nil}
 use Rattle.git_pkt.specs.Streams.{Flow, flow, WrittenAs}
+use Rattle.git_pkt.specs.declared.fault.Fault.{Fault}
 use Rattle.git_client.specs.Parts.{Terms}
 use Rattle.git_client.specs.Events.{EventValue, pack_bytes, progress_bytes}
 use Rattle.git_client.specs.Transcript.{transcript_from}
-use Rattle.git_client.specs.Machine.Client.{History, Converses, HearsOn, can_ask}
+use Rattle.git_client.specs.Machine.Client.{History, Converses, HearsOn, can_ask, fault_of, left_to_say, phase_of, request_of, wants_input}
 use Rattle.git_client.specs.Machine.RunSteps.{counts_with, CanCount, IsOneTurn, HearsBytes}
 use Rattle.git_client.specs.declared.client.Client.{Client}
 use Rattle.git_client.specs.declared.hearing.Counts.{Counts}
 use Rattle.git_pkt.proofs.EngineLemmas.{written_nothing, written_then, written_whole}
+use Rattle.git_client.proofs.Carries.{owes_nothing}
 use Rattle.git_client.proofs.Counting.{counts_stay, counts_then, can_count_then, progress_bytes-append}
 use Rattle.git_client.proofs.OneTurn.{turn_then, turn_adds}
 use Rattle.git_client.proofs.Packs.{pack_bytes-append}
+use Rattle.git_client.proofs.Phases.{not_ready_where_due, not_ready_where_failed, quiet_where_due, quiet_where_failed}
 
 -- the history with these bytes and events
 abbrev After : {A : Type 0} → Terms → History → List ℕ → List EventValue → Client A → Type 0
@@ -34,25 +37,40 @@ module _ {A : Type 0} where
 
   -- ---- what was received
 
-  -- bytes that give no event were received
-  pub heard_quietly : {broken : Bool} {old new : Client A} {used : List ℕ} {out packs progress : Flow} (counts : Counts) → HearsOn old used [] new
-      → can_ask new ≡ false → WrittenAs false out [] → WrittenAs false packs [] → WrittenAs false progress []
+  -- bytes that give no event were received, by a client that is then in such a phase
+  heard_quietly : {broken : Bool} {old new : Client A} {used : List ℕ} {out packs progress : Flow} (counts : Counts) → HearsOn old used [] new
+      → can_ask new ≡ false → left_to_say new ≡ [] → WrittenAs false out [] → WrittenAs false packs [] → WrittenAs false progress []
       → HearsBytes broken old new counts counts used out packs progress
-  heard_quietly {broken = broken} {out = out} {packs = packs} {progress = progress} counts hears quiet told sent reported = record {
+  heard_quietly {broken = broken} {out = out} {packs = packs} {progress = progress} counts hears quiet owes told sent reported = record {
     events = [];
     hears = hears;
     one_turn = quiet;
+    owes = owes;
     counted = λ can. counts_stay counts;
     told = λ can. written_whole broken out [] told;
     sent = written_whole broken packs [] sent;
     reported = written_whole broken progress [] reported;
   }
 
+  pub heard_while_due : {broken : Bool} {old new : Client A} {used : List ℕ} {out packs progress : Flow} (counts : Counts) → HearsOn old used [] new
+      → wants_input new ≡ true → WrittenAs false out [] → WrittenAs false packs [] → WrittenAs false progress []
+      → HearsBytes broken old new counts counts used out packs progress
+  heard_while_due {new = new} counts hears due =
+      heard_quietly counts hears (not_ready_where_due (phase_of new) due)
+      (owes_nothing (phase_of new) (request_of new) (quiet_where_due (phase_of new) due))
+
+  pub heard_to_fault : {broken : Bool} {old new : Client A} {used : List ℕ} {out packs progress : Flow} (counts : Counts) → HearsOn old used [] new
+      → (fault : Fault) → fault_of new ≡ Some fault → WrittenAs false out [] → WrittenAs false packs [] → WrittenAs false progress []
+      → HearsBytes broken old new counts counts used out packs progress
+  heard_to_fault {new = new} counts hears fault failed =
+      heard_quietly counts hears (not_ready_where_failed (phase_of new) fault failed)
+      (owes_nothing (phase_of new) (request_of new) (quiet_where_failed (phase_of new) fault failed))
+
   -- no byte was received
-  pub nothing_heard : (c : Client A) (counts : Counts) (told sent reported : Option (List ℕ)) → can_ask c ≡ false
+  pub nothing_heard : (c : Client A) (counts : Counts) (told sent reported : Option (List ℕ)) → wants_input c ≡ true
       → HearsBytes false c c counts counts [] (flow told told) (flow sent sent) (flow reported reported)
-  nothing_heard c counts told sent reported quiet =
-      heard_quietly counts (hears_none c) quiet (written_nothing told) (written_nothing sent) (written_nothing reported)
+  nothing_heard c counts told sent reported due =
+      heard_while_due counts (hears_none c) due (written_nothing told) (written_nothing sent) (written_nothing reported)
 
   module _ {a b c : Client A} {k l m : Counts} {u v : List ℕ}
       {told_before told told_after sent_before sent sent_after reported_before reported reported_after : Option (List ℕ)}
@@ -69,6 +87,7 @@ module _ {A : Type 0} where
           events = events ++ later;
           hears = hears_both a b c u v events later first.hears second.hears;
           one_turn = turn_then events later (can_ask c) more_due second.one_turn;
+          owes = second.owes;
           counted = λ can.
               let (first_can, second_can) = can_count_then k events later can in
               let same = first.counted first_can in
@@ -106,6 +125,7 @@ module _ {A : Type 0} where
         events = heard.events;
         hears = heard.hears;
         one_turn = heard.one_turn;
+        owes = heard.owes;
         counted = heard.counted;
         told = λ can. then_nothing told_before told told_after (transcript_from [] k.pack k.progress heard.events) (heard.told can) flushed;
         sent = then_nothing sent_before sent sent_after (pack_bytes heard.events) heard.sent flushed_pack;

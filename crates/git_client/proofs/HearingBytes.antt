@@ -18,9 +18,9 @@ use Rattle.git_client.specs.Machine.RunSteps.{no_counts, window_of, HearsPieceTo
 use Rattle.git_client.specs.declared.client.Client.{Client}
 use Rattle.git_client.specs.declared.hearing.Counts.{Counts}
 use Rattle.git_client.specs.declared.hearing.Window.{Window}
-use Rattle.git_client.proofs.Phases.{not_ready_where_due, not_ready_where_failed}
+use Rattle.git_client.proofs.Phases.{not_ready_where_due}
 use Rattle.git_client.proofs.Alongs.{in_time_where_sound}
-use Rattle.git_client.proofs.HeardBytes.{heard_flushed, heard_quietly, heard_then, nothing_heard}
+use Rattle.git_client.proofs.HeardBytes.{heard_flushed, heard_then, heard_to_fault, nothing_heard}
 
 -- ---- the bytes of a window
 
@@ -92,7 +92,7 @@ module _ {A : Type 0} where
     used = [];
     read = Consumes-nil left;
     parts = append-nil waiting;
-    bytes = nothing_heard client no_counts told sent reported (not_ready_where_due (phase_of client) waits);
+    bytes = nothing_heard client no_counts told sent reported waits;
   }
 
   module _ {old middle : Client A} {counts : Counts} {waiting unused : List ℕ}
@@ -171,7 +171,7 @@ module _ {A : Type 0} where
       heard_end {fault = fault} {ended = ended} {new = new} all read at_end kind failed hears = record {
         unused = [];
         hears = hears_from (heard_on 0 [] read (append-nil unused ∙ all) refl
-            (heard_quietly counts hears (not_ready_where_failed (phase_of new) fault failed) (written_nothing told) (written_nothing sent)
+            (heard_to_fault counts hears fault failed (written_nothing told) (written_nothing sent)
             (written_nothing reported)));
         told = failed;
         timely = subst (λ (k : Kind). IsTimely k ended []) (sym kind) (refl, at_end);

@@ -12,7 +12,7 @@ use Rattle.git_client.specs.Machine.Turns.{values_of}
 use Rattle.git_pkt.specs.Streams.{flow, is_broken, WrittenAs}
 use Rattle.git_client.specs.Machine.RunSteps.{counts_with, CanCount, IsOneTurn}
 use Rattle.git_client.specs.Machine.RunSteps.{HearsBytes, HearsInPiece, HearsToFault, HearsPieceBroken}
-use Rattle.git_client.specs.Machine.Client.{HearsOn, Feeds, Tells, LeavesAfter, fault_of, can_ask, wants_input, phase_of, events_of}
+use Rattle.git_client.specs.Machine.Client.{HearsOn, Feeds, Tells, LeavesAfter, fault_of, can_ask, left_to_say, request_of, wants_input, phase_of, events_of}
 use Rattle.git_client.specs.declared.client.Client.{Client}
 use Rattle.git_client.specs.declared.events.Event.{Event}
 use Rattle.git_client.specs.declared.events.Event.TheVariants.{Offered, Pack, Progress, Ended}
@@ -20,11 +20,12 @@ use Rattle.git_client.specs.declared.events.Heard.{Heard}
 use Rattle.git_client.specs.declared.events.HeardGot.{HeardGot}
 use Rattle.git_client.specs.declared.events.HeardGot.TheVariants.{More, Event as EventGot, Failed}
 use Rattle.git_client.specs.declared.hearing.Counts.{Counts}
+use Rattle.git_client.proofs.Carries.{owes_nothing}
 use Rattle.git_client.proofs.PlaceLines.{band_is}
-use Rattle.git_client.proofs.Phases.{not_ready_where_due, not_ready_where_failed, sound_where_due, sound_where_ready}
+use Rattle.git_client.proofs.Phases.{not_ready_where_due, quiet_where_due, quiet_where_ready, sound_where_due, sound_where_ready}
 use Rattle.git_pkt.proofs.EngineLemmas.{written_nothing}
 use Rattle.git_client.proofs.OneTurn.{quiet_turn, event_lines}
-use Rattle.git_client.proofs.HeardBytes.{heard_quietly, heard_then}
+use Rattle.git_client.proofs.HeardBytes.{heard_then, heard_to_fault, heard_while_due}
 
 module _ {A : Type 0} where
   -- ---- what an answer means for where the client is
@@ -43,6 +44,12 @@ module _ {A : Type 0} where
   sound_after Offered c leaves = sound_where_ready (phase_of c) leaves
   sound_after Ended c leaves = sound_where_ready (phase_of c) leaves
   sound_after event c leaves = sound_where_due (phase_of c) leaves
+
+  -- after an event a client owes nothing
+  owes_after : (e : Event) (c : Client A) → LeavesAfter e c → left_to_say c ≡ []
+  owes_after Offered c leaves = owes_nothing (phase_of c) (request_of c) (quiet_where_ready (phase_of c) leaves)
+  owes_after Ended c leaves = owes_nothing (phase_of c) (request_of c) (quiet_where_ready (phase_of c) leaves)
+  owes_after event c leaves = owes_nothing (phase_of c) (request_of c) (quiet_where_due (phase_of c) leaves)
 
   -- after an event a client that waits for no input can ask
   asks_after : (e : Event) (c : Client A) → LeavesAfter e c → wants_input c ≡ false → can_ask c ≡ true
@@ -89,7 +96,7 @@ module _ {A : Type 0} where
         record {
           hears = subst (λ (n : ℕ). HearsBytes false old c counts now (take n piece) (flow told_before told) (flow sent_before sent)
               (flow reported_before reported)) all
-              (hears_then false now told sent reported (heard_quietly now (hears_by More is) (not_ready_where_due (phase_of c) due) (written_nothing told)
+              (hears_then false now told sent reported (heard_while_due now (hears_by More is) due (written_nothing told)
               (written_nothing sent) (written_nothing reported)));
           within = omega arith;
           all = λ e. refl;
@@ -110,8 +117,8 @@ module _ {A : Type 0} where
         → HearsBytes broken old c counts now (take (done + heard.used) piece) (flow told_before told_after) (flow sent_before sent_after)
         (flow reported_before reported_after)
     heard_failed_then broken fault told_after sent_after reported_after is line bytes report =
-        let quiet : can_ask c ≡ false = not_ready_where_failed (phase_of c) fault (tells_by (Failed fault) is) in
-        hears_then broken now told_after sent_after reported_after (heard_quietly now (hears_by (Failed fault) is) quiet line bytes report)
+        hears_then broken now told_after sent_after reported_after
+        (heard_to_fault now (hears_by (Failed fault) is) fault (tells_by (Failed fault) is) line bytes report)
 
     pub heard_failed : (fault : Fault) (told_after sent_after reported_after : Option (List ℕ)) → heard.got ≡ Failed fault
         → WrittenAs false (flow told told_after) [] → WrittenAs false (flow sent sent_after) [] → WrittenAs false (flow reported reported_after) []
@@ -149,6 +156,7 @@ module _ {A : Type 0} where
             events = values_of e;
             hears = hears_by (EventGot e) is;
             one_turn = event_turn e c (tells_by (EventGot e) is).3;
+            owes = owes_after e c (tells_by (EventGot e) is).3;
             counted = count;
             told = λ can. subst (WrittenAs broken (flow told told_after)) (event_lines e now.pack now.progress) line;
             sent = bytes;

@@ -12,7 +12,7 @@ use Rattle.git_pkt.proofs.EngineLemmas.{AppendsFront-longer, written_nothing, wr
 use Rattle.git_client.specs.Events.{pack_bytes, progress_bytes}
 use Rattle.git_client.specs.Machine.LineParts.{PutAs}
 use Rattle.git_client.specs.Machine.RunSteps.{HearsBytes, HearsInPiece, HearsToFault, HearsPieceBroken}
-use Rattle.git_client.specs.Machine.Client.{can_ask, fault_of}
+use Rattle.git_client.specs.Machine.Client.{wants_input, fault_of}
 use Rattle.git_client.specs.declared.client.Client.{Client}
 use Rattle.git_client.specs.declared.hearing.Counts.{Counts}
 use Rattle.git_client.proofs.HeardBytes.{nothing_heard}
@@ -129,11 +129,11 @@ module _ {A : Type 0} where
     pub bytes : HearsBytes false old new counts after used (held lines) packs progress
     pub put : PutAs false out [] lines waiting
 
-  pub no_lines_yet : (c : Client A) (counts : Counts) (told sent reported : Option (List ℕ)) (waiting : List ℕ) → can_ask c ≡ false → waiting ≡ []
+  pub no_lines_yet : (c : Client A) (counts : Counts) (told sent reported : Option (List ℕ)) (waiting : List ℕ) → wants_input c ≡ true → waiting ≡ []
       → HeardLines c c counts counts [] (flow told told) waiting (flow sent sent) (flow reported reported)
-  no_lines_yet c counts told sent reported waiting quiet none = record {
+  no_lines_yet c counts told sent reported waiting due none = record {
     lines = [];
-    bytes = nothing_heard c counts (Some []) sent reported quiet;
+    bytes = nothing_heard c counts (Some []) sent reported due;
     put = record { sent = []; rest = []; all = refl; written = written_nothing told; waits = λ whole. none };
   }
 
@@ -145,6 +145,7 @@ module _ {A : Type 0} where
       events = bytes.events;
       hears = bytes.hears;
       one_turn = bytes.one_turn;
+      owes = bytes.owes;
       counted = bytes.counted;
       told = λ can. subst (WrittenAs broken out) (bytes.told can) written;
       sent = written_whole broken packs (pack_bytes bytes.events) bytes.sent;
@@ -158,6 +159,7 @@ module _ {A : Type 0} where
       events = bytes.events;
       hears = bytes.hears;
       one_turn = bytes.one_turn;
+      owes = bytes.owes;
       counted = bytes.counted;
       told = λ can.
           let (front, rest, all, whole) = bytes.told can in

@@ -17,10 +17,10 @@ use Rattle.git_msg.specs.declared.offers.Caps.{Caps}
 use Rattle.git_msg.specs.declared.offers.Offer.{Offer}
 use Rattle.git_msg.specs.declared.requests.Request.{Request}
 use Rattle.git_client.specs.Machine.Client.{History}
-use Rattle.git_client.specs.Conversation.{HasEvents, HasNoted, IsConversation}
+use Rattle.git_client.specs.Conversation.{GoesOn, HasEvents, HasNoted, IsConversation}
 use Rattle.git_client.specs.Events.{EventValue, turns_of}
 use Rattle.git_client.specs.Parts.{Terms}
-use Rattle.git_client.specs.Machine.Runs.{IsMalformed, IsInterrupted, IsRefusedRequest}
+use Rattle.git_client.specs.Machine.Runs.{IsMalformed, IsRefusedRequest}
 use Rattle.git_client.specs.Transcript.{transcript_of}
 use Rattle.git2show_lib.specs.Machine.CheckFaults.{Standing}
 use Rattle.git2show_lib.specs.declared.checking.CheckFault.{CheckFault}
@@ -116,7 +116,8 @@ pub record IsLeftOver (t : Terms) (requests : Standing) (unused : List ℕ) (h :
 -- more is due of the advertisement or of a response
 pub record IsWithinResponse (t : Terms) (unused : List ℕ) (h : History) (found : Found) : Type 0 where
   pub all_asked : AreAllAsked h found
-  pub interrupted : IsInterrupted t unused h
+  pub all_used : unused ≡ []
+  pub goes_on : GoesOn t h.asked h.used h.events
 
 -- a request is begun, or can come
 pub record IsWithinRequest (t : Terms) (offer : Offer) (limit : ℕ) (requests responses : Standing) (h : History) (found : Found) : Type 0 where

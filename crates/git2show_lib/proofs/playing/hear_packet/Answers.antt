@@ -3,7 +3,7 @@ use Rattle.std.proofs.lemmas.Bool.{or_parts}
 use Rattle.std.proofs.lemmas.Result.{err_from_is_err_and}
 use Rattle.git_client.specs.Machine.Client.{wants_input}
 use Rattle.git_client.proofs.HeardBytes.{nothing_heard}
-use Rattle.git_client.proofs.Phases.{not_ready_where_due, sound_where_due}
+use Rattle.git_client.proofs.Phases.{sound_where_due}
 use Rattle.git2show_lib.proofs.PlayHearing.{heard_on, hearing_stopped}
 use Rattle.git2show_lib.proofs.PlayTelling.{piece_fits, piece_some}
 use Rattle.git2show_lib.proofs.playing.hear_packet.Goals as goal
@@ -16,7 +16,7 @@ loop-used-init g c = record {
   moves = λ none. let waits = c.requires.waits in absurd (cc);
   out_stays = search rules;
   pack_stays = search rules;
-  hears = nothing_heard _ _ _ _ _ (not_ready_where_due _ c.requires.waits);
+  hears = nothing_heard _ _ _ _ _ c.requires.waits;
 }
 
 pub loop-used-smaller : goal.loop-used-smaller

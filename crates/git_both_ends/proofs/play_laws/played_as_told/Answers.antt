@@ -5,6 +5,6 @@ use Rattle.git_both_ends.proofs.play_laws.played_as_told.Goals as goal
 
 pub returns : goal.returns
 returns g c = record {
-  told = λ t limit state requests done read given. as_told (CanFail g.R.Repo.state state.failures) t limit state requests done read given;
+  told = λ t limit state requests done read given. as_told (CanFail g.R.Repo.state state) t limit state requests done read given;
   packs = all_packs;
 }

@@ -7,7 +7,7 @@ use Rattle.git_client.specs.Machine.Client.{wants_input}
 use Rattle.git_client.specs.Machine.RunSteps.{HearsPieceTo}
 use Rattle.git_client.specs.Transcript.{lines_of}
 use Rattle.git_client.specs.Machine.Turns.{values_of}
-use Rattle.git_client.proofs.Phases.{not_ready_where_due, sound_where_due}
+use Rattle.git_client.proofs.Phases.{sound_where_due}
 use Rattle.git_client.proofs.HearingSteps.{heard_all, heard_failed, heard_failed_unflushed}
 use Rattle.git_client.proofs.HearingSteps.{heard_event, heard_event_front, heard_sound, heard_some, heard_to_question, used_within}
 use Rattle.git_client.proofs.WaitingLines.{broken_by, broken_unwritten, fault_written, flushed_out, no_lines_yet}
@@ -23,7 +23,7 @@ loop-used-init g c = record {
   out_stays = search rules;
   pack_stays = search rules;
   progress_stays = search rules;
-  hears = no_lines_yet _ _ _ _ _ _ (not_ready_where_due _ c.requires.waits) c.new-lines.ensures;
+  hears = no_lines_yet _ _ _ _ _ _ c.requires.waits c.new-lines.ensures;
 }
 
 pub returns-in_err-drain-in-More-clause-heard : goal.returns-in_err-drain-in-More-clause-heard
