@@ -21,11 +21,11 @@ use Rattle.git_pkt.specs.declared.fault.Fault.{Fault}
 use Rattle.git_pkt.specs.declared.fault.RunFault.{RunFault}
 use Rattle.git_pkt.specs.declared.fault.RunFault.TheVariants.{ReadFault, WriteFault, ReadLimit, Refused}
 use Rattle.git_pkt.specs.declared.reader.PacketReader.{PacketReader}
-use Rattle.git_pkt.proofs.EngineLemmas.{timely, Moved, moved_on, moved_unread, moves, brings_more, written_nothing, written_then}
+use Rattle.git_pkt.proofs.EngineLemmas.{timely, Moved, moved_on, moved_unread, moves, brings_more, written_nothing}
 use Rattle.git2show_lib.specs.PacketLines.{line_of, lines_of}
-use Rattle.git2show_lib.specs.Machine.LineBuffer.{Emits, EmitsFront}
 use Rattle.git2show_lib.specs.Machine.ShownStream.{EndsAs, Prints, PrintsPiece, Shows, ShowsPiece, Writes, WritesFront}
-use Rattle.git2show_lib.proofs.Sendings.{emits_then, front_after}
+use Rattle.git_client.specs.Machine.LineParts.{PutAs}
+use Rattle.git_client.proofs.WaitingLines.{put_front, put_out, put_then}
 
 pub lines-append : (gs hs : List Given) → lines_of (gs ++ hs) ≡ lines_of gs ++ lines_of hs
 lines-append gs hs = flat_map-append line_of gs hs
@@ -48,21 +48,21 @@ reads_on_then a b c u v gs hs one two start bytes given rest reads =
 
 module _ {a b : PacketReader} {u w : List ℕ} {before held : Option (List ℕ)} (so_far : Prints a b u w (flow before held)) where
   -- one more packet was read, and its line was put after the others
-  prints_packet : (c : PacketReader) (v : List ℕ) {after : Option (List ℕ)} {x : List ℕ} (g : Given) → ReadsOn b v (g ∷ []) c → Emits held after w (line_of g) x
-      → Prints a c (u ++ v) x (flow before after)
+  prints_packet : (c : PacketReader) (v : List ℕ) {after : Option (List ℕ)} {x : List ℕ} (g : Given) → ReadsOn b v (g ∷ []) c
+      → PutAs false (flow held after) w (line_of g) x → Prints a c (u ++ v) x (flow before after)
   prints_packet c v {after} {x} g reads line = record {
     packets = so_far.packets ++ g ∷ [];
     reads = reads_on_then a b c u v so_far.packets (g ∷ []) so_far.reads reads;
-    emits = rw (lines-one so_far.packets g) (emits_then before held after [] (lines_of so_far.packets) w (line_of g) x so_far.emits line);
+    put = rw (lines-one so_far.packets g) (put_then so_far.put line);
   }
 
   -- one more packet was read, and a write failed at its line
-  prints_packet_front : (c : PacketReader) (v : List ℕ) (after : Option (List ℕ)) (g : Given) → ReadsOn b v (g ∷ []) c → EmitsFront held after w (line_of g)
-      → Writes true a c (u ++ v) (flow before after)
-  prints_packet_front c v after g reads line = record {
+  prints_packet_front : (c : PacketReader) (v : List ℕ) {after : Option (List ℕ)} {x : List ℕ} (g : Given) → ReadsOn b v (g ∷ []) c
+      → PutAs true (flow held after) w (line_of g) x → Writes true a c (u ++ v) (flow before after)
+  prints_packet_front c v g reads line = record {
     packets = so_far.packets ++ g ∷ [];
     reads = reads_on_then a b c u v so_far.packets (g ∷ []) so_far.reads reads;
-    written = rw (lines-one so_far.packets g) (front_after before held after [] (lines_of so_far.packets) w (line_of g) so_far.emits line);
+    written = rw (lines-one so_far.packets g) (put_front (put_then so_far.put line));
   }
 
   -- bytes were read that make no packet whole
@@ -70,7 +70,7 @@ module _ {a b : PacketReader} {u w : List ℕ} {before held : Option (List ℕ)}
   prints_quiet c v reads = record {
     packets = so_far.packets;
     reads = rw (append-nil so_far.packets) at (reads_on_then a b c u v so_far.packets [] so_far.reads reads);
-    emits = so_far.emits;
+    put = so_far.put;
   }
 
   -- what waited was sent, as far as that went
@@ -78,7 +78,7 @@ module _ {a b : PacketReader} {u w : List ℕ} {before held : Option (List ℕ)}
   sent_on broken after sent = record {
     packets = so_far.packets;
     reads = so_far.reads;
-    written = rw so_far.emits.all (written_then broken before held after so_far.emits.sent w so_far.emits.written sent);
+    written = put_out broken after so_far.put sent;
   }
 
 -- ---- one call of `feed` over what is left of a piece
@@ -120,16 +120,16 @@ module _ {old b c : PacketReader} (piece : List ℕ) (done : ℕ) {before held :
       rw (take_joined piece done fed.used within, all) at (prints_quiet so_far c (take fed.used (left piece done)) (reads_by More is))
 
   pub fed_packet : (p : Packet) (offset : ℕ) {after : Option (List ℕ)} {x : List ℕ} → fed.got ≡ GotPacket p offset
-      → Emits held after w (line_of (record { packet = seen p; offset = offset })) x → Prints old c (take (done + fed.used) piece) x (flow before after)
+      → PutAs false (flow held after) w (line_of (record { packet = seen p; offset = offset })) x → Prints old c (take (done + fed.used) piece) x (flow before after)
   fed_packet p offset is line =
       rw (take_joined piece done fed.used within) at
       (prints_packet so_far c (take fed.used (left piece done)) (record { packet = seen p; offset = offset }) (reads_by (GotPacket p offset) is) line)
 
-  pub fed_packet_front : (p : Packet) (offset : ℕ) (after : Option (List ℕ)) → fed.got ≡ GotPacket p offset
-      → EmitsFront held after w (line_of (record { packet = seen p; offset = offset })) → WritesFront old c piece (flow before after)
-  fed_packet_front p offset after is line = (
+  pub fed_packet_front : (p : Packet) (offset : ℕ) {after : Option (List ℕ)} {x : List ℕ} → fed.got ≡ GotPacket p offset
+      → PutAs true (flow held after) w (line_of (record { packet = seen p; offset = offset })) x → WritesFront old c piece (flow before after)
+  fed_packet_front p offset is line = (
     done + fed.used,
-    rw (take_joined piece done fed.used within) at (prints_packet_front so_far c (take fed.used (left piece done)) after
+    rw (take_joined piece done fed.used within) at (prints_packet_front so_far c (take fed.used (left piece done))
         (record { packet = seen p; offset = offset }) (reads_by (GotPacket p offset) is) line),
   )
 

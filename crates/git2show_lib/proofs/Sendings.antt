@@ -1,45 +1,14 @@
 -- One thing after another goes through a buffer.
-use Rattle.std.proofs.Common.{length, ◌≡◌, ℕ, List, [], ◌++◌, Option, Result, Ok, Err, IsErrAnd, ap, sym, ◌∙◌, subst, append_assoc, append-nil}
+use Rattle.std.proofs.Common.{length, ◌≡◌, ℕ, List, [], ◌++◌, Option, Result, Ok, Err, IsErrAnd, sym, ◌∙◌, subst, append_assoc, append-nil}
 use Rattle.std.proofs.lemmas.List.{nil_from_length}
-use Rattle.git_pkt.specs.Machine.Told.{inner_of}
 use Rattle.git_pkt.specs.Escape.{escaped_of}
 use Rattle.git_pkt.specs.Machine.Sends.{Puts}
 use Rattle.git_pkt.specs.declared.fault.RunFault.{RunFault}
 use Rattle.git_pkt.specs.declared.told.Told.{Told}
-use Rattle.git_pkt.proofs.EngineLemmas.{AppendsFront-after, AppendsFront-longer}
 use Rattle.git_pkt.proofs.Escapes.{escaped-append}
 use Rattle.git_pkt.proofs.Sends.{puts_waiting, puts_then, puts_front}
-use Rattle.std.proofs.KnownBytes.{Appends-trans}
-use Rattle.git2show_lib.specs.Machine.LineBuffer.{Emits, EmitsFront}
-
-pub emits_then : (a b c : Option (List ℕ)) (x bytes y more z : List ℕ) → Emits a b x bytes y → Emits b c y more z → Emits a c x (bytes ++ more) z
-emits_then a b c x bytes y more z one two = record {
-  sent = one.sent ++ two.sent;
-  written = Appends-trans a b c one.sent two.sent one.written two.written;
-  all = sym (append_assoc x bytes more) ∙ simp (one.all, append_assoc, two.all);
-}
-
-pub front_after : (a b c : Option (List ℕ)) (x bytes y more : List ℕ) → Emits a b x bytes y → EmitsFront b c y more → EmitsFront a c x (bytes ++ more)
-front_after a b c x bytes y more one two =
-    let same : one.sent ++ (y ++ more) ≡ x ++ (bytes ++ more) =
-    sym (append_assoc one.sent y more) ∙ rw (← one.all) (append_assoc x bytes more) in
-    rw same at (AppendsFront-after a b c one.sent (y ++ more) one.written two)
 
 module _ {W : Type 0} {contents : W → Option (List ℕ)} where
-  -- what was put into the buffer, and what was sent of it
-  pub emits_by : {T : Type 0} {a b : Told W} {s u t : List ℕ} {x : T} → Puts contents a s u (Ok x) b t
-      → Emits (contents (inner_of a)) (contents (inner_of b)) s u t
-  emits_by {s = s} {u = u} puts = record {
-    sent = puts.sent;
-    written = puts.sends.ok;
-    all = puts.all ∙ ap (λ (l : List ℕ). puts.sent ++ l) (sym puts.waits);
-  }
-
-  pub front_by : {T : Type 0} {a c : Told W} {s u t : List ℕ} {fault : RunFault} → Puts {T = T} contents a s u (Err fault) c t
-      → EmitsFront (contents (inner_of a)) (contents (inner_of c)) s u
-  front_by {a = a} {c = c} puts =
-      rw puts.all (AppendsFront-longer (contents (inner_of a)) (contents (inner_of c)) puts.sent puts.rest puts.sends.err)
-
   -- a head, and the escapes of a body
   pub head_and_body : {S T : Type 0} {a b c : Told W} {s t x head shown body : List ℕ} {y : S} {result : Result T RunFault} → shown ≡ body
       → Puts contents a s head (Ok y) b t → Puts contents b t (escaped_of shown) result c x → Puts contents a s (head ++ escaped_of body) result c x

@@ -1,5 +1,4 @@
 -- The state and the calls of the runs of `show`, `check` and `play`, and of scripts as they are held. No definition beside this folder cites them.
-pub mod LineBuffer
 pub mod ShownStream
 pub mod Reports
 pub mod CheckFaults

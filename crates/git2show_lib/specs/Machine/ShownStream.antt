@@ -8,8 +8,8 @@ use Rattle.git_pkt.specs.Streams.{Flow, WrittenAs, IsTimely}
 use Rattle.git_pkt.specs.declared.fault.RunFault.{RunFault}
 use Rattle.git_pkt.specs.declared.fault.RunFault.TheVariants.{ReadFault, WriteFault, ReadLimit, Refused}
 use Rattle.git_pkt.specs.declared.reader.PacketReader.{PacketReader}
+use Rattle.git_client.specs.Machine.LineParts.{PutAs}
 use Rattle.git2show_lib.specs.PacketLines.{lines_of}
-use Rattle.git2show_lib.specs.Machine.LineBuffer.{Emits}
 
 -- how the run ended: well where the input did, between two packets; else the rest shows why, or a stream failed. Where its
 -- reads were spent each of them had brought some bytes.
@@ -36,7 +36,7 @@ pub record Shows (result : Result (Unit {0}) RunFault) (ended : Bool) (turns : �
 pub record Prints (old new : PacketReader) (bytes waiting : List ℕ) (writer : Flow) : Type 0 where
   pub packets : List Given
   pub reads : ReadsOn old bytes packets new
-  pub emits : Emits writer.before writer.after [] (lines_of packets) waiting
+  pub put : PutAs false writer [] (lines_of packets) waiting
 
 -- the reader went on over these bytes, and the lines of its packets were written, or a front of them
 pub record Writes (broken : Bool) (old new : PacketReader) (bytes : List ℕ) (writer : Flow) : Type 0 where
@@ -45,14 +45,14 @@ pub record Writes (broken : Bool) (old new : PacketReader) (bytes : List ℕ) (w
   pub written : WrittenAs broken writer (lines_of packets)
 
 -- the reader met this fault when it had used so many bytes of the piece
-pub record Meets (f : Fault) (new : PacketReader) (piece : List ℕ) (used : ℕ) : Type 0 where
+pub record MeetsFault (f : Fault) (new : PacketReader) (piece : List ℕ) (used : ℕ) : Type 0 where
   pub told : fault_of new ≡ Some f
   pub shown : ShownByFeed f used piece
 
 -- all of the piece was used and printed, or a front of it up to a fault
 abbrev pub PrintsPiece : Option Fault → PacketReader → PacketReader → List ℕ → List ℕ → Flow → Type 0
 PrintsPiece None old new piece waiting writer = Prints old new piece waiting writer × (fault_of new ≡ None)
-PrintsPiece (Some f) old new piece waiting writer = (used : ℕ) × Prints old new (take used piece) waiting writer × Meets f new piece used
+PrintsPiece (Some f) old new piece waiting writer = (used : ℕ) × Prints old new (take used piece) waiting writer × MeetsFault f new piece used
 
 -- a front of the piece was used, and a front of its lines written
 abbrev pub WritesFront : PacketReader → PacketReader → List ℕ → Flow → Type 0
@@ -62,5 +62,5 @@ WritesFront old new piece writer = (used : ℕ) × Writes true old new (take use
 abbrev pub ShowsPiece : Result (Unit {0}) RunFault → PacketReader → PacketReader → List ℕ → Flow → Type 0
 ShowsPiece (Ok done) old new piece writer = Writes false old new piece writer × (fault_of new ≡ None)
 ShowsPiece (Err WriteFault) old new piece writer = WritesFront old new piece writer
-ShowsPiece (Err (Refused f)) old new piece writer = (used : ℕ) × Writes false old new (take used piece) writer × Meets f new piece used
+ShowsPiece (Err (Refused f)) old new piece writer = (used : ℕ) × Writes false old new (take used piece) writer × MeetsFault f new piece used
 ShowsPiece (Err fault) old new piece writer = ⊥

@@ -1,9 +1,10 @@
-use Rattle.std.proofs.Common.{rules, arith, []}
+use Rattle.std.proofs.Common.{rules, arith, [], false, Option, Ok, Err, refl}
 use Rattle.git_pkt.specs.Machine.Told.{inner_of}
 use Rattle.git_pkt.specs.Streams.{flow}
+use Rattle.git_pkt.specs.declared.fault.Fault.{Fault}
 use Rattle.git2show_lib.specs.Machine.ShownStream.{WritesFront}
 use Rattle.git2show_lib.proofs.Printing.{fed_failed, fed_packet, fed_packet_front, left_length, none_read, tells_by}
-use Rattle.git2show_lib.proofs.Sendings.{emits_by, front_by}
+use Rattle.git_client.proofs.WaitingLines.{broken_by, put_by, put_nothing}
 use Rattle.git2show_lib.proofs.showing.print_piece.Goals as goal
 
 pub returns-in-Failed-clause-ok : goal.returns-in-Failed-clause-ok
@@ -15,8 +16,8 @@ pub returns-in_err-put-in-Packet-clause-front : goal.returns-in_err-put-in-Packe
 returns-in_err-put-in-Packet-clause-front g c =
     let front : WritesFront c.args.packets.now c.feed-fed.follows.lender-at-none c.args.piece.now (flow (g.W.Write.contents (inner_of c.args.writer.now))
     (g.W.Write.contents (inner_of c.put.new.writer))) =
-    fed_packet_front _ c.loop-done.done c.loop-done.invariant.within c.loop-done.invariant.prints c.feed-fed.follows.holds-at-none _ _ _ c.in-Packet.is
-    (front_by c.in_err-put-in-Packet.ensures) in
+    fed_packet_front _ c.loop-done.done c.loop-done.invariant.within c.loop-done.invariant.prints c.feed-fed.follows.holds-at-none _ _ c.in-Packet.is
+    (broken_by {T = Option Fault} refl c.in_err-put-in-Packet.ensures.sends.fault (put_by (Err _) c.in_err-put-in-Packet.ensures)) in
     search rules
 
 pub loop-done-init : goal.loop-done-init
@@ -25,7 +26,7 @@ loop-done-init g c = record {
   sound = search rules;
   gathers = search rules;
   writer_sound = search rules;
-  prints = record { packets = []; reads = none_read c.args.packets.now; emits = search rules };
+  prints = record { packets = []; reads = none_read c.args.packets.now; put = rw c.requires.empty (put_nothing false _ [] [] refl) };
 }
 
 pub loop-done-preserved : goal.loop-done-preserved
@@ -39,5 +40,5 @@ loop-done-preserved g c =
       sound = tells.1;
       gathers = feeds.gathers;
       writer_sound = search rules;
-      prints = fed_packet _ c.loop-done.done at.within at.prints feeds _ _ c.in-Packet.is (emits_by c.in_ok-put-in-Packet.ensures);
+      prints = fed_packet _ c.loop-done.done at.within at.prints feeds _ _ c.in-Packet.is (put_by (Ok _) c.in_ok-put-in-Packet.ensures);
     }
