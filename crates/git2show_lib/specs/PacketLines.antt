@@ -8,7 +8,7 @@ use Rattle.git_pkt.specs.Escape.{escaped_of}
 -- the space before a payload; an empty one has none
 abbrev pub space_before : List ℕ → List ℕ
 space_before [] = []
-space_before (b ∷ bytes) = 32 ∷ []
+space_before (b ∷ bytes) = codes " "
 
 -- the kind of a packet, and of a data packet the length
 abbrev pub kind_shown : Pkt → List ℕ
@@ -19,7 +19,7 @@ kind_shown (payload bytes) = codes " data " ++ decimal (length bytes) ++ space_b
 
 -- the line of a packet: its offset, its kind, and of a data packet the length and the payload, escaped
 abbrev pub line_of : Given → List ℕ
-line_of g = (decimal g.offset ++ kind_shown g.packet) ++ escaped_of (body_of g.packet) ++ 10 ∷ []
+line_of g = (decimal g.offset ++ kind_shown g.packet) ++ escaped_of (body_of g.packet) ++ codes "\n"
 
 abbrev pub lines_of : List Given → List ℕ
 lines_of given = flat_map line_of given

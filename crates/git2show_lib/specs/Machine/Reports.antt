@@ -1,5 +1,5 @@
 -- The line by which the program reports a fault.
-use Rattle.std.specs.Prelude.{ℕ, List, [], ◌∷◌, ◌++◌, codes, decimal}
+use Rattle.std.specs.Prelude.{ℕ, List, ◌++◌, codes, decimal}
 use Rattle.git_pkt.specs.FaultNames.{fault_text, run_fault_text}
 use Rattle.git2show_lib.specs.declared.reports.ProgramFault.{ProgramFault}
 use Rattle.git2show_lib.specs.declared.reports.ProgramFault.TheVariants.{Run, Check, Repo, Script, File, OutOfMemory}
@@ -23,4 +23,4 @@ program_fault_text File = codes "File"
 program_fault_text OutOfMemory = codes "OutOfMemory"
 
 abbrev pub fault_line : ProgramFault → List ℕ
-fault_line fault = codes "git2show: " ++ program_fault_text fault ++ 10 ∷ []
+fault_line fault = codes "git2show: " ++ program_fault_text fault ++ codes "\n"
