@@ -21,6 +21,24 @@ case_each_link_of_a_page_leads_to_a_file() {
     done
 }
 
+# sources_named: prints the sources that have a row in the table of ARCHITECTURE, as CRATE/src/FILE. A name without a folder is in that of the one before.
+sources_named() {
+    grep -E '^\| `[a-z0-9_]+/src/' "$top/docs/ARCHITECTURE.md" | cut -d '|' -f 2 | awk -F '`' '{
+        for (i = 2; i <= NF; i += 2) {
+            if ($i ~ "/") { folder = $i; sub("[^/]*$", "", folder); print $i } else print folder $i
+        }
+    }'
+}
+
+case_each_source_of_a_library_or_the_program_has_its_row() {
+    local crate
+    sources_named | sort > named
+    for crate in git_names git_pkt git_msg git_server git_client git_repository git_both_ends git2show_lib git2show gitwire; do
+        (cd "$top/crates" && find "$crate/src" -name '*.rt' ! -name lib.rt)
+    done | sort > there
+    expect_same 'the table of ARCHITECTURE' there named
+}
+
 # In a crate with machines the definitions of its protocol stand without them. The laws on both ends, the program and C state only calls.
 case_no_definition_of_the_protocol_cites_a_machine() {
     local crate definitions
