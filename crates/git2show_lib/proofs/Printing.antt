@@ -120,7 +120,8 @@ module _ {old b c : PacketReader} (piece : List ℕ) (done : ℕ) {before held :
       rw (take_joined piece done fed.used within, all) at (prints_quiet so_far c (take fed.used (left piece done)) (reads_by More is))
 
   pub fed_packet : (p : Packet) (offset : ℕ) {after : Option (List ℕ)} {x : List ℕ} → fed.got ≡ GotPacket p offset
-      → PutAs false (flow held after) w (line_of (record { packet = seen p; offset = offset })) x → Prints old c (take (done + fed.used) piece) x (flow before after)
+      → PutAs false (flow held after) w (line_of (record { packet = seen p; offset = offset })) x
+      → Prints old c (take (done + fed.used) piece) x (flow before after)
   fed_packet p offset is line =
       rw (take_joined piece done fed.used within) at
       (prints_packet so_far c (take fed.used (left piece done)) (record { packet = seen p; offset = offset }) (reads_by (GotPacket p offset) is) line)

@@ -56,8 +56,8 @@ pub record BreaksOff (stream : Flow) (given : List ℕ) : Type 0 where
   pub one_packet : (front ++ rest ≡ []) ⊎ ((packet : Pkt) × (front ++ rest ≡ spelling_of packet))
 
 module _ {A : Type 0} where
-  -- These bytes were received, and the client owes nothing: the lines of the transcript for them were written, after what was counted of the response before, and
-  -- their bytes of the pack and of the progress
+  -- These bytes were received, and the client owes nothing: the lines of the transcript for them were written, after what was counted of the
+  -- response before, and their bytes of the pack and of the progress
   pub record HearsBytes (broken : Bool) (old new : Client A) (counts counts_after : Counts) (used : List ℕ) (out packs progress : Flow) : Type 0 where
     pub events : List EventValue
     pub hears : HearsOn old used events new

@@ -17,12 +17,14 @@ returns-clause-room c =
     let name_room = c.put_at-name_end.new.slice in
     let text_room = c.put_at-text_end.new.slice in
     let id_end : c.put_digits-id_end.result ≡ length id = omega (arith, c.put_digits-id_end.ensures.end) in
-    let name_end : c.put_at-name_end.result ≡ length (id ++ name) = omega (arith, id_end, c.put_at-name_end.ensures.end, ap length c.bytes_of.ensures, length-append id name) in
+    let name_end : c.put_at-name_end.result ≡ length (id ++ name) =
+    omega (arith, id_end, c.put_at-name_end.ensures.end, ap length c.bytes_of.ensures, length-append id name) in
     let text_end : c.put_at-text_end.result ≡ length (id ++ name ++ text) =
     omega (arith, name_end, c.put_at-text_end.ensures.end, ap length c.bytes_of-2.ensures, length-append (id ++ name) text) in
     let one : id_room ≡ put_before id base = filled_more base [] id base id_room 0 refl refl c.put_digits-id_end.ensures.placed in
     let two : name_room ≡ put_before (id ++ name) base =
     filled_more base id name id_room name_room c.put_digits-id_end.result id_end one (rw (← c.bytes_of.ensures) c.put_at-name_end.ensures.placed) in
     let three : text_room ≡ put_before (id ++ name ++ text) base =
-    filled_more base (id ++ name) text name_room text_room c.put_at-name_end.result name_end two (rw (← c.bytes_of-2.ensures) c.put_at-text_end.ensures.placed) in
+    filled_more base (id ++ name) text name_room text_room c.put_at-name_end.result name_end two
+    (rw (← c.bytes_of-2.ensures) c.put_at-text_end.ensures.placed) in
     filled_more base (id ++ name ++ text) peeled text_room c.put_digits-end.new.room c.put_at-text_end.result text_end three c.put_digits-end.ensures.placed
