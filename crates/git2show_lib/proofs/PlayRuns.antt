@@ -312,6 +312,7 @@ module _ {R A : Type 0} {state : R → RepoState} {t : Terms} {limit : ℕ} {s0 
           reached = now;
           same_used = refl;
           asked = inl refl;
+          stays = on.stays;
           all_said = has_said t now new on.along.stands hears.heard.owes;
           is_served = served turn hears now.events;
         })
@@ -362,6 +363,7 @@ module _ {R A : Type 0} {state : R → RepoState} {t : Terms} {limit : ℕ} {s0 
             reached = p.h;
             same_used = refl;
             asked = inr (asked_of request, refl);
+            stays = p.runs.stays;
             all_said = quietly_said t p.h old p.runs.along.stands (quiet_where_ready (phase_of old) p.ready);
             is_served = record { first = p.rest.first; later = p.rest.later; unheard = []; served = still_served; sessions = p.rest.talks };
           })

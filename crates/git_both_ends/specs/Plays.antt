@@ -114,6 +114,7 @@ pub record IsBrokenPlay (Fails : Type 0) (t : Terms) (limit : ℕ) (state : Repo
   pub reached : History
   pub same_used : h.used ≡ reached.used
   pub asked : (h.asked ≡ reached.asked) ⊎ ((last : Asked) × (h.asked ≡ reached.asked ++ last ∷ []))
+  pub stays : reached.left ≡ false
   pub all_said : HasSaid t reached
   pub is_served : IsServed Fails t limit state reached
 

@@ -1,16 +1,22 @@
 -- The line of an event is the word of its kind and its parts, one after another.
-use Rattle.std.proofs.Common.{◌≡◌, ℕ, List, [], ◌∷◌, map, codes, decimal, Option, Some, None, Bor, refl, sym, subst}
+use Rattle.std.proofs.Common.{◌≡◌, ℕ, List, [], ◌∷◌, map, codes, decimal, Option, Some, None, unwrap_or, Bor, refl, sym, subst}
 use Rattle.std.specs.Option.{option_copied}
 use Rattle.git_names.specs.ObjectName.{hex_of}
 use Rattle.git_pkt.specs.Escape.{escaped_of}
 use Rattle.git_msg.specs.References.{peeled_text}
 use Rattle.git_client.specs.EventParts.{Parts, parts_of, word_of}
 use Rattle.git_client.specs.Events.{pack, progress}
-use Rattle.git_client.specs.Machine.LineParts.{row_of}
+use Rattle.git_client.specs.Machine.LineParts.{count_after, object_shown, size_after, text_word}
 use Rattle.git_client.specs.Machine.Turns.{values_of}
-use Rattle.git_client.specs.Transcript.{lines_of, target_shown, value_shown}
+use Rattle.git_client.specs.Transcript.{lines_of, shown_after, target_shown, value_shown}
 use Rattle.git_client.specs.declared.events.Event.{Event}
 use Rattle.git_client.proofs.Writing.{line_by, one_line}
+
+-- the bytes of an event's line, part after part
+abbrev pub row_of : Parts → (packed told : ℕ) → List (List ℕ)
+row_of p packed told =
+    unwrap_or (word_of p.kind) [] ∷ object_shown p.kind p.id ∷ shown_after (codes " ") p.name ∷ shown_after (text_word p.kind) p.text
+    ∷ peeled_text p.peeled ∷ size_after p.kind p.size ∷ count_after p.kind packed ∷ count_after p.kind told ∷ []
 
 pub no_lines_of_pack : (bytes : List ℕ) (p q : ℕ) → lines_of (map pack bytes) p q ≡ []
 no_lines_of_pack [] p q = refl

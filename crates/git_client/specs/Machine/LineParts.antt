@@ -1,11 +1,8 @@
 -- The parts that a line of text is written in, and lines that wait for their writer.
-use Rattle.std.specs.Prelude.{◌≡◌, ℕ, Bool, false, List, [], ◌∷◌, ◌++◌, codes, decimal, Option, Some, None, unwrap_or}
+use Rattle.std.specs.Prelude.{◌≡◌, ℕ, Bool, false, List, [], ◌∷◌, ◌++◌, codes, decimal, Option, Some, None}
 use Rattle.git_names.specs.ObjectName.{ObjectName, hex_of}
 use Rattle.git_pkt.specs.Escape.{escaped_of}
 use Rattle.git_pkt.specs.Streams.{Flow, WrittenAs}
-use Rattle.git_msg.specs.References.{peeled_text}
-use Rattle.git_client.specs.EventParts.{Parts, word_of}
-use Rattle.git_client.specs.Transcript.{shown_after}
 use Rattle.git_client.specs.declared.event_parts.EventKind.{EventKind}
 use Rattle.git_client.specs.declared.line.Part.{Part}
 use Rattle.git_client.specs.declared.line.Part.TheVariants.{Word, Text, Name, Number}
@@ -43,12 +40,6 @@ size_after kind None = []
 abbrev pub count_after : EventKind → ℕ → List ℕ
 count_after EventKind.Ended count = codes " " ++ decimal count
 count_after kind count = []
-
--- the bytes of an event's line, part after part
-abbrev pub row_of : Parts → (packed told : ℕ) → List (List ℕ)
-row_of p packed told =
-    unwrap_or (word_of p.kind) [] ∷ object_shown p.kind p.id ∷ shown_after (codes " ") p.name ∷ shown_after (text_word p.kind) p.text
-    ∷ peeled_text p.peeled ∷ size_after p.kind p.size ∷ count_after p.kind packed ∷ count_after p.kind told ∷ []
 
 -- The bytes came to those that waited for the writer: of all these the first were written, and the others wait. Where a write failed, a
 -- front of the first was written.

@@ -2,8 +2,8 @@ use Rattle.std.proofs.Common.{◌≡◌, [], ◌∷◌, List, ℕ, Option, Some,
 use Rattle.std.specs.Option.{option_copied}
 use Rattle.git_pkt.proofs.Sends.{puts_waiting}
 use Rattle.git_client.specs.EventParts.{parts_shown, word_of}
-use Rattle.git_client.specs.Machine.LineParts.{part_shown, row_of}
-use Rattle.git_client.proofs.EventLines.{no_row, row_shown}
+use Rattle.git_client.specs.Machine.LineParts.{part_shown}
+use Rattle.git_client.proofs.EventLines.{no_row, row_of, row_shown}
 use Rattle.git_client.proofs.Writing.{puts_as}
 use Rattle.git_client.proofs.transcript.put_parts.Goals as goal
 
