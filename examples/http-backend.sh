@@ -1,58 +1,120 @@
 #!/bin/sh
 # Git's smart HTTP for fetches, as a CGI script: a web server runs it for each request below an address, and Git fetches from
 # that address. GIT_PROJECT_ROOT is a folder that has NAME.repo, a repository text, and NAME.pack for each repository, of which
-# the path is /NAME or /NAME.git; where NAME.filtered is there too, it is the pack of requests with a filter. It needs `git2show` on
-# the path, and `gzip`: Git's client packs the body of a longer request.
+# the path is /NAME or /NAME.git; a name may have slashes. Where NAME.filtered is there too, it is the pack of requests with a filter.
+# It needs `git2show` and `gzip` on the path: Git's client compresses the body of a longer request.
+#
+# Status 200 is answered once git2show has written its first bytes, or has ended well without any. Where it cannot serve a repository
+# the status is 500, and a line on standard error, which web servers keep in a log, names the file.
 set -eu
 
-# say STATUS TEXT: answers with a line for the user, which Git prints.
-say() {
+# refuse STATUS TEXT: answers with a line for the user, which Git prints.
+refuse() {
     printf 'Status: %s\r\nContent-Type: text/plain; charset=utf-8\r\n\r\n%s\n' "$1" "$2"
     exit
 }
 
-# answer KIND: begins an answer, which nobody may keep.
-answer() {
-    printf 'Status: 200 OK\r\nContent-Type: application/x-git-upload-pack-%s\r\nCache-Control: no-cache\r\n\r\n' "$1"
+# fail TEXT: reports to the web server's log why nothing is served. The user receives no name of a file.
+fail() {
+    echo "http-backend.sh: $1" >&2
+    refuse '500 Internal Server Error' "the repository cannot be served: the web server's log has the reason"
 }
 
-# body: the request's body, as many bytes as the web server states, where it does.
+# begin_answer: begins an answer, which nobody may keep.
+begin_answer() {
+    printf 'Status: 200 OK\r\nContent-Type: application/x-git-upload-pack-%s\r\nCache-Control: no-cache\r\n\r\n' "$kind"
+}
+
+# first_four: the first four bytes of the input, of which no more is read.
+first_four() {
+    dd bs=1 count=4 2> /dev/null
+}
+
+# body: the request's body, as many bytes as the web server states. It states no number for one in chunks, which ends with the input.
 body() {
     if [ -n "${CONTENT_LENGTH:-}" ]; then head -c "$CONTENT_LENGTH"; else cat; fi
 }
 
-serve() {
-    if [ -r "$root/$name.filtered" ]; then set -- --filtered "$root/$name.filtered" "$@"; fi
-    git2show serve --repo "$root/$name.repo" --pack "$root/$name.pack" "$@"
+# whole_body: the same, once it has been read to its end, since a web server may read no answer before: fcgiwrap does not. What is
+# beyond 32 MiB, twice what git2show keeps of a request, is dropped.
+whole_body() {
+    body | {
+        head -c 33554432
+        cat > /dev/null
+    } | dd ibs=65536 obs=33554432 2> /dev/null
 }
 
-root=$GIT_PROJECT_ROOT
+# request: the body as Git wrote it.
+request() {
+    case ${HTTP_CONTENT_ENCODING:-} in
+        gzip | x-gzip) whole_body | gzip -dc || printf 'gzip ended with status %s, ' $? >&3 ;;
+        *) whole_body ;;
+    esac
+}
+
+# pass_on: answers with what git2show writes, as it comes. Its first four bytes are the digits of a packet's length, so a variable
+# can hold them.
+pass_on() {
+    first=$(first_four)
+    if [ -z "$first" ]; then
+        printf 'nothing was written' >&3
+        return
+    fi
+    begin_answer
+    printf %s "$first"
+    cat
+}
+
 case ${REQUEST_METHOD:-}:${PATH_INFO:-}:${QUERY_STRING:-} in
-    GET:*/info/refs:service=git-upload-pack) name=${PATH_INFO%/info/refs} ;;
-    POST:*/git-upload-pack:*) name=${PATH_INFO%/git-upload-pack} ;;
-    *) say '403 Forbidden' 'fetches alone are served here, by smart HTTP' ;;
+    GET:*/info/refs:service=git-upload-pack)
+        name=${PATH_INFO%/info/refs}
+        kind=advertisement
+        set -- --http-backend-info-refs
+        exec < /dev/null
+        ;;
+    POST:*/git-upload-pack:*)
+        name=${PATH_INFO%/git-upload-pack}
+        kind=result
+        set -- --stateless-rpc
+        ;;
+    *) refuse '403 Forbidden' 'fetches alone are served here, by smart HTTP' ;;
 esac
 name=${name#/}
 name=${name%.git}
-case $name in
-    '' | .* | *[!A-Za-z0-9._-]*) say '404 Not Found' 'no such repository' ;;
+case /$name in
+    */ | *//* | */.* | *[!A-Za-z0-9._/-]*) refuse '404 Not Found' 'no such repository' ;;
 esac
-[ -r "$root/$name.repo" ] && [ -r "$root/$name.pack" ] || say '404 Not Found' 'no such repository'
+[ -n "${GIT_PROJECT_ROOT:-}" ] || fail 'GIT_PROJECT_ROOT is not set'
+repository=$GIT_PROJECT_ROOT/$name
+[ -e "$repository.repo" ] || refuse '404 Not Found' 'no such repository'
+for part in repo pack filtered; do
+    file=$repository.$part
+    if [ $part = filtered ] && [ ! -e "$file" ]; then continue; fi
+    [ -r "$file" ] || fail "cannot read $file"
+    set -- "$@" --$part "$file"
+done
+for program in git2show gzip; do
+    command -v $program > /dev/null || fail "$program is not on the path, $PATH"
+done
+
 case :${HTTP_GIT_PROTOCOL:-}: in
     *:version=2:*) ;;
-    *) say '400 Bad Request' "version 2 of Git's protocol alone is served here: git -c protocol.version=2" ;;
-esac
-case $REQUEST_METHOD:${HTTP_CONTENT_ENCODING:-} in
-    GET:*)
-        answer advertisement
-        serve --http-backend-info-refs
-        ;;
-    POST:gzip | POST:x-gzip)
-        answer result
-        body | gzip -dc | serve --stateless-rpc
-        ;;
     *)
-        answer result
-        body | serve --stateless-rpc
+        # Before a body of more than its http.postBuffer Git sends a flush packet alone, without a version, to see whether it may
+        # post here. Its own server answers that with an empty body.
+        if [ "$REQUEST_METHOD" = POST ] && [ "$(whole_body | first_four)" = 0000 ]; then
+            begin_answer
+            exit
+        fi
+        refuse '400 Bad Request' "version 2 of Git's protocol alone is served here: git -c protocol.version=2"
         ;;
+esac
+
+# Descriptor 3 collects what went wrong. That counts only where nothing was written: else the answer itself ends with the fault.
+exec 4>&1
+outcome=$({ { request | git2show serve "$@" || printf 'git2show ended with status %s, ' $? >&3; } | pass_on >&4; } 3>&1)
+case $outcome in
+    *git2show*nothing*) fail "cannot serve $repository.repo: $outcome" ;;
+    *gzip*nothing*) refuse '400 Bad Request' 'the body of the request is not compressed as its head states' ;;
+    *nothing*) begin_answer ;;
 esac

@@ -2,11 +2,11 @@
 # request. What Git has then is compared with what it gets from itself.
 
 # start_web: a web server over what was written of repositories, on a free port. Sets `web`, its address, and leaves a line for each
-# request in the file `web.log`.
+# request in the file `web.log`: how its body is encoded, and whether it comes in chunks.
 start_web() {
     cat > bin/watched-backend << END
 #!/bin/sh
-echo "\$REQUEST_METHOD \$PATH_INFO \${HTTP_CONTENT_ENCODING:-plain}" >> "$room/web.log"
+echo "\$REQUEST_METHOD \$PATH_INFO \${HTTP_CONTENT_ENCODING:-plain}\${HTTP_TRANSFER_ENCODING:+ chunked}" >> "$room/web.log"
 exec "$top/examples/http-backend.sh"
 END
     chmod +x bin/watched-backend
@@ -27,6 +27,21 @@ asked() {
         expect_line 'what the web server was asked' "$line" web.log
     done
     expect_same 'what our program reported' /dev/null web.err
+}
+
+# offer_thousands: a repository of 5,001 branches, most of which have names so long that a request for all has more than a mebibyte,
+# the most that Git posts in one piece.
+offer_thousands() {
+    local id
+    [ ! -e thousands.pack ] || return 0
+    git init -q -b main thousands
+    git -C thousands -c user.name=nobody -c user.email=nobody@example.org commit -q --allow-empty -m nothing
+    id=$(git -C thousands rev-parse main)
+    {
+        echo '# pack-refs with: peeled fully-peeled sorted'
+        printf "$id refs/heads/%0200d\n" {1..5000}
+    } > thousands/.git/packed-refs
+    offer thousands
 }
 
 # clones_over_http NAME [OPTION..]: that Git clones the repository, and gets what it gets from Git itself.
@@ -107,6 +122,45 @@ case_git_sends_a_packed_request_over_http() {
     state packing > written
     expect_same 'what a repository has' wanted written
     asked 'POST /history-sha1/git-upload-pack gzip'
+}
+
+# A longer request comes in chunks, after a probe.
+case_git_sends_a_request_of_more_than_a_mebibyte_over_http() {
+    offer_thousands
+    clones_over_http thousands --mirror
+    has_references 5001
+    asked 'POST /thousands/git-upload-pack plain chunked'
+}
+
+case_git_sends_a_packed_request_of_more_than_a_mebibyte_over_http() {
+    offer_thousands
+    start_web
+    clone "$web/thousands" ours --mirror --config http.postBuffer=8388608
+    clone_from_git thousands --mirror
+    same_clones
+    asked 'POST /thousands/git-upload-pack gzip'
+}
+
+case_git_reports_over_http_that_a_repository_cannot_be_served() {
+    local name
+    offer_broken broken
+    start_web
+    for name in text packless filtered; do
+        ls_remote "$web/broken/$name"
+        expect_status 128
+        expect_line 'what Git reported' "remote: the repository cannot be served: the web server's log has the reason" err
+    done
+}
+
+case_git_clones_over_http_a_repository_in_a_folder() {
+    mkdir -p folder/of
+    cp history-sha1.repo folder/of/history.repo
+    cp history-sha1.pack folder/of/history.pack
+    start_web
+    clone "$web/folder/of/history.git" ours
+    clone_from_git history-sha1
+    same_clones
+    asked 'GET /folder/of/history.git/info/refs plain'
 }
 
 # What our program refuses Git reports to its user. Git asks for an object by its name where that is what a fetch names.

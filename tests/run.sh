@@ -1,9 +1,9 @@
 #!/usr/bin/env bash
 # Tests the built program `git2show` from outside: as the real Git calls it (real_git.sh, clones.sh, partial_clones.sh and fetches.sh),
-# over HTTP (http.sh), and by hand (program.sh); our client, as it asks the real Git (asking.sh); what both ends of the real Git send, as `check`
-# judges it (recorded.sh); both of our ends against each other (playing.sh); the library for programs in C, as the examples use it
-# (library.sh), and one of them between both ends of the real Git (watching.sh); and a daemon and `serve` after a thousand clients that
-# mean harm (soak.sh); and the pages of this repository beside what they speak of (pages.sh).
+# over HTTP (http_backend.sh, http.sh and web_servers.sh), and by hand (program.sh); our client, as it asks the real Git (asking.sh); what both
+# ends of the real Git send, as `check` judges it (recorded.sh); both of our ends against each other (playing.sh); the library for programs
+# in C, as the examples use it (library.sh), and one of them between both ends of the real Git (watching.sh); and a daemon and `serve` after
+# a thousand clients that mean harm (soak.sh); and the pages of this repository beside what they speak of (pages.sh).
 #
 #     tests/run.sh [PROGRAM [LIBRARY]]
 #
@@ -69,7 +69,9 @@ fi
 command -v git > /dev/null || install_packages git || stop "no git, and it could not be installed"
 command -v gcc > /dev/null || install_packages gcc libc6-dev || stop "no C compiler, and it could not be installed"
 command -v valgrind > /dev/null || install_packages valgrind || echo 'no valgrind, and it could not be installed: nothing is run under it' >&2
-for tool in g++ man pkg-config rustc go script; do
+# Debian has its web servers there.
+export PATH=$PATH:/usr/sbin
+for tool in g++ man pkg-config rustc go script nginx fcgiwrap apache2 lighttpd; do
     command -v $tool > /dev/null || echo "no $tool: what needs it is passed over" >&2
 done
 
@@ -94,7 +96,9 @@ export PATH=$room/bin:$PATH
 . "$top/tests/clones.sh"
 . "$top/tests/partial_clones.sh"
 . "$top/tests/fetches.sh"
+. "$top/tests/http_backend.sh"
 . "$top/tests/http.sh"
+. "$top/tests/web_servers.sh"
 . "$top/tests/asking.sh"
 . "$top/tests/recorded.sh"
 . "$top/tests/program.sh"
