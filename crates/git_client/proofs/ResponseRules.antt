@@ -1,10 +1,9 @@
 -- A response goes by its rule exactly where each of its packets is in its place, and it is whole.
 use Rattle.std.proofs.Common.{◌≡◌, ◌≢◌, ◌⊎◌, ◌↔◌, ◌||◌, inl, inr, ℕ, Bool, true, false, List, [], ◌∷◌, ◌++◌, Option, Some, None, Ok}
 use Rattle.std.proofs.Common.{refl, sym, ap, ◌∙◌, subst, append-nil, codes, map}
-use Rattle.std.specs.Str.{bytes_eq}
 use Rattle.git_names.specs.ObjectName.{ObjectName}
 use Rattle.git_names.specs.declared.object_format.Format.{Format}
-use Rattle.git_pkt.specs.Packets.{Pkt, flush, delim, resp_end, payload, text_of, flushes}
+use Rattle.git_pkt.specs.Packets.{Pkt, flush, delim, resp_end, payload, text_of}
 use Rattle.git_pkt.specs.Splits.{Given}
 use Rattle.git_msg.specs.Advertisement.{noted_of}
 use Rattle.git_msg.specs.Asked.{Asked, ls_refs, fetch, object_info}
@@ -24,16 +23,16 @@ use Rattle.git_client.specs.declared.phase.Due.TheVariants.{Packfile, SizeLine, 
 use Rattle.git_client.specs.declared.phase.Phase.{Phase}
 use Rattle.git_client.specs.declared.phase.Phase.TheVariants.{Hearing, Ready, Asking, Leaving, Left, Failed}
 use Rattle.git_client.specs.Parts.{Terms, advertisement_of, nearest}
-use Rattle.git_client.specs.Places.{Place, acknowledgments, header, place_after, references, shallow_info, sizes, wanted_refs}
+use Rattle.git_client.specs.Places.{Place, acknowledgments, header, references, shallow_info, sizes, wanted_refs}
 use Rattle.git_client.specs.Sections.{acks_with, allowed_after, allows, header_of, may_begin, section_named}
-use Rattle.git_client.specs.Events.{EventValue, Gives, GivesLine, SaysLine, ack, delimiter_says, ended, ended_by, flush_says, nak, ready, response_end_says}
+use Rattle.git_client.specs.Events.{EventValue, Gives, SaysLine, ack, delimiter_says, ended, ended_by, flush_says, nak, ready}
 use Rattle.git_client.specs.Conversation.{GiveAll, GivesAt}
 use Rattle.git_client.specs.Responses.{AfterAcks, AcknowledgmentsSection, Either, FetchResponse, First, IsAck, IsBand, IsDelimiter, IsEnd, IsHeader, IsNak}
-use Rattle.git_client.specs.Responses.{IsReady, IsResponse, IsText, LsRefsResponse, Many, ObjectInfoResponse, PackPart, PackfileSection, Rule}
+use Rattle.git_client.specs.Responses.{IsResponse, IsText, LsRefsResponse, Many, ObjectInfoResponse, PackPart, PackfileSection, Rule}
 use Rattle.git_client.specs.Responses.{ShallowInfoSection, WantedRefsSection}
 use Rattle.git_client.specs.Machine.Turns.{NotesAfter, due_after_delimiter, due_after_header, due_after_line, due_in, first_due, phase_after}
 use Rattle.git_client.specs.Machine.Turns.{phase_after_response, place_due}
-use Rattle.git_client.specs.Machine.Client.{AreWhole, Behind, IsAsked, IsDue, IsInside}
+use Rattle.git_client.specs.Machine.Client.{AreWhole, Behind, IsAsked}
 use Rattle.git_client.proofs.Judged.{gives_well, place_is}
 use Rattle.git_client.proofs.PlacePackets.{said_by}
 use Rattle.git_client.proofs.Questions.{due_said}

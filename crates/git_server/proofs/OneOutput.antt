@@ -14,7 +14,7 @@ use Rattle.git_server.specs.Repository.{Repository}
 use Rattle.git_server.specs.Packs.{whole, EndsWhole, IsPackfile, packfile_header}
 use Rattle.git_server.specs.FetchAnswers.{acknowledgments, is_ready_for, negotiates, ready_lines, shallow_info, wanted_refs}
 use Rattle.git_server.specs.FetchAnswers.{EndsWithBoundary, EndsWithRefs, IsAfter, IsFetchAnswerBy, IsNegotiated}
-use Rattle.git_server.specs.Answers.{AllFit, spelled, refusal_by, IsAnswer}
+use Rattle.git_server.specs.Answers.{IsAnswer}
 use Rattle.git_server.specs.PackCuts.{AreSameButForCuts, Content, contents_of_all, pack_byte}
 use Rattle.git_server.specs.Sessions.{Setting, advertised, AreAnswers, IsAnswered, IsOfTheBytes, IsSession, IsTail, IsTailBy}
 use Rattle.git_server.specs.declared.outcome.Outcome.{Outcome}
