@@ -18,11 +18,13 @@ ghost use Rattle.git_client.specs.Conversation.{GivesAt, GiveAll, RefusesAt, Fir
 ghost use Rattle.git_client.specs.Machine.Client.{Converses, History, bytes_held, limit_of, fault_of, can_ask, left_to_say, said_of, spelled, caps_of};
 ghost use Rattle.git_client.specs.Machine.Client.{bytes_held_by_fields, nothing_yet, reader_of, wants_input};
 ghost use Rattle.git_client.specs.Machine.Client.{AreWhole, Asks, Feeds, HearsOn, Leaves, Pulls, RefusesToAsk};
+ghost use Rattle.git_client.specs.Machine.RunSteps.{CanCount};
 ghost use Rattle.git_client.specs.Machine.Calls.{Call, Headline, IsTruncated, Makes, closes, feeds_in, history_after};
 ghost use Rattle.git_client.specs.Machine.Calls.{ask, ask_refused, leave, pull, feed, close};
 ghost use Rattle.git_client.specs.declared.client.Client.{Client};
 ghost use Rattle.git_client.specs.declared.events.Heard.{Heard};
 ghost use Rattle.git_client.specs.declared.events.Sent.{Sent};
+ghost use Rattle.git_client.specs.declared.hearing.Counts.{Counts};
 
 use std::alloc::Allocator;
 
@@ -159,6 +161,12 @@ pub fn methods_make_calls<A: Allocator + Copy>()
     ensures more { (call : Call A) (calls : List (Call A)) (before next after : ℕ) (old between new : Client A)
         → Makes call before old next between → MakesAll Makes calls next between after new
         → MakesAll Makes (call ∷ calls) before old after new }
+{}
+
+/// Counts of bytes that are among a client's events do not reach their end by what it receives next.
+pub fn counts_stay_below_their_end<A: Allocator + Copy>()
+    ensures { (t : Terms) (h : History) (old new : Client A) (used : List ℕ) (events : List EventValue) (counts : Counts) → Converses t h old
+        → HearsOn old used events new → counts.pack + counts.progress ≤ length h.events → CanCount counts events }
 {}
 
 /// Calls of a client that has not failed leave it failed with `Truncated` exactly where its input was closed by one of them.
