@@ -37,7 +37,7 @@ use Rattle.git_server.specs.Sessions.{AreAnswers, IsAnswered, Setting}
 use Rattle.git_server.proofs.Sent.{spelled_both}
 use Rattle.git_both_ends.specs.Plays.{IsWholePlay, Played, Talk, said_each, setting_of, with_end}
 use Rattle.git_both_ends.specs.ToldAnswers.{AsksIn, CanBeWritten, told_all, told_offer, told_play}
-use Rattle.git_both_ends.proofs.HearingOffers.{advertisement_stays, format_meant, lines_said, nearest_offer, offer_heard, offer_whole}
+use Rattle.git_both_ends.proofs.HearingOffers.{format_meant, lines_said, nearest_offer, noted_after_all, offer_heard, offer_whole}
 use Rattle.git_both_ends.proofs.HearingSessions.{AreEnded, all_heard, cut_at, ended_by_flush}
 use Rattle.git_both_ends.proofs.RequestsHeard.{HaveValues, requests_are, written_all}
 use Rattle.git_both_ends.proofs.SpelledPackets.{are_spelled, fit_both, fit_front, front_are, packets_are, requests_fit}
@@ -63,7 +63,7 @@ names_in : (format : Format) (command : Command) (named : Arg → Option ObjectN
 names_in format command named is args values =
     All-filter_map (IsNameIn format) named args (All-weaker (IsValue command format) (λ arg. IfSome (named arg) (IsNameIn format)) is args values)
 
-asks_in : (format : Format) (q : Asked) → HasValues format q → AsksIn format q
+pub asks_in : (format : Format) (q : Asked) → HasValues format q → AsksIn format q
 asks_in format (ls_refs q) values = tt
 asks_in format (fetch q) values =
     subst (All (IsNameIn format)) (ap haves_of (arguments_in_order (fetch q)))
@@ -121,13 +121,13 @@ meant_after t asked used more events caps c noted fit e =
     front_are 0 (server_says (everything t.format)) more c.given [] fit
     (rw e at c.splits.spelled) c.splits.ends in
     let own : HasNoted t asked used (noted_of (advertisement_of (nearest c.given []))) = (c.given, events, heard_so t asked used events c, refl) in
-    let said = flush ∷ lines_said t.format in
+    let said = flush ∷ lines_said (everything t.format) in
     let order : nearest c.given [] ≡ nearest back said =
-    ap (λ (l : List Given). nearest l []) whole ∙ nearest-append front back [] ∙ ap (nearest back) (nearest_offer t.format front are) in
+    ap (λ (l : List Given). nearest l []) whole ∙ nearest-append front back [] ∙ ap (nearest back) (nearest_offer (everything t.format) front are) in
     let same : caps ≡ noted_of said =
     one_note t asked used caps (noted_of (advertisement_of (nearest c.given []))) noted own
-    ∙ ap (λ (l : List Pkt). noted_of (advertisement_of l)) order ∙ ap noted_of (advertisement_stays back said refl) in
-    format_meant t.format caps.object_format (ap (λ (k : Caps). k.object_format) same)
+    ∙ ap (λ (l : List Pkt). noted_of (advertisement_of l)) order ∙ noted_after_all (everything t.format) back in
+    format_meant (everything t.format) t.format caps.object_format (ap (λ (k : Caps). k.object_format) same)
 
 -- what is received of the advertisement and the answers is what they give
 events_told : (t : Terms) (repo : Repository) (asked : List Asked) (answers : List Pkt) (used : List ℕ) (events : List EventValue) → IsSound repo
@@ -139,10 +139,10 @@ events_told t repo asked answers used events sound written same values are fit e
     let first_events = told_offer (everything t.format) in
     let s = are_spelled used (offer ++ answers) fit e in
     let c = cut_at s.given offer answers s.are in
-    let heard = offer_heard t c.first c.first_are asked in
+    let heard = offer_heard t (everything t.format) c.first refl c.first_are asked in
     let asks : All (AsksIn t.format) asked = λ k d within. asks_in t.format _ (values k d within) in
     let answered = (all_heard t repo sound written same asked [] [] (nearest c.first []) answers c.second asks are
-    (offer_whole t c.first c.first_are) c.second_are).0 in
+    (offer_whole t (everything t.format) c.first refl c.first_are) c.second_are).0 in
     let all : GiveAll t asked [] s.given (first_events ++ told_all repo asked) =
     rw c.whole (give_all_append t asked [] c.first c.second first_events (told_all repo asked) heard (rw (append-nil asked) at answered)) in
     (same_sounds t asked used conversation.given s.given events (first_events ++ told_all repo asked) (heard_so t asked used events conversation)

@@ -1,16 +1,19 @@
 //! Laws of what a client receives of a server's answers.
 
 ghost use Rattle.std.specs.Prelude.{ℕ, ◌≡◌, ◌∷◌, ◌++◌, [], All, List};
+ghost use Rattle.git_names.specs.declared.object_format.Format.{Format};
 ghost use Rattle.git_pkt.specs.Packets.{Pkt};
 ghost use Rattle.git_pkt.specs.Splits.{Given};
-ghost use Rattle.git_msg.specs.Advertisement.{everything};
-ghost use Rattle.git_msg.specs.Asked.{Asked};
+ghost use Rattle.git_msg.specs.Advertisement.{noted_offer};
+ghost use Rattle.git_msg.specs.Asked.{Asked, HasValues};
+ghost use Rattle.git_msg.specs.declared.offers.Caps.{Caps};
+ghost use Rattle.git_msg.specs.declared.offers.Offer.{Offer};
 ghost use Rattle.git_client.specs.Machine.Client.{AreWhole};
-ghost use Rattle.git_client.specs.Conversation.{GiveAll};
+ghost use Rattle.git_client.specs.Conversation.{GiveAll, HasNoted};
 ghost use Rattle.git_client.specs.Events.{ended};
 ghost use Rattle.git_client.specs.Parts.{Terms, nearest};
 ghost use Rattle.git_client.specs.declared.events.Ending.TheVariants.{FlushOnly};
-ghost use Rattle.git_server.specs.Answers.{IsAnswer, advertisement_of};
+ghost use Rattle.git_server.specs.Answers.{IsAnswer, advertisement_of, spelled};
 ghost use Rattle.git_server.specs.Machine.ListRepo.{lists_of, state_of};
 ghost use Rattle.git_server.specs.Repository.{Repository, IsSound};
 ghost use Rattle.git_server.specs.Sessions.{AreAnswers};
@@ -19,12 +22,15 @@ ghost use Rattle.git_repository.specs.Packs.{PackBytes};
 ghost use Rattle.git_repository.specs.RepositoryText.{IsRepositoryText};
 ghost use Rattle.git_both_ends.specs.ToldAnswers.{AsksIn, CanBeWritten, end_packets, packets_of, told_all, told_by, told_offer};
 
-/// The advertisement of a server that offers everything is received as it was meant, whatever is asked later. Then the first answer may
-/// follow.
+/// The advertisement of any offer is received as it was meant, whatever is asked later. Then the first answer may follow. What a client
+/// notes of bytes that begin with it is just that offer.
 pub fn heard_offer()
-    ensures heard { (t : Terms) (asked : List Asked) (gs : List Given) → packets_of gs ≡ advertisement_of (everything t.format)
-        → GiveAll t asked [] gs (told_offer (everything t.format)) }
-    ensures whole { (t : Terms) (gs : List Given) → packets_of gs ≡ advertisement_of (everything t.format) → AreWhole t [] (nearest gs []) }
+    ensures heard { (t : Terms) (asked : List Asked) (offer : Offer) (gs : List Given) → offer.format ≡ t.format
+        → packets_of gs ≡ advertisement_of offer → GiveAll t asked [] gs (told_offer offer) }
+    ensures whole { (t : Terms) (offer : Offer) (gs : List Given) → offer.format ≡ t.format
+        → packets_of gs ≡ advertisement_of offer → AreWhole t [] (nearest gs []) }
+    ensures noted { (t : Terms) (asked : List Asked) (offer : Offer) (more : List ℕ) (caps : Caps) → offer.format ≡ t.format
+        → HasNoted t asked (spelled (advertisement_of offer) ++ more) caps → noted_offer caps t.format ≡ offer }
 {}
 
 /// A whole answer is received as it was meant: after the advertisement and the answers to the requests before, none of its packets is
@@ -51,6 +57,11 @@ pub fn heard_answers()
         → IsSound repo → CanBeWritten repo → repo.format ≡ t.format → All (AsksIn t.format) asked → AreAnswers repo asked packets
         → AreWhole t earlier before → t.ending ≡ FlushOnly → packets_of gs ≡ packets
         → AreWhole t (earlier ++ asked) (nearest gs before) }
+{}
+
+/// A request whose values are allowed in one of its format asks for what can be answered in that format.
+pub fn values_are_asked_in_their_format()
+    ensures { (format : Format) (q : Asked) → HasValues format q → AsksIn format q }
 {}
 
 /// What a repository answers that was read from a text can be written: so its answers are received.

@@ -55,6 +55,17 @@ told_asked h question lines counts told later more =
     ap (λ (asked : List Asked). transcript_of asked (h.events ++ more)) (append_assoc h.asked (question ∷ []) later) ∙ told (question ∷ later) more
 
 module _ {A : Type 0} where
+  -- no count reaches its end that has counted some of a client's events, by what it receives next
+  pub can_count : (t : Terms) (h : History) (old new : Client A) (used : List ℕ) (events : List EventValue) (counts : Counts) → Converses t h old
+      → HearsOn old used events new → counts.pack + counts.progress ≤ length h.events → CanCount counts events
+  can_count t h old new used events counts stands hears within =
+      let few = few_events t (record h { used = h.used ++ used; events = h.events ++ events }) new (hears t h stands) in
+      let all = length-append h.events events in
+      record {
+        pack = omega (arith, few, all, within, bytes_fit events);
+        progress = omega (arith, few, all, within, bytes_fit events);
+      }
+
   -- what holds of a client on these terms after this history, with these lines of the transcript, and these bytes of the pack
   pub record Along (t : Terms) (h : History) (client : Client A) (lines packed : List ℕ) (counts : Counts) : Type 0 where
     pub stands : Converses t h client
@@ -98,13 +109,7 @@ module _ {A : Type 0} where
 
     -- no count reaches its end by what a client receives
     pub counts_on : {new : Client A} {used : List ℕ} {events : List EventValue} → HearsOn client used events new → CanCount counts events
-    counts_on {new = new} {used = used} {events = events} hears =
-        let few = few_events t (record h { used = h.used ++ used; events = h.events ++ events }) new (hears t h along.stands) in
-        let all = length-append h.events events in
-        record {
-          pack = omega (arith, few, all, along.within, bytes_fit events);
-          progress = omega (arith, few, all, along.within, bytes_fit events);
-        }
+    counts_on {new = new} {used = used} {events = events} hears = can_count t h client new used events counts along.stands hears along.within
 
     -- bytes were received
     pub along_heard : {broken : Bool} {new : Client A} {counts_after : Counts} {used : List ℕ} {out packs progress : Flow} → wants_input client ≡ true

@@ -15,7 +15,7 @@ use Rattle.git_client.specs.declared.client.Client.{Client}
 use Rattle.git_client.proofs.EventsHeard.{has_events, has_noted, goes_well, is_whole, all_is_said}
 use Rattle.git_client.proofs.Faults.{first_fault}
 use Rattle.git_client.proofs.OneFault.{one_shown, one_by_name}
-use Rattle.git_client.proofs.Packs.{heard_pack}
+use Rattle.git_client.proofs.Packs.{has_pack}
 
 -- of a request that is asked no more is stored than is kept, and no more is kept than its limit
 pub stored_within : {A : Type 0} (request : Option (Request A)) → ((q : Request A) → request ≡ Some q → stored_of q ≤ kept_of q)
@@ -36,7 +36,7 @@ nothing_more h =
 
 module _ {A : Type 0} where
   -- whatever the history was, it goes on by what a call adds
-  goes_on : (t : Terms) (call : Call A) (h : History) (before : ℕ) (old : Client A) (after : ℕ) (new : Client A) → Makes call before old after new
+  pub goes_on : (t : Terms) (call : Call A) (h : History) (before : ℕ) (old : Client A) (after : ℕ) (new : Client A) → Makes call before old after new
       → Converses t h old → Converses t (after_call h call) new
   goes_on t (ask request) h before old after new made c = made.0.asks t h c
   goes_on t (ask_refused request handed_back fault) h before old after new made c =
@@ -107,7 +107,7 @@ module _ {A : Type 0} where
         events = events;
         noted = has_noted t h last c;
         given = all_is_said t h last c;
-        pack = λ bytes pack. heard_pack t h.asked h.used h.events bytes events pack;
+        pack = has_pack t h.asked h.used h.events events;
         whole = is_whole t h last c;
         refused = λ fault is. first_fault t h last fault c is;
         unrefused = goes_well t h last c;

@@ -31,6 +31,8 @@ pub mod EventCounts
 pub mod Alongs
 pub mod HeardBytes
 pub mod Telling
+pub mod Truncation
+pub mod ResponseRules
 pub mod WaitingLines
 pub mod HearingSteps
 pub mod SayingSteps

@@ -39,7 +39,7 @@ refused_at t asked before g gs (h ∷ hs) now e s a =
     excluded t asked before h.packet now s.0 (subst (λ (x : Given). GivesAt t asked before x.packet now) (sym same) a) s.1
 
 -- packets of which none is refused are the first of those up to one that is
-first_of_cut : (t : Terms) (asked : List Asked) (before : List Pkt) (gs clean x more : List Given) (events : List EventValue) → gs ++ x ≡ clean ++ more
+pub first_of_cut : (t : Terms) (asked : List Asked) (before : List Pkt) (gs clean x more : List Given) (events : List EventValue) → gs ++ x ≡ clean ++ more
     → GiveAll t asked before gs events → IsStop t asked (nearest clean before) more → (tail : List Given) × (clean ≡ gs ++ tail)
 first_of_cut t asked before [] clean x more events e a stop = (clean, refl)
 first_of_cut t asked before (g ∷ gs) [] x more events e a stop = absurd (refused_at t asked before g (gs ++ x) more a.0 (sym e) stop a.3)
@@ -63,7 +63,7 @@ no_part p before (suc n) e some =
     ap (λ (k : ℕ). if is_zero k then p ∷ advertisement_of before else advertisement_of before) e
 
 -- after a flush the advertisement is whole
-stays_advertised : (gs : List Given) (before : List Pkt) → 0 < flushes before → advertisement_of (nearest gs before) ≡ advertisement_of before
+pub stays_advertised : (gs : List Given) (before : List Pkt) → 0 < flushes before → advertisement_of (nearest gs before) ≡ advertisement_of before
 stays_advertised [] before some = refl
 stays_advertised (g ∷ gs) before some =
     stays_advertised gs (g.packet ∷ before) (some_more g.packet before some) ∙ no_part g.packet before (flushes before) refl some

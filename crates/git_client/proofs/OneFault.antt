@@ -16,7 +16,7 @@ use Rattle.git_client.specs.Conversation.{GiveAll, FirstFault, MalformedPacket, 
 use Rattle.git_client.proofs.Determined.{one_first_fault, same_cut}
 
 -- packets without a fault have no first one
-none_among : (t : Terms) (asked : List Asked) (given : List Given) (events : List EventValue) (kind : Kind) (offset : ℕ) → GiveAll t asked [] given events
+pub none_among : (t : Terms) (asked : List Asked) (given : List Given) (events : List EventValue) (kind : Kind) (offset : ℕ) → GiveAll t asked [] given events
     → FirstFault t asked given kind offset → ⊥
 none_among t asked given events kind offset gives h =
     let same = same_cut t asked [] h.clean given (h.bad ∷ h.more) [] h.events events (sym h.cut ∙ sym (append-nil given)) h.sound gives (kind, h.refused) tt in

@@ -1,7 +1,7 @@
 -- The pack bytes that are handed out are the pack of the bytes.
 use Rattle.std.proofs.Common.{◌≡◌, ℕ, List, [], ◌∷◌, ◌++◌, Option, inl, inr, refl, sym, ap, ◌∙◌, subst, append-nil}
 use Rattle.git_pkt.specs.Packets.{Pkt}
-use Rattle.git_pkt.specs.Splits.{Given}
+use Rattle.git_pkt.specs.Splits.{Given, Splits}
 use Rattle.git_msg.specs.Asked.{Asked}
 use Rattle.git_client.specs.Parts.{Terms, nearest}
 use Rattle.git_client.specs.Places.{Place, place_after}
@@ -71,23 +71,29 @@ pack_of_rest : (rest : List ℕ) (part opened : List EventValue) → IsOfRest re
 pack_of_rest rest part opened (inl x) = inl (x.0, ap pack_bytes x.1)
 pack_of_rest rest part opened (inr x) = inr (x.0, ap pack_bytes x.1)
 
--- the pack bytes among the events are all of the pack
-pub heard_pack : (t : Terms) (asked : List Asked) (bytes : List ℕ) (events : List EventValue) (all : List ℕ) → HasEvents t asked bytes events
-    → HasPack t asked bytes all → all ≡ pack_bytes events
-heard_pack t asked bytes events all e h =
+-- the pack bytes among the events are the pack
+pub has_pack : (t : Terms) (asked : List Asked) (bytes : List ℕ) (events : List EventValue) → HasEvents t asked bytes events
+    → HasPack t asked bytes (pack_bytes events)
+has_pack t asked bytes events e =
     let s = e.sounds in
     let place = place_after t asked (nearest e.clean []) in
-    let heard : IsOfRest s.rest (unless_refused s.more (open_pack_in place s.rest)) (pack_bytes e.opened) =
-    subst (λ (part : List ℕ). IsOfRest s.rest part (pack_bytes e.opened)) (pack_unless s.more place s.rest)
-    (pack_of_rest s.rest (unless_refused s.more (opened_in place s.rest)) e.opened e.of_rest) in
-    pack_is t asked bytes all e.clean e.whole h s
-    ∙ ap (λ (l : List ℕ). pack_bytes e.whole ++ l)
-    (one_opened s.rest (unless_refused s.more (open_pack_in place s.rest)) h.opened (pack_bytes e.opened) (of_rest t asked bytes all e.clean e.whole h s) heard)
-    ∙ sym (pack_bytes-append e.whole e.opened)
-    ∙ ap pack_bytes (sym e.events_are)
+    record {
+      clean = e.clean;
+      more = s.more;
+      rest = s.rest;
+      events = e.whole;
+      opened = pack_bytes e.opened;
+      splits = subst (λ (gs : List Given). Splits 0 bytes gs s.rest) s.cut s.splits;
+      gives = s.gives;
+      stops = s.stops;
+      of_rest = subst (λ (part : List ℕ). IsOfRest s.rest part (pack_bytes e.opened)) (pack_unless s.more place s.rest)
+          (pack_of_rest s.rest (unless_refused s.more (opened_in place s.rest)) e.opened e.of_rest);
+      pack_is = ap pack_bytes e.events_are ∙ pack_bytes-append e.whole e.opened
+          ∙ ap (λ (l : List ℕ). l ++ pack_bytes e.opened) (packs_all t asked [] e.clean e.whole s.gives);
+    }
 
-pub heard_whole : (t : Terms) (asked : List Asked) (bytes : List ℕ) (events : List EventValue) (all : List ℕ) → IsConversation t asked bytes events
-    → HasPack t asked bytes all → all ≡ pack_bytes events
-heard_whole t asked bytes events all c h =
-    heard_pack t asked bytes events all
-    (subst (λ (l : List Asked). HasEvents t l bytes events) (append-nil asked) (later_questions t asked [] bytes events c)) h
+pub whole_pack : (t : Terms) (asked : List Asked) (bytes : List ℕ) (events : List EventValue) → IsConversation t asked bytes events
+    → HasPack t asked bytes (pack_bytes events)
+whole_pack t asked bytes events c =
+    has_pack t asked bytes events
+    (subst (λ (l : List Asked). HasEvents t l bytes events) (append-nil asked) (later_questions t asked [] bytes events c))

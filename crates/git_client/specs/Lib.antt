@@ -4,6 +4,7 @@ pub mod Places
 pub mod Events
 pub mod Opened
 pub mod Conversation
+pub mod Responses
 pub mod Packs
 pub mod EventParts
 pub mod Transcript

@@ -1,22 +1,30 @@
 //! What follows from the definitions alone: each law is the contract of a function without parameters.
 
-ghost use Rattle.std.specs.Prelude.{◌≡◌, ◌≢◌, ◌+◌, ◌≤◌, ℕ, List, [], ◌++◌, Some, None, true};
-ghost use Rattle.git_pkt.specs.Machine.Credit.{MakesAll, credit_of};
+ghost use Rattle.std.specs.Prelude.{◌≡◌, ◌≢◌, ◌+◌, ◌≤◌, ◌↔◌, ℕ, List, [], ◌∷◌, ◌++◌, Some, None, length, map, true};
+ghost use Rattle.git_pkt.specs.Machine.Credit.{MakesAll, Pays, credit_of};
 ghost use Rattle.git_pkt.specs.Packets.{Pkt};
-ghost use Rattle.git_pkt.specs.Splits.{Given};
+ghost use Rattle.git_pkt.specs.Splits.{Given, Splits};
 ghost use Rattle.git_pkt.specs.declared.fault.Fault.{Fault};
 ghost use Rattle.git_pkt.specs.declared.fault.Kind.{Kind};
 ghost use Rattle.git_pkt.specs.declared.fault.Kind.TheVariants.{Truncated, StreamTooLong};
 ghost use Rattle.git_msg.specs.Asked.{Asked};
 ghost use Rattle.git_msg.specs.declared.offers.Caps.{Caps};
-ghost use Rattle.git_client.specs.Parts.{Terms};
+ghost use Rattle.git_msg.specs.declared.requests.Request.{Request};
+ghost use Rattle.git_client.specs.Parts.{Terms, nearest};
 ghost use Rattle.git_client.specs.Events.{EventValue, pack_bytes};
 ghost use Rattle.git_client.specs.Packs.{HasPack};
-ghost use Rattle.git_client.specs.Conversation.{GivesAt, RefusesAt, FirstFault, HasEvents, HasNoted, FirstMalformed, GoesWell, IsConversation};
+ghost use Rattle.git_client.specs.Responses.{IsResponse};
+ghost use Rattle.git_client.specs.Conversation.{GivesAt, GiveAll, RefusesAt, FirstFault, HasEvents, HasNoted, FirstMalformed, GoesWell, IsConversation};
 ghost use Rattle.git_client.specs.Machine.Client.{Converses, History, bytes_held, limit_of, fault_of, can_ask, left_to_say, said_of, spelled, caps_of};
-ghost use Rattle.git_client.specs.Machine.Client.{bytes_held_by_fields, nothing_yet, reader_of};
-ghost use Rattle.git_client.specs.Machine.Calls.{Call, Headline, Makes, feeds_in, history_after};
+ghost use Rattle.git_client.specs.Machine.Client.{bytes_held_by_fields, nothing_yet, reader_of, wants_input};
+ghost use Rattle.git_client.specs.Machine.Client.{AreWhole, Asks, Feeds, HearsOn, Leaves, Pulls, RefusesToAsk};
+ghost use Rattle.git_client.specs.Machine.RunSteps.{CanCount};
+ghost use Rattle.git_client.specs.Machine.Calls.{Call, Headline, IsTruncated, Makes, closes, feeds_in, history_after};
+ghost use Rattle.git_client.specs.Machine.Calls.{ask, ask_refused, leave, pull, feed, close};
 ghost use Rattle.git_client.specs.declared.client.Client.{Client};
+ghost use Rattle.git_client.specs.declared.events.Heard.{Heard};
+ghost use Rattle.git_client.specs.declared.events.Sent.{Sent};
+ghost use Rattle.git_client.specs.declared.hearing.Counts.{Counts};
 
 use std::alloc::Allocator;
 
@@ -89,6 +97,14 @@ pub fn whole_responses<A: Allocator + Copy>()
         → Converses t h client → can_ask client ≡ true → IsConversation t h.asked h.used h.events }
 {}
 
+/// Packets after whole responses to the requests before are a whole response to the next one by the places of each of them exactly where
+/// they are one by the rule of its sections, which come one after another; both give the same events.
+pub fn response_goes_by_its_sections()
+    ensures { (t : Terms) (earlier : List Asked) (q : Asked) (before : List Pkt) (gs : List Given) (events : List EventValue)
+        → AreWhole t earlier before → IsResponse t.format t.ending q (map (λ g. g.packet) gs) events
+        ↔ (GiveAll t (earlier ++ q ∷ []) before gs events × AreWhole t (earlier ++ q ∷ []) (nearest gs before)) }
+{}
+
 /// To ask later takes nothing back: the events of a whole conversation stay when more is asked.
 pub fn later_questions()
     ensures { (t : Terms) (asked more : List Asked) (bytes : List ℕ) (events : List EventValue)
@@ -109,10 +125,10 @@ pub fn one_pack()
 
 /// The pack bytes that were handed out are the pack of the bytes used, and so they are of a whole conversation.
 pub fn heard_pack()
-    ensures all { (t : Terms) (asked : List Asked) (bytes : List ℕ) (events : List EventValue) (pack : List ℕ)
-        → HasEvents t asked bytes events → HasPack t asked bytes pack → pack ≡ pack_bytes events }
-    ensures whole { (t : Terms) (asked : List Asked) (bytes : List ℕ) (events : List EventValue) (pack : List ℕ)
-        → IsConversation t asked bytes events → HasPack t asked bytes pack → pack ≡ pack_bytes events }
+    ensures all { (t : Terms) (asked : List Asked) (bytes : List ℕ) (events : List EventValue)
+        → HasEvents t asked bytes events → HasPack t asked bytes (pack_bytes events) }
+    ensures whole { (t : Terms) (asked : List Asked) (bytes : List ℕ) (events : List EventValue)
+        → IsConversation t asked bytes events → HasPack t asked bytes (pack_bytes events) }
 {}
 
 /// A client has at no time more bytes than the longest packet and the limit of the request that it asks together.
@@ -123,6 +139,41 @@ pub fn client_holds_within_its_limit<A: Allocator + Copy>()
 /// What is counted of a client is what its fields have: its packet reader and the request that it asks. A field more has to be named here.
 pub fn all_fields_are_counted<A: Allocator + Copy>()
     ensures { (client : Client A) → bytes_held_by_fields client ≡ bytes_held client }
+{}
+
+/// What the contract of each method ensures is a call of the headline, and calls follow one another: so the headline is about any that
+/// a program makes.
+pub fn methods_make_calls<A: Allocator + Copy>()
+    ensures asked { (old new : Client A) (request : Request A) (steps : ℕ) → Asks old request new → Makes (ask request) steps old steps new }
+    ensures refused { (old new : Client A) (request back : Request A) (fault : Fault) (steps : ℕ)
+        → RefusesToAsk old request back fault new → Makes (ask_refused request back fault) steps old steps new }
+    ensures left { (old new : Client A) (steps : ℕ) → Leaves old new → Makes leave steps old steps new }
+    ensures pulled { (old new : Client A) (sent : Sent) (steps : ℕ) → Pulls old sent new → Makes (pull sent) steps old steps new }
+    ensures fed { (old new : Client A) (piece : List ℕ) (answer : Heard) (before after : ℕ) → Feeds old piece answer new
+        → answer.used ≤ length piece → Pays answer.used before after (credit_of (reader_of old)) (credit_of (reader_of new))
+        → Makes (feed piece answer) before old after new }
+    ensures closed { (old new : Client A) (fault : Fault) (steps : ℕ) → wants_input old ≡ true → HearsOn old [] [] new
+        → fault_of new ≡ Some fault → fault.kind ≡ Truncated
+        → ((t : Terms) (h : History) (given : List Given) (rest : List ℕ) → Converses t h old → Splits 0 h.used given rest
+        → fault.offset + length rest ≡ length h.used)
+        → credit_of (reader_of new) ≤ credit_of (reader_of old) → Makes (close fault) steps old steps new }
+    ensures none { (client : Client A) (steps : ℕ) → MakesAll Makes [] steps client steps client }
+    ensures more { (call : Call A) (calls : List (Call A)) (before next after : ℕ) (old between new : Client A)
+        → Makes call before old next between → MakesAll Makes calls next between after new
+        → MakesAll Makes (call ∷ calls) before old after new }
+{}
+
+/// Counts of bytes that are among a client's events do not reach their end by what it receives next.
+pub fn counts_stay_below_their_end<A: Allocator + Copy>()
+    ensures { (t : Terms) (h : History) (old new : Client A) (used : List ℕ) (events : List EventValue) (counts : Counts) → Converses t h old
+        → HearsOn old used events new → counts.pack + counts.progress ≤ length h.events → CanCount counts events }
+{}
+
+/// Calls of a client that has not failed leave it failed with `Truncated` exactly where its input was closed by one of them.
+pub fn truncated_where_closed<A: Allocator + Copy>()
+    ensures { (t : Terms) (h : History) (calls : List (Call A)) (before after : ℕ) (first last : Client A)
+        → Converses t h first → fault_of first ≡ None → MakesAll Makes calls before first after last
+        → (closes calls ≡ true) ↔ IsTruncated last }
 {}
 
 /// After any calls of a client that was new before them, with the bytes received cut into pieces of any size: it has no more

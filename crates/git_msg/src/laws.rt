@@ -1,6 +1,6 @@
 //! What follows from the definitions alone: each law is the contract of a function without parameters.
 
-ghost use Rattle.std.specs.Prelude.{◌≡◌, ◌≤◌, ◌+◌, ℕ, List, Option, Some, true, length, map, sum_by};
+ghost use Rattle.std.specs.Prelude.{◌≡◌, ◌≤◌, ◌+◌, ℕ, List, [], ◌∷◌, Option, Some, true, length, map, sum_by};
 ghost use Rattle.git_names.specs.ObjectName.{ObjectName};
 ghost use Rattle.git_names.specs.RefName.{IsRefName};
 ghost use Rattle.git_names.specs.declared.object_format.Format.{Format};
@@ -18,7 +18,7 @@ ghost use Rattle.git_msg.specs.Arguments.{Arg, IsArgumentFault, IsNameIn, ReadsA
 ghost use Rattle.git_msg.specs.Asked.{Asked, AreOffered, HasValues, arguments_in, asked_by, command_asked, written_bytes};
 ghost use Rattle.git_msg.specs.Capability.{IsCapability, IsNoCapability};
 ghost use Rattle.git_msg.specs.Checks.{Passes, Refuses};
-ghost use Rattle.git_msg.specs.Machine.HeldRequest.{IsEmpty, AddsAll, add_checks, asked_of, kept_of, stored_of};
+ghost use Rattle.git_msg.specs.Machine.HeldRequest.{IsEmpty, AddsAll, Keeps, add_checks, asked_of, kept_of, stored_of};
 ghost use Rattle.git_msg.specs.Lines.{Line, IsFormatMeant, IsLine, HasFault, end_checks};
 ghost use Rattle.git_msg.specs.References.{Ref, IsReferenceFault, IsReferenceLine, IsWritable, reference_text};
 ghost use Rattle.git_msg.specs.Requests.{Asks, FirstFault};
@@ -257,6 +257,13 @@ pub fn added_arguments_are_asked_for<A: Allocator + Copy>()
         → IsEmpty command format limit empty → AddsAll empty args request → kept_of request ≡ sum_by (λ arg. length (written_text arg)) args }
     ensures stored { (command : Command) (format : Format) (limit : ℕ) (args : List Arg) (empty request : Request A)
         → IsEmpty command format limit empty → AddsAll empty args request → stored_of request ≡ sum_by stored_in args }
+{}
+
+/// Arguments are added one after the other, where each was added as the contract of `Request::add` ensures.
+pub fn additions_follow_one_another<A: Allocator + Copy>()
+    ensures none { (request : Request A) → AddsAll request [] request }
+    ensures more { (old next new : Request A) (arg : Arg) (args : List Arg)
+        → Keeps old arg (length (written_text arg)) next → AddsAll next args new → AddsAll old (arg ∷ args) new }
 {}
 
 /// What is counted of each part that stores bytes is what its fields have. A field more has to be named here.

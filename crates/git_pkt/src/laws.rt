@@ -8,6 +8,7 @@ ghost use Rattle.git_pkt.specs.Faults.{IsOpen, RestFault, ShowsAtEnd};
 ghost use Rattle.git_pkt.specs.Machine.PacketReader.{Holds, HoldsAll, Reads, bytes_held, bytes_held_by_fields, fault_of, is_open, open_length, passes_of};
 ghost use Rattle.git_pkt.specs.Machine.PacketReader.{position_of, rest_of};
 ghost use Rattle.git_pkt.specs.Machine.BandCalls.{AllGoes, AreFed, BandCall};
+ghost use Rattle.git_pkt.specs.Machine.BandReader.{FeedsBand};
 ghost use Rattle.git_pkt.specs.declared.band.Band.{Band};
 ghost use Rattle.git_pkt.specs.declared.fault.Fault.{Fault};
 ghost use Rattle.git_pkt.specs.declared.fault.Kind.{Kind};
@@ -91,6 +92,13 @@ pub fn all_fields_are_counted()
 pub fn parts_join_to_what_passes()
     ensures { (calls : List BandCall) (old new : PacketReader) (start : ℕ) (bytes : List ℕ) (given : List Given) (rest : List ℕ)
         → AreFed old calls new → Reads old start bytes given rest → AllGoes start bytes given rest calls new }
+{}
+
+/// Calls of `feed_band` follow one another, where each did what the contract of `feed_band` ensures.
+pub fn band_calls_follow_one_another()
+    ensures none { (r : PacketReader) → AreFed r [] r }
+    ensures more { (old between new : PacketReader) (call : BandCall) (calls : List BandCall)
+        → FeedsBand old call.piece call.fed between → AreFed between calls new → AreFed old (call ∷ calls) new }
 {}
 
 /// Readers of the same bytes gave the same packets and have the same rest, however the bytes came; those that hold all

@@ -32,6 +32,7 @@ pub mod OneSession
 pub mod TooLong
 pub mod RunLemmas
 pub mod OneOutcome
+pub mod OneOutput
 pub mod AtRest
 pub mod Calls
 pub mod Listed

@@ -100,7 +100,7 @@ module _ (s : Setting) where
           not_told_whole left q kept fault (subst (λ (gs : List Given). Asks s.offer s.limit gs q kept) (sym all) asks) r.told
       at (inr (others, inside)) = flush_inside asks.front others r.front asks.last (begun_has_no_flush s r.front r.begins) asks.ends inside
 
-  none_at_end : (over : Bool) (left : List Given) (rest : List ℕ) (end : ℕ) (outcome : Outcome) → ¬ WantsPack outcome
+  pub none_at_end : (over : Bool) (left : List Given) (rest : List ℕ) (end : ℕ) (outcome : Outcome) → ¬ WantsPack outcome
       → EndsBy s over left rest end outcome → NoRequest (IsRequest s) left
   none_at_end over left rest end Flush has_pack h = none_in_stop left h.0
   none_at_end over left rest end Closed has_pack h = subst (NoRequest (IsRequest s)) (sym h.1) (no_request s [] tt)
@@ -197,16 +197,15 @@ module _ (s : Setting) where
   ends_once over left rest end (Refused f) (Refused g) a b (inr h) k = absurd (a.by_pack h.name)
   ends_once over left rest end (Refused f) (Refused g) a b (inl h) (inr k) = absurd (b.by_pack k.name)
 
-  -- what is left after the whole requests of some bytes, if it has none, is one thing
-  one_left : (used : List ℕ) (asked others : List Asked) (left more : List Given) (rest end : List ℕ) → Stream s used asked left rest
+  -- what is left after the whole requests of some bytes, if it has none, is one thing, and so is what they ask for
+  pub one_left : (used : List ℕ) (asked others : List Asked) (left more : List Given) (rest end : List ℕ) → Stream s used asked left rest
       → Stream s used others more end
-      → NoRequest (IsRequest s) left → NoRequest (IsRequest s) more → (left ≡ more) × (rest ≡ end)
+      → NoRequest (IsRequest s) left → NoRequest (IsRequest s) more → (left ≡ more) × (rest ≡ end) × (asked ≡ others)
   one_left used asked others left more rest end h k none clear =
-      let split = one_split 0 used h.packets k.packets rest end h.splits.spelled k.splits.spelled h.splits.ends k.splits.ends in (
-        (one_list s k.packets asked others left more none clear
-            (subst (λ (gs : List Given). AreRequests (IsRequest s) gs asked left) split.packets h.requests) k.requests).1,
-        split.rest_is,
-      )
+      let split = one_split 0 used h.packets k.packets rest end h.splits.spelled k.splits.spelled h.splits.ends k.splits.ends in
+      let same = one_list s k.packets asked others left more none clear
+      (subst (λ (gs : List Given). AreRequests (IsRequest s) gs asked left) split.packets h.requests) k.requests in
+      (same.1, split.rest_is, same.0)
 
   -- the same bytes end in one way
   pub one_end : (used : List ℕ) (over : Bool) (asked others : List Asked) (left more : List Given) (rest end : List ℕ) (o p : Outcome)

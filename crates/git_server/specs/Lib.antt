@@ -10,4 +10,5 @@ pub mod Admission
 pub mod Sessions
 pub mod NextShown
 pub mod Packs
+pub mod PackCuts
 pub mod Machine

@@ -120,8 +120,9 @@ WantsPack Flush = ⊥
 WantsPack Closed = ⊥
 WantsPack (Refused fault) = fault.kind ≡ PackSource
 
--- the bytes alone decide the outcome: it is no want of memory, and no source of a pack failed
+-- the bytes alone decide the outcome
 pub record IsOfTheBytes (outcome : Outcome) : Type 0 where
+  -- it is no want of memory, and no source of a pack failed
   pub by_memory : ¬ WantsMemory outcome
   pub by_pack : ¬ WantsPack outcome
 

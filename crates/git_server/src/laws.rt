@@ -1,12 +1,18 @@
 //! What a server's contract means for the bytes alone: each function does nothing, and its contract is the law.
 
-ghost use Rattle.std.specs.Prelude.{◌≡◌, ◌+◌, ◌<◌, ◌≤◌, ◌↔◌, ℕ, Bool, true, false, None, Some, List, []};
-ghost use Rattle.git_pkt.specs.Machine.Credit.{MakesAll, credit_of};
+ghost use Rattle.std.specs.Prelude.{◌≡◌, ◌≢◌, ◌+◌, ◌<◌, ◌≤◌, ◌↔◌, ℕ, Bool, true, false, None, Some, List, [], ◌∷◌, length, take};
+ghost use Rattle.git_pkt.specs.Machine.Credit.{MakesAll, Pays, credit_of};
 ghost use Rattle.git_pkt.specs.Packets.{Pkt};
+ghost use Rattle.git_pkt.specs.declared.fault.Fault.{Fault};
+ghost use Rattle.git_pkt.specs.declared.fault.Kind.TheVariants.{OutOfMemory, PackSource};
 ghost use Rattle.git_msg.specs.Asked.{Asked};
 ghost use Rattle.git_server.specs.Sessions.{GoesOn, IsAnswered, IsEnding, IsOfTheBytes, IsRunning, IsSession, Setting, Stream};
+ghost use Rattle.git_server.specs.PackCuts.{AreSameButForCuts};
 ghost use Rattle.git_server.specs.declared.outcome.Outcome.{Outcome};
-ghost use Rattle.git_server.specs.Machine.Calls.{Call, Headline, Makes};
+ghost use Rattle.git_server.specs.declared.outcome.Outcome.TheVariants.{Flush, Closed, Refused};
+ghost use Rattle.git_server.specs.declared.server.Pulled.{Pulled};
+ghost use Rattle.git_server.specs.Machine.Calls.{Call, Headline, Makes, feed, pull, close};
+ghost use Rattle.git_server.specs.Machine.ServerCalls.{Closes, Goes, Pulls};
 ghost use Rattle.git_server.specs.Machine.Server.{IsPackLost, Running, bytes_held, bytes_held_by_fields, kept_by, outcome_of, reader_of, repo_of, wants_input};
 
 use crate::repo::Repo;
@@ -59,10 +65,43 @@ pub fn session_has_one_outcome()
         → IsOfTheBytes outcome → IsOfTheBytes other → outcome ≡ other }
 {}
 
+/// The bytes alone decide each outcome but two: that memory ran out, and that the source of a pack failed.
+pub fn bytes_decide_outcomes()
+    ensures flush { IsOfTheBytes Flush }
+    ensures closed { IsOfTheBytes Closed }
+    ensures refused { (fault : Fault) → fault.kind ≢ OutOfMemory → fault.kind ≢ PackSource → IsOfTheBytes (Refused fault) }
+{}
+
+/// For the bytes used, and by whether the input ended with them, a session gives one output, but for how its packs are cut into packets;
+/// want of memory and sources of packs that fail aside. So does a session that goes on, wherever all that it owes was given.
+pub fn session_has_one_output()
+    ensures ended { (s : Setting) (used : List ℕ) (over : Bool) (given others : List ℕ) (outcome other : Outcome)
+        → IsSession s used over given outcome → IsSession s used over others other
+        → IsOfTheBytes outcome → IsOfTheBytes other → AreSameButForCuts given others }
+    ensures answered { (s : Setting) (used given others : List ℕ)
+        → IsAnswered s used given → IsAnswered s used others → AreSameButForCuts given others }
+{}
+
 /// What is counted of a server is what its fields have: its packet reader, the request that it reads and the one that it answers. Its
 /// repository is the host's, and not counted. A field more has to be named here.
 pub fn all_fields_are_counted<R: Repo, A: Allocator + Copy>()
     ensures { (server : Server R A) → bytes_held_by_fields server ≡ bytes_held server }
+{}
+
+/// What the contract of each method ensures is a call of the headline, and calls follow one another: so the headline is about any that
+/// a program makes.
+pub fn methods_make_calls<R: Repo, A: Allocator + Copy>()
+    ensures fed { (old new : Server R A) (piece : List ℕ) (used before after : ℕ) → used ≤ length piece
+        → Goes R.state (take used piece) [] old new → Pays used before after (credit_of (reader_of old)) (credit_of (reader_of new))
+        → Makes R.state (feed piece used) before old after new }
+    ensures pulled { (old new : Server R A) (answer : Pulled) (steps : ℕ) → Pulls R.state old answer new
+        → Makes R.state (pull answer) steps old steps new }
+    ensures closed { (old new : Server R A) (steps : ℕ) → wants_input old ≡ true → Closes R.state old new
+        → credit_of (reader_of new) ≤ credit_of (reader_of old) → Makes R.state close steps old steps new }
+    ensures none { (server : Server R A) (steps : ℕ) → MakesAll (Makes R.state) [] steps server steps server }
+    ensures more { (call : Call) (calls : List Call) (before next after : ℕ) (old between new : Server R A)
+        → Makes R.state call before old next between → MakesAll (Makes R.state) calls next between after new
+        → MakesAll (Makes R.state) (call ∷ calls) before old after new }
 {}
 
 /// However the input is cut, after any calls of a server that was new before them it holds at most 65,520 buffered bytes and its limit

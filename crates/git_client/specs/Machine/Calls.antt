@@ -1,5 +1,5 @@
 -- Calls of a client, one after the other, and what is promised after any of them.
-use Rattle.std.specs.Prelude.{◌≡◌, ◌≢◌, ℕ, ◌+◌, ◌*◌, ◌≤◌, true, List, [], ◌∷◌, ◌++◌, length, take, sum_by, Some, None}
+use Rattle.std.specs.Prelude.{◌≡◌, ◌≢◌, ℕ, ◌+◌, ◌*◌, ◌≤◌, Bool, true, false, List, [], ◌∷◌, ◌++◌, length, take, sum_by, Some, None}
 use Rattle.git_pkt.specs.Machine.Credit.{Pays, credit_of}
 use Rattle.git_pkt.specs.Machine.PacketReader.{bytes_held as held_in_packet}
 use Rattle.git_pkt.specs.Splits.{Given, Splits}
@@ -63,6 +63,12 @@ module _ {A : Type 0} where
   history_after h [] = h
   history_after h (call ∷ calls) = history_after (after_call h call) calls
 
+  -- whether one of the calls is `close`
+  abbrev pub closes : List (Call A) → Bool
+  closes [] = false
+  closes (close fault ∷ calls) = true
+  closes (call ∷ calls) = closes calls
+
   abbrev pub feeds_by : Call A → ℕ
   feeds_by (feed piece answer) = 1
   feeds_by call = 0
@@ -70,6 +76,10 @@ module _ {A : Type 0} where
   -- how many of the calls are of `feed`
   abbrev pub feeds_in : List (Call A) → ℕ
   feeds_in calls = sum_by feeds_by calls
+
+  -- the client has failed where its input ended
+  abbrev pub IsTruncated : Client A → Type 0
+  IsTruncated client = (fault : Fault) × (fault_of client ≡ Some fault) × (fault.kind ≡ Truncated)
 
   -- What is promised of a client after any calls: these resulted in this history, so many of them were of `feed`, and the counter of steps
   -- went from `before` to `after`.
@@ -91,7 +101,7 @@ module _ {A : Type 0} where
     -- where no packet is owed, just what is written of the requests was given, and the flush where the client has left
     pub given : left_to_say client ≡ [] → h.given ≡ spelled (said_of t.format (caps_of client) h.asked h.left)
     -- the pack bytes among the events are the pack of the bytes used: at any time, and after a refusal too
-    pub pack : (bytes : List ℕ) → HasPack t h.asked h.used bytes → bytes ≡ pack_bytes h.events
+    pub pack : HasPack t h.asked h.used (pack_bytes h.events)
     -- where the client can ask, each response is whole
     pub whole : can_ask client ≡ true → IsConversation t h.asked h.used h.events
     -- a client that has refused did so at the first malformed packet, and one that has not received none

@@ -1,0 +1,120 @@
+-- Responses as their sections come one after another, by gitprotocol-v2(5): with no place after each packet.
+use Rattle.std.specs.Prelude.{◌≡◌, ◌⊎◌, ℕ, Bool, true, false, List, [], ◌∷◌, ◌++◌, Ok, codes}
+use Rattle.git_names.specs.ObjectName.{ObjectName}
+use Rattle.git_names.specs.declared.object_format.Format.{Format}
+use Rattle.git_pkt.specs.Packets.{Pkt, flush, delim, resp_end, payload, text_of}
+use Rattle.git_msg.specs.Asked.{Asked, ls_refs, fetch, object_info}
+use Rattle.git_msg.specs.ResponseLines.{IsAckLine}
+use Rattle.git_msg.specs.Texts.{IsErrorText}
+use Rattle.git_client.specs.declared.events.Ending.{Ending}
+use Rattle.git_client.specs.declared.events.Ending.TheVariants.{FlushOnly, ResponseEnd}
+use Rattle.git_client.specs.declared.sections.Section.{Section}
+use Rattle.git_client.specs.declared.sections.Section.TheVariants.{Acknowledgments, ShallowInfo, WantedRefs, Packfile}
+use Rattle.git_client.specs.Sections.{header_of}
+use Rattle.git_client.specs.Places.{references, shallow_info, wanted_refs, size_line, sizes}
+use Rattle.git_client.specs.Events.{EventValue, SaysLine, ack, band_says, ended, nak, ready}
+
+-- what a rule states: that packets are such, and give these events
+abbrev pub Rule : Type 1
+Rule = List Pkt → List EventValue → Type 0
+
+-- such a packet first, and then by the rule
+abbrev pub First : (Pkt → List EventValue → Type 0) → Rule → Rule
+First Is rule [] events = ⊥
+First Is rule (p ∷ packets) events =
+    (now : List EventValue) × (later : List EventValue) × (events ≡ now ++ later) × Is p now × rule packets later
+
+-- by one rule or by the other
+abbrev pub Either : Rule → Rule → Rule
+Either one other packets events = one packets events ⊎ other packets events
+
+-- any number of such packets, and then by the rule
+abbrev pub Many : (Pkt → List EventValue → Type 0) → Rule → Rule
+Many Is rule [] events = rule [] events
+Many Is rule (p ∷ packets) events =
+    rule (p ∷ packets) events
+    ⊎ ((now : List EventValue) × (later : List EventValue) × (events ≡ now ++ later) × Is p now × Many Is rule packets later)
+
+-- a text line that is no error packet, and gives what it says
+abbrev pub IsText : (List ℕ → List EventValue → Type 0) → Pkt → List EventValue → Type 0
+IsText Says (payload line) events = (¬ IsErrorText (text_of line)) × Says (text_of line) events
+IsText Says p events = ⊥
+
+-- the header of a section
+abbrev pub IsHeader : Section → Pkt → List EventValue → Type 0
+IsHeader section = IsText (λ text events. (text ≡ header_of section) × (events ≡ []))
+
+-- the delimiter after a section
+abbrev pub IsDelimiter : Pkt → List EventValue → Type 0
+IsDelimiter p events = (p ≡ delim) × (events ≡ [])
+
+-- bytes on the band of the pack or of the progress
+abbrev pub IsBand : Pkt → List EventValue → Type 0
+IsBand (payload bytes) events = band_says bytes ≡ Ok events
+IsBand p events = ⊥
+
+abbrev pub IsNak : Pkt → List EventValue → Type 0
+IsNak = IsText (λ text events. (text ≡ codes "NAK") × (events ≡ nak ∷ []))
+
+abbrev pub IsReady : Pkt → List EventValue → Type 0
+IsReady = IsText (λ text events. (text ≡ codes "ready") × (events ≡ ready ∷ []))
+
+abbrev pub IsAck : Format → Pkt → List EventValue → Type 0
+IsAck format = IsText (λ text events. (id : ObjectName) × (events ≡ ack id ∷ []) × IsAckLine format text id)
+
+-- the end of each response
+abbrev pub IsEnd : Ending → Rule
+IsEnd FlushOnly packets events = (packets ≡ flush ∷ []) × (events ≡ ended ∷ [])
+IsEnd ResponseEnd packets events = (packets ≡ flush ∷ resp_end ∷ []) × (events ≡ ended ∷ [])
+
+module _ (format : Format) (ending : Ending) where
+  -- the last section of a fetch
+  abbrev pub PackfileSection : Rule
+  PackfileSection = First (IsHeader Packfile) (Many IsBand (IsEnd ending))
+
+  -- the sections that may come before it
+  abbrev pub ShallowInfoSection : Rule → Rule
+  ShallowInfoSection rule = First (IsHeader ShallowInfo) (Many (IsText (SaysLine shallow_info format)) (First IsDelimiter rule))
+
+  abbrev pub WantedRefsSection : Rule → Rule
+  WantedRefsSection rule = First (IsHeader WantedRefs) (Many (IsText (SaysLine wanted_refs format)) (First IsDelimiter rule))
+
+  -- one of them alone may come
+  abbrev pub ShallowPart : Rule
+  ShallowPart = Either PackfileSection (ShallowInfoSection PackfileSection)
+
+  abbrev pub WantedPart : Rule
+  WantedPart = Either PackfileSection (WantedRefsSection PackfileSection)
+
+  -- each comes once at most, in any order: by whether they may still come
+  abbrev pub PackPart : (shallow wanted : Bool) → Rule
+  PackPart false false = PackfileSection
+  PackPart true false = ShallowPart
+  PackPart false true = WantedPart
+  PackPart true true = Either PackfileSection (Either (ShallowInfoSection WantedPart) (WantedRefsSection ShallowPart))
+
+  -- after the acknowledgments the response ends, unless the server is ready to send the pack
+  abbrev pub AfterAcks : Rule
+  AfterAcks = Either (IsEnd ending) (First IsReady (First IsDelimiter (PackPart true true)))
+
+  abbrev pub AcknowledgmentsSection : Rule
+  AcknowledgmentsSection =
+      First (IsHeader Acknowledgments) (Either (First IsNak AfterAcks) (Many (IsAck format) AfterAcks))
+
+  -- a response to fetch: where the request has no `done`, the acknowledgments may come first
+  abbrev pub FetchResponse : (done : Bool) → Rule
+  FetchResponse true = PackPart true true
+  FetchResponse false = Either AcknowledgmentsSection (PackPart true true)
+
+  abbrev pub LsRefsResponse : Rule
+  LsRefsResponse = Many (IsText (SaysLine references format)) (IsEnd ending)
+
+  abbrev pub ObjectInfoResponse : Rule
+  ObjectInfoResponse =
+      Either (IsEnd ending) (First (IsText (SaysLine size_line format)) (Many (IsText (SaysLine sizes format)) (IsEnd ending)))
+
+  -- the packets are a whole response to the request, and give these events
+  abbrev pub IsResponse : Asked → Rule
+  IsResponse (ls_refs q) = LsRefsResponse
+  IsResponse (fetch q) = FetchResponse q.done
+  IsResponse (object_info q) = ObjectInfoResponse
