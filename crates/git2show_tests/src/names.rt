@@ -5,6 +5,7 @@ ghost use Rattle.std.specs.Cmp.Lexicographic.{slice_cmp};
 
 use crate::expecting::expect;
 use git_names::{Format, NameFault, Oid, Steps};
+use hex::{FromHex, FromHexError, ToHex};
 use std::cmp::Ordering;
 use std::test::Fail;
 
@@ -95,4 +96,55 @@ fn object_names_in_order(rt: HostRuntime) -> Result<(), Fail> {
     let mut steps = Steps::new();
     tick_twice(&mut steps);
     Ok(())
+}
+
+// The name of the empty tree, as Git prints it for either format.
+const EMPTY_TREE: &str = "4b825dc642cb6eb9a060e54bf8d69288fbee4904";
+
+const EMPTY_TREE_SHA256: &str = "6ef19b41225c5369f1c104d45d8d85efa9b057b53b14b4b9b939dd74decc5321";
+
+#[test]
+fn object_names_by_hex(rt: HostRuntime) -> Result<(), Fail> {
+    let alloc = rt.alloc();
+    for (format, text) in [
+        (Format::Sha1, EMPTY_TREE),
+        (Format::Sha256, EMPTY_TREE_SHA256),
+    ] {
+        let id = Oid::from_hex(text)?;
+        expect(&rt, &id.format(), &format);
+        assert_eq!(rt; id.encode_hex(alloc)?.as_str(), text);
+        let upper = id.encode_hex_upper(alloc)?;
+        assert_eq!(rt;
+            upper.as_str(),
+            hex::encode_upper(alloc, hex::decode(alloc, text)?)?.as_str()
+        );
+        assert!(rt; Oid::from_hex(upper.as_str())? == id);
+        assert_eq!(rt; format!(in alloc; "{id:?}")?.as_str(), text);
+    }
+    Ok(())
+}
+
+#[test]
+fn texts_that_hex_refuses(rt: HostRuntime) {
+    for (text, fault) in [
+        ("", FromHexError::InvalidStringLength),
+        (
+            "4b825dc642cb6eb9a060e54bf8d69288fbee490",
+            FromHexError::OddLength,
+        ),
+        (
+            "4b825dc642cb6eb9a060e54bf8d69288fbee49",
+            FromHexError::InvalidStringLength,
+        ),
+        (
+            "4b825gc642cb6eb9a060e54bf8d69288fbee4904",
+            FromHexError::InvalidHexCharacter { c: 'g', index: 5 },
+        ),
+        (
+            "6ef19b41225c5369f1c104d45d8d85efa9b057b53b14b4b9b939dd74decc532 ",
+            FromHexError::InvalidHexCharacter { c: ' ', index: 63 },
+        ),
+    ] {
+        assert!(rt; Oid::from_hex(text) == Err(fault), "{text:?}");
+    }
 }

@@ -6,6 +6,7 @@ use git_msg::{Limits, Offer};
 use git_names::{Format, Oid, Steps};
 use git_pkt::{Fault, Kind, RunFault, Told};
 use git_server::{ListRepo, Outcome, Pulled, RefEntry, Repo, Server, serve};
+use hex::FromHex;
 use std::alloc::{AllocError, Allocator, Global};
 use std::io::{Read, Write};
 use std::process::Abort;
@@ -42,10 +43,7 @@ pub fn advertising(format: Format) -> Setup {
 
 /// The object name that has this digit throughout.
 pub fn object(rt: &impl Abort, format: Format, digit: u8) -> Oid {
-    Oid::read(format, &[digit; 64][..format.digits()], &mut Steps::new()).expect(
-        rt,
-        "an object name",
-    )
+    Oid::from_hex(&[digit; 64][..format.digits()]).expect(rt, "an object name")
 }
 
 fn entry(

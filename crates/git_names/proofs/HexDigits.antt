@@ -1,8 +1,22 @@
 -- What holds of hexadecimal digits.
-use Rattle.std.proofs.Common.{◌≡◌, ℕ, ◌+◌, ◌<◌, ◌==◌, Bool, true, not, ◌||◌, false, refl, arith}
+use Rattle.std.proofs.Common.{◌≡◌, ℕ, ◌+◌, ◌<◌, ◌==◌, Bool, true, not, ◌||◌, false, Option, Some, None, unwrap_or, refl, arith}
 use Rattle.std.proofs.lemmas.Bool.{eqb-true}
-use Rattle.git_names.specs.Digits.{digit_value, is_lower_digit, lower_digit}
+use Rattle.hex.specs.Hex.{hex_digit_value, is_hex_digit}
+use Rattle.git_names.specs.Digits.{IsHexDigit, digit_value, is_lower_digit, lower_digit}
 use Rattle.git_names.proofs.Tables.{all_pass, all_pass-at}
+
+-- a value below 16 is that of a digit, and other bytes have none
+some_below : (value : Option ℕ) → unwrap_or value 16 < 16 → value ≡ Some (unwrap_or value 16)
+some_below (Some v) h = refl
+some_below None h = absurd (omega arith)
+
+pub hex_digit_value-digit : (c : ℕ) → IsHexDigit c → hex_digit_value c ≡ Some (digit_value c)
+unfolding digit_value
+hex_digit_value-digit c h = some_below (hex_digit_value c) h
+
+pub IsHexDigit-is_hex_digit : (c : ℕ) → is_hex_digit c ≡ true → IsHexDigit c
+unfolding digit_value
+IsHexDigit-is_hex_digit c h = grind arith
 
 -- the digit of a value reads back
 abbrev reads_back : ℕ → Bool

@@ -11,7 +11,7 @@ use Rattle.std.proofs.Math.Seq.{take-append_seam, drop-append_seam}
 use Rattle.git_names.specs.declared.object_format.Format.TheVariants.{Sha1, Sha256}
 use Rattle.git_names.specs.Digits.{AreDigits, HaveValues, digit_value}
 use Rattle.git_names.specs.ObjectName.{IsNoObjectName, IsObjectName}
-use Rattle.git_names.proofs.Pairs.{pairs_from}
+use Rattle.git_names.proofs.Pairs.{decode_of-pairs, pairs_from}
 use Rattle.git_names.proofs.WrittenForms.{digits-object_name}
 
 -- the byte of the pair of lanes at this place, as lanes are multiplied and added
@@ -126,7 +126,7 @@ name_20 text values bytes long size have front back after =
     record {
       count = long;
       of_format = refl;
-      pairs = pairs_from text (take 20 bytes) (omega arith) (λ k lt.
+      decodes = decode_of-pairs text (take 20 bytes) (pairs_from text (take 20 bytes) (omega arith) (λ k lt.
           let below : k < 20 = omega arith in
           let byte = get_or-take 20 bytes k 0 below in
           elim (cases_lt k 16) [
@@ -140,7 +140,7 @@ name_20 text values bytes long size have front back after =
                 let high = rw (laid_out-back text (2 * k) long (omega arith) (omega arith)) at (have (2 * k + 8) (omega arith)) in
                 let low = rw second_at at (have (2 * k + 8 + 1) (omega arith)) in
                 record { high_digit = high.0; low_digit = low.0; value = rw byte (back k below late ∙ rw (high.1, low.1) refl) }
-          ]);
+          ]));
       padded = ext_get_or 0 (drop 20 bytes) (replicate 12 0) (omega (arith, length-drop 20 bytes, length-replicate {A = ℕ} 12 0)) (λ k lt.
           let rest = length-drop 20 bytes in
           let within : k < 12 = omega arith in
@@ -162,12 +162,12 @@ name_32 text values bytes long size have made =
     record {
       count = long;
       of_format = refl;
-      pairs = pairs_from text (take 32 bytes) (omega arith) (λ k lt.
+      decodes = decode_of-pairs text (take 32 bytes) (pairs_from text (take 32 bytes) (omega arith) (λ k lt.
           let below : k < 32 = omega arith in
           let byte = get_or-take 32 bytes k 0 below in
           let high = have (2 * k) (omega arith) in
           let low = have (2 * k + 1) (omega arith) in
-          record { high_digit = high.0; low_digit = low.0; value = rw byte (made k below ∙ rw (high.1, low.1) refl) });
+          record { high_digit = high.0; low_digit = low.0; value = rw byte (made k below ∙ rw (high.1, low.1) refl) }));
       padded = ext_get_or 0 (drop 32 bytes) (replicate 0 0) (omega (arith, length-drop 32 bytes, length-replicate {A = ℕ} 0 0))
           (λ k lt. let none = length-drop 32 bytes in absurd (omega arith));
     }

@@ -1,13 +1,10 @@
--- Hexadecimal digits.
-use Rattle.std.specs.Prelude.{◌≡◌, ℕ, ◌-◌, ◌<◌, Bool, List, length, nat_le, ◌&&◌, ◌||◌, if◌then◌else◌, slice_index, codes}
+-- Hexadecimal digits, as the crate `hex` defines them.
+use Rattle.std.specs.Prelude.{◌≡◌, ℕ, ◌<◌, Bool, List, length, nat_le, ◌&&◌, ◌||◌, slice_index, unwrap_or}
+use Rattle.hex.specs.Hex.{hex_digit_value, lower_digits}
 
 -- the value of a hexadecimal digit of either case, and 16 for any other byte
 unfoldable pub digit_value : ℕ → ℕ
-digit_value c =
-    if nat_le 48 c && nat_le c 57 then c - 48
-    else if nat_le 65 c && nat_le c 70 then c - 55
-    else if nat_le 97 c && nat_le c 102 then c - 87
-    else 16
+digit_value c = unwrap_or (hex_digit_value c) 16
 
 abbrev pub IsHexDigit : ℕ → Type 0
 IsHexDigit c = digit_value c < 16
@@ -22,7 +19,7 @@ HaveValues text values = (k : ℕ) → k < length text → IsHexDigit (slice_ind
 
 -- the digit of a value below 16, in lower case
 unfoldable pub lower_digit : ℕ → ℕ
-lower_digit d = slice_index (codes "0123456789abcdef") d
+lower_digit d = slice_index lower_digits d
 
 -- the byte is a digit in lower case
 abbrev pub is_lower_digit : ℕ → Bool

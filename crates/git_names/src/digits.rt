@@ -1,12 +1,12 @@
 //! Hexadecimal digits, and bytes as pairs of them.
 ghost use Rattle.std.specs.Prelude.{◌≡◌, ◌+◌, ◌*◌, ◌<◌, ◌≤◌, ◌++◌, ℕ, length, replicate, slice_index, take, drop, MatchOption};
+ghost use Rattle.hex.specs.Hex.{encode_lower};
 ghost use Rattle.git_names.specs.declared.object_format.Format.{Format};
 ghost use Rattle.git_names.specs.Digits.{AreDigits, HaveValues, digit_value, lower_digit};
-ghost use Rattle.git_names.specs.ObjectName.{IsNoObjectName, IsObjectName, hex_text};
+ghost use Rattle.git_names.specs.ObjectName.{Decodes};
 ghost use Rattle.git_names.specs.Steps.{TakesAtMost};
 
 use crate::counter::Steps;
-use crate::object_format::Format;
 use std::simd::prelude::*;
 
 // The value of each byte as a digit of either case, and 16 where it is none; a row has 16 bytes.
@@ -50,10 +50,9 @@ pub fn lower_digit(value: usize) -> u8
     LOWER_DIGITS[value]
 }
 
-// The bytes of a SHA-1 name, and zeros after them: each is a pair of digits. None where `text` is something else.
-pub(crate) fn read_20(text: &[u8], steps: &mut Steps) -> Option<[u8; 32]>
-    ensures name { MatchOption result (IsNoObjectName Format.Sha1 text.now)
-        (λ bytes. IsObjectName Format.Sha1 text.now (record { format = Format.Sha1; bytes = bytes })) }
+// What `hex::decode_to_slice` gives for a SHA-1 name, with zeros after its 20 bytes. None where it gives an error.
+pub(crate) fn decode_20(text: &[u8], steps: &mut Steps) -> Option<[u8; 32]>
+    ensures value { Decodes Format.Sha1 text.now result }
     ensures cost { TakesAtMost (16 * (length text.now + 1)) steps.old steps.new }
 {
     if text.len() != 40 {
@@ -68,10 +67,9 @@ pub(crate) fn read_20(text: &[u8], steps: &mut Steps) -> Option<[u8; 32]>
     Some(joined_20(&values))
 }
 
-// The same of a SHA-256 name.
-pub(crate) fn read_32(text: &[u8], steps: &mut Steps) -> Option<[u8; 32]>
-    ensures name { MatchOption result (IsNoObjectName Format.Sha256 text.now)
-        (λ bytes. IsObjectName Format.Sha256 text.now (record { format = Format.Sha256; bytes = bytes })) }
+// The same for a SHA-256 name, which has 32 bytes.
+pub(crate) fn decode_32(text: &[u8], steps: &mut Steps) -> Option<[u8; 32]>
+    ensures value { Decodes Format.Sha256 text.now result }
     ensures cost { TakesAtMost (16 * (length text.now + 1)) steps.old steps.new }
 {
     if text.len() != 64 {
@@ -173,9 +171,9 @@ fn joined_20(values: &[u8; 64]) -> [u8; 32]
     (high * u8x32::splat(16) + low).to_array()
 }
 
-// The bytes as pairs of lower case digits. Each step of the loop is the same, so that the compiler makes one of many.
+// What `hex::encode_to_slice` gives for the bytes. Each step of the loop is the same, so that the compiler makes one of many.
 pub(crate) fn pairs_of(bytes: &[u8; 32]) -> [u8; 64]
-    ensures { result ≡ hex_text bytes.now }
+    ensures { result ≡ encode_lower bytes.now }
 {
     let mut digits = [0; 64];
     for i in 0..32 {

@@ -1,7 +1,7 @@
 //! The object formats, and their names.
 
 ghost use Rattle.std.specs.Prelude.{◌≡◌, MatchOption};
-ghost use Rattle.git_names.specs.ObjectFormat.{digits_of, name_of, NamesNoFormat};
+ghost use Rattle.git_names.specs.ObjectFormat.{digits_of, name_of, width_of, NamesNoFormat};
 
 /// The hash that object names are made with, an object format of gitformat-index(5) and
 /// gitprotocol-v2(5).
@@ -32,6 +32,16 @@ impl Format {
         match self {
             Format::Sha1 => 40,
             Format::Sha256 => 64,
+        }
+    }
+
+    // The number of bytes in an object name of this format.
+    pub(crate) fn width(self) -> usize
+        ensures { result ≡ width_of self }
+    {
+        match self {
+            Format::Sha1 => 20,
+            Format::Sha256 => 32,
         }
     }
 

@@ -1,19 +1,24 @@
-//! Object names: read from digits, and written.
+//! Object names: read from digits and written, as the crate `hex` has it.
 
-ghost use Rattle.std.specs.Prelude.{◌≡◌, ◌+◌, ◌*◌, MatchResult, length, take, drop};
-ghost use Rattle.git_names.specs.ObjectFormat.{digits_of};
-ghost use Rattle.git_names.specs.ObjectName.{IsObjectName, IsNoObjectName, IsOid, hex_of};
+ghost use Rattle.std.specs.Prelude.{◌≡◌, ◌+◌, ◌*◌, Err, MatchResult, length, take, drop};
+ghost use Rattle.hex.specs.Hex.{decode_sized};
+ghost use Rattle.git_names.specs.ObjectFormat.{digits_of, width_of};
+ghost use Rattle.git_names.specs.ObjectName.{IsObjectName, IsNoObjectName, IsOid, hex_of, name_bytes};
 ghost use Rattle.git_names.specs.Steps.{TakesAtMost};
 
 use crate::counter::Steps;
-use crate::digits::{pairs_of, read_20, read_32};
+use crate::digits::{decode_20, decode_32, pairs_of};
 use crate::fault::NameFault;
 use crate::object_format::Format;
+use hex::{FromHex, FromHexError, ToHex};
+use std::alloc::{AllocError, Allocator};
+use std::convert::AsSlice;
+use std::fmt;
 use std::marker::Model;
 
 /// An object name, as in gitprotocol-common(5): the hash of an object, as a value of 33 bytes. Two
 /// names are equal where their formats and bytes are; those of one format are in order of bytes.
-#[derive(Clone, Copy, Debug, Hash, PartialEq, Eq, PartialOrd, Ord)]
+#[derive(Clone, Copy, Hash, PartialEq, Eq, PartialOrd, Ord)]
 pub struct Oid {
     format: Format,
     // After the format's width these are zero.
@@ -44,11 +49,11 @@ impl Oid {
             (λ fault. (fault ≡ NameFault.BadObjectName) × IsNoObjectName format text.now) }
         ensures cost { TakesAtMost (16 * (length text.now + 1)) steps.old steps.new }
     {
-        let read = match format {
-            Format::Sha1 => read_20(text, steps),
-            Format::Sha256 => read_32(text, steps),
+        let decoded = match format {
+            Format::Sha1 => decode_20(text, steps),
+            Format::Sha256 => decode_32(text, steps),
         };
-        match read {
+        match decoded {
             Some(bytes) => Ok(Oid { format, bytes }),
             None => Err(NameFault::BadObjectName),
         }
@@ -89,5 +94,75 @@ impl Oid {
         ensures valid { IsOid self.now }
     {
         self.format
+    }
+
+    // The bytes of the name, as many as its format has.
+    fn as_bytes(&self) -> &[u8]
+        ensures { result.now ≡ name_bytes self.now }
+    {
+        &self.bytes[..self.format.width()]
+    }
+}
+
+/// An object name of either format, which the number of digits determines. A text of another length is `OddLength` or
+/// `InvalidStringLength`, as for an array of bytes.
+impl FromHex for Oid {
+    ghost use Rattle.git_names.specs.ObjectName.{HexReads};
+
+    type Error = FromHexError;
+
+    ghost from_hex_gives = { HexReads };
+
+    fn from_hex<T: AsSlice<u8> + Drop>(hex: T) -> Result<Oid, FromHexError> {
+        let text = hex.as_slice();
+        let format = match text.len() {
+            64 => Format::Sha256,
+            _ => Format::Sha1,
+        };
+        match Oid::read(format, text, &mut Steps::new()) {
+            Ok(id) => Ok(id),
+            Err(_) => Err(fault_of(format, text)),
+        }
+    }
+}
+
+// The error of `hex` for a text that is no object name of the format.
+#[cold]
+fn fault_of(format: Format, text: &[u8]) -> FromHexError
+    requires { IsNoObjectName format text.now }
+    ensures { decode_sized text.now (width_of format) ≡ Err result }
+{
+    let mut bytes = [0; 32];
+    hex::decode_to_slice(text, &mut bytes[..format.width()]).unwrap_err()
+}
+
+/// The digits of the name, as many as its format has.
+impl ToHex for Oid {
+    ghost use Rattle.git_names.specs.ObjectName.{name_bytes};
+
+    ghost hex_input = { name_bytes };
+
+    fn encode_hex<A: Allocator>(&self, alloc: A) -> Result<String<A>, AllocError> {
+        let digits = Vec::from_slice(alloc, self.written(&mut [0; 64]))?;
+        Ok(String::from_utf8(digits).unwrap())
+    }
+
+    fn encode_hex_upper<A: Allocator>(&self, alloc: A) -> Result<String<A>, AllocError> {
+        hex::encode_upper(alloc, self.as_bytes())
+    }
+}
+
+/// The name in lower case digits.
+impl fmt::Debug for Oid {
+    ghost use Rattle.std.specs.Prelude.{Some};
+    ghost use Rattle.git_names.specs.ObjectName.{hex_of};
+
+    ghost debug_output = { λ id. Some (hex_of id) };
+
+    fn fmt<W: fmt::Write>(&self, f: &mut fmt::Formatter<W>) -> fmt::Result {
+        let mut room = [0; 64];
+        let digits = &mut room[..self.format.digits()];
+        hex::encode_to_slice(self.as_bytes(), digits).unwrap();
+        f.write_str(str::from_utf8(digits).unwrap())
     }
 }

@@ -2,13 +2,14 @@
 
 ghost use Rattle.std.specs.Prelude.{◌≡◌, ◌≢◌, ℕ, List, MatchOption};
 ghost use Rattle.git_names.specs.declared.object_format.Format.{Format};
-ghost use Rattle.git_names.specs.ObjectName.{ObjectName};
+ghost use Rattle.git_names.specs.ObjectName.{IsNoObjectName, IsObjectName, ObjectName};
 ghost use Rattle.git_repository.specs.RepositoryLines.{IsCount, IsSizedObject, Says, SaysNothing, IsUnbornHeadOf, SaysReference, format_line, shown};
 ghost use Rattle.git_repository.specs.RepositoryLines.{Said};
 ghost use Rattle.std.specs.Option.{option_copied};
 
 use git_msg::{Boundary, Reference, after, is_word, read_number, read_reference};
 use git_names::{Format, Oid, Steps};
+use hex::FromHex;
 
 /// The most common objects that a repository may want before it is ready.
 const MOST_COMMON: u64 = 2_147_483_647;
@@ -60,11 +61,11 @@ pub(crate) fn read_item(format: Format, line: &[u8]) -> Option<Item<'_>>
         return Some(Item::ReadyAfter(count));
     }
     if let Some(text) = after(line, b"shallow ") {
-        let id = Oid::read(format, text, &mut Steps::new()).ok()?;
+        let id = read_name(format, text)?;
         return Some(Item::BoundaryLine(Boundary::Shallow(id)));
     }
     if let Some(text) = after(line, b"unshallow ") {
-        let id = Oid::read(format, text, &mut Steps::new()).ok()?;
+        let id = read_name(format, text)?;
         return Some(Item::BoundaryLine(Boundary::Unshallow(id)));
     }
     None
@@ -109,6 +110,17 @@ fn unborn_target<'a>(name: &[u8], target: Option<&'a [u8]>, peeled: Option<Oid>)
     target
 }
 
+/// An object name of this format.
+fn read_name(format: Format, text: &[u8]) -> Option<Oid>
+    ensures { MatchOption result (IsNoObjectName format text.now) (λ id. IsObjectName format text.now id) }
+{
+    let id = Oid::from_hex(text).ok()?;
+    if id.format() != format {
+        return None;
+    }
+    Some(id)
+}
+
 /// An object name, a space and a size.
 fn read_object(format: Format, text: &[u8]) -> Option<(Oid, u64)>
     ensures { MatchOption result ((id : ObjectName) (size : ℕ) → ¬ IsSizedObject format id size text.now)
@@ -118,7 +130,7 @@ fn read_object(format: Format, text: &[u8]) -> Option<(Oid, u64)>
         return None;
     }
     let (name, rest) = text.split_at(format.digits());
-    let id = Oid::read(format, name, &mut Steps::new()).ok()?;
+    let id = read_name(format, name)?;
     let size = read_number(after(rest, b" ")?)?;
     Some((id, size))
 }

@@ -1,11 +1,10 @@
 -- How long the texts are that C is shown of an event.
-use Rattle.std.proofs.Common.{arith, ◌≡◌, ℕ, ◌+◌, ◌*◌, ◌≤◌, List, [], ◌∷◌, ◌++◌, length, take, Option, Some, None, refl, map, length-append, length-take}
+use Rattle.std.proofs.Common.{arith, ◌≡◌, ℕ, ◌+◌, ◌*◌, ◌≤◌, List, [], ◌∷◌, ◌++◌, length, Option, Some, None, refl, map, length-append}
 use Rattle.std.specs.Option.{option_copied, option_map_or}
 use Rattle.std.proofs.lemmas.List.Sums.{sum_by-cons}
-use Rattle.git_names.specs.ObjectFormat.{digits_of, width_of}
-use Rattle.git_names.specs.ObjectName.{ObjectName, hex_of, hex_text}
-use Rattle.git_names.specs.declared.object_format.Format.{Format}
-use Rattle.git_names.specs.declared.object_format.Format.TheVariants.{Sha1, Sha256}
+use Rattle.git_names.specs.ObjectFormat.{digits_of}
+use Rattle.git_names.specs.ObjectName.{ObjectName}
+use Rattle.git_names.proofs.ObjectNames.{hex_of-fits}
 use Rattle.git_pkt.specs.Packets.{longest_payload}
 use Rattle.git_msg.specs.References.{id_length}
 use Rattle.git_client.specs.EventParts.{Parts, parts_of}
@@ -15,26 +14,14 @@ use Rattle.git_client.specs.declared.events.Event.{Event}
 use Rattle.gitwire.specs.EventAnswers.{bytes_shown, digits_shown, telling_parts, text_shown}
 use Rattle.gitwire.specs.declared.event.GitwireEvent.{GitwireEvent}
 
-hex_length : (bytes : List ℕ) → length (hex_text bytes) ≡ 2 * length bytes
-unfolding hex_text
-hex_length [] = omega arith
-hex_length (byte ∷ bytes) = omega (arith, hex_length bytes)
-
-digits_of_bytes : (format : Format) (bytes : List ℕ) → length (hex_text (take (width_of format) bytes)) ≤ digits_of format
-digits_of_bytes Sha1 bytes = omega (arith, hex_length (take 20 bytes), length-take 20 bytes)
-digits_of_bytes Sha256 bytes = omega (arith, hex_length (take 32 bytes), length-take 32 bytes)
-
-digits_fit : (id : ObjectName) → length (hex_of id) ≤ digits_of id.format
-digits_fit id = digits_of_bytes id.format id.bytes
-
 digits_fit_in : (id : Option ObjectName) → length (digits_shown id) ≤ option_map_or (λ (o : ObjectName). digits_of o.format) id 0
 digits_fit_in None = omega arith
-digits_fit_in (Some id) = digits_fit id
+digits_fit_in (Some id) = hex_of-fits id
 
 -- where a reference has no object, no digits are shown of the word in their place
 first_fits : (id : Option ObjectName) → length (digits_shown id) ≤ id_length id
 first_fits None = omega arith
-first_fits (Some id) = digits_fit id
+first_fits (Some id) = hex_of-fits id
 
 text_length : (text : Option (List ℕ)) → length (text_shown text) ≡ option_map_or length text 0
 text_length None = refl
@@ -71,11 +58,11 @@ shown_fits (Event.Reference id name target peeled) = omega (
   text_length (option_copied target),
   digits_fit_in (option_copied peeled),
 )
-shown_fits (Event.Ack id) = omega (arith, shown_length (parts_of (Event.Ack id)), digits_fit id.now)
-shown_fits (Event.Shallow id) = omega (arith, shown_length (parts_of (Event.Shallow id)), digits_fit id.now)
-shown_fits (Event.Unshallow id) = omega (arith, shown_length (parts_of (Event.Unshallow id)), digits_fit id.now)
-shown_fits (Event.WantedRef id name) = omega (arith, shown_length (parts_of (Event.WantedRef id name)), digits_fit id.now)
-shown_fits (Event.Info id size) = omega (arith, shown_length (parts_of (Event.Info id size)), digits_fit id.now)
+shown_fits (Event.Ack id) = omega (arith, shown_length (parts_of (Event.Ack id)), hex_of-fits id.now)
+shown_fits (Event.Shallow id) = omega (arith, shown_length (parts_of (Event.Shallow id)), hex_of-fits id.now)
+shown_fits (Event.Unshallow id) = omega (arith, shown_length (parts_of (Event.Unshallow id)), hex_of-fits id.now)
+shown_fits (Event.WantedRef id name) = omega (arith, shown_length (parts_of (Event.WantedRef id name)), hex_of-fits id.now)
+shown_fits (Event.Info id size) = omega (arith, shown_length (parts_of (Event.Info id size)), hex_of-fits id.now)
 shown_fits (Event.Pack bytes) = omega (arith, shown_length (parts_of (Event.Pack bytes)), each_one pack bytes.now (λ byte. refl))
 shown_fits (Event.Progress bytes) = omega (arith, shown_length (parts_of (Event.Progress bytes)), each_one progress bytes.now (λ byte. refl))
 shown_fits Event.Offered = omega arith

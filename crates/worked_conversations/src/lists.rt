@@ -3,8 +3,9 @@
 use crate::texts::copied;
 use crate::trouble::Trouble;
 use git_msg::Boundary;
-use git_names::{Format, Oid, Steps};
+use git_names::{Format, Oid};
 use git_server::{ListRepo, RefEntry};
+use hex::FromHex;
 use std::alloc::Global;
 
 /// The lists so far.
@@ -19,13 +20,7 @@ struct Lists {
 
 // The object name that a text is, of the format that its length calls for.
 fn object(text: &str) -> Result<Oid, Trouble> {
-    let format = match text.len() {
-        40 => Format::Sha1,
-        _ => Format::Sha256,
-    };
-    Oid::read(format, text.as_bytes(), &mut Steps::new()).map_err(|_| Trouble::BadCase(
-        "no object name",
-    ))
+    Oid::from_hex(text).map_err(|_| Trouble::BadCase("no object name"))
 }
 
 // The reference that the words after `ref` give, or how its names are refused.

@@ -12,6 +12,7 @@ use crate::trouble::Trouble;
 use git_msg::{Offer, Request, RequestReader, Taken};
 use git_names::{Oid, Steps};
 use git_pkt::{Fault, Got, Packet, PacketReader, text};
+use hex::ToHex;
 use std::alloc::{AllocError, Global};
 
 /// What a packet brought.
@@ -83,7 +84,7 @@ fn append_objects(
     ids: &[Oid],
 ) -> Result<(), AllocError> {
     for id in ids {
-        append_text(alloc, lines, word, id.written(&mut [0; 64]))?;
+        append_text(alloc, lines, word, id.encode_hex(alloc)?.as_bytes())?;
     }
     Ok(())
 }

@@ -15,6 +15,7 @@ use git_pkt::{Hold, Packet, put, text};
 use git_repository::{Packs, TextFault, read_repo};
 use git_server::Repo;
 use git2show_lib::read_script;
+use hex::ToHex;
 use std::alloc::{AllocError, Global};
 
 /// What is done with each text.
@@ -69,7 +70,12 @@ fn say_payload(alloc: Global, lines: &mut Vec<u8>, payload: &[u8]) -> Result<(),
 
 // Appends the line of an object name, as it is written.
 fn say_object(alloc: Global, lines: &mut Vec<u8>, word: &str, id: Oid) -> Result<(), AllocError> {
-    say(alloc, lines, word, Said::Bytes(id.written(&mut [0; 64])))
+    say(
+        alloc,
+        lines,
+        word,
+        Said::Bytes(id.encode_hex(alloc)?.as_bytes()),
+    )
 }
 
 // Appends the line of a number.
