@@ -12,6 +12,7 @@ ghost use Rattle.git2show_lib.specs.Machine.CheckSteps.{ReadsTo};
 use crate::checking::CheckFault;
 use git_client::Window;
 use git_msg::{ReadGot, Request, RequestStream};
+use git_names::Steps;
 use git_pkt::{Told, receive};
 use std::alloc::Allocator;
 use std::io::Read;
@@ -47,7 +48,7 @@ pub(crate) fn next_request<R: Read, A: Allocator + Copy>(
     ensures told { FailsAs (run_result result) (has_failed reader.new) false }
 {
     loop {
-        let read = stream.feed(&piece[waiting.start..waiting.end]);
+        let read = stream.feed(&piece[waiting.start..waiting.end], &mut Steps::new());
         waiting.start += read.used;
         match read.got {
             ReadGot::Request(request) => return Ok(Some(request)),

@@ -149,7 +149,7 @@ fn read(heap: &LocalHeap, input: &[u8]) -> usize {
     let mut rest = input;
     let mut most = 0;
     for _ in 0..PACKETS {
-        let heard = reader.feed(rest);
+        let heard = reader.feed(rest, &mut Steps::new());
         rest = &rest[heard.used.min(rest.len())..];
         most = most.max(heap.used());
         if matches!(heard.got, ReadGot::Failed(_)) {

@@ -2,6 +2,7 @@
 
 ghost use Rattle.std.specs.Prelude.{◌≡◌, ◌<◌, ◌≤◌, ◌+◌, ◌*◌, [], None, true, false, length};
 ghost use Rattle.git_names.specs.Steps.{TakesAtMost};
+ghost use Rattle.git_pkt.specs.Machine.Credit.{Pays};
 ghost use Rattle.git_pkt.specs.Packets.{body_of, seen};
 ghost use Rattle.git_pkt.specs.Machine.PacketReader.{passes_of, fault_of as packet_fault};
 ghost use Rattle.git_msg.specs.Machine.RequestReader.{fault_of as reader_fault, is_waiting, kept_so_far, limit_in};
@@ -13,7 +14,7 @@ use crate::offers::Offer;
 use crate::reader::{RequestReader, Taken};
 use crate::requests::Request;
 use git_names::Steps;
-use git_pkt::{Fault, Got, Kind, Packet, PacketReader};
+use git_pkt::{Fault, Got, Hold, Kind, Packet, PacketReader};
 use std::alloc::Allocator;
 
 /// How far a reader of requests has come.
@@ -66,7 +67,13 @@ pub struct RequestStream<A: Allocator + Copy> {
 }
 
 impl<A: Allocator + Copy> RequestStream<A> {
-    ghost use Rattle.git_msg.specs.Machine.RequestStreams.{HasRead, Feeds, Closes, wants_input, offer_of, limit_of, bytes_used};
+    ghost use denote.Param.{number};
+    ghost use Rattle.std.specs.Borrow.{LendsSo, sem, u8, unit};
+    ghost use Rattle.std.specs.Prelude.{◌↔◌, IfNone, IfSome, IsSome, OnSome};
+    ghost use Rattle.arrayvec.specs.contracts.array_vec.ArrayVec.{the_row as array_vec_row};
+    ghost use Rattle.git_msg.specs.contracts.streams.RequestStream.{the_row};
+    ghost use Rattle.git_msg.specs.Machine.RequestStreams.{HasRead, Feeds, Closes, wants_input, offer_of, limit_of, bytes_used, credit_of};
+    ghost use Rattle.git_msg.specs.Machine.RequestStreams.{IsLent, IsUnlent, hold_of, is_within_packet};
     ghost use Rattle.git_msg.specs.Machine.RequestStreamSteps.{Steps as StepsTo};
 
     /// A reader before the first byte. It takes memory from `alloc` when an argument with a text or an object name comes.
@@ -92,9 +99,10 @@ impl<A: Allocator + Copy> RequestStream<A> {
 
     /// Reads on. It returns after a whole request, at a flush instead of one, with the whole piece used, or at the first
     /// fault. Call it again with the bytes that it did not use.
-    pub fn feed(&mut self, piece: &[u8]) -> ReadRequest<A>
+    pub fn feed(&mut self, piece: &[u8], steps: &mut Steps) -> ReadRequest<A>
         ensures used { result.used ≤ length piece.now }
         ensures feeds { Feeds self.old piece.now result self.new }
+        ensures cost { Pays result.used steps.old steps.new (credit_of self.old) (credit_of self.new) }
     {
         if let Stage::Failed(fault) = self.stage {
             return ReadRequest {
@@ -104,7 +112,7 @@ impl<A: Allocator + Copy> RequestStream<A> {
         }
         let mut used = 0;
         while used < piece.len() && self.wants_input() {
-            let step = self.step(&piece[used..]);
+            let step = self.step(&piece[used..], steps);
             used += step.used;
             match step.got {
                 ReadGot::More => {}
@@ -145,15 +153,32 @@ impl<A: Allocator + Copy> RequestStream<A> {
         Err(fault)
     }
 
-    /// Uses bytes up to the end of a packet, or all of them.
-    fn step(&mut self, piece: &[u8]) -> ReadRequest<A>
+    /// Lends the buffer of one packet for writing; none while a packet is open, as between two packets alone its bytes mean nothing
+    /// to the reader.
+    pub fn lend(&mut self) -> Option<&mut Hold>
+        ensures* lends { sem 𝓛 (LendsSo (the_row A.row A.Allocator) (array_vec_row u8 (number 65520) unit) self.entry result
+            (λ new hold. OnSome result (IsLent self.old hold new)) (λ new. IfNone result (IsUnlent self.old new))) }
+        ensures between { IsSome result ↔ (is_within_packet self.old ≡ false) }
+        ensures value { IfSome result (λ hold. hold.now.items ≡ hold_of self.old) }
+    {
+        if self.packets.is_open() {
+            return None;
+        }
+        Some(self.packets.lend())
+    }
+
+    /// Uses bytes up to the end of a packet, or all of them. A packet after which more is wanted has been paid for by its own bytes.
+    fn step(&mut self, piece: &[u8], steps: &mut Steps) -> ReadRequest<A>
         requires waits { wants_input self.old ≡ true }
         requires some { 0 < length piece.now }
         ensures used { result.used ≤ length piece.now }
         ensures steps { StepsTo self.old piece.now result self.new }
+        ensures cost { Pays result.used steps.old steps.new (credit_of self.old) (credit_of self.new) }
+        ensures paid { wants_input self.new ≡ true → result.used < length piece.now
+            → steps.new + credit_of self.new ≤ steps.old + credit_of self.old + 64 * result.used }
     {
-        let mut steps = Steps::new();
-        let fed = self.packets.feed(piece, &mut steps);
+        steps.tick(1);
+        let fed = self.packets.feed(piece, steps);
         let used = fed.used;
         match fed.got {
             Got::More => ReadRequest {
@@ -168,7 +193,7 @@ impl<A: Allocator + Copy> RequestStream<A> {
                 }
             }
             Got::Packet(packet, offset) => {
-                let got = take_packet(&mut self.requests, &AdmitsAll, packet, offset, &mut steps);
+                let got = take_packet(&mut self.requests, &AdmitsAll, packet, offset, steps);
                 self.stage = stage_after(&got);
                 ReadRequest { used, got }
             }

@@ -115,7 +115,7 @@ impl RefEntry {
     }
 
     /// Whether its object names are of the format.
-    pub(crate) fn is_of(&self, format: Format) -> bool
+    pub fn is_of(&self, format: Format) -> bool
         ensures of_format { IsTrue result ↔ IsOfFormat format self.now }
         ensures named { IsNamed self.now.name self.now.target }
     {

@@ -11,7 +11,7 @@ use crate::handles::{GitwireRequest, GitwireRequestReader, Holds, Taken, fill};
 use crate::offer::GitwireOffer;
 use crate::request::MOST_LIMIT;
 use git_msg::{Command, Limits, ReadGot, ReadRequest, Request, RequestStream};
-use git_names::Format;
+use git_names::{Format, Steps};
 use std::alloc::Global;
 use std::mem::replace;
 
@@ -100,7 +100,7 @@ fn feed(
     ensures { FeedsAnswers reader.old piece.now request.old result reader.new request.new }
 {
     let due = reader.wants_input();
-    let ReadRequest { used, got } = reader.feed(piece);
+    let ReadRequest { used, got } = reader.feed(piece, &mut Steps::new());
     match got {
         ReadGot::More => GitwireAnswer::of_used(used, What::more(due)),
         ReadGot::Request(asked) => {

@@ -1,8 +1,11 @@
 -- Requests in a stream of bytes: what the bytes ask for, and what a reader of them represents.
 use Rattle.std.specs.Prelude.{◌≡◌, ◌≢◌, ◌⊎◌, ℕ, ◌+◌, ◌-◌, ◌<◌, ◌≤◌, Bool, true, false, List, [], ◌∷◌, ◌++◌, length, take, Option, Some, None, Result, Ok, Err}
+use Rattle.arrayvec.specs.ArrayVec.{ArrayVec}
+use Rattle.git_pkt.specs.Machine.LentHold.{with_hold}
 use Rattle.git_pkt.specs.Splits.{Given, Splits}
 use Rattle.git_pkt.specs.Faults.{IsOpen, StopsBy}
-use Rattle.git_pkt.specs.Machine.PacketReader.{Reads, bytes_held as held_in_packet, ShownByFeed, is_open, position_of, fault_of as packet_fault}
+use Rattle.git_pkt.specs.Machine.Credit.{credit_of as packet_credit}
+use Rattle.git_pkt.specs.Machine.PacketReader.{Reads, bytes_held as held_in_packet, held_of as held_in, ShownByFeed, is_open, position_of, fault_of as packet_fault}
 use Rattle.git_pkt.specs.declared.fault.Fault.{Fault}
 use Rattle.git_pkt.specs.declared.fault.Kind.TheVariants.{Truncated}
 use Rattle.git_msg.specs.declared.offers.Offer.{Offer}
@@ -110,6 +113,10 @@ module _ {A : Type 0} where
   abbrev pub is_within_packet : RequestStream A → Bool
   is_within_packet s = is_open s.packets
 
+  -- what the bytes of the open packet leave for the steps of its end
+  abbrev pub credit_of : RequestStream A → ℕ
+  credit_of s = packet_credit s.packets
+
   -- how many bytes were used
   abbrev pub bytes_used : RequestStream A → ℕ
   bytes_used s = position_of s.packets
@@ -131,6 +138,24 @@ module _ {A : Type 0} where
     pub left_is : IsLeftIn s.stage (offer_of s) (limit_of s) left rest (length used)
     pub onward : wants_input s ≡ true → ReadsOnward left s
     pub within : kept_so_far s.requests ≤ limit_of s
+
+  -- the bytes in the hold of its packet reader
+  abbrev pub hold_of : RequestStream A → List ℕ
+  hold_of s = held_in s.packets
+
+  -- the hold was lent, and has these bytes after that: between two packets they mean nothing to the reader
+  pub record IsLent (old : RequestStream A) (hold : ArrayVec ℕ) (new : RequestStream A) : Type 0 where
+    pub between : is_within_packet old ≡ false
+    pub packets : new.packets ≡ with_hold old.packets hold
+    pub requests : new.requests ≡ old.requests
+    pub stage : new.stage ≡ old.stage
+
+  -- it was not lent, and nothing changed
+  pub record IsUnlent (old new : RequestStream A) : Type 0 where
+    pub within_packet : is_within_packet old ≡ true
+    pub packets : new.packets ≡ old.packets
+    pub requests : new.requests ≡ old.requests
+    pub stage : new.stage ≡ old.stage
 
   -- what the requests of an answer ask for
   abbrev pub asked_by : ReadGot A → List Asked

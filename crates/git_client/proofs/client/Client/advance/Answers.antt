@@ -1,5 +1,5 @@
 use Rattle.std.proofs.Common.{arith, ap, ◌≡◌, ◌<◌, ◌≤◌, ◌+◌, ◌*◌, ℕ, [], List, subst, take, drop, length, ◌-◌, length-drop}
-use Rattle.git_pkt.specs.Machine.Credit.{Pays}
+use Rattle.git_pkt.proofs.Credits.{paid_on}
 use Rattle.git_pkt.proofs.Pieces.{left_of}
 use Rattle.git_client.specs.Events.{EventValue}
 use Rattle.git_client.specs.Machine.Client.{Comes, HearsOn, LeavesStep}
@@ -7,12 +7,6 @@ use Rattle.git_client.specs.declared.client.Outcome.{Outcome}
 use Rattle.git_client.specs.declared.client.Outcome.TheVariants.{More}
 use Rattle.git_client.proofs.Twice.{comes_then, hears_then, leaves_then}
 use Rattle.git_client.proofs.client.Client.advance.Goals as goal
-
--- one call after another, where the first has been paid for by its bytes
-paid_on : (used more before middle after credit rest left : ℕ) → middle + rest ≤ before + credit + 64 * used → Pays used before middle credit rest
-    → Pays more middle after rest left → Pays (used + more) before after credit left
-paid_on used more before middle after credit rest left paid first second =
-    record { rises = omega (arith, first.rises, second.rises); within = omega (arith, paid, second.within) }
 
 pub loop-used-preserved : goal.loop-used-preserved
 loop-used-preserved g c =

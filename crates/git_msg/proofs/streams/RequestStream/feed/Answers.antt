@@ -1,4 +1,5 @@
 use Rattle.std.proofs.Common.{◌≡◌, true, false, length, append-nil, length-drop, arith, ap, sym, ◌∙◌, rules}
+use Rattle.git_pkt.proofs.Credits.{paid_on}
 use Rattle.git_pkt.proofs.Pieces.{left_of}
 use Rattle.git_msg.specs.Machine.RequestStreams.{wants_input}
 use Rattle.git_msg.proofs.StreamSteps.{counts_further, leaves_further, reads_further, shows_further, steps_with}
@@ -32,4 +33,5 @@ returns-in_default-got g c =
         offer = steps.offer ∙ was.offer;
         limit = steps.limit ∙ was.limit;
       };
+      cost = paid_on _ _ _ _ _ _ _ _ (was.paid loud c.loop-used-test.true) was.cost c.step-step.ensures.cost;
     }

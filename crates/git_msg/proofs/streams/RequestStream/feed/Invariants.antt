@@ -1,6 +1,7 @@
-use Rattle.std.proofs.Common.{length, ◌-◌, ◌≡◌, ◌++◌, false, ◌≤◌, ℕ, List, take}
+use Rattle.std.proofs.Common.{length, ◌-◌, ◌+◌, ◌*◌, ◌≡◌, ◌++◌, true, false, ◌≤◌, ◌<◌, ℕ, List, take}
+use Rattle.git_pkt.specs.Machine.Credit.{Pays}
 use Rattle.git_msg.specs.Asked.{Asked}
-use Rattle.git_msg.specs.Machine.RequestStreams.{HasRead, offer_of, limit_of, wants_input}
+use Rattle.git_msg.specs.Machine.RequestStreams.{HasRead, credit_of, offer_of, limit_of, wants_input}
 use Rattle.git_msg.proofs.streams.RequestStream.feed.Given as goal
 
 -- what was used so far brought nothing whole, and bytes are wanted on if they were
@@ -12,6 +13,8 @@ invariant-loop-used g l = record {
   nothing : wants_input l.fn.self ≡ false → (l.used ≡ 0) × (l.self ≡ l.fn.self);
   offer : offer_of l.self ≡ offer_of l.fn.self;
   limit : limit_of l.self ≡ limit_of l.fn.self;
+  cost : Pays l.used l.fn.steps l.steps (credit_of l.fn.self) (credit_of l.self);
+  paid : wants_input l.self ≡ true → l.used < length l.piece → l.steps + credit_of l.self ≤ l.fn.steps + credit_of l.fn.self + 64 * l.used;
 }
 
 -- a step uses bytes, or stops

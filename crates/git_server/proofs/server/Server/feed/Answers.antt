@@ -1,6 +1,6 @@
 use Rattle.std.proofs.Common.{rules, ◌++◌, ◌⊎◌, ◌<◌, ◌≤◌, ◌*◌, inl, inr, ℕ, List, ◌≡◌, ◌+◌, ◌-◌, true, false}
 use Rattle.std.proofs.Common.{take, drop, length, arith, subst, ap, sym, ◌∙◌, [], length-drop}
-use Rattle.git_pkt.specs.Machine.Credit.{Pays}
+use Rattle.git_pkt.proofs.Credits.{paid_on}
 use Rattle.git_pkt.proofs.Pieces.{left_of, take_joined}
 use Rattle.git_server.specs.Machine.ServerCalls.{Goes}
 use Rattle.git_server.specs.Machine.Server.{wants_input}
@@ -21,12 +21,6 @@ returns-else-wants_input-clause-moves g c =
       | inl still ↦ absurd (true_not_false (sym still ∙ sym c.wants_input.ensures.value ∙ c.if-wants_input.false))
       | inr moved ↦ moved
     ]
-
--- one call after another, where the first has been paid for by its bytes
-paid_on : (used more before middle after credit rest left : ℕ) → middle + rest ≤ before + credit + 64 * used → Pays used before middle credit rest
-    → Pays more middle after rest left → Pays (used + more) before after credit left
-paid_on used more before middle after credit rest left paid first second =
-    record { rises = omega (arith, first.rises, second.rises); within = omega (arith, paid, second.within) }
 
 pub loop-used-preserved : goal.loop-used-preserved
 loop-used-preserved g c =

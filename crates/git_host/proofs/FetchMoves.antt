@@ -1,0 +1,480 @@
+-- From one place of an answer to the next.
+use Rattle.std.proofs.Common.{arith, ◌≡◌, ℕ, ◌+◌, ◌<◌, ◌≤◌, Bool, true, false, not, ◌&&◌, List, [], ◌∷◌, ◌++◌, length}
+use Rattle.std.proofs.Common.{map, slice_get, take, unwrap_or, Option, Some, if◌then◌else◌, codes, refl, sym, ap, ◌∙◌, append_assoc, append-nil, length-append, subst, inl, inr}
+use Rattle.std.proofs.lemmas.List.{length-take-le, take_all, take_more}
+use Rattle.std.proofs.lemmas.Option.{slice_get_cases, slice_get_within, unwrap_or-slice_get}
+use Rattle.git_names.specs.ObjectName.{ObjectName}
+use Rattle.git_pkt.specs.Packets.{Pkt, flush, delim, longest_payload, spelling_of}
+use Rattle.git_pkt.specs.Bands.{band_packet}
+use Rattle.git_pkt.specs.declared.band.Band.{Band}
+use Rattle.git_pkt.specs.declared.band.Band.TheVariants.{Pack as OnPack, Progress as OnProgress}
+use Rattle.git_msg.specs.declared.Boundary.{Boundary}
+use Rattle.git_msg.specs.Asked.{FetchAsked, is_empty, only_negotiates}
+use Rattle.git_msg.specs.ResponseLines.{wanted_of, wanted_text}
+use Rattle.git_msg.specs.WrittenRequest.{text_line}
+use Rattle.git_server.specs.Packs.{Manner, whole, packfile_header}
+use Rattle.git_server.specs.FetchAnswers.{ack_packet, boundary_packet, nak_or_acks, negotiates, ready_lines, section, shallow_info}
+use Rattle.git_host.specs.FetchFacts.{FetchFacts, HasPack, IsFetchAnswerWhere, IsFetchAnswerOf, acknowledgments, before_pack, is_ready}
+use Rattle.git_host.specs.FetchFacts.{last_packet, opening, picked, no_facts, wanted_lines, wanted_refs}
+use Rattle.git_host.specs.FetchPlaces.{AtDelimiter, AtHave, AtHeader, AtNak, AtPack, AtPackHeader}
+use Rattle.git_host.specs.FetchPlaces.{AtReady, AtShallow, AtShallowLine, AtWanted, AtWantedHeader}
+use Rattle.git_host.specs.FetchPlaces.{Holds, IsOpened, NoPack, NothingAfter, StandsAt, WhereNegotiating}
+use Rattle.git_host.specs.FetchPlaces.{acks_header, after_boundary, after_haves, place_by, shallow_so_far}
+use Rattle.git_host.specs.FetchPlaces.{is_line_at, is_ready_asked, step_at, with_have, with_line, with_pack, with_progress, with_ready}
+use Rattle.git_host.specs.declared.fetch_answer.Place.{Place}
+use Rattle.git_host.specs.declared.fetch_answer.Place.TheVariants.{Header, Have, Nak, Ready, Delimiter, Shallow, ShallowLine, WantedHeader, Wanted, WantedEnd}
+use Rattle.git_host.specs.declared.fetch_answer.Place.TheVariants.{PackHeader, Pack, Whole as AtEnd, Broken as AtLoss}
+use Rattle.git_host.proofs.Picked.{empty_is, length_more, lines_more, map_more, not_empty_more, pack_more, picked_false, picked_true, progress_more}
+
+none_reported : (wanted : List ObjectName) → NothingAfter (no_facts wanted)
+none_reported wanted = record { boundary = refl; pack = refl; progress = refl }
+
+some_items : {X : Type 0} (xs : List X) → is_empty xs ≡ false → 0 < length xs
+some_items [] e = absurd (cc)
+some_items (x ∷ xs) e = omega arith
+
+and_false : (b : Bool) → (b && false) ≡ false
+and_false true = refl
+and_false false = refl
+
+and_true : (b : Bool) → b ≡ false → (not b && true) ≡ true
+and_true true e = absurd (cc)
+and_true false e = refl
+
+alone_unready : (b ready : Bool) → b ≡ true → (not b && ready) ≡ false
+alone_unready true ready e = refl
+alone_unready false ready e = absurd (cc)
+
+unready_and : (b ready : Bool) → ready ≡ false → (b && ready) ≡ false
+unready_and b true e = absurd (cc)
+unready_and b false e = and_false b
+
+some_acks : (ids : List ObjectName) → is_empty ids ≡ false → nak_or_acks ids ≡ map ack_packet ids
+some_acks [] e = absurd (cc)
+some_acks (id ∷ ids) e = refl
+
+so_far_more : (lines : List Boundary) (line : Boundary) → is_empty lines ≡ false
+    → shallow_so_far (lines ++ line ∷ []) ≡ shallow_so_far lines ++ boundary_packet line ∷ []
+so_far_more [] line e = absurd (cc)
+so_far_more (l ∷ ls) line e = ap (λ (x : List Pkt). text_line (codes "shallow-info") ∷ x) (map_more boundary_packet (l ∷ ls) line)
+
+so_far_ends : (lines : List Boundary) → is_empty lines ≡ false → shallow_so_far lines ++ delim ∷ [] ≡ shallow_info lines
+so_far_ends [] e = absurd (cc)
+so_far_ends (l ∷ ls) e = refl
+
+some_wanted : (ids : List ObjectName) (names : List (List ℕ)) → is_empty names ≡ false
+    → wanted_refs ids names ≡ section (codes "wanted-refs") (wanted_lines ids names)
+some_wanted ids [] e = absurd (cc)
+some_wanted ids (n ∷ ns) e = refl
+
+none_wanted : (ids : List ObjectName) (names : List (List ℕ)) → is_empty names ≡ true → wanted_refs ids names ≡ []
+none_wanted ids [] e = refl
+none_wanted ids (n ∷ ns) e = absurd (cc)
+
+module _ (q : FetchAsked) (t : FetchFacts) where
+  opening_is : negotiates q ≡ true → opening q t ≡ acknowledgments q t ++ ready_lines
+  opening_is e = ap (λ (b : Bool). if b then acknowledgments q t ++ ready_lines else []) e
+
+  opening_none : negotiates q ≡ false → opening q t ≡ []
+  opening_none e = ap (λ (b : Bool). if b then acknowledgments q t ++ ready_lines else []) e
+
+  opened_by : negotiates q ≡ true → length t.has ≡ length q.haves → is_ready q t ≡ true → IsOpened q t
+  opened_by e all ready = subst (λ (b : Bool). WhereNegotiating b ((length t.has ≡ length q.haves) × (is_ready q t ≡ true))) (sym e) (all, ready)
+
+  -- the pack, where it follows, makes the answer
+  answer_by : (b : Bool) (manner : Manner) (given : List Pkt) → WhereNegotiating b ((length t.has ≡ length q.haves) × (is_ready q t ≡ true))
+      → HasPack manner q t given → IsFetchAnswerWhere b (is_ready q t) manner q t given
+  answer_by true manner given opened h = subst (λ (r : Bool). IsFetchAnswerWhere true r manner q t given) (sym opened.1) (opened.0, h)
+  answer_by false manner given opened h = h
+
+-- ---- the acknowledgments
+
+-- what was reported of the haves before this place
+pub record SoFar (next : ℕ) (any : Bool) (q : FetchAsked) (t : FetchFacts) (given : List Pkt) : Type 0 where
+  pub negotiates : negotiates q ≡ true
+  pub so_far : length t.has ≡ next
+  pub within : next ≤ length q.haves
+  pub some : is_empty (picked t.has q.haves) ≡ not any
+  pub given_is : given ≡ acks_header ∷ map ack_packet (picked t.has q.haves)
+  pub unready : t.ready ≡ false
+  pub after : NothingAfter t
+
+all_reported : (next : ℕ) (any : Bool) (q : FetchAsked) (t : FetchFacts) (given : List Pkt) → SoFar next any q t given → length q.haves ≤ next
+    → StandsAt (after_haves any) q t given
+all_reported next true q t given h over = record {
+  negotiates = h.negotiates;
+  all = omega (arith, h.so_far, h.within, over);
+  given_is = h.given_is ∙ ap (λ (l : List Pkt). acks_header ∷ l) (sym (some_acks (picked t.has q.haves) h.some));
+  unready = h.unready;
+  after = h.after;
+}
+all_reported next false q t given h over =
+    let none = empty_is (picked t.has q.haves) h.some in
+    record {
+      negotiates = h.negotiates;
+      all = omega (arith, h.so_far, h.within, over);
+      none = none;
+      given_is = h.given_is ∙ ap (λ (ids : List ObjectName). acks_header ∷ map ack_packet ids) none;
+      unready = h.unready;
+      after = h.after;
+    }
+
+-- the place from a have on
+pub have_place : (place : Place) (next : ℕ) (any : Bool) (q : FetchAsked) (t : FetchFacts) (given : List Pkt)
+    → (next < length q.haves → place ≡ Have next any) → (length q.haves ≤ next → place ≡ after_haves any)
+    → SoFar next any q t given → StandsAt place q t given
+have_place place next any q t given more over h =
+    elim (slice_get_cases q.haves next).1 [
+      | inl (x, within, here, same) ↦ subst (λ (p : Place). StandsAt p q t given) (sym (more within)) (record {
+        negotiates = h.negotiates;
+        so_far = h.so_far;
+        more = within;
+        some = h.some;
+        given_is = h.given_is;
+        unready = h.unready;
+        after = h.after;
+      })
+      | inr (most, is) ↦ subst (λ (p : Place). StandsAt p q t given) (sym (over most)) (all_reported next any q t given h most)
+    ]
+
+pub after_header : (q : FetchAsked) (t : FetchFacts) (given : List Pkt) → AtHeader q t given → SoFar 0 false q t (given ++ acks_header ∷ [])
+after_header q t given h = record {
+  negotiates = h.negotiates;
+  so_far = ap length h.none;
+  within = omega arith;
+  some = ap (λ (bs : List Bool). is_empty (picked bs q.haves)) h.none;
+  given_is = ap (λ (l : List Pkt). l ++ acks_header ∷ []) h.given_is
+      ∙ ap (λ (bs : List Bool). acks_header ∷ map ack_packet (picked bs q.haves)) (sym h.none);
+  unready = h.unready;
+  after = h.after;
+}
+
+pub after_common : (next : ℕ) (any : Bool) (q : FetchAsked) (t : FetchFacts) (given : List Pkt) (id : ObjectName) → AtHave next any q t given
+    → slice_get q.haves next ≡ Some id → SoFar (next + 1) true q (with_have true t) (given ++ ack_packet id ∷ [])
+after_common next any q t given id h here =
+    let at = ap (slice_get q.haves) h.so_far ∙ here in
+    let one = picked_true t.has q.haves id at in
+    record {
+      negotiates = h.negotiates;
+      so_far = omega (arith, length_more t.has true, h.so_far);
+      within = omega (arith, h.more);
+      some = ap is_empty one ∙ not_empty_more (picked t.has q.haves) id;
+      given_is = ap (λ (l : List Pkt). l ++ ack_packet id ∷ []) h.given_is
+          ∙ ap (λ (l : List Pkt). acks_header ∷ l) (sym (map_more ack_packet (picked t.has q.haves) id) ∙ ap (map ack_packet) (sym one));
+      unready = h.unready;
+      after = record { boundary = h.after.boundary; pack = h.after.pack; progress = h.after.progress };
+    }
+
+pub after_not_common : (next : ℕ) (any : Bool) (q : FetchAsked) (t : FetchFacts) (given : List Pkt) → AtHave next any q t given
+    → SoFar (next + 1) any q (with_have false t) given
+after_not_common next any q t given h =
+    let none = picked_false t.has q.haves in
+    record {
+      negotiates = h.negotiates;
+      so_far = omega (arith, length_more t.has false, h.so_far);
+      within = omega (arith, h.more);
+      some = ap is_empty none ∙ h.some;
+      given_is = h.given_is ∙ ap (λ (ids : List ObjectName). acks_header ∷ map ack_packet ids) (sym none);
+      unready = h.unready;
+      after = record { boundary = h.after.boundary; pack = h.after.pack; progress = h.after.progress };
+    }
+
+-- there is one where it is asked
+pub have_there : (next : ℕ) (any : Bool) (q : FetchAsked) (t : FetchFacts) (given : List Pkt) → AtHave next any q t given
+    → (id : ObjectName) × (slice_get q.haves next ≡ Some id)
+have_there next any q t given h =
+    elim (slice_get_cases q.haves next).1 [
+      | inl (x, within, here, same) ↦ (x, here)
+      | inr (most, is) ↦ absurd (omega (arith, h.more, most))
+    ]
+
+pub after_nak : (q : FetchAsked) (t : FetchFacts) (given : List Pkt) → AtNak q t given → AtReady q t (given ++ text_line (codes "NAK") ∷ [])
+after_nak q t given h = record {
+  negotiates = h.negotiates;
+  all = h.all;
+  given_is = ap (λ (l : List Pkt). l ++ text_line (codes "NAK") ∷ []) h.given_is
+      ∙ ap (λ (ids : List ObjectName). acks_header ∷ nak_or_acks ids) (sym h.none);
+  unready = h.unready;
+  after = h.after;
+}
+
+-- no pack follows
+no_pack_follows : (q : FetchAsked) (t : FetchFacts) (given : List Pkt) → AtReady q t given → is_ready q t ≡ false
+    → IsFetchAnswerOf whole q t (given ++ flush ∷ [])
+no_pack_follows q t given h unready =
+    subst (λ (b : Bool). IsFetchAnswerWhere b (is_ready q t) whole q t (given ++ flush ∷ [])) (sym h.negotiates)
+    (subst (λ (r : Bool). IsFetchAnswerWhere true r whole q t (given ++ flush ∷ [])) (sym unready) (h.all, ap (λ (l : List Pkt). l ++ flush ∷ []) h.given_is))
+
+pub after_alone : (q : FetchAsked) (t : FetchFacts) (given : List Pkt) → AtReady q t given → only_negotiates q ≡ true
+    → IsFetchAnswerOf whole q t (given ++ flush ∷ [])
+after_alone q t given h alone = no_pack_follows q t given h (alone_unready (only_negotiates q) t.ready alone)
+
+pub after_unready : (q : FetchAsked) (t : FetchFacts) (given : List Pkt) → AtReady q t given → IsFetchAnswerOf whole q t (given ++ flush ∷ [])
+after_unready q t given h = no_pack_follows q t given h (unready_and (not (only_negotiates q)) t.ready h.unready)
+
+pub after_ready : (q : FetchAsked) (t : FetchFacts) (given : List Pkt) → AtReady q t given → only_negotiates q ≡ false
+    → AtDelimiter q (with_ready t) (given ++ text_line (codes "ready") ∷ [])
+after_ready q t given h other = record {
+  negotiates = h.negotiates;
+  all = h.all;
+  is_ready = and_true (only_negotiates q) other;
+  given_is = ap (λ (l : List Pkt). l ++ text_line (codes "ready") ∷ []) h.given_is;
+  after = record { boundary = h.after.boundary; pack = h.after.pack; progress = h.after.progress };
+}
+
+-- ---- the shallow boundary
+
+pub after_delimiter : (q : FetchAsked) (t : FetchFacts) (given : List Pkt) → AtDelimiter q t given → AtShallow false q t (given ++ delim ∷ [])
+after_delimiter q t given h = record {
+  opened = opened_by q t h.negotiates h.all h.is_ready;
+  some = ap is_empty h.after.boundary;
+  given_is = ap (λ (l : List Pkt). l ++ delim ∷ []) h.given_is
+      ∙ append_assoc (acknowledgments q t) (text_line (codes "ready") ∷ []) (delim ∷ [])
+      ∙ sym (opening_is q t h.negotiates) ∙ sym (append-nil (opening q t))
+      ∙ ap (λ (lines : List Boundary). opening q t ++ shallow_so_far lines) (sym h.after.boundary);
+  no_pack = record { pack = h.after.pack; progress = h.after.progress };
+}
+
+pub after_first_line : (q : FetchAsked) (t : FetchFacts) (given : List Pkt) (line : Boundary) → AtShallow false q t given
+    → AtShallowLine line q (with_line line t) (given ++ text_line (codes "shallow-info") ∷ [])
+after_first_line q t given line h =
+    let none = empty_is t.boundary h.some in
+    record {
+      opened = h.opened;
+      first = ap (λ (lines : List Boundary). lines ++ line ∷ []) none;
+      given_is = ap (λ (l : List Pkt). l ++ text_line (codes "shallow-info") ∷ [])
+          (h.given_is ∙ ap (λ (lines : List Boundary). opening q t ++ shallow_so_far lines) none ∙ append-nil (opening q t));
+      no_pack = record { pack = h.no_pack.pack; progress = h.no_pack.progress };
+    }
+
+pub after_shallow_line : (q : FetchAsked) (t : FetchFacts) (given : List Pkt) (line : Boundary) → AtShallowLine line q t given
+    → AtShallow true q t (given ++ boundary_packet line ∷ [])
+after_shallow_line q t given line h = record {
+  opened = h.opened;
+  some = ap is_empty h.first;
+  given_is = ap (λ (l : List Pkt). l ++ boundary_packet line ∷ []) h.given_is
+      ∙ append_assoc (opening q t) (text_line (codes "shallow-info") ∷ []) (boundary_packet line ∷ [])
+      ∙ ap (λ (lines : List Boundary). opening q t ++ shallow_so_far lines) (sym h.first);
+  no_pack = h.no_pack;
+}
+
+pub after_line : (q : FetchAsked) (t : FetchFacts) (given : List Pkt) (line : Boundary) → AtShallow true q t given
+    → AtShallow true q (with_line line t) (given ++ boundary_packet line ∷ [])
+after_line q t given line h = record {
+  opened = h.opened;
+  some = not_empty_more t.boundary line;
+  given_is = ap (λ (l : List Pkt). l ++ boundary_packet line ∷ []) h.given_is
+      ∙ append_assoc (opening q t) (shallow_so_far t.boundary) (boundary_packet line ∷ [])
+      ∙ ap (λ (l : List Pkt). opening q t ++ l) (sym (so_far_more t.boundary line h.some));
+  no_pack = record { pack = h.no_pack.pack; progress = h.no_pack.progress };
+}
+
+-- after the boundary
+refs_by : (b : Bool) (q : FetchAsked) (t : FetchFacts) (given : List Pkt) → is_empty q.want_refs ≡ b → IsOpened q t
+    → given ≡ opening q t ++ shallow_info t.boundary → NoPack t → StandsAt (after_boundary b) q t given
+refs_by true q t given none opened is no_pack = record {
+  opened = opened;
+  given_is = is ∙ ap (λ (l : List Pkt). opening q t ++ l)
+      (sym (append-nil (shallow_info t.boundary)) ∙ ap (λ (l : List Pkt). shallow_info t.boundary ++ l) (sym (none_wanted t.wanted q.want_refs none)));
+  no_pack = no_pack;
+}
+refs_by false q t given some opened is no_pack = record {
+  opened = opened;
+  some = some;
+  given_is = is;
+  no_pack = no_pack;
+}
+
+pub after_lines : (q : FetchAsked) (t : FetchFacts) (given : List Pkt) → AtShallow true q t given
+    → StandsAt (after_boundary (is_empty q.want_refs)) q t (given ++ delim ∷ [])
+after_lines q t given h = refs_by (is_empty q.want_refs) q t (given ++ delim ∷ []) refl h.opened
+    (ap (λ (l : List Pkt). l ++ delim ∷ []) h.given_is ∙ append_assoc (opening q t) (shallow_so_far t.boundary) (delim ∷ [])
+    ∙ ap (λ (l : List Pkt). opening q t ++ l) (so_far_ends t.boundary h.some)) h.no_pack
+
+pub after_no_line : (q : FetchAsked) (t : FetchFacts) (given : List Pkt) → AtShallow false q t given
+    → StandsAt (after_boundary (is_empty q.want_refs)) q t given
+after_no_line q t given h =
+    let none = empty_is t.boundary h.some in
+    refs_by (is_empty q.want_refs) q t given refl h.opened
+    (h.given_is ∙ ap (λ (lines : List Boundary). opening q t ++ shallow_so_far lines) none
+    ∙ ap (λ (lines : List Boundary). opening q t ++ shallow_info lines) (sym none)) h.no_pack
+
+-- ---- the wanted references
+
+pub after_wanted_header : (q : FetchAsked) (t : FetchFacts) (given : List Pkt) → AtWantedHeader q t given
+    → StandsAt (Wanted 0) q t (given ++ text_line (codes "wanted-refs") ∷ [])
+after_wanted_header q t given h = (
+  some_items q.want_refs h.some,
+  record {
+    opened = h.opened;
+    some = h.some;
+    given_is = ap (λ (l : List Pkt). l ++ text_line (codes "wanted-refs") ∷ []) h.given_is;
+    no_pack = h.no_pack;
+  },
+)
+
+-- the item at a place below the length
+pub item_there : {X : Type 0} (xs : List X) (at : ℕ) → at < length xs → (x : X) × (slice_get xs at ≡ Some x)
+item_there xs at within =
+    elim (slice_get_cases xs at).1 [
+      | inl (x, less, here, same) ↦ (x, here)
+      | inr (most, is) ↦ absurd (omega (arith, within, most))
+    ]
+
+-- the first items and the next one
+one_more : {X : Type 0} (xs : List X) (at : ℕ) (x : X) → slice_get xs at ≡ Some x → take (at + 1) xs ≡ take at xs ++ x ∷ []
+one_more {X = X} xs at x here =
+    take_more xs at x (slice_get_within xs at x here)
+    ∙ ap (λ (y : X). take at xs ++ y ∷ []) (sym (unwrap_or-slice_get xs at x) ∙ ap (λ (o : Option X). unwrap_or o x) here)
+
+after_name : (next : ℕ) (q : FetchAsked) (t : FetchFacts) (given : List Pkt) (id : ObjectName) (name : List ℕ) → AtWanted next q t given
+    → slice_get q.want_refs next ≡ Some name → slice_get t.wanted next ≡ Some id
+    → AtWanted (next + 1) q t (given ++ text_line (wanted_text (wanted_of id name)) ∷ [])
+after_name next q t given id name h named here =
+    let front = opening q t ++ shallow_info t.boundary in
+    let line = text_line (wanted_text (wanted_of id name)) in
+    let ids = take next t.wanted in
+    let count : length ids ≡ next = length-take-le next t.wanted (omega (arith, slice_get_within t.wanted next id here)) in
+    record {
+      opened = h.opened;
+      some = h.some;
+      given_is = ap (λ (l : List Pkt). l ++ line ∷ []) h.given_is
+          ∙ append_assoc front (text_line (codes "wanted-refs") ∷ wanted_lines ids q.want_refs) (line ∷ [])
+          ∙ ap (λ (l : List Pkt). front ++ text_line (codes "wanted-refs") ∷ l)
+          (sym (lines_more ids q.want_refs id name (ap (slice_get q.want_refs) count ∙ named))
+          ∙ ap (λ (l : List ObjectName). wanted_lines l q.want_refs) (sym (one_more t.wanted next id here)));
+      no_pack = h.no_pack;
+    }
+
+pub after_wanted : (place : Place) (next : ℕ) (q : FetchAsked) (t : FetchFacts) (given : List Pkt) (id : ObjectName) (name : List ℕ)
+    → (next + 1 < length q.want_refs → place ≡ Wanted (next + 1)) → (length q.want_refs ≤ next + 1 → place ≡ WantedEnd)
+    → StandsAt (Wanted next) q t given → slice_get q.want_refs next ≡ Some name → slice_get t.wanted next ≡ Some id
+    → StandsAt place q t (given ++ text_line (wanted_text (wanted_of id name)) ∷ [])
+after_wanted place next q t given id name more over h named here =
+    let now = given ++ text_line (wanted_text (wanted_of id name)) ∷ [] in
+    let there = after_name next q t given id name h.1 named here in
+    elim (slice_get_cases q.want_refs (next + 1)).1 [
+      | inl (x, less, found, same) ↦ subst (λ (p : Place). StandsAt p q t now) (sym (more less)) (less, there)
+      | inr (most, is) ↦
+          let end : next + 1 ≡ length q.want_refs = omega (arith, h.0, most) in
+          subst (λ (p : Place). StandsAt p q t now) (sym (over most)) (subst (λ (n : ℕ). AtWanted n q t now) end there)
+    ]
+
+pub after_all_wanted : (q : FetchAsked) (t : FetchFacts) (given : List Pkt) → length t.wanted ≡ length q.want_refs
+    → AtWanted (length q.want_refs) q t given → AtPackHeader q t (given ++ delim ∷ [])
+after_all_wanted q t given all h =
+    let lines = text_line (codes "wanted-refs") ∷ wanted_lines t.wanted q.want_refs in
+    record {
+      opened = h.opened;
+      given_is = ap (λ (l : List Pkt). l ++ delim ∷ []) (h.given_is
+          ∙ ap (λ (ids : List ObjectName). (opening q t ++ shallow_info t.boundary) ++ text_line (codes "wanted-refs") ∷ wanted_lines ids q.want_refs)
+          (take_all (length q.want_refs) t.wanted (omega (arith, all))))
+          ∙ append_assoc (opening q t ++ shallow_info t.boundary) lines (delim ∷ [])
+          ∙ append_assoc (opening q t) (shallow_info t.boundary) (lines ++ delim ∷ [])
+          ∙ ap (λ (l : List Pkt). opening q t ++ (shallow_info t.boundary ++ l)) (sym (some_wanted t.wanted q.want_refs h.some));
+      no_pack = h.no_pack;
+    }
+
+-- ---- the pack
+
+pub after_pack_header : (q : FetchAsked) (t : FetchFacts) (given : List Pkt) → AtPackHeader q t given → AtPack q t (given ++ packfile_header ∷ [])
+after_pack_header q t given h = record {
+  opened = h.opened;
+  parts = [];
+  are_parts = (h.no_pack.pack, h.no_pack.progress);
+  given_is = ap (λ (l : List Pkt). l ++ packfile_header ∷ []) h.given_is;
+}
+
+pub after_part : (q : FetchAsked) (t : FetchFacts) (given : List Pkt) (bytes : List ℕ) → 0 < length bytes → length bytes < longest_payload → AtPack q t given
+    → AtPack q (with_pack bytes t) (given ++ band_packet OnPack bytes ∷ [])
+after_part q t given bytes some fits h = record {
+  opened = h.opened;
+  parts = h.parts ++ band_packet OnPack bytes ∷ [];
+  are_parts = pack_more bytes some fits t.pack t.progress h.parts h.are_parts;
+  given_is = ap (λ (l : List Pkt). l ++ band_packet OnPack bytes ∷ []) h.given_is
+      ∙ append_assoc (before_pack q t) (packfile_header ∷ h.parts) (band_packet OnPack bytes ∷ []);
+}
+
+pub after_progress : (q : FetchAsked) (t : FetchFacts) (given : List Pkt) (bytes : List ℕ) → 0 < length bytes → length bytes < longest_payload
+    → AtPack q t given → AtPack q (with_progress bytes t) (given ++ band_packet OnProgress bytes ∷ [])
+after_progress q t given bytes some fits h = record {
+  opened = h.opened;
+  parts = h.parts ++ band_packet OnProgress bytes ∷ [];
+  are_parts = progress_more bytes some fits t.pack t.progress h.parts h.are_parts;
+  given_is = ap (λ (l : List Pkt). l ++ band_packet OnProgress bytes ∷ []) h.given_is
+      ∙ append_assoc (before_pack q t) (packfile_header ∷ h.parts) (band_packet OnProgress bytes ∷ []);
+}
+
+pub after_pack : (manner : Manner) (q : FetchAsked) (t : FetchFacts) (given : List Pkt) → length t.wanted ≡ length q.want_refs → AtPack q t given
+    → IsFetchAnswerOf manner q t (given ++ last_packet manner ∷ [])
+after_pack manner q t given all h = answer_by q t (negotiates q) manner (given ++ last_packet manner ∷ []) h.opened (record {
+  all = all;
+  parts = h.parts;
+  are_parts = h.are_parts;
+  packets_are = ap (λ (l : List Pkt). l ++ last_packet manner ∷ []) h.given_is
+      ∙ append_assoc (before_pack q t) (packfile_header ∷ h.parts) (last_packet manner ∷ []);
+})
+
+-- ---- the beginning
+
+begins_by : (b : Bool) (q : FetchAsked) (wanted : List ObjectName) → negotiates q ≡ b → StandsAt (place_by b) q (no_facts wanted) []
+begins_by true q wanted e = record { negotiates = e; none = refl; given_is = refl; unready = refl; after = none_reported wanted }
+begins_by false q wanted e =
+    let t = no_facts wanted in
+    record {
+      opened = subst (λ (b : Bool). WhereNegotiating b ((length t.has ≡ length q.haves) × (is_ready q t ≡ true))) (sym e) tt;
+      some = refl;
+      given_is = sym (ap (λ (l : List Pkt). l ++ []) (opening_none q t e));
+      no_pack = record { pack = refl; progress = refl };
+    }
+
+pub begins : (q : FetchAsked) (wanted : List ObjectName) (place : Place) → place ≡ place_by (negotiates q) → StandsAt place q (no_facts wanted) []
+begins q wanted place is = subst (λ (p : Place). StandsAt p q (no_facts wanted) []) (sym is) (begins_by (negotiates q) q wanted refl)
+
+-- ---- what is in the hold
+
+pub line_held : (bytes text : List ℕ) → bytes ≡ spelling_of (text_line text) → length text < longest_payload → Holds bytes (text_line text)
+line_held bytes text is fits = record { spelled = is; fits = omega (arith, fits, length-append text (10 ∷ [])) }
+
+pub band_held : (bytes part : List ℕ) (band : Band) → bytes ≡ spelling_of (band_packet band part) → length part < longest_payload
+    → Holds bytes (band_packet band part)
+band_held bytes part band is fits = record { spelled = is; fits = omega (arith, fits) }
+
+-- where it is asked whether the store is ready
+pub asks_ready_at : (q : FetchAsked) (place : Place) → is_ready_asked (step_at (only_negotiates q) place) ≡ true
+    → (place ≡ Ready) × (only_negotiates q ≡ false)
+asks_ready_at q Ready e = (refl, of_alone (only_negotiates q) e) where
+  of_alone : (b : Bool) → is_ready_asked (step_at b Ready) ≡ true → b ≡ false
+  of_alone true e = absurd (cc)
+  of_alone false e = refl
+asks_ready_at q Header e = absurd (cc)
+asks_ready_at q (Have next any) e = absurd (cc)
+asks_ready_at q Nak e = absurd (cc)
+asks_ready_at q Delimiter e = absurd (cc)
+asks_ready_at q (Shallow any) e = absurd (cc)
+asks_ready_at q (ShallowLine line) e = absurd (cc)
+asks_ready_at q WantedHeader e = absurd (cc)
+asks_ready_at q (Wanted next) e = absurd (cc)
+asks_ready_at q WantedEnd e = absurd (cc)
+asks_ready_at q PackHeader e = absurd (cc)
+asks_ready_at q Pack e = absurd (cc)
+asks_ready_at q AtEnd e = absurd (cc)
+asks_ready_at q AtLoss e = absurd (cc)
+
+-- where neither a report is asked nor the acknowledgments go on, a line comes next
+pub line_at : (place : Place) → ((next : ℕ) (any : Bool) → place ≡ Have next any → ⊥) → ((any : Bool) → place ≡ Shallow any → ⊥) → (place ≡ Pack → ⊥)
+    → (place ≡ AtEnd → ⊥) → (place ≡ AtLoss → ⊥) → (place ≡ Header → ⊥) → (place ≡ Nak → ⊥) → (place ≡ Ready → ⊥) → is_line_at place ≡ true
+line_at Header a b c d e f g h = absurd (f refl)
+line_at (Have next any) a b c d e f g h = absurd (a next any refl)
+line_at Nak a b c d e f g h = absurd (g refl)
+line_at Ready a b c d e f g h = absurd (h refl)
+line_at Delimiter a b c d e f g h = refl
+line_at (Shallow any) a b c d e f g h = absurd (b any refl)
+line_at (ShallowLine line) a b c d e f g h = refl
+line_at WantedHeader a b c d e f g h = refl
+line_at (Wanted next) a b c d e f g h = refl
+line_at WantedEnd a b c d e f g h = refl
+line_at PackHeader a b c d e f g h = refl
+line_at Pack a b c d e f g h = absurd (c refl)
+line_at AtEnd a b c d e f g h = absurd (d refl)
+line_at AtLoss a b c d e f g h = absurd (e refl)

@@ -1,0 +1,6 @@
+pub mod Picked
+pub mod FetchMoves
+pub mod RepositoryFacts
+pub mod Rising
+pub mod ReferencesMoves
+pub mod SizesMoves

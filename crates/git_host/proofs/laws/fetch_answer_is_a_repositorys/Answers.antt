@@ -1,0 +1,5 @@
+use Rattle.git_host.proofs.RepositoryFacts.{told_answers}
+use Rattle.git_host.proofs.laws.fetch_answer_is_a_repositorys.Goals as goal
+
+pub returns : goal.returns
+returns c manner repo q t packets says h = told_answers manner repo q t says packets h

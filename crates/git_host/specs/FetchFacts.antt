@@ -1,0 +1,96 @@
+-- What a store reports for one fetch, and the answers that this makes.
+use Rattle.std.specs.Prelude.{◌≡◌, ◌⊎◌, ℕ, ◌<◌, Bool, true, false, not, ◌&&◌, if◌then◌else◌, List, [], ◌∷◌, ◌++◌, length, codes}
+use Rattle.git_names.specs.ObjectName.{ObjectName}
+use Rattle.git_pkt.specs.Packets.{Pkt, flush, longest_payload}
+use Rattle.git_pkt.specs.Bands.{band_packet}
+use Rattle.git_pkt.specs.declared.band.Band.{Band}
+use Rattle.git_pkt.specs.declared.band.Band.TheVariants.{Pack, Progress}
+use Rattle.git_msg.specs.declared.Boundary.{Boundary}
+use Rattle.git_msg.specs.Asked.{FetchAsked, only_negotiates}
+use Rattle.git_msg.specs.ResponseLines.{wanted_of, wanted_text}
+use Rattle.git_msg.specs.WrittenRequest.{text_line}
+use Rattle.git_server.specs.Packs.{Manner, whole, broken, pack_source_packet, packfile_header}
+use Rattle.git_server.specs.FetchAnswers.{IsFlushed, nak_or_acks, negotiates, ready_lines, section, shallow_info}
+
+-- what a store reported for one fetch: of each object that the client has whether the store has it, by its place; whether it is ready to
+-- send a pack; the shallow boundary; of each wanted reference its object, by its place; the bytes of the pack, and those of the progress
+pub record FetchFacts : Type 0 where
+  pub has : List Bool
+  pub ready : Bool
+  pub boundary : List Boundary
+  pub wanted : List ObjectName
+  pub pack : List ℕ
+  pub progress : List ℕ
+
+-- nothing but the objects of the wanted references
+abbrev pub no_facts : List ObjectName → FetchFacts
+no_facts wanted = record { has = []; ready = false; boundary = []; wanted = wanted; pack = []; progress = [] }
+
+-- the items that are there, by what was reported of each place
+abbrev pub picked : {X : Type 0} → List Bool → List X → List X
+picked (b ∷ bs) (x ∷ xs) = if b then x ∷ picked bs xs else picked bs xs
+picked _ _ = []
+
+-- a line for each of the names, with its object
+abbrev pub wanted_lines : List ObjectName → List (List ℕ) → List Pkt
+wanted_lines (id ∷ ids) (name ∷ names) = text_line (wanted_text (wanted_of id name)) ∷ wanted_lines ids names
+wanted_lines _ _ = []
+
+-- the section of acknowledgments, but for its end
+abbrev pub acknowledgments : FetchAsked → FetchFacts → List Pkt
+acknowledgments q t = text_line (codes "acknowledgments") ∷ nak_or_acks (picked t.has q.haves)
+
+-- whether the pack follows where the request negotiates
+abbrev pub is_ready : FetchAsked → FetchFacts → Bool
+is_ready q t = not (only_negotiates q) && t.ready
+
+-- what comes before the section of the shallow boundary
+abbrev pub opening : FetchAsked → FetchFacts → List Pkt
+opening q t = if negotiates q then acknowledgments q t ++ ready_lines else []
+
+-- the section of wanted references, which is there where some were asked for
+abbrev pub wanted_refs : List ObjectName → List (List ℕ) → List Pkt
+wanted_refs ids [] = []
+wanted_refs ids (name ∷ names) = section (codes "wanted-refs") (wanted_lines ids (name ∷ names))
+
+-- what comes before the section of the pack
+abbrev pub before_pack : FetchAsked → FetchFacts → List Pkt
+before_pack q t = opening q t ++ (shallow_info t.boundary ++ wanted_refs t.wanted q.want_refs)
+
+-- the packet has a part of the bytes on the band, and of those after it Rest holds
+pub record BeginsBy (band : Band) (packet : Pkt) (bytes : List ℕ) (Rest : List ℕ → Type 0) : Type 0 where
+  pub part : List ℕ
+  pub more : List ℕ
+  pub cut : bytes ≡ part ++ more
+  pub some : 0 < length part
+  pub fits : length part < longest_payload
+  pub is : packet ≡ band_packet band part
+  pub rest : Rest more
+
+-- the packets have the bytes of the pack and those of the progress, each on its band and in its order
+abbrev pub AreParts : List ℕ → List ℕ → List Pkt → Type 0
+AreParts pack progress [] = (pack ≡ []) × (progress ≡ [])
+AreParts pack progress (p ∷ ps) =
+    BeginsBy Pack p pack (λ more. AreParts more progress ps) ⊎ BeginsBy Progress p progress (λ more. AreParts pack more ps)
+
+-- what comes last: a flush, or that the source of the pack failed
+abbrev pub last_packet : Manner → Pkt
+last_packet whole = flush
+last_packet broken = pack_source_packet
+
+-- each wanted reference has an object, and the packets are the sections, the last with the pack
+pub record HasPack (manner : Manner) (q : FetchAsked) (t : FetchFacts) (packets : List Pkt) : Type 0 where
+  pub all : length t.wanted ≡ length q.want_refs
+  pub parts : List Pkt
+  pub are_parts : AreParts t.pack t.progress parts
+  pub packets_are : packets ≡ before_pack q t ++ (packfile_header ∷ (parts ++ last_packet manner ∷ []))
+
+-- where the request negotiates, each object that the client has was reported on, and the pack follows only if the store is ready
+abbrev pub IsFetchAnswerWhere : Bool → Bool → Manner → FetchAsked → FetchFacts → List Pkt → Type 0
+IsFetchAnswerWhere true true manner q t packets = (length t.has ≡ length q.haves) × HasPack manner q t packets
+IsFetchAnswerWhere true false manner q t packets = (length t.has ≡ length q.haves) × IsFlushed manner (acknowledgments q t) packets
+IsFetchAnswerWhere false ready manner q t packets = HasPack manner q t packets
+
+-- the packets are the answer to the fetch by what was reported
+abbrev pub IsFetchAnswerOf : Manner → FetchAsked → FetchFacts → List Pkt → Type 0
+IsFetchAnswerOf manner q t packets = IsFetchAnswerWhere (negotiates q) (is_ready q t) manner q t packets

@@ -1,0 +1,276 @@
+-- How far an answer to `fetch` has come, by what was reported and what was given.
+use Rattle.std.specs.Prelude.{◌≡◌, ℕ, ◌<◌, ◌≤◌, Bool, true, false, not, List, [], ◌∷◌, ◌++◌, length, map, take, codes}
+use Rattle.git_names.specs.ObjectName.{ObjectName}
+use Rattle.git_pkt.specs.Packets.{Pkt, body_of, longest_payload, spelling_of}
+use Rattle.git_msg.specs.declared.Boundary.{Boundary}
+use Rattle.git_msg.specs.Asked.{FetchAsked, is_empty, only_negotiates}
+use Rattle.git_msg.specs.WrittenRequest.{text_line}
+use Rattle.git_server.specs.Packs.{whole, broken, packfile_header}
+use Rattle.git_server.specs.FetchAnswers.{ack_packet, boundary_packet, negotiates, shallow_info}
+use Rattle.git_host.specs.FetchFacts.{AreParts, FetchFacts, IsFetchAnswerOf, acknowledgments, before_pack, is_ready, opening, picked, wanted_lines}
+use Rattle.git_host.specs.declared.fetch_answer.Place.{Place}
+use Rattle.git_host.specs.declared.fetch_answer.Place.TheVariants.{Header, Have, Nak, Ready, Delimiter, Shallow, ShallowLine, WantedHeader, Wanted, WantedEnd}
+use Rattle.git_host.specs.declared.fetch_answer.Place.TheVariants.{PackHeader, Pack, Whole as AtEnd, Broken as AtLoss}
+use Rattle.git_host.specs.declared.fetch_answer.Step.{Step}
+use Rattle.git_host.specs.declared.fetch_answer.Step.TheVariants.{Packet, AskHave, AskReady, AskBoundary, AskPack, Whole, Broken}
+use Rattle.git_host.specs.declared.fetch_answer.BoundaryEnd.{BoundaryEnd}
+use Rattle.git_host.specs.declared.fetch_answer.BoundaryEnd.TheVariants.{NotAsked, Absent, Packet as DelimGiven}
+use Rattle.git_host.specs.declared.fetch_answer.FetchAnswer.{FetchAnswer}
+
+-- nothing was reported of the pack
+pub record NoPack (t : FetchFacts) : Type 0 where
+  pub pack : t.pack ≡ []
+  pub progress : t.progress ≡ []
+
+-- nothing was reported of what comes after the acknowledgments
+pub record NothingAfter (t : FetchFacts) : Type 0 where
+  pub boundary : t.boundary ≡ []
+  pub pack : t.pack ≡ []
+  pub progress : t.progress ≡ []
+
+-- the header of the acknowledgments
+abbrev pub acks_header : Pkt
+acks_header = text_line (codes "acknowledgments")
+
+-- where the request negotiates P holds
+abbrev pub WhereNegotiating : Bool → Type 0 → Type 0
+WhereNegotiating true P = P
+WhereNegotiating false P = Unit {0}
+
+-- where it negotiates, each object that the client has was reported on, and the pack follows
+abbrev pub IsOpened : FetchAsked → FetchFacts → Type 0
+IsOpened q t = WhereNegotiating (negotiates q) ((length t.has ≡ length q.haves) × (is_ready q t ≡ true))
+
+-- the section of the boundary, as far as its lines were reported
+abbrev pub shallow_so_far : List Boundary → List Pkt
+shallow_so_far [] = []
+shallow_so_far (b ∷ bs) = text_line (codes "shallow-info") ∷ map boundary_packet (b ∷ bs)
+
+pub record AtHeader (q : FetchAsked) (t : FetchFacts) (given : List Pkt) : Type 0 where
+  pub negotiates : negotiates q ≡ true
+  pub none : t.has ≡ []
+  pub given_is : given ≡ []
+  pub unready : t.ready ≡ false
+  pub after : NothingAfter t
+
+-- the objects that the client has were reported on up to this place
+pub record AtHave (next : ℕ) (any : Bool) (q : FetchAsked) (t : FetchFacts) (given : List Pkt) : Type 0 where
+  pub negotiates : negotiates q ≡ true
+  pub so_far : length t.has ≡ next
+  pub more : next < length q.haves
+  pub some : is_empty (picked t.has q.haves) ≡ not any
+  pub given_is : given ≡ acks_header ∷ map ack_packet (picked t.has q.haves)
+  pub unready : t.ready ≡ false
+  pub after : NothingAfter t
+
+-- it has none of them
+pub record AtNak (q : FetchAsked) (t : FetchFacts) (given : List Pkt) : Type 0 where
+  pub negotiates : negotiates q ≡ true
+  pub all : length t.has ≡ length q.haves
+  pub none : picked t.has q.haves ≡ []
+  pub given_is : given ≡ acks_header ∷ []
+  pub unready : t.ready ≡ false
+  pub after : NothingAfter t
+
+pub record AtReady (q : FetchAsked) (t : FetchFacts) (given : List Pkt) : Type 0 where
+  pub negotiates : negotiates q ≡ true
+  pub all : length t.has ≡ length q.haves
+  pub given_is : given ≡ acknowledgments q t
+  pub unready : t.ready ≡ false
+  pub after : NothingAfter t
+
+pub record AtDelimiter (q : FetchAsked) (t : FetchFacts) (given : List Pkt) : Type 0 where
+  pub negotiates : negotiates q ≡ true
+  pub all : length t.has ≡ length q.haves
+  pub is_ready : is_ready q t ≡ true
+  pub given_is : given ≡ acknowledgments q t ++ text_line (codes "ready") ∷ []
+  pub after : NothingAfter t
+
+-- from here on the pack follows
+pub record AtShallow (any : Bool) (q : FetchAsked) (t : FetchFacts) (given : List Pkt) : Type 0 where
+  pub opened : IsOpened q t
+  pub some : is_empty t.boundary ≡ not any
+  pub given_is : given ≡ opening q t ++ shallow_so_far t.boundary
+  pub no_pack : NoPack t
+
+pub record AtShallowLine (line : Boundary) (q : FetchAsked) (t : FetchFacts) (given : List Pkt) : Type 0 where
+  pub opened : IsOpened q t
+  pub first : t.boundary ≡ line ∷ []
+  pub given_is : given ≡ opening q t ++ text_line (codes "shallow-info") ∷ []
+  pub no_pack : NoPack t
+
+pub record AtWantedHeader (q : FetchAsked) (t : FetchFacts) (given : List Pkt) : Type 0 where
+  pub opened : IsOpened q t
+  pub some : is_empty q.want_refs ≡ false
+  pub given_is : given ≡ opening q t ++ shallow_info t.boundary
+  pub no_pack : NoPack t
+
+-- the lines of the wanted references were given up to this place
+pub record AtWanted (next : ℕ) (q : FetchAsked) (t : FetchFacts) (given : List Pkt) : Type 0 where
+  pub opened : IsOpened q t
+  pub some : is_empty q.want_refs ≡ false
+  pub given_is : given ≡ (opening q t ++ shallow_info t.boundary) ++ text_line (codes "wanted-refs") ∷ wanted_lines (take next t.wanted) q.want_refs
+  pub no_pack : NoPack t
+
+pub record AtPackHeader (q : FetchAsked) (t : FetchFacts) (given : List Pkt) : Type 0 where
+  pub opened : IsOpened q t
+  pub given_is : given ≡ before_pack q t
+  pub no_pack : NoPack t
+
+pub record AtPack (q : FetchAsked) (t : FetchFacts) (given : List Pkt) : Type 0 where
+  pub opened : IsOpened q t
+  pub parts : List Pkt
+  pub are_parts : AreParts t.pack t.progress parts
+  pub given_is : given ≡ before_pack q t ++ (packfile_header ∷ parts)
+
+-- by the place, what was reported and what was given
+abbrev pub StandsAt : Place → FetchAsked → FetchFacts → List Pkt → Type 0
+StandsAt Header q t given = AtHeader q t given
+StandsAt (Have next any) q t given = AtHave next any q t given
+StandsAt Nak q t given = AtNak q t given
+StandsAt Ready q t given = AtReady q t given
+StandsAt Delimiter q t given = AtDelimiter q t given
+StandsAt (Shallow any) q t given = AtShallow any q t given
+StandsAt (ShallowLine line) q t given = AtShallowLine line q t given
+StandsAt WantedHeader q t given = AtWantedHeader q t given
+StandsAt (Wanted next) q t given = (next < length q.want_refs) × AtWanted next q t given
+StandsAt WantedEnd q t given = AtWanted (length q.want_refs) q t given
+StandsAt PackHeader q t given = AtPackHeader q t given
+StandsAt Pack q t given = AtPack q t given
+StandsAt AtEnd q t given = IsFetchAnswerOf whole q t given
+StandsAt AtLoss q t given = IsFetchAnswerOf broken q t given
+
+-- what is asked at a place, or that a packet is owed, or how the answer ended
+abbrev pub step_at : Bool → Place → Step
+step_at alone (Have next any) = AskHave next
+step_at true Ready = Packet
+step_at false Ready = AskReady
+step_at alone (Shallow any) = AskBoundary
+step_at alone Pack = AskPack
+step_at alone AtEnd = Whole
+step_at alone AtLoss = Broken
+step_at alone _ = Packet
+
+-- a packet comes next that no report decides, after the acknowledgments
+abbrev pub is_line_at : Place → Bool
+is_line_at Delimiter = true
+is_line_at (ShallowLine line) = true
+is_line_at WantedHeader = true
+is_line_at (Wanted next) = true
+is_line_at WantedEnd = true
+is_line_at PackHeader = true
+is_line_at _ = false
+
+-- the bytes are the packet's
+pub record Holds (bytes : List ℕ) (packet : Pkt) : Type 0 where
+  pub spelled : bytes ≡ spelling_of packet
+  pub fits : length (body_of packet) ≤ longest_payload
+
+module _ {A : Type 0} where
+  -- what the request asks for
+  abbrev pub asked_of : FetchAnswer A → FetchAsked
+  asked_of answer = answer.request.asked
+
+  abbrev pub place_of : FetchAnswer A → Place
+  place_of answer = answer.place
+
+  -- what is to be done next
+  abbrev pub step_of : FetchAnswer A → Step
+  step_of answer = step_at (only_negotiates (asked_of answer)) answer.place
+
+  -- these facts were reported, and these packets were given
+  pub record Represents (t : FetchFacts) (given : List Pkt) (answer : FetchAnswer A) : Type 0 where
+    pub wanted : t.wanted ≡ answer.wanted.items
+    pub all : length t.wanted ≡ length (asked_of answer).want_refs
+    pub stands : StandsAt answer.place (asked_of answer) t given
+
+  -- a packet is given, which these bytes are, and with it P holds of all that was given
+  pub record Gives (given : List Pkt) (bytes : List ℕ) (old new : FetchAnswer A) (P : List Pkt → Type 0) : Type 0 where
+    pub packet : Pkt
+    pub held : Holds bytes packet
+    pub same : asked_of new ≡ asked_of old
+    pub holds : P (given ++ packet ∷ [])
+
+  -- the facts become these, and a packet is given, which these bytes are
+  abbrev pub ReportsAndGives : (FetchFacts → FetchFacts) → FetchAnswer A → List ℕ → FetchAnswer A → Type 0
+  ReportsAndGives with old bytes new = (t : FetchFacts) (given : List Pkt) → Represents t given old
+      → Gives given bytes old new (λ packets. Represents (with t) packets new)
+
+  -- the facts become these, and no packet is given
+  abbrev pub ReportsAlone : (FetchFacts → FetchFacts) → FetchAnswer A → FetchAnswer A → Type 0
+  ReportsAlone with old new =
+      (t : FetchFacts) (given : List Pkt) → Represents t given old → (asked_of new ≡ asked_of old) × Represents (with t) given new
+
+  -- a report that was expected does this; one that was not changes nothing
+  abbrev pub WhereAsked : Bool → Type 0 → FetchAnswer A → FetchAnswer A → Type 0
+  WhereAsked true Does old new = Does
+  WhereAsked false Does old new = new ≡ old
+
+  -- what `next` does, by its answer
+  abbrev pub Steps : FetchAnswer A → Step → List ℕ → FetchAnswer A → Type 0
+  Steps old Packet bytes new = ReportsAndGives (λ t. t) old bytes new
+  Steps old Whole bytes new =
+      (new ≡ old) × ((t : FetchFacts) (given : List Pkt) → Represents t given old → IsFetchAnswerOf whole (asked_of old) t given)
+  Steps old Broken bytes new =
+      (new ≡ old) × ((t : FetchFacts) (given : List Pkt) → Represents t given old → IsFetchAnswerOf broken (asked_of old) t given)
+  Steps old step bytes new = new ≡ old
+
+-- whether the end of the boundary was asked for
+abbrev pub is_asked : BoundaryEnd → Bool
+is_asked NotAsked = false
+is_asked _ = true
+
+module _ {A : Type 0} where
+  -- what the end of the boundary does
+  abbrev pub EndsBoundary : BoundaryEnd → FetchAnswer A → List ℕ → FetchAnswer A → Type 0
+  EndsBoundary NotAsked old bytes new = new ≡ old
+  EndsBoundary Absent old bytes new = ReportsAlone (λ t. t) old new
+  EndsBoundary DelimGiven old bytes new = ReportsAndGives (λ t. t) old bytes new
+
+-- what is asked
+abbrev pub is_have : Step → Bool
+is_have (AskHave place) = true
+is_have _ = false
+
+abbrev pub is_ready_asked : Step → Bool
+is_ready_asked AskReady = true
+is_ready_asked _ = false
+
+abbrev pub is_boundary : Step → Bool
+is_boundary AskBoundary = true
+is_boundary _ = false
+
+abbrev pub is_pack : Step → Bool
+is_pack AskPack = true
+is_pack _ = false
+
+-- one thing more
+abbrev pub with_have : Bool → FetchFacts → FetchFacts
+with_have has t = record t { has = t.has ++ has ∷ [] }
+
+abbrev pub with_ready : FetchFacts → FetchFacts
+with_ready t = record t { ready = true }
+
+abbrev pub with_line : Boundary → FetchFacts → FetchFacts
+with_line line t = record t { boundary = t.boundary ++ line ∷ [] }
+
+abbrev pub with_pack : List ℕ → FetchFacts → FetchFacts
+with_pack bytes t = record t { pack = t.pack ++ bytes }
+
+abbrev pub with_progress : List ℕ → FetchFacts → FetchFacts
+with_progress bytes t = record t { progress = t.progress ++ bytes }
+
+-- where an answer begins
+abbrev pub place_by : Bool → Place
+place_by true = Header
+place_by false = Shallow false
+
+-- the place after all the objects that the client has, where one of them is common or none is
+abbrev pub after_haves : Bool → Place
+after_haves true = Ready
+after_haves false = Nak
+
+-- the place after the boundary, and after its delimiter
+abbrev pub after_boundary : Bool → Place
+after_boundary true = PackHeader
+after_boundary false = WantedHeader

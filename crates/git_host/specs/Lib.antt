@@ -1,0 +1,5 @@
+pub mod FetchFacts
+pub mod FetchPlaces
+pub mod ReferencesPlaces
+pub mod SizesPlaces
+pub mod RepositoryFacts

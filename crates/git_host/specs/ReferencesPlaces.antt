@@ -1,0 +1,151 @@
+-- How far an answer for references has come, by what was reported and what was given.
+use Rattle.std.specs.Prelude.{◌≡◌, ◌≢◌, ◌⊎◌, ℕ, Bool, true, false, All, List, [], ◌∷◌, ◌++◌, codes, map, Option, Some, None, IsSome}
+use Rattle.std.specs.Option.{ForSome}
+use Rattle.std.specs.Str.{bytes_eq}
+use Rattle.git_names.specs.RefName.{IsRefName}
+use Rattle.git_names.specs.declared.object_format.Format.{Format}
+use Rattle.git_pkt.specs.Packets.{Pkt}
+use Rattle.git_msg.specs.Asked.{LsRefsAsked}
+use Rattle.git_msg.specs.Prefixes.{ShowAlike}
+use Rattle.git_server.specs.Answers.{reference_packet, reference_packets, shown_refs, unborn_packets}
+use Rattle.git_server.specs.Repository.{Entry, IsNamed, IsOfFormat, IsRising, IsUnbornHead, comes_before}
+use Rattle.git_host.specs.FetchPlaces.{Holds}
+use Rattle.git_host.specs.declared.references_answer.ReferencesPlace.{ReferencesPlace}
+use Rattle.git_host.specs.declared.references_answer.ReferencesPlace.TheVariants.{First, Entries, AfterUnborn, Whole}
+use Rattle.git_host.specs.declared.references_answer.Reported.{Reported}
+use Rattle.git_host.specs.declared.references_answer.Reported.TheVariants.{Packet, Hidden, Unsorted, MixedFormats, HeadTwice, NotAsked}
+use Rattle.git_host.specs.declared.references_answer.ReferencesAnswer.{ReferencesAnswer}
+
+-- what a store reported for one request for references: what an unborn `HEAD` points to, and its references
+pub record ReferencesFacts : Type 0 where
+  pub unborn : Option (List ℕ)
+  pub refs : List Entry
+
+abbrev pub no_references : ReferencesFacts
+no_references = record { unborn = None; refs = [] }
+
+-- a sound repository of the format may have these references: their names rise, and `HEAD` is none of them where it is unborn
+pub record AreSoundReferences (format : Format) (t : ReferencesFacts) : Type 0 where
+  pub rising : IsRising t.refs
+  pub named : All (λ ref. IsNamed ref.name ref.target) t.refs
+  pub of_format : All (IsOfFormat format) t.refs
+  pub unborn : ForSome t.unborn (IsUnbornHead t.refs)
+
+-- the packets are the answer to the request by what was reported
+pub record IsReferencesAnswerOf (format : Format) (q : LsRefsAsked) (t : ReferencesFacts) (packets : List Pkt) : Type 0 where
+  pub sound : AreSoundReferences format t
+  pub packets_are : packets ≡ unborn_packets q t.unborn ++ reference_packets q t.refs
+
+-- the reference that was reported last, if one was
+abbrev pub IsLast : List Entry → Option Entry → Type 0
+IsLast refs None = refs ≡ []
+IsLast refs (Some entry) = (front : List Entry) × (refs ≡ front ++ entry ∷ [])
+
+-- a name comes after that of the reference that was reported last
+abbrev pub comes_after : Option Entry → List ℕ → Bool
+comes_after None name = true
+comes_after (Some last) name = comes_before last.name name
+
+-- the request that is answered is this one, but for the order of its prefixes
+pub record IsAlike (q kept : LsRefsAsked) : Type 0 where
+  pub symrefs : kept.symrefs ≡ q.symrefs
+  pub peel : kept.peel ≡ q.peel
+  pub unborn : kept.unborn ≡ q.unborn
+  pub alike : ShowAlike q.ref_prefixes kept.ref_prefixes
+
+-- the packets by what was reported so far
+abbrev pub packets_so_far : LsRefsAsked → ReferencesFacts → List Pkt
+packets_so_far q t = unborn_packets q t.unborn ++ map (reference_packet q.symrefs q.peel) (shown_refs q.ref_prefixes t.refs)
+
+-- references were reported, perhaps none so far
+pub record AtEntries (format : Format) (q : LsRefsAsked) (t : ReferencesFacts) (last : Option Entry) (given : List Pkt) : Type 0 where
+  pub sound : AreSoundReferences format t
+  pub last_is : IsLast t.refs last
+  pub given_is : given ≡ packets_so_far q t
+
+-- nothing was reported
+pub record AtFirst (t : ReferencesFacts) (last : Option Entry) (given : List Pkt) : Type 0 where
+  pub nothing : t ≡ no_references
+  pub last_is : last ≡ None
+  pub given_is : given ≡ []
+
+abbrev pub StandsAtReferences : ReferencesPlace → Format → LsRefsAsked → ReferencesFacts → Option Entry → List Pkt → Type 0
+StandsAtReferences First format q t last given = AtFirst t last given
+StandsAtReferences Entries format q t last given = (t.unborn ≡ None) × AtEntries format q t last given
+StandsAtReferences AfterUnborn format q t last given = IsSome t.unborn × AtEntries format q t last given
+StandsAtReferences Whole format q t last given = IsReferencesAnswerOf format q t given
+
+-- the place after a reference
+abbrev pub after_entry : ReferencesPlace → ReferencesPlace
+after_entry First = Entries
+after_entry Entries = Entries
+after_entry AfterUnborn = AfterUnborn
+after_entry Whole = Whole
+
+-- the name is that of `HEAD`, which was reported as unborn
+abbrev pub refuses_head_at : ReferencesPlace → List ℕ → Bool
+refuses_head_at AfterUnborn name = bytes_eq name (codes "HEAD")
+refuses_head_at place name = false
+
+-- one reference more, or what an unborn `HEAD` points to
+abbrev pub with_ref : Entry → ReferencesFacts → ReferencesFacts
+with_ref entry t = record t { refs = t.refs ++ entry ∷ [] }
+
+abbrev pub with_unborn : List ℕ → ReferencesFacts → ReferencesFacts
+with_unborn target t = record t { unborn = Some target }
+
+module _ {A : Type 0} where
+  abbrev pub last_reported : ReferencesAnswer A → Option Entry
+  last_reported answer = answer.last
+
+  abbrev pub format_of : ReferencesAnswer A → Format
+  format_of answer = answer.format
+
+  abbrev pub refuses_head : ReferencesAnswer A → List ℕ → Bool
+  refuses_head answer name = refuses_head_at answer.place name
+
+  -- all was reported
+  abbrev pub is_whole : ReferencesAnswer A → Type 0
+  is_whole answer = answer.place ≡ Whole
+
+  -- these facts were reported for a request, and these packets were given
+  pub record RepresentsReferences (q : LsRefsAsked) (t : ReferencesFacts) (given : List Pkt) (answer : ReferencesAnswer A) : Type 0 where
+    pub alike : IsAlike q answer.listing.asked
+    pub stands : StandsAtReferences answer.place answer.format q t answer.last given
+
+  -- it is new
+  abbrev pub Starts : LsRefsAsked → ReferencesAnswer A → Type 0
+  Starts q answer = RepresentsReferences q no_references [] answer
+
+  -- the facts become these, and a packet is given, which these bytes are
+  abbrev pub ReportsOn : (ReferencesFacts → ReferencesFacts) → ReferencesAnswer A → List ℕ → ReferencesAnswer A → Type 0
+  ReportsOn with old bytes new = (q : LsRefsAsked) (t : ReferencesFacts) (given : List Pkt) → RepresentsReferences q t given old
+      → (packet : Pkt) × Holds bytes packet × RepresentsReferences q (with t) (given ++ packet ∷ []) new
+
+  -- and no packet is given
+  abbrev pub ReportsHidden : (ReferencesFacts → ReferencesFacts) → ReferencesAnswer A → ReferencesAnswer A → Type 0
+  ReportsHidden with old new =
+      (q : LsRefsAsked) (t : ReferencesFacts) (given : List Pkt) → RepresentsReferences q t given old → RepresentsReferences q (with t) given new
+
+  -- with the reference no sound repository has what was reported
+  abbrev pub IsUnsoundAfter : Entry → ReferencesAnswer A → Type 0
+  IsUnsoundAfter entry old = (q : LsRefsAsked) (t : ReferencesFacts) (given : List Pkt) → RepresentsReferences q t given old
+      → ¬ AreSoundReferences (format_of old) (with_ref entry t)
+
+  -- what the report of a reference does
+  abbrev pub Reports : Entry → ReferencesAnswer A → Reported → List ℕ → ReferencesAnswer A → Type 0
+  Reports entry old Packet bytes new = (format_of new ≡ format_of old) × ReportsOn (with_ref entry) old bytes new
+  Reports entry old Hidden bytes new = (format_of new ≡ format_of old) × ReportsHidden (with_ref entry) old new
+  Reports entry old NotAsked bytes new = (new ≡ old) × is_whole old
+  Reports entry old unsound bytes new = (new ≡ old) × IsUnsoundAfter entry old
+
+  -- what the report of an unborn `HEAD` does
+  abbrev pub ReportsUnborn : List ℕ → ReferencesAnswer A → Reported → List ℕ → ReferencesAnswer A → Type 0
+  ReportsUnborn target old Packet bytes new = (format_of new ≡ format_of old) × ReportsOn (with_unborn target) old bytes new
+  ReportsUnborn target old Hidden bytes new = (format_of new ≡ format_of old) × ReportsHidden (with_unborn target) old new
+  ReportsUnborn target old other bytes new = new ≡ old
+
+  -- what the end does
+  abbrev pub Ends : ReferencesAnswer A → Bool → List ℕ → ReferencesAnswer A → Type 0
+  Ends old true bytes new = (format_of new ≡ format_of old) × ReportsOn (λ t. t) old bytes new × is_whole new
+  Ends old false bytes new = (new ≡ old) × is_whole old

@@ -1,0 +1,27 @@
+-- What a store reports that answers as a repository.
+use Rattle.std.specs.Prelude.{◌≡◌, ℕ, List, [], ◌∷◌, ◌++◌, Some, map}
+use Rattle.git_names.specs.ObjectName.{ObjectName}
+use Rattle.git_msg.specs.Asked.{FetchAsked}
+use Rattle.git_server.specs.Packs.{Manner, whole, broken}
+use Rattle.git_server.specs.Repository.{Entry, Repository, found_ref}
+use Rattle.git_host.specs.FetchFacts.{FetchFacts}
+
+-- these are the objects of the references of these names
+abbrev pub AreFound : List Entry → List (List ℕ) → List ObjectName → Type 0
+AreFound refs [] [] = Unit {0}
+AreFound refs (name ∷ names) (id ∷ ids) = (found_ref refs name ≡ Some id) × AreFound refs names ids
+AreFound refs _ _ = ⊥
+
+-- the bytes are the pack, or where it broke off a front of it
+abbrev pub IsPackOf : Manner → List ℕ → List ℕ → Type 0
+IsPackOf whole pack bytes = bytes ≡ pack
+IsPackOf broken pack bytes = (more : List ℕ) × (pack ≡ bytes ++ more)
+
+-- what was reported for a fetch is what the repository answers, with no progress
+pub record AreOfRepository (manner : Manner) (repo : Repository) (q : FetchAsked) (t : FetchFacts) : Type 0 where
+  pub has : t.has ≡ map repo.has q.haves
+  pub ready : t.ready ≡ repo.is_ready q
+  pub boundary : t.boundary ≡ repo.boundaries q
+  pub wanted : AreFound repo.refs q.want_refs t.wanted
+  pub pack : IsPackOf manner (repo.pack q) t.pack
+  pub progress : t.progress ≡ []

@@ -1,0 +1,66 @@
+-- How far an answer about sizes has come, by what was reported and what was given.
+use Rattle.std.specs.Prelude.{◌≡◌, ℕ, ◌<◌, ◌≤◌, Bool, true, false, List, [], ◌∷◌, ◌++◌, length, Option, codes}
+use Rattle.git_names.specs.ObjectName.{ObjectName}
+use Rattle.git_pkt.specs.Packets.{Pkt, flush}
+use Rattle.git_msg.specs.Asked.{ObjectInfoAsked}
+use Rattle.git_msg.specs.ResponseLines.{info_text}
+use Rattle.git_msg.specs.WrittenRequest.{text_line}
+use Rattle.git_host.specs.FetchPlaces.{Holds}
+use Rattle.git_host.specs.declared.sizes_answer.SizesPlace.{SizesPlace}
+use Rattle.git_host.specs.declared.sizes_answer.SizesPlace.TheVariants.{Header, Object, Whole}
+use Rattle.git_host.specs.declared.sizes_answer.SizesStep.{SizesStep}
+use Rattle.git_host.specs.declared.sizes_answer.SizesStep.TheVariants.{Packet, AskSize, Whole as AllGiven}
+use Rattle.git_host.specs.declared.sizes_answer.SizesAnswer.{SizesAnswer}
+
+-- the line of an object
+abbrev pub size_line : Option ℕ → ObjectName → Pkt
+size_line size id = text_line (info_text (record { id = id; size = size }))
+
+-- the lines of the objects whose sizes were reported by their places
+abbrev pub size_lines : List (Option ℕ) → List ObjectName → List Pkt
+size_lines (size ∷ sizes) (id ∷ ids) = size_line size id ∷ size_lines sizes ids
+size_lines _ _ = []
+
+-- each object was reported on, and the packets are the answer by that
+pub record IsSizesAnswerOf (q : ObjectInfoAsked) (sizes : List (Option ℕ)) (packets : List Pkt) : Type 0 where
+  pub all : length sizes ≡ length q.oids
+  pub packets_are : packets ≡ text_line (codes "size") ∷ (size_lines sizes q.oids ++ flush ∷ [])
+
+pub record AtObject (at : ℕ) (q : ObjectInfoAsked) (sizes : List (Option ℕ)) (given : List Pkt) : Type 0 where
+  pub so_far : length sizes ≡ at
+  pub within : at ≤ length q.oids
+  pub given_is : given ≡ text_line (codes "size") ∷ size_lines sizes q.oids
+
+abbrev pub StandsAtSizes : SizesPlace → ObjectInfoAsked → List (Option ℕ) → List Pkt → Type 0
+StandsAtSizes Header q sizes given = (sizes ≡ []) × (given ≡ [])
+StandsAtSizes (Object at) q sizes given = AtObject at q sizes given
+StandsAtSizes Whole q sizes given = IsSizesAnswerOf q sizes given
+
+module _ {A : Type 0} where
+  abbrev pub sizes_asked : SizesAnswer A → ObjectInfoAsked
+  sizes_asked answer = answer.request.asked
+
+  -- these sizes were reported, and these packets were given
+  abbrev pub RepresentsSizes : List (Option ℕ) → List Pkt → SizesAnswer A → Type 0
+  RepresentsSizes sizes given answer = StandsAtSizes answer.place (sizes_asked answer) sizes given
+
+  -- the size of the object at this place is asked
+  abbrev pub IsAsking : SizesAnswer A → ℕ → Type 0
+  IsAsking answer at = (answer.place ≡ Object at) × (at < length (sizes_asked answer).oids)
+
+  -- the sizes become these, and a packet is given, which these bytes are
+  pub record GivesSize (with : List (Option ℕ) → List (Option ℕ)) (old : SizesAnswer A) (bytes : List ℕ) (new : SizesAnswer A) : Type 0 where
+    pub same : sizes_asked new ≡ sizes_asked old
+    pub gives : (sizes : List (Option ℕ)) (given : List Pkt) → RepresentsSizes sizes given old
+        → (packet : Pkt) × Holds bytes packet × RepresentsSizes (with sizes) (given ++ packet ∷ []) new
+
+  abbrev pub StepsSizes : SizesAnswer A → SizesStep → List ℕ → SizesAnswer A → Type 0
+  StepsSizes old Packet bytes new = GivesSize (λ sizes. sizes) old bytes new
+  StepsSizes old (AskSize at) bytes new = (new ≡ old) × IsAsking old at
+  StepsSizes old AllGiven bytes new =
+      (new ≡ old) × ((sizes : List (Option ℕ)) (given : List Pkt) → RepresentsSizes sizes given old → IsSizesAnswerOf (sizes_asked old) sizes given)
+
+  -- what the report of a size does: where none is asked nothing changes
+  abbrev pub Sizes : Option ℕ → SizesAnswer A → Bool → List ℕ → SizesAnswer A → Type 0
+  Sizes size old true bytes new = ((at : ℕ) × IsAsking old at) × GivesSize (λ sizes. sizes ++ size ∷ []) old bytes new
+  Sizes size old false bytes new = (new ≡ old) × ((at : ℕ) → IsAsking old at → ⊥)

@@ -1,0 +1,240 @@
+//! The answer to one `ls-refs`, gitprotocol-v2(5), over a store that is asked: its references are reported one after another, in the
+//! order of their names, and the line of each that the request asks for is given at once. None is kept but the last.
+
+ghost use Rattle.std.specs.Prelude.{◌≡◌, ◌↔◌, ℕ, List, Some, None, true, codes, if◌then◌else◌};
+ghost use Rattle.std.specs.Option.{option_copied};
+ghost use Rattle.git_names.specs.RefName.{IsRefName};
+ghost use Rattle.git_msg.specs.Prefixes.{IsOrdered, is_shown};
+ghost use Rattle.git_msg.specs.References.{IsWritable, reference_of, shown_reference};
+ghost use Rattle.git_server.specs.Answers.{asks_for_unborn as asks, reference_packet, shown_line, unborn_packet};
+ghost use Rattle.git_server.specs.Repository.{HasOneFormat};
+ghost use Rattle.git_host.specs.ReferencesPlaces.{after_entry, comes_after};
+ghost use Rattle.git_host.specs.FetchPlaces.{Holds};
+
+use git_msg::{Listing, LsRefs, Reference, is_word, put_reference};
+use git_names::{Format, Oid};
+use git_pkt::{Hold, Packet, put};
+use git_server::RefEntry;
+use std::alloc::Allocator;
+
+/// How far the answer has come.
+#[derive(Clone, Copy, Debug)]
+enum ReferencesPlace {
+    // Nothing was reported.
+    First,
+    // References are reported, and `HEAD` may be one of them.
+    Entries,
+    // References are reported, and `HEAD` is unborn.
+    AfterUnborn,
+    Whole,
+}
+
+/// What came of a report.
+#[derive(Clone, Copy, Debug, PartialEq, Eq)]
+pub enum Reported {
+    /// Its packet was given.
+    Packet,
+    /// The request does not ask for it: no packet was given.
+    Hidden,
+    /// It does not come after the reference that was reported before it. Nothing changed.
+    Unsorted,
+    /// Its object names are not of the format. Nothing changed.
+    MixedFormats,
+    /// It is `HEAD`, which was reported as unborn. Nothing changed.
+    HeadTwice,
+    /// It was not asked for. Nothing changed.
+    NotAsked,
+}
+
+/// The answer to one `ls-refs`, a packet at a time.
+#[derive(Drop)]
+pub struct ReferencesAnswer<A: Allocator + Copy> {
+    listing: Listing<A>,
+    format: Format,
+    last: Option<RefEntry>,
+    place: ReferencesPlace,
+}
+
+impl<A: Allocator + Copy> ReferencesAnswer<A> {
+    ghost use Rattle.git_host.specs.ReferencesPlaces.{Ends, Reports, ReportsUnborn, Starts, format_of, last_reported, refuses_head};
+
+    /// The answer to this request, of which nothing was reported.
+    pub fn new(request: LsRefs<A>, format: Format) -> ReferencesAnswer<A>
+        ensures starts { Starts request.asked result }
+        ensures format { format_of result ≡ format }
+    {
+        let mut listing = Listing::new(request);
+        listing.put_in_order();
+        ReferencesAnswer {
+            listing,
+            format,
+            last: None,
+            place: ReferencesPlace::First,
+        }
+    }
+
+    /// `HEAD` is unborn, and points to this name: reported before any reference, or not at all.
+    pub fn unborn(&mut self, target: &[u8], hold: &mut Hold) -> Reported
+        requires { IsRefName target.now }
+        ensures { ReportsUnborn target.now self.old result hold.new.items self.new }
+    {
+        let ReferencesPlace::First = self.place else {
+            return Reported::NotAsked;
+        };
+        self.listing.put_in_order();
+        self.place = ReferencesPlace::AfterUnborn;
+        if !asks_for_unborn(&self.listing) {
+            return Reported::Hidden;
+        }
+        put_unborn(hold, target);
+        Reported::Packet
+    }
+
+    /// A reference, which has to come after those reported before it.
+    pub fn reference(&mut self, entry: RefEntry, hold: &mut Hold) -> Reported
+        ensures { Reports entry self.old result hold.new.items self.new }
+    {
+        if let ReferencesPlace::Whole = self.place {
+            return Reported::NotAsked;
+        }
+        if !entry.is_of(self.format) {
+            return Reported::MixedFormats;
+        }
+        if self.refuses_head(&entry) {
+            return Reported::HeadTwice;
+        }
+        if !self.comes_next(&entry) {
+            return Reported::Unsorted;
+        }
+        self.listing.put_in_order();
+        self.place = after_reference(self.place);
+        if !shows(&self.listing, &entry) {
+            self.last = Some(entry);
+            return Reported::Hidden;
+        }
+        put_entry(hold, &entry, &self.listing);
+        self.last = Some(entry);
+        Reported::Packet
+    }
+
+    /// There are no more references: the flush is given that ends the answer. Returns whether that was asked.
+    pub fn end(&mut self, hold: &mut Hold) -> bool
+        ensures { Ends self.old result hold.new.items self.new }
+    {
+        if let ReferencesPlace::Whole = self.place {
+            return false;
+        }
+        put(hold, Packet::Flush);
+        self.place = ReferencesPlace::Whole;
+        true
+    }
+
+    // Whether the reference is `HEAD`, where that is unborn.
+    fn refuses_head(&self, entry: &RefEntry) -> bool
+        ensures { result ≡ refuses_head self.now entry.now.name }
+    {
+        match self.place {
+            ReferencesPlace::AfterUnborn => is_word(entry.name(), b"HEAD"),
+            _ => false,
+        }
+    }
+
+    // Whether a reference comes after the one that was reported last.
+    fn comes_next(&self, entry: &RefEntry) -> bool
+        ensures { result ≡ comes_after (last_reported self.now) entry.now.name }
+    {
+        match &self.last {
+            Some(last) => last.name().cmp(entry.name()).is_lt(),
+            None => true,
+        }
+    }
+}
+
+// The place after a reference.
+fn after_reference(place: ReferencesPlace) -> ReferencesPlace
+    ensures { result ≡ after_entry place }
+{
+    match place {
+        ReferencesPlace::First => ReferencesPlace::Entries,
+        place => place,
+    }
+}
+
+fn shows<A: Allocator + Copy>(listing: &Listing<A>, entry: &RefEntry) -> bool
+    requires { IsOrdered listing.now.asked.ref_prefixes }
+    ensures { result ≡ is_shown listing.now.asked.ref_prefixes entry.now.name }
+{
+    let name = entry.name();
+    listing.shows_at(listing.split(name), name)
+}
+
+fn asks_for_unborn<A: Allocator + Copy>(listing: &Listing<A>) -> bool
+    requires { IsOrdered listing.now.asked.ref_prefixes }
+    ensures { result ≡ asks listing.now.asked }
+{
+    listing.unborn() && listing.symrefs() && listing.shows_at(listing.split(b"HEAD"), b"HEAD")
+}
+
+// Makes the hold the line of an unborn `HEAD`.
+#[tactic(auto, using(crate::proofs::FetchMoves::line_held))]
+fn put_unborn(hold: &mut Hold, target: &[u8])
+    requires { IsRefName target.now }
+    ensures { Holds hold.new.items (unborn_packet target.now) }
+{
+    put_reference(hold, unborn(target));
+}
+
+fn unborn(target: &[u8]) -> Reference<'_>
+    requires { IsRefName target.now }
+    ensures shown { shown_reference result ≡ reference_of None (codes "HEAD") (Some target.now) None }
+    ensures writable { IsWritable (shown_reference result) }
+{
+    Reference {
+        id: None,
+        name: b"HEAD",
+        target: Some(target),
+        peeled: None,
+    }
+}
+
+// Makes the hold the line of a reference.
+#[tactic(auto, using(crate::proofs::FetchMoves::line_held))]
+fn put_entry<A: Allocator + Copy>(hold: &mut Hold, entry: &RefEntry, listing: &Listing<A>)
+    requires { HasOneFormat entry.now }
+    ensures { Holds hold.new.items (reference_packet listing.now.asked.symrefs listing.now.asked.peel entry.now) }
+{
+    put_reference(hold, shown(entry, listing));
+}
+
+// What the request asks for of a reference.
+fn shown<'a, A: Allocator + Copy>(entry: &'a RefEntry, listing: &Listing<A>) -> Reference<'a>
+    requires { HasOneFormat entry.now }
+    ensures shown { shown_reference result ≡ shown_line listing.now.asked.symrefs listing.now.asked.peel entry.now }
+    ensures writable { IsWritable (shown_reference result) }
+{
+    Reference {
+        id: Some(entry.id()),
+        name: entry.name(),
+        target: shown_target(entry, listing.symrefs()),
+        peeled: shown_peeled(entry, listing.peel()),
+    }
+}
+
+fn shown_target(entry: &RefEntry, symrefs: bool) -> Option<&[u8]>
+    ensures value { option_copied result ≡ (if symrefs then entry.now.target else None) }
+    ensures name { (name : List ℕ) → option_copied result ≡ Some name → IsRefName name }
+{
+    if !symrefs {
+        return None;
+    }
+    entry.target()
+}
+
+fn shown_peeled(entry: &RefEntry, peel: bool) -> Option<Oid>
+    ensures { result ≡ (if peel then entry.now.peeled else None) }
+{
+    if !peel {
+        return None;
+    }
+    entry.peeled()
+}
