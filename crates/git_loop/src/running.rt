@@ -22,7 +22,7 @@ fn drain<M: Machine, W: Write>(machine: &mut M, writer: &mut Told<W>) -> Result<
     ensures fault { IfErr result (λ fault. fault ≡ RunFault.WriteFault) }
     ensures failed { has_failed writer.new ≡ (has_failed writer.old || is_err result) }
 {
-    loop {
+    'packets: loop {
         match machine.next() {
             Next::Packet => send(writer, machine.packet())?,
             Next::NeedInput => return Ok(false),

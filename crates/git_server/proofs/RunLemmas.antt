@@ -80,7 +80,7 @@ module _ {R A : Type 0} (state : R → RepoState) (old new : Server R A) (ended 
           };
         }
 
-    -- all answers were given where it waits
+    -- if it needs input, all answers were given
     waits : (used unused : List ℕ) (over : Bool) (said : List ℕ) → Running state s (before ++ used) over (given ++ said) new
         → IsWaiting run_states unused over → Waits s (before ++ used) unused over (given ++ said)
     waits used unused over said stands rests = record {

@@ -1,4 +1,4 @@
--- The server as a machine that a run moves, and the laws by which its calls join.
+-- The states that a server has for a run, and the laws by which its calls join.
 use Rattle.std.specs.Prelude.{◌≡◌, ℕ, Bool, true, List, [], ◌++◌, Option, Some, None, IsSome}
 use Rattle.std.proofs.Common.{refl, sym, append_assoc, append-nil, subst}
 use Rattle.std.specs.Io.{StartsWith}
@@ -36,11 +36,11 @@ waits_in (Refusing fault) waits ends = absurd (cc)
 waits_in (Ended outcome) waits ends = absurd (cc)
 
 module _ {R A : Type 0} where
-  -- all is given, and the session has this outcome
+  -- all is given, and the session has an outcome
   abbrev pub HasFinished : Server R A → Type 0
   HasFinished server = (outcome : Outcome) × (turn_in server.phase ≡ Finished outcome)
 
-  -- the hold begins with the bytes of a packet
+  -- the hold begins with a packet of these bytes
   abbrev pub LendsPacket : Server R A → List ℕ → Type 0
   LendsPacket server bytes = (packet : Pkt) × Spells packet bytes × StartsWith (held_of server.reader) bytes
 
@@ -48,7 +48,7 @@ module _ {R A : Type 0} where
   pub waits_open : (server : Server R A) → wants_input server ≡ true → IsSome (outcome_of server) → ⊥
   waits_open server waits ends = waits_in server.phase waits ends
 
-  -- it represents some bytes used and given
+  -- some bytes used and given lead to this state
   pub record IsOfASession (state : R → RepoState) (server : Server R A) : Type 0 where
     pub s : Setting
     pub used : List ℕ

@@ -2,8 +2,8 @@ use Rattle.std.proofs.Common.{rules, sym, refl, [], true, false}
 use Rattle.git_loop.proofs.RunLemmas.{on_err_at, writes_more, writes_nothing}
 use Rattle.git_loop.proofs.running.drain.Goals as goal
 
-pub loop-writer-init : goal.loop-writer-init
-loop-writer-init g c = record {
+pub packets-init : goal.packets-init
+packets-init g c = record {
   failed = search rules;
   done = λ e. e;
   short = λ e. e;
@@ -15,14 +15,14 @@ packet-requires g c =
     let gives = c.in-Packet.ensures.packet refl in
     (gives.bytes, gives.lent)
 
-pub loop-writer-preserved : goal.loop-writer-preserved
-loop-writer-preserved g c =
+pub packets-preserved : goal.packets-preserved
+packets-preserved g c =
     let gives = c.in-Packet.ensures.packet refl in
     record {
       failed = search rules;
-      done = λ e. c.next.ensures.done (c.loop-writer.invariant.done e);
-      short = λ e. c.loop-writer.invariant.short (c.next.ensures.short e);
-      writes = writes_more g.met.M.Machine.reaches_further false _ _ _ [] [] _ c.loop-writer.invariant.writes
+      done = λ e. c.next.ensures.done (c.packets.invariant.done e);
+      short = λ e. c.packets.invariant.short (c.next.ensures.short e);
+      writes = writes_more g.met.M.Machine.reaches_further false _ _ _ [] [] _ c.packets.invariant.writes
           (rw (sym (c.packet.ensures gives.bytes gives.lent)) (search rules)) gives.reaches;
     }
 
@@ -30,5 +30,5 @@ pub returns-in_err-send-in-Packet-clause-front : goal.returns-in_err-send-in-Pac
 returns-in_err-send-in-Packet-clause-front g c =
     let gives = c.in-Packet.ensures.packet refl in
     on_err_at _ _ _ c.from_residual.ensures.1
-    (writes_more g.met.M.Machine.reaches_further true _ _ _ [] [] _ c.loop-writer.invariant.writes
+    (writes_more g.met.M.Machine.reaches_further true _ _ _ [] [] _ c.packets.invariant.writes
     (rw (sym (c.packet.ensures gives.bytes gives.lent)) c.in_err-send-in-Packet.ensures.err) gives.reaches)

@@ -5,8 +5,8 @@ use Rattle.git_pkt.specs.Streams.{flow}
 use Rattle.git_loop.specs.Machines.{Writes}
 use Rattle.git_loop.proofs.running.drain.Given as goal
 
-abbrev pub invariant-loop-writer : goal.invariant-loop-writer
-invariant-loop-writer g l = record {
+abbrev pub invariant-packets : goal.invariant-packets
+invariant-packets g l = record {
   failed : has_failed l.writer ≡ has_failed l.fn.writer;
   done : g.M.Machine.done_with_input l.fn.machine → g.M.Machine.done_with_input l.machine;
   short : g.M.Machine.stopped_short l.machine → g.M.Machine.stopped_short l.fn.machine;
@@ -14,5 +14,5 @@ invariant-loop-writer g l = record {
       (flow (g.W.Write.contents (inner_of l.fn.writer)) (g.W.Write.contents (inner_of l.writer)));
 }
 
-abbrev pub decreases-loop-writer : goal.decreases-loop-writer
-decreases-loop-writer g l = g.M.Machine.packets_left l.machine
+abbrev pub decreases-packets : goal.decreases-packets
+decreases-packets g l = g.M.Machine.packets_left l.machine
