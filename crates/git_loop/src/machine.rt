@@ -92,6 +92,4 @@ pub trait Machine {
     ghost stays_reachable: { (old new : Self) (u g : List ℕ) → reaches old u g new → reachable old → reachable new };
     /// What is done with its input needs none.
     ghost done_needs_none: { (m : Self) → needs_input m → done_with_input m → ⊥ };
-    /// What stopped short is done with its input.
-    ghost short_is_done: { (m : Self) → stopped_short m → done_with_input m };
 }

@@ -4,7 +4,7 @@ ghost use Rattle.std.specs.Prelude.{◌≡◌, true, IsSome};
 ghost use Rattle.git_server.specs.Machine.Server.{outcome_of, wants_input};
 ghost use Rattle.git_server.specs.Machine.ServerCalls.{Closes, Goes, most_left};
 ghost use Rattle.git_server.specs.Machine.Moved.{HasFinished, IsOfASession, IsTooLong, LendsPacket};
-ghost use Rattle.git_server.specs.Machine.Moved.{goes_join, goes_nowhere, keeps_session, too_long_ends, waits_open};
+ghost use Rattle.git_server.specs.Machine.Moved.{goes_join, goes_nowhere, keeps_session, waits_open};
 
 use crate::repo::Repo;
 use crate::server::{Server, Turn};
@@ -38,8 +38,6 @@ impl<R: Repo, A: Allocator + Copy> Machine for Server<R, A> {
     ghost stays_reachable = { λ old new u g goes session. keeps_session R.state old new u g goes session };
 
     ghost done_needs_none = { λ server waits ended. waits_open server waits ended };
-
-    ghost short_is_done = { λ server too_long. too_long_ends (outcome_of server) too_long };
 
     fn next(&mut self) -> Next {
         match self.turn() {

@@ -22,11 +22,6 @@ use Rattle.git_server.specs.declared.server.Server.{Server}
 abbrev pub IsTooLong : Option Outcome → Type 0
 IsTooLong o = (fault : Fault) × (o ≡ Some (Refused fault)) × (fault.kind ≡ StreamTooLong)
 
--- what is too long has ended
-pub too_long_ends : (o : Option Outcome) → IsTooLong o → IsSome o
-too_long_ends (Some outcome) told = refl
-too_long_ends None (fault, is, name) = absurd (cc)
-
 waits_in : {A : Type 0} (phase : Phase A) → reads_in phase ≡ true → IsSome (outcome_in phase) → ⊥
 waits_in (Advertising line) waits ends = absurd (cc)
 waits_in Between waits ends = absurd (cc)
