@@ -12,11 +12,12 @@ use std::process::Abort;
 use std::test::Fail;
 use test_streams::{Endless, Pieces, Sink};
 
-// A writer that passes bytes on when it is flushed.
+// A writer that passes bytes on when it is flushed, and counts the flushes.
 #[derive(Drop)]
 struct Held {
     waiting: Vec<u8>,
     passed: Vec<u8>,
+    flushes: u32,
 }
 
 impl Write for Held {
@@ -28,26 +29,28 @@ impl Write for Held {
     fn flush(&mut self) -> io::Result<()> {
         self.passed.extend_from_slice(&self.waiting)?;
         self.waiting.clear();
+        self.flushes = self.flushes.saturating_add(1);
         Ok(())
     }
 }
 
-// How a run of so many turns over the input ends, and what its writer has passed on by then: all that it was given.
+// How a run of so many turns over the input ends, and its writer, which has passed on all that it was given.
 fn run_held(
     rt: &(impl Abort + AllocGlobal),
     input: &[u8],
     setup: Setup,
     turns: u64,
-) -> Result<(Result<Outcome, RunFault>, Vec<u8>), Fail> {
+) -> Result<(Result<Outcome, RunFault>, Held), Fail> {
     let mut held = Held {
         waiting: Vec::new(rt.alloc()),
         passed: Vec::new(rt.alloc()),
+        flushes: 0,
     };
     let mut reader = Told::new(input);
     let mut writer = Told::new(&mut held);
     let run = run_server(rt, setup, &mut reader, &mut writer, &mut [0; 5], turns)?;
     assert!(rt; held.waiting.is_empty());
-    Ok((run, held.passed))
+    Ok((run, held))
 }
 
 #[test]
@@ -59,21 +62,23 @@ fn all_is_flushed_at_the_end(rt: HostRuntime) -> Result<(), Fail> {
         b"0014command=ls-refs\n0000g",
     ];
     for input in endings {
-        let (run, passed) = run_held(&rt, input, advertising(Format::Sha1), 100)?;
+        let (run, held) = run_held(&rt, input, advertising(Format::Sha1), 100)?;
         assert!(rt; run.is_ok());
-        assert!(rt; passed.len() > 150);
+        assert!(rt; held.passed.len() > 150);
     }
     Ok(())
 }
 
 #[test]
 fn all_is_flushed_where_the_reads_are_spent(rt: HostRuntime) -> Result<(), Fail> {
-    let (run, passed) = run_held(&rt, b"0014command=ls-refs\n0000", usual(), 5)?;
+    let (run, held) = run_held(&rt, b"0014command=ls-refs\n0000", usual(), 5)?;
     expect(&rt, &run, &Err(RunFault::ReadLimit));
-    expect(&rt, &passed.len(), &173);
-    let (run, passed) = run_held(&rt, b"", advertising(Format::Sha1), 0)?;
+    expect(&rt, &held.passed.len(), &173);
+    // Once before each read and once at the end, though the answer has four packets.
+    expect(&rt, &held.flushes, &6);
+    let (run, held) = run_held(&rt, b"", advertising(Format::Sha1), 0)?;
     expect(&rt, &run, &Err(RunFault::ReadLimit));
-    expect_bytes(&rt, &passed, ANSWERS[0]);
+    expect_bytes(&rt, &held.passed, ANSWERS[0]);
     Ok(())
 }
 

@@ -1,6 +1,6 @@
 -- A server that takes bytes goes on in its session, or ends it.
 use Rattle.std.proofs.Common.{arith, ◌≡◌, ◌≢◌, ℕ, ◌+◌, ◌≤◌, Bool, true, false, List, [], ◌∷◌, ◌++◌, length, Option, Some, None, refl, sym, ap, ◌∙◌}
-use Rattle.std.proofs.Common.{append_assoc, append-nil, subst, inl, inr}
+use Rattle.std.proofs.Common.{append-nil, subst, inl, inr}
 use Rattle.git_pkt.specs.Packets.{Pkt}
 use Rattle.git_pkt.specs.Faults.{StopsBy}
 use Rattle.git_pkt.specs.Splits.{Given}
@@ -33,6 +33,8 @@ use Rattle.git_server.specs.Machine.AnsweredRequest.{IsAnswerFrom, answer_to, ke
 use Rattle.git_msg.specs.Machine.StreamStages.{Brings, IsBrought, IsCovered, IsWithin}
 use Rattle.git_server.specs.Machine.Server.{IsPackLost, Running, Serves, StandsBy, outcome_of, wants_input}
 use Rattle.git_server.specs.Machine.ServerCalls.{Goes, ReadsFor, StopsInTime}
+-- nothing was used or given, and one call after another
+pub use Rattle.git_server.specs.Machine.Moved.{goes_join, goes_nowhere}
 use Rattle.git_server.specs.declared.outcome.Outcome.{Outcome}
 use Rattle.git_server.specs.declared.outcome.Outcome.TheVariants.{Flush, Refused}
 use Rattle.git_msg.specs.declared.streams.ReadGot.{ReadGot}
@@ -454,18 +456,3 @@ module _ {R A : Type 0} (state : R → RepoState) (old : Server R A) (used : ℕ
       let same : Some (Refused fault) ≡ Some (Refused other) = sym (refused_outcome_by A fault.kind fault) ∙ sym (ap outcome_in phase_is) ∙ ended in
       let one : fault ≡ other = cc in
       (shown h.no_fault).one_more (ap (λ (f : Fault). f.kind) one ∙ too_long)
-
-module _ {R A : Type 0} (state : R → RepoState) (server : Server R A) where
-  -- nothing was used or given
-  pub goes_nowhere : Goes state [] [] server server
-  goes_nowhere s so_far over before r =
-      subst (λ (l : List ℕ). Running state s l over (before ++ []) server) (sym (append-nil so_far))
-      (subst (λ (l : List ℕ). Running state s so_far over l server) (sym (append-nil before)) r)
-
-module _ {R A : Type 0} (state : R → RepoState) (old middle new : Server R A) where
-  -- one call after another
-  pub goes_join : (u v g h : List ℕ) → Goes state u g old middle → Goes state v h middle new → Goes state (u ++ v) (g ++ h) old new
-  goes_join u v g h first second s so_far over before r =
-      let two = second s (so_far ++ u) over (before ++ g) (first s so_far over before r) in
-      subst (λ (l : List ℕ). Running state s l over (before ++ (g ++ h)) new) (append_assoc so_far u v)
-      (subst (λ (l : List ℕ). Running state s ((so_far ++ u) ++ v) over l new) (append_assoc before g h) two)

@@ -30,6 +30,7 @@ pub mod Dropped
 pub mod WantedLines
 pub mod OneSession
 pub mod TooLong
+pub mod Machines
 pub mod RunLemmas
 pub mod OneOutcome
 pub mod OneOutput

@@ -11,5 +11,6 @@ pub mod FullParts
 pub mod Phases
 pub mod Server
 pub mod ServerCalls
+pub mod Moved
 pub mod Runs
 pub mod Calls

@@ -12,6 +12,7 @@ mod fetching;
 pub mod laws;
 mod list_repo;
 mod ls_refs;
+mod machine;
 mod object_info;
 mod outcome;
 mod packets;

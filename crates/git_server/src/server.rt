@@ -77,7 +77,7 @@ pub enum Pulled<'a> {
 
 // What the next turn of a session brings.
 #[derive(Clone, Copy, Debug)]
-enum Turn {
+pub(crate) enum Turn {
     Packet,
     NeedInput,
     Finished(Outcome),
@@ -233,7 +233,7 @@ impl<R: Repo, A: Allocator + Copy> Server<R, A> {
     }
 
     // Whether a packet is owed, and what to do if none is.
-    fn turn(&self) -> Turn
+    pub(crate) fn turn(&self) -> Turn
         ensures { result ≡ turn_in self.now.phase }
     {
         match self.phase {
@@ -245,7 +245,7 @@ impl<R: Repo, A: Allocator + Copy> Server<R, A> {
     }
 
     // The packet at the hold's front.
-    fn packet(&self) -> &[u8]
+    pub(crate) fn packet(&self) -> &[u8]
         requires { HasFront (held_of self.now.reader) }
         ensures front { (packet : Pkt) (bytes : List ℕ) → Spells packet bytes → StartsWith (held_of self.now.reader) bytes → result.now ≡ bytes }
         ensures fits { length result.now ≤ 65520 }
@@ -254,7 +254,7 @@ impl<R: Repo, A: Allocator + Copy> Server<R, A> {
     }
 
     // Puts the next packet that is owed at the hold's front.
-    fn give(&mut self)
+    pub(crate) fn give(&mut self)
         requires { turn_in self.old.phase ≡ Turn.Packet }
         ensures gives { Gives R.state self.old self.new }
         ensures full { FillsOwed R.read_gives self.old (IsAtFront self.new.reader) }

@@ -1,54 +1,16 @@
 -- What a run of a server over a reader and a writer results in: what it used, and what it gave for that.
-use Rattle.std.specs.Prelude.{◌≡◌, ◌≢◌, ◌⊎◌, ℕ, ◌≤◌, Bool, true, false, List, [], ◌∷◌, ◌++◌, length, Option, Some, None, Result, Ok, Err}
+use Rattle.std.specs.Prelude.{◌≡◌, ◌≢◌, ◌⊎◌, ℕ, ◌≤◌, Bool, true, false, List, [], ◌∷◌, ◌++◌, length, Result, Ok, Err}
 use Rattle.git_pkt.specs.Faults.{last_position}
-use Rattle.git_pkt.specs.Streams.{Flow, WrittenAs}
 use Rattle.git_pkt.specs.declared.fault.Fault.{Fault}
 use Rattle.git_pkt.specs.declared.fault.Kind.TheVariants.{StreamTooLong}
 use Rattle.git_pkt.specs.declared.fault.RunFault.{RunFault}
 use Rattle.git_pkt.specs.declared.fault.RunFault.TheVariants.{ReadFault, WriteFault, ReadLimit, Refused as RefusedRun}
 use Rattle.git_server.specs.Repository.{RepoState}
 use Rattle.git_server.specs.Sessions.{Setting, IsAnswered, IsRunning, IsSession}
-use Rattle.git_server.specs.Machine.Server.{Running, outcome_of, wants_input}
-use Rattle.git_server.specs.Machine.ServerCalls.{EndsAs, Goes, OwesNow, StopsInTime}
+use Rattle.git_server.specs.Machine.Server.{Running}
 use Rattle.git_server.specs.declared.outcome.Outcome.{Outcome}
 use Rattle.git_server.specs.declared.outcome.Outcome.TheVariants.{Refused}
 use Rattle.git_server.specs.declared.server.Server.{Server}
-
--- ---- its steps
-
--- the bytes were used, and what was given for them was written; where a write failed, a front of it
-pub record WritesOn {R A : Type 0} (broken : Bool) (state : R → RepoState) (old new : Server R A) (bytes : List ℕ) (writer : Flow) : Type 0 where
-  pub given : List ℕ
-  pub written : WrittenAs broken writer given
-  pub goes : Goes state bytes given old new
-
--- a front of the bytes was used, and what was given for it was written; where a write failed, a front of it
-pub record WritesPart {R A : Type 0} (broken : Bool) (state : R → RepoState) (old new : Server R A) (bytes : List ℕ) (writer : Flow) : Type 0 where
-  pub used : List ℕ
-  pub unused : List ℕ
-  pub parts : bytes ≡ used ++ unused
-  pub writes : WritesOn broken state old new used writer
-
-module _ {R A : Type 0} (state : R → RepoState) (old new : Server R A) (bytes : List ℕ) (writer : Flow) where
-  -- all the bytes were used, and all that was given for them was written
-  pub record WritesAll : Type 0 where
-    pub writes : WritesOn false state old new bytes writer
-    pub wants : wants_input new ≡ true
-
-  -- a front of the bytes was used, the session ended so, and all that was given was written
-  pub record WritesItsEnd (outcome : Outcome) : Type 0 where
-    pub part : WritesPart false state old new bytes writer
-    pub ends : outcome_of new ≡ Some outcome
-    pub owes : OwesNow state new []
-    pub session : EndsAs state new outcome
-    pub in_time : StopsInTime state old (length part.used) bytes (Some outcome)
-
-  -- what was written, where the session goes on or ended
-  abbrev pub WritesFor : Option Outcome → Type 0
-  WritesFor None = WritesAll
-  WritesFor (Some outcome) = WritesItsEnd outcome
-
--- ---- its ends
 
 -- the session ended so with the bytes used, before the run and by it. Where the stream is too long, one more byte was read, or all that
 -- can be were used before.

@@ -1,0 +1,15 @@
+use Rattle.std.proofs.Common.{refl, sym, ◌∙◌}
+use Rattle.git_server.proofs.Machines.{gives_packet, reads_now, stays_ended, too_long_by_pull}
+use Rattle.git_server.proofs.machine.ServerMachine.next.Goals as goal
+
+pub returns-in-NeedInput-clause-needs_input : goal.returns-in-NeedInput-clause-needs_input
+returns-in-NeedInput-clause-needs_input g c = λ is. (reads_now c.args.self.now.phase (sym c.turn.ensures ∙ c.in-NeedInput.is), refl)
+
+pub returns-in-Packet-clause-packet : goal.returns-in-Packet-clause-packet
+returns-in-Packet-clause-packet g c = λ is. gives_packet g.R.Repo.state _ _ c.give.ensures.gives
+
+pub returns-in-Packet-clause-done : goal.returns-in-Packet-clause-done
+returns-in-Packet-clause-done g c = stays_ended _ _ c.give.ensures.gives.outcome
+
+pub returns-in-Packet-clause-short : goal.returns-in-Packet-clause-short
+returns-in-Packet-clause-short g c = too_long_by_pull _ _ c.give.ensures.gives.outcome
