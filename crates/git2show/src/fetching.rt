@@ -3,6 +3,7 @@
 ghost use Rattle.std.specs.Prelude.{◌≡◌, true, false};
 ghost use Rattle.git_client.specs.Machine.Client.{wants_input};
 
+use crate::pack_file::PackFile;
 use crate::remote_lines::RemoteLines;
 use crate::{PIECE, TURNS, ending_of, file_fault, format_of, read_requests};
 use clap::ArgMatches;
@@ -21,14 +22,31 @@ const PART: usize = 256;
 const SHOWN: usize = 4 * PART;
 
 /// Sends the requests of the script that is named on standard output, and receives the answers on standard input. What comes of packs
-/// goes to the file that is named, and the transcript to one too, or to standard error. Where the command line asks for it, or
-/// standard error is a terminal, the server's progress is shown there.
+/// goes to the file that is named, which stays as it was where the run fails, and the transcript to one too, or to standard error.
+/// Where the command line asks for it, or standard error is a terminal, the server's progress is shown there.
 pub(crate) fn run_fetch(rt: &HostRuntime, matches: &ArgMatches<'_>) -> Result<(), ProgramFault> {
     let requests = read_requests(rt, matches, format_of(matches))?;
-    let pack = create(rt, matches.get_str("pack").unwrap_or(""))?;
+    let path = matches.get_str("pack").unwrap_or("");
+    let mut pack = PackFile::open(rt, path).map_err(file_fault)?;
+    match fetch_into(rt, matches, requests, pack.file()) {
+        Ok(()) => pack.finish(rt).map_err(file_fault),
+        Err(fault) => {
+            pack.remove(rt);
+            Err(fault)
+        }
+    }
+}
+
+/// Sends the requests in their order, and writes what comes of packs, and the transcript to where the command line says.
+fn fetch_into(
+    rt: &HostRuntime,
+    matches: &ArgMatches<'_>,
+    requests: Vec<Request<Global>>,
+    pack: &mut File,
+) -> Result<(), ProgramFault> {
     match matches.get_str("transcript") {
         Some(path) => {
-            let transcript = create(rt, path)?;
+            let transcript = File::create(rt, path).map_err(file_fault)?;
             fetch(rt, matches, requests, pack, transcript)
         }
         None => fetch(rt, matches, requests, pack, rt.stderr()),
@@ -41,7 +59,7 @@ fn fetch<O: Write + Drop>(
     rt: &HostRuntime,
     matches: &ArgMatches<'_>,
     requests: Vec<Request<Global>>,
-    pack: File,
+    pack: &mut File,
     transcript: O,
 ) -> Result<(), ProgramFault> {
     let mut client = Client::new(format_of(matches), ending_of(matches));
@@ -66,7 +84,7 @@ fn ask_all<O: Write + Drop, E: Output>(
     rt: &HostRuntime,
     client: &mut Client<Global>,
     requests: Vec<Request<Global>>,
-    pack: File,
+    pack: &mut File,
     transcript: O,
     progress: &mut E,
 ) -> Result<(), RunFault>
@@ -89,11 +107,6 @@ fn ask_all<O: Write + Drop, E: Output>(
 /// A writer over this one that passes on what it has at each flush, and before that only by large pieces.
 fn buffered<O: Write + Drop>(rt: &HostRuntime, inner: O) -> Result<BufWriter<O>, ProgramFault> {
     BufWriter::with_capacity(rt.alloc(), PIECE, inner).map_err(|_| ProgramFault::OutOfMemory)
-}
-
-/// Makes the file of this name, or empties the one that is there.
-fn create(rt: &HostRuntime, path: &str) -> Result<File, ProgramFault> {
-    File::create(rt, path).map_err(file_fault)
 }
 
 /// Writes a server's message on one line of standard error, without the line feed at its end, and each byte as `show` shows it.

@@ -5,6 +5,7 @@ ghost use Rattle.std.specs.Prelude.{◌<◌};
 
 mod fetching;
 mod one_request;
+mod pack_file;
 mod remote_lines;
 
 use crate::fetching::run_fetch;
