@@ -138,12 +138,10 @@ case_our_client_shows_the_progress_on_a_terminal() {
     rm -f to from
     mkfifo to from
     GIT_PROTOCOL=version=2 limited git upload-pack history-sha1 < to > from 2> err &
-    status=0
-    limited script -q -e -c 'git2show fetch --script script --pack pack --transcript written > to < from' /dev/null < /dev/null > terminal || status=$?
+    on_terminal 'git2show fetch --script script --pack pack --transcript written > to < from'
     wait $!
     expect_status 0
-    sed 's/\r$//' terminal > shown
-    is_progress shown
+    is_progress terminal
     is_whole sha1 history-sha1 "$id"
 }
 
