@@ -91,7 +91,7 @@ fn check_command<'a>(alloc: Global) -> Result<Command<'a>, AllocError> {
         .arg(format_argument(alloc))?
         .arg(stateless_argument(
             alloc,
-            "Each response ends with a response-end packet, as where each has its own connection",
+            "Each response ends with a response-end packet, as Git's helper for HTTP gives it to Git",
         ))
 }
 
@@ -143,7 +143,7 @@ fn fetch_command<'a>(alloc: Global) -> Result<Command<'a>, AllocError> {
         .arg(format_argument(alloc))?
         .arg(stateless_argument(
             alloc,
-            "Each response ends with a response-end packet, as where each has its own connection",
+            "Each response ends with a response-end packet, as Git's helper for HTTP gives it to Git",
         ))
 }
 
