@@ -91,7 +91,8 @@ impl From<ProgramFault> for Failure {
     }
 }
 
-/// A reader or a writer that keeps what the system reported of the last call that failed.
+/// A reader or a writer that keeps what the system reported of the last call that failed, but for one that was interrupted, which is
+/// made again.
 #[derive(Debug, Drop)]
 pub(crate) struct Watched<T> {
     inner: T,
@@ -115,13 +116,19 @@ impl<T> Watched<T> {
         let stream = self.stream;
         Some(FailedCall { stream, error })
     }
+
+    fn keep(&mut self, error: io::Error) {
+        if error.kind() != io::ErrorKind::Interrupted {
+            self.error = Some(error);
+        }
+    }
 }
 
 impl<R: Read> Read for Watched<R> {
     fn read(&mut self, buf: &mut [u8]) -> io::Result<usize> {
         let read = self.inner.read(buf);
         if let Err(error) = &read {
-            self.error = Some(*error);
+            self.keep(*error);
         }
         read
     }
@@ -131,7 +138,7 @@ impl<W: Write> Write for Watched<W> {
     fn write(&mut self, buf: &[u8]) -> io::Result<usize> {
         let written = self.inner.write(buf);
         if let Err(error) = &written {
-            self.error = Some(*error);
+            self.keep(*error);
         }
         written
     }
@@ -139,7 +146,7 @@ impl<W: Write> Write for Watched<W> {
     fn flush(&mut self) -> io::Result<()> {
         let flushed = self.inner.flush();
         if let Err(error) = &flushed {
-            self.error = Some(*error);
+            self.keep(*error);
         }
         flushed
     }

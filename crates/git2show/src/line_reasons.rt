@@ -108,15 +108,9 @@ fn reference_reason<'a>(format: Format, before: &'a [u8], text: &'a [u8]) -> Rea
 
 /// Why the line of a reference is refused for one of these attributes.
 fn attributes_reason(format: Format, attributes: Option<&[u8]>) -> Option<Reason<'_>> {
-    let mut left = attributes;
-    while let Some(rest) = left {
-        let (word, next) = split_at_first(rest, b' ');
-        if let Some(reason) = attribute_reason(format, word) {
-            return Some(reason);
-        }
-        left = next;
-    }
-    None
+    attributes?
+        .split(|byte| *byte == b' ')
+        .find_map(|word| attribute_reason(format, word))
 }
 
 /// Why the line of a reference is refused for this attribute.
@@ -158,14 +152,10 @@ fn ready_reason<'a>(before: &[u8], text: &'a [u8]) -> Reason<'a> {
 
 /// What comes after this word in the last of the lines that begins with it.
 fn last_with<'a>(lines: &'a [u8], word: &[u8]) -> Option<&'a [u8]> {
-    let mut last = None;
-    let mut left = Some(lines);
-    while let Some(rest) = left {
-        let (line, next) = split_at_first(rest, b'\n');
-        last = after(line, word).or(last);
-        left = next;
-    }
-    last
+    lines
+        .split(|byte| *byte == b'\n')
+        .filter_map(|line| after(line, word))
+        .last()
 }
 
 /// The word that a text begins with.
@@ -198,13 +188,11 @@ pub(crate) fn script_reason(format: Format, text: &[u8], number: u64) -> Reason<
 /// The command of the request that goes on after these lines, each of which ends with its LF.
 fn open_command(lines: &[u8]) -> Option<Command> {
     let mut command = None;
-    let mut rest = lines;
-    while let (line, Some(next)) = split_at_first(rest, b'\n') {
+    for line in lines.strip_suffix(b"\n")?.split(|byte| *byte == b'\n') {
         command = match line {
             b"" => None,
             _ => command.or(Command::read(line)),
         };
-        rest = next;
     }
     command
 }

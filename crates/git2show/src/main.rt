@@ -49,7 +49,8 @@ const BAD_COMMAND_LINE: u8 = 2;
 /// The text below the list of commands: what a status means, and the one fault line whose word needs it.
 const STATUSES: &str =
     "Status: 0 where all went well; 1 with one line on standard error where a stream or a file is at fault; 2 where the command line is.
-A fault is told by name and offset, and on a terminal by a second line that says more. `File` alone is a file that cannot be opened, or a text, pack or script that cannot be read.";
+A fault is reported by name and offset, and on a terminal a second line says more.
+`File` alone is a file that cannot be opened or made, or a text, pack or script that cannot be read.";
 
 /// The object formats, as the command line names them.
 static FORMATS: [&str; 2] = ["sha1", "sha256"];
