@@ -1,13 +1,16 @@
 //! What a second line says in words of the fault that the first one names.
 
+use crate::PIECE;
 use crate::failures::{Cause, FailedCall, Failure, Stream};
 use crate::line_reasons::{repository_reason, script_reason};
 use crate::reasons::Shown;
 use clap::ArgMatches;
 use git_names::Format;
+use git_pkt::Retries;
 use git2show_lib::ProgramFault;
 use std::fmt::{self, Display, Formatter};
-use std::{fs, io};
+use std::fs::{self, File};
+use std::io::{self, Read};
 
 /// A text whose lines are judged.
 #[derive(Clone, Copy, Debug)]
@@ -37,15 +40,16 @@ pub(crate) fn explain(
 
 /// The file that an argument names.
 fn path_of<'a>(words: Option<&'a ArgMatches<'_>>, argument: &str) -> &'a str {
-    words
-        .and_then(|words| words.get_str(argument))
-        .unwrap_or("")
+    match words {
+        Some(words) => words.get_str(argument).unwrap_or(""),
+        None => "",
+    }
 }
 
 /// Prints why a line of a file is refused.
 fn explain_line(rt: &HostRuntime, path: &str, number: u64, text: Text) -> io::Result<()> {
     let shown = Shown(path.as_bytes());
-    let Ok(bytes) = read_again(rt, path) else {
+    let Ok(bytes) = read_again(rt, path, number) else {
         return eprintln!(rt; "line {number} of {shown}, which cannot be read again");
     };
     let reason = match text {
@@ -55,12 +59,31 @@ fn explain_line(rt: &HostRuntime, path: &str, number: u64, text: Text) -> io::Re
     eprintln!(rt; "line {number} of {shown}: {reason}")
 }
 
-/// Reads a file once more. What is no regular file, as a pipe, cannot be.
-fn read_again(rt: &HostRuntime, path: &str) -> io::Result<Vec<u8>> {
+/// Reads a file once more, up to this line and a piece of it at least. What is no regular file, as a pipe, cannot be read again.
+fn read_again(rt: &HostRuntime, path: &str, number: u64) -> io::Result<Vec<u8>> {
     if !fs::metadata(rt, path)?.is_file() {
         return Err(io::ErrorKind::NotSeekable.into());
     }
-    fs::read(rt, path)
+    let mut file = Retries::new(File::open(rt, path)?);
+    let mut text = Vec::new(rt.alloc());
+    let mut piece = [0; PIECE];
+    // How many lines before it have not ended.
+    let mut missing = number.saturating_sub(1);
+    for _ in 0..u64::MAX {
+        let has_come = missing == 0;
+        let count = file.read(&mut piece)?;
+        text.extend_from_slice(&piece[..count])?;
+        if count == 0 || has_come {
+            break;
+        }
+        missing = missing.saturating_sub(count_lines(&piece[..count]));
+    }
+    Ok(text)
+}
+
+/// How many lines end in a piece of a text.
+fn count_lines(piece: &[u8]) -> u64 {
+    piece.iter().filter(|byte| **byte == b'\n').count() as u64
 }
 
 /// Prints what the system reported of a call.

@@ -28,11 +28,15 @@ const SHOWN: usize = 4 * PART;
 pub(crate) fn run_fetch(rt: &HostRuntime, matches: &ArgMatches<'_>) -> Result<(), Failure> {
     let requests = read_requests(rt, matches, format_of(matches))?;
     let path = matches.get_str("pack").unwrap_or("");
-    let mut pack = PackFile::open(rt, path).map_err(pack_failure)?;
-    match fetch_into(rt, matches, requests, pack.file()) {
-        Ok(()) => pack.finish(rt).map_err(pack_failure),
+    let PackFile { file, part } = PackFile::open(rt, path).map_err(pack_failure)?;
+    let done = fetch_into(rt, matches, requests, file);
+    let Some(part) = part else {
+        return done;
+    };
+    match done {
+        Ok(()) => part.finish(rt).map_err(pack_failure),
         Err(failure) => {
-            pack.remove(rt);
+            part.remove(rt);
             Err(failure)
         }
     }
@@ -48,7 +52,7 @@ fn fetch_into(
     rt: &HostRuntime,
     matches: &ArgMatches<'_>,
     requests: Vec<Request<Global>>,
-    pack: &mut File,
+    pack: File,
 ) -> Result<(), Failure> {
     match matches.get_str("transcript") {
         Some(path) => {
@@ -72,7 +76,7 @@ fn fetch<O: Write + Drop>(
     rt: &HostRuntime,
     matches: &ArgMatches<'_>,
     requests: Vec<Request<Global>>,
-    pack: &mut File,
+    pack: File,
     transcript: Watched<O>,
 ) -> Result<(), Failure> {
     let mut client = Client::new(format_of(matches), ending_of(matches));
@@ -96,7 +100,7 @@ fn ask_all<O: Write + Drop, E: Output>(
     rt: &HostRuntime,
     client: &mut Client<Global>,
     requests: Vec<Request<Global>>,
-    pack: &mut File,
+    pack: File,
     mut transcript: Watched<O>,
     progress: &mut E,
 ) -> Result<(), Failure>

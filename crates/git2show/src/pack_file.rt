@@ -13,24 +13,28 @@ const MOST_PARTS: u32 = 1_000;
 /// else has the name, as a device, a pipe or a link that leads nowhere, is written as it is.
 #[derive(Drop)]
 pub(crate) struct PackFile {
-    file: File,
-    part: Option<Part>,
+    /// The file that is written.
+    pub(crate) file: File,
+    /// What is left to do with it, where it is a part.
+    pub(crate) part: Option<Part>,
 }
 
-/// A file beside the place where it belongs.
+/// The name of a file beside the place where it belongs.
 #[derive(Drop)]
-struct Part {
+pub(crate) struct Part {
     path: String,
     place: String,
 }
 
 impl PackFile {
-    /// Opens the file of this name. One that is there is not changed before [`PackFile::finish`].
+    /// Opens the file of this name. One that is there is not changed before [`Part::finish`].
     pub(crate) fn open(rt: &HostRuntime, path: &str) -> io::Result<PackFile> {
         match fs::metadata(rt, path) {
             Ok(found) if is_replaced(&found) => PackFile::replacing(rt, path, found.permissions()),
             Err(error) if error.kind() == ErrorKind::NotFound && is_free(rt, path) => {
-                PackFile::beside(rt, String::from_str(rt.alloc(), path)?)
+                let (file, part) = Part::create(rt, String::from_str(rt.alloc(), path)?)?;
+                let part = Some(part);
+                Ok(PackFile { file, part })
             }
             _ => Ok(PackFile {
                 file: File::create(rt, path)?,
@@ -47,25 +51,27 @@ impl PackFile {
             true => fs::canonicalize(rt, path)?.into_string(),
             false => String::from_str(rt.alloc(), path)?,
         };
-        let pack = PackFile::beside(rt, place)?;
-        match pack.file.set_permissions(permissions) {
-            Ok(()) => Ok(pack),
+        let (file, part) = Part::create(rt, place)?;
+        match file.set_permissions(permissions) {
+            Ok(()) => {
+                let part = Some(part);
+                Ok(PackFile { file, part })
+            }
             Err(error) => {
-                pack.remove(rt);
+                part.remove(rt);
                 Err(error)
             }
         }
     }
+}
 
-    /// A new file beside this place, whose name nothing had.
-    fn beside(rt: &HostRuntime, place: String) -> io::Result<PackFile> {
+impl Part {
+    /// Makes a new file beside this place, by a name that nothing had.
+    fn create(rt: &HostRuntime, place: String) -> io::Result<(File, Part)> {
         for number in 1..=MOST_PARTS {
             let path = format!(in rt.alloc(); "{place}.part{number}")?;
             match File::create_new(rt, &path) {
-                Ok(file) => {
-                    let part = Some(Part { path, place });
-                    return Ok(PackFile { file, part });
-                }
+                Ok(file) => return Ok((file, Part { path, place })),
                 Err(error) if error.kind() == ErrorKind::AlreadyExists => {}
                 Err(error) => return Err(error),
             }
@@ -73,29 +79,19 @@ impl PackFile {
         Err(ErrorKind::AlreadyExists.into())
     }
 
-    /// The open file.
-    pub(crate) fn file(&mut self) -> &mut File {
-        &mut self.file
-    }
-
-    /// Puts a part in its place.
+    /// Puts the file in its place, or removes it where that fails.
     pub(crate) fn finish(self, rt: &HostRuntime) -> io::Result<()> {
-        let Some(part) = &self.part else {
-            return Ok(());
-        };
-        let renamed = fs::rename(rt, &part.path, &part.place);
+        let renamed = fs::rename(rt, &self.path, &self.place);
         if renamed.is_err() {
             self.remove(rt);
         }
         renamed
     }
 
-    /// Removes a part, and leaves what is in its place.
+    /// Removes the file, and leaves what is in its place.
     pub(crate) fn remove(self, rt: &HostRuntime) {
-        if let Some(part) = &self.part {
-            // A part that cannot be removed stays.
-            let _ = fs::remove_file(rt, &part.path);
-        }
+        // A file that cannot be removed stays.
+        let _ = fs::remove_file(rt, &self.path);
     }
 }
 
