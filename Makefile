@@ -39,8 +39,8 @@ program:
 library:
 	$(call prove,gitwire,lib)
 
-# Installs the program with its manual page, and the library with its own, its header, what that names (the page on the protocol, the
-# script that writes a repository text, the examples), and what pkg-config prints for it: a C program is then built with
+# Installs the program with its manual page, and the library with its own, its header, what that names (the pages on the protocol and on
+# what is promised, the script that writes a repository text, the examples), and what pkg-config prints for it: a C program is then built with
 # `pkg-config --cflags --libs gitwire` and nothing of this folder. It has the library twice: as an archive, and as a shared library of
 # the same objects, which shows the calls of the header alone. What was built is taken as it is; what was not is proved first, and each
 # is reported.
@@ -55,7 +55,7 @@ install: $(PROGRAM) $(LIBRARY)
 	@install -D -m 644 docs/git2show.1 "$(to)/share/man/man1/git2show.1"
 	@install -D -m 644 docs/gitwire.3 "$(to)/share/man/man3/gitwire.3"
 	@install -D -m 644 include/gitwire.h "$(to)/include/gitwire.h"
-	@install -D -m 644 docs/PROTOCOL.md "$(to)/share/doc/gitwire/PROTOCOL.md"
+	@install -D -m 644 -t "$(to)/share/doc/gitwire" docs/PROTOCOL.md docs/PROMISES.md docs/STEPS.md
 	@install -D -m 755 sample/repository-text.sh "$(to)/share/doc/gitwire/repository-text.sh"
 	@install -D -m 644 -t "$(to)/share/doc/gitwire/examples" $(filter-out %.sh %.py,$(wildcard examples/*))
 	@install -D -m 755 -t "$(to)/share/doc/gitwire/examples" $(wildcard examples/*.sh examples/*.py)

@@ -138,12 +138,10 @@ case_our_client_shows_the_progress_on_a_terminal() {
     rm -f to from
     mkfifo to from
     GIT_PROTOCOL=version=2 limited git upload-pack history-sha1 < to > from 2> err &
-    status=0
-    limited script -q -e -c 'git2show fetch --script script --pack pack --transcript written > to < from' /dev/null < /dev/null > terminal || status=$?
+    on_terminal 'git2show fetch --script script --pack pack --transcript written > to < from'
     wait $!
     expect_status 0
-    sed 's/\r$//' terminal > shown
-    is_progress shown
+    is_progress terminal
     is_whole sha1 history-sha1 "$id"
 }
 
@@ -219,7 +217,130 @@ case_our_client_is_told_an_error() {
     expect_status 1
     expect_line 'what is reported' "remote error: upload-pack: not our ref $other" transcript
     grep -a -q '^git2show: RemoteError at [0-9]*$' transcript || differs 'no RemoteError' transcript
-    [ ! -s pack ] || differs 'a pack that was refused'
+}
+
+# write_pack_answer: what a server sends whose answer to `script` is a pack of five bytes.
+write_pack_answer() {
+    printf '%s\n' fetch "want $one" 'done' > script
+    { advertisement sha1; pack_answer; } > said
+}
+
+# fetch_said [OPTION..]: our client receives that.
+fetch_said() {
+    run git2show fetch --script script --transcript written "$@" < said
+}
+
+# has_pack BYTES FILE: that the file has these bytes, and that nothing was left beside it.
+has_pack() {
+    expect_same "the file $2" <(printf %s "$1") "$2"
+    expect_same 'what lies beside it' /dev/null <(compgen -G '*.part*')
+}
+
+# Where a server refuses, where its stream breaks off, and where the transcript cannot be made.
+case_our_client_keeps_the_pack_that_was_there() {
+    write_pack_answer
+    printf old > pack
+    cp said whole
+    { advertisement sha1; packet 'ERR no'; } > said
+    fetch_said --pack pack
+    expect_status 1
+    has_pack old pack
+    head -c -6 whole > said
+    fetch_said --pack pack
+    expect_status 1
+    has_pack old pack
+    rm pack
+    fetch_said --pack pack
+    expect_status 1
+    [ ! -e pack ] || differs 'a pack that is not whole' pack
+    cp whole said
+    printf old > pack
+    run git2show fetch --script script --pack pack --transcript nowhere/written < said
+    expect 1 /dev/null <(fault File)
+    has_pack old pack
+}
+
+# What was there is replaced by a file with its permissions, and a link by none. Other files keep their names.
+case_our_client_replaces_a_pack() {
+    write_pack_answer
+    rm -f pack
+    fetch_said --pack pack
+    expect_status 0
+    has_pack PACK! pack
+    printf 'an old and longer one' > pack
+    chmod 600 pack
+    ln -s pack link
+    fetch_said --pack link
+    expect_status 0
+    has_pack PACK! pack
+    [ "$(stat -c %a pack)" = 600 ] || differs 'other permissions'
+    [ -L link ] || differs 'a link that is none any more'
+    rm link
+    printf other > pack.part1
+    fetch_said --pack pack
+    expect_status 0
+    expect_same 'another file' <(printf other) pack.part1
+    rm pack.part1
+    has_pack PACK! pack
+}
+
+# A conversation without a pack leaves an empty file.
+case_our_client_writes_a_pack_of_no_bytes() {
+    echo ls-refs > script
+    printf old > pack
+    { advertisement sha1; printf 0000; } > said
+    fetch_said --pack pack
+    expect_status 0
+    has_pack '' pack
+}
+
+# A device, a pipe and a link that leads nowhere are written as they are.
+case_our_client_writes_what_is_no_file() {
+    local name
+    write_pack_answer
+    mkfifo pipe
+    cat pipe > piped &
+    fetch_said --pack pipe
+    expect_status 0
+    wait $!
+    [ -p pipe ] || differs 'a pipe that is none any more'
+    has_pack PACK! piped
+    rm -f pipe made
+    ln -s made link
+    fetch_said --pack link
+    expect_status 0
+    [ -L link ] || differs 'a link that is none any more'
+    has_pack PACK! made
+    rm link
+    fetch_said --pack /dev/null
+    expect_status 0
+    for name in . nowhere/ ''; do
+        fetch_said --pack "$name"
+        expect 1 /dev/null <(fault File)
+    done
+    [ ! -e .part1 ] || differs 'a file that was left'
+}
+
+# A folder takes the name while the pack comes.
+case_our_client_tells_a_pack_that_cannot_be_put_in_its_place() {
+    rm -f pack
+    mkfifo slow
+    {
+        advertisement sha1
+        packet packfile
+        printf '000a\001PACK!'
+        wait_for pack.part1
+        mkdir pack
+        printf 0000
+    } > slow &
+    printf '%s\n' fetch "want $one" 'done' > script
+    run git2show fetch --script script --pack pack --transcript written < slow
+    wait $!
+    expect_status 1
+    expect_same 'standard error' <(fault File) err
+    rmdir pack
+    rm slow
+    [ ! -e pack.part1 ] || differs 'a file that was left'
 }
 
 # answered TEXT..: what our client reports where a server sends this, whatever it is asked.

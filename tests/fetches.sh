@@ -318,3 +318,20 @@ case_git_fetches_a_reference_by_its_name() {
     sent 'want-ref refs/heads/alone'
     expect_line 'what Git got' "$(git -C history-sha1 rev-parse alone) refs/heads/alone" <(sed -n 's/^[^<]*< //p' "$trace")
 }
+
+# Git's client goes by the first line of a server, whatever version it is configured for, over ssh as over a pipe.
+case_git_of_another_version_is_served_over_ssh() {
+    local version words="git2show serve --repo $room/history-sha1.repo --pack $room/history-sha1.pack"
+    clone_from_git history-sha1
+    printf '%s\n' '#!/bin/sh' 'while [ $# -gt 1 ]; do shift; done' 'exec sh -c "$1"' > bin/no-ssh
+    chmod +x bin/no-ssh
+    export GIT_SSH=$room/bin/no-ssh GIT_SSH_VARIANT=simple
+    for version in 0 1; do
+        rm -rf ours
+        run git -c protocol.version=$version clone -q --upload-pack "$words" nobody@nowhere:it ours
+        same_clones
+        rm -rf ours
+        run git -c protocol.version=$version -c protocol.ext.allow=always clone -q "$(offered history-sha1)" ours
+        same_clones
+    done
+}

@@ -541,3 +541,129 @@ case_a_full_device_is_a_write_fault() {
     expect_device_full serve --repo small.repo --pack empty.pack --http-backend-info-refs
     expect_device_full play --repo small.repo --pack empty.pack --script /dev/null
 }
+
+# on_terminal COMMAND: runs a command of the shell whose standard error is a terminal, and leaves its `status`, and what came there in
+# the file `terminal`.
+on_terminal() {
+    status=0
+    limited script -q -e -c "$1" /dev/null < /dev/null > terminal || status=$?
+    sed -i 's/\r$//' terminal
+}
+
+# explained FAULT LINE: that the last command on a terminal reported a fault and this line after it.
+explained() {
+    expect_status 1
+    expect_same 'what is explained' <(fault "$1"; echo "$2") terminal
+}
+
+case_a_terminal_gets_what_the_system_reported() {
+    command -v script > /dev/null || return 0
+    echo ls-refs > script
+    on_terminal 'git2show serve --repo nowhere.repo --pack empty.pack'
+    explained File '`nowhere.repo`: No such file or directory (os error 2)'
+    on_terminal 'git2show serve --repo small.repo --pack /'
+    explained File '`/`: Is a directory (os error 21)'
+    on_terminal $'git2show check /dev/null no\033where'
+    explained File '`no\x1bwhere`: No such file or directory (os error 2)'
+    on_terminal 'git2show fetch --script script --pack nowhere/it'
+    explained File '`nowhere/it`: No such file or directory (os error 2)'
+    on_terminal 'git2show fetch --script script --pack pack --transcript nowhere/it'
+    explained File '`nowhere/it`: No such file or directory (os error 2)'
+    on_terminal 'git2show show < .'
+    explained ReadFault 'standard input: Is a directory (os error 21)'
+    advertisement sha1 > responses
+    on_terminal 'git2show check / responses > out'
+    explained ReadFault '`/`: Is a directory (os error 21)'
+}
+
+# Nothing more is known of a stream that is malformed.
+case_a_terminal_gets_one_line_of_a_stream() {
+    command -v script > /dev/null || return 0
+    on_terminal 'printf 00g0 | git2show show'
+    expect_status 1
+    expect_same 'standard error' <(fault 'BadDigit at 2') terminal
+}
+
+case_a_terminal_gets_why_a_write_failed() {
+    local words
+    command -v script > /dev/null || return 0
+    advertisement sha1 > responses
+    for words in --help 'check /dev/null responses' 'serve --repo small.repo --pack empty.pack' \
+        'play --repo small.repo --pack empty.pack --script /dev/null'; do
+        on_terminal "git2show $words > /dev/full"
+        explained WriteFault 'standard output: no space left'
+    done
+    echo ls-refs > script
+    on_terminal 'git2show fetch --script script --pack pack --transcript /dev/full < responses > out'
+    explained WriteFault '`/dev/full`: no space left'
+    repeat 100000 0005a > large
+    on_terminal 'git2show show < large | head -c 1 > out'
+    expect_same 'what is explained' <(fault WriteFault; echo 'standard output: closed by the reader') terminal
+}
+
+# refused_text REASON LINE..: that the last of these lines after the first of a repository text is refused, and why.
+refused_text() {
+    local reason=$1
+    shift
+    printf '%s\n' 'format sha1' "$@" > wrong.repo
+    on_terminal 'git2show serve --repo wrong.repo --pack empty.pack'
+    explained "BadRepo at $(($# + 1))" "line $(($# + 1)) of \`wrong.repo\`: $reason"
+}
+
+case_a_terminal_gets_why_a_line_of_a_text_is_refused() {
+    local no_name='is no object name of sha1, 40 hexadecimal digits'
+    command -v script > /dev/null || return 0
+    echo 'format md5' > wrong.repo
+    on_terminal 'git2show serve --repo wrong.repo --pack empty.pack'
+    explained 'BadRepo at 1' 'line 1 of `wrong.repo`: `format md5` is not `format sha1` or `format sha256`'
+    refused_text 'it is empty' "ref $one HEAD" ''
+    refused_text '`tag` is not `ref`, `object`, `ready`, `shallow` or `unshallow`' "tag $one"
+    refused_text 'it ends after `ref`' ref
+    refused_text "it ends after \`$one\`" "object $one"
+    refused_text "\`1111\` $no_name" 'ref 1111 HEAD'
+    refused_text "\`${one//1/x}\` $no_name" "shallow ${one//1/x}"
+    refused_text "\`$(repeat 64 1)...\` $no_name" "object $(repeat 65 1) 3"
+    refused_text "\`\\x1b[31m\` $no_name" $'ref \033[31m HEAD'
+    refused_text "\`x\` $no_name" "ref $one refs/tags/v1 peeled:x"
+    refused_text '`refs/heads/a..b` is no reference name, `HEAD` or one below `refs/`' "ref $one refs/heads/a..b"
+    refused_text '`main` is no reference name, `HEAD` or one below `refs/`' "ref $one HEAD symref-target:main"
+    refused_text '`many` is no number that is allowed there' "object $one many"
+    refused_text '`0` is no number that is allowed there' 'ready 0'
+    refused_text 'there is a line `ready` before it' 'ready 1' 'ready 2'
+    refused_text '`refs/heads/a` is unborn, which only `HEAD` with a `symref-target:` may be' 'ref unborn refs/heads/a'
+    refused_text 'names rise, and `refs/heads/a` does not come after `refs/heads/b`' \
+        "ref $one refs/heads/b" "object $one 3" "ref $one refs/heads/a"
+    refused_text "names rise, and \`$one\` does not come after \`$two\`" "object $two 3" "object $one 3"
+}
+
+# A pipe gives its lines once.
+case_a_terminal_gets_which_line_of_a_pipe_is_refused() {
+    command -v script > /dev/null || return 0
+    on_terminal 'echo none | git2show serve --repo /dev/stdin --pack empty.pack'
+    explained 'BadRepo at 1' 'line 1 of `/dev/stdin`, which cannot be read again'
+}
+
+# refused_script REASON LINE..: that the last of these lines of a script is refused, and why.
+refused_script() {
+    local reason=$1
+    shift
+    printf '%s\n' "$@" > script
+    on_terminal 'git2show fetch --script script --pack pack'
+    explained "BadScript at $#" "line $# of \`script\`: $reason"
+}
+
+case_a_terminal_gets_why_a_line_of_a_script_is_refused() {
+    local no_name='is no object name of sha1, 40 hexadecimal digits'
+    command -v script > /dev/null || return 0
+    refused_script '`push` is no command, `ls-refs`, `fetch` or `object-info`' push
+    refused_script '`done` is no command, `ls-refs`, `fetch` or `object-info`' fetch 'done' '' 'done'
+    refused_script '`peel` is no argument of `fetch`' ls-refs peel '' '' fetch 'done' peel
+    refused_script "\`v1\` $no_name" fetch 'want v1'
+    refused_script '`v1` is no reference name, `HEAD` or one below `refs/`' fetch 'want-ref v1'
+    refused_script '`0` is no number that is allowed there' fetch 'deepen 0'
+    refused_script 'the value of `filter` is empty or too long' fetch 'filter '
+    printf '%s\n' object-info "oid $one" > script
+    echo 'format sha256' > none.repo
+    on_terminal 'git2show play --repo none.repo --pack empty.pack --script script'
+    explained 'BadScript at 2' "line 2 of \`script\`: \`$one\` is no object name of sha256, 64 hexadecimal digits"
+}

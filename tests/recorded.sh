@@ -146,6 +146,46 @@ case_check_takes_sessions_without_a_state() {
     checks --stateless
 }
 
+# What comes before the protocol is cut off as git2show(1) has it: the greeting of the client.
+case_check_takes_what_comes_after_a_greeting() {
+    cat > bin/recorded-daemon << END
+#!/bin/sh
+tee '$room/greeted' | git daemon --inetd --export-all --base-path='$room' | tee '$room/responses'
+END
+    chmod +x bin/recorded-daemon
+    rm -rf ours packs
+    GIT_TRACE_PACKFILE=$room/packs GIT_PROXY_COMMAND=$room/bin/recorded-daemon run git -c protocol.version=2 clone -q git://nowhere/history-sha1 ours
+    expect_status 0
+    run git2show check greeted responses
+    expect_status 1
+    tail -c +$((0x$(head -c 4 greeted) + 1)) greeted > requests
+    checks
+    expect_line 'the transcript' 'request fetch' transcript
+}
+
+# And what a web server may say before its advertisement. The bodies of the answers end with a flush.
+case_check_takes_the_bodies_of_http() {
+    start_web
+    cat > bin/watched-backend << END
+#!/bin/sh
+cd '$room'
+tee -a requests | '$top/examples/http-backend.sh' > answer
+sed '1,/^\r\$/d' answer >> announced
+cat answer
+END
+    rm -rf ours packs requests
+    printf '001e# service=git-upload-pack\n0000' > announced
+    GIT_TRACE_PACKFILE=$room/packs run git -c protocol.version=2 clone -q "$web/history-sha1" ours
+    expect_status 0
+    run git2show check requests announced
+    expect_status 1
+    tail -c +$((0x$(head -c 4 announced) + 5)) announced > responses
+    checks
+    expect_line 'the transcript' 'request fetch' transcript
+    run git2show check --stateless requests responses
+    expect_status 1
+}
+
 case_check_tells_an_error_of_the_server() {
     git init -q ours
     recorded -C ours fetch -q 'ext::record history-sha1' "$(printf 'f%.0s' {1..40})"

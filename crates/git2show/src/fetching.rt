@@ -3,12 +3,14 @@
 ghost use Rattle.std.specs.Prelude.{◌≡◌, true, false};
 ghost use Rattle.git_client.specs.Machine.Client.{wants_input};
 
+use crate::failures::{Failure, Stream, Watched};
+use crate::pack_file::PackFile;
 use crate::remote_lines::RemoteLines;
-use crate::{PIECE, TURNS, ending_of, file_fault, format_of, read_requests};
+use crate::{PIECE, TURNS, ending_of, format_of, read_requests};
 use clap::ArgMatches;
 use git_client::{Client, converse};
 use git_msg::Request;
-use git_pkt::{Discard, Output, Retries, RunFault, Told, escape_into};
+use git_pkt::{Discard, Output, Retries, Told, escape_into};
 use git2show_lib::ProgramFault;
 use std::alloc::Global;
 use std::fs::File;
@@ -21,17 +23,50 @@ const PART: usize = 256;
 const SHOWN: usize = 4 * PART;
 
 /// Sends the requests of the script that is named on standard output, and receives the answers on standard input. What comes of packs
-/// goes to the file that is named, and the transcript to one too, or to standard error. Where the command line asks for it, or
-/// standard error is a terminal, the server's progress is shown there.
-pub(crate) fn run_fetch(rt: &HostRuntime, matches: &ArgMatches<'_>) -> Result<(), ProgramFault> {
+/// goes to the file that is named, which stays as it was where the run fails, and the transcript to one too, or to standard error.
+/// Where the command line asks for it, or standard error is a terminal, the server's progress is shown there.
+pub(crate) fn run_fetch(rt: &HostRuntime, matches: &ArgMatches<'_>) -> Result<(), Failure> {
     let requests = read_requests(rt, matches, format_of(matches))?;
-    let pack = create(rt, matches.get_str("pack").unwrap_or(""))?;
+    let path = matches.get_str("pack").unwrap_or("");
+    let PackFile { file, part } = PackFile::open(rt, path).map_err(pack_failure)?;
+    let done = fetch_into(rt, matches, requests, file);
+    let Some(part) = part else {
+        return done;
+    };
+    match done {
+        Ok(()) => part.finish(rt).map_err(pack_failure),
+        Err(failure) => {
+            part.remove(rt);
+            Err(failure)
+        }
+    }
+}
+
+/// What is reported of a pack that cannot be made, or put in its place.
+fn pack_failure(error: io::Error) -> Failure {
+    Failure::of_file("pack", error)
+}
+
+/// Sends the requests in their order, and writes what comes of packs, and the transcript to where the command line says.
+fn fetch_into(
+    rt: &HostRuntime,
+    matches: &ArgMatches<'_>,
+    requests: Vec<Request<Global>>,
+    pack: File,
+) -> Result<(), Failure> {
     match matches.get_str("transcript") {
         Some(path) => {
-            let transcript = create(rt, path)?;
+            let transcript = File::create(rt, path).map_err(|error| Failure::of_file(
+                "transcript",
+                error,
+            ))?;
+            let transcript = Watched::new(Stream::File("transcript"), buffered(rt, transcript)?);
             fetch(rt, matches, requests, pack, transcript)
         }
-        None => fetch(rt, matches, requests, pack, rt.stderr()),
+        None => {
+            let transcript = Watched::new(Stream::Error, buffered(rt, rt.stderr())?);
+            fetch(rt, matches, requests, pack, transcript)
+        }
     }
 }
 
@@ -42,10 +77,9 @@ fn fetch<O: Write + Drop>(
     matches: &ArgMatches<'_>,
     requests: Vec<Request<Global>>,
     pack: File,
-    transcript: O,
-) -> Result<(), ProgramFault> {
+    transcript: Watched<O>,
+) -> Result<(), Failure> {
     let mut client = Client::new(format_of(matches), ending_of(matches));
-    let transcript = buffered(rt, transcript)?;
     let done = if matches.get_flag("progress") || rt.stderr().is_terminal() {
         let mut lines = RemoteLines::new(buffered(rt, rt.stderr())?);
         let mut progress = Told::new(&mut lines);
@@ -58,7 +92,7 @@ fn fetch<O: Write + Drop>(
     if let Some(message) = client.message() {
         let _ = tell_message(rt, message);
     }
-    Ok(done?)
+    done
 }
 
 /// Sends the requests on standard output, and receives the answers on standard input.
@@ -67,33 +101,34 @@ fn ask_all<O: Write + Drop, E: Output>(
     client: &mut Client<Global>,
     requests: Vec<Request<Global>>,
     pack: File,
-    transcript: O,
+    mut transcript: Watched<O>,
     progress: &mut E,
-) -> Result<(), RunFault>
+) -> Result<(), Failure>
     requires waits { wants_input client.old ≡ true }
     requires sound { E.failed progress.old ≡ false }
 {
-    converse(
-        &mut Told::new(Retries::new(rt.stdin())),
-        &mut Told::new(rt.stdout()),
+    let mut input = Watched::new(Stream::Input, Retries::new(rt.stdin()));
+    let mut output = Watched::new(Stream::Output, rt.stdout());
+    let mut pack = Watched::new(Stream::File("pack"), pack);
+    let done = converse(
+        &mut Told::new(&mut input),
+        &mut Told::new(&mut output),
         &mut [0; PIECE],
         client,
         requests,
-        &mut Told::new(transcript),
-        &mut Told::new(pack),
+        &mut Told::new(&mut transcript),
+        &mut Told::new(&mut pack),
         progress,
         TURNS,
-    )
+    );
+    let wire = input.failed_call().or(output.failed_call());
+    let files = transcript.failed_call().or(pack.failed_call());
+    done.map_err(|fault| Failure::of_run(fault, wire.or(files)))
 }
 
 /// A writer over this one that passes on what it has at each flush, and before that only by large pieces.
 fn buffered<O: Write + Drop>(rt: &HostRuntime, inner: O) -> Result<BufWriter<O>, ProgramFault> {
     BufWriter::with_capacity(rt.alloc(), PIECE, inner).map_err(|_| ProgramFault::OutOfMemory)
-}
-
-/// Makes the file of this name, or empties the one that is there.
-fn create(rt: &HostRuntime, path: &str) -> Result<File, ProgramFault> {
-    File::create(rt, path).map_err(file_fault)
 }
 
 /// Writes a server's message on one line of standard error, without the line feed at its end, and each byte as `show` shows it.

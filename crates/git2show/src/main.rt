@@ -3,10 +3,17 @@
 
 ghost use Rattle.std.specs.Prelude.{◌<◌};
 
+mod explanations;
+mod failures;
 mod fetching;
+mod line_reasons;
 mod one_request;
+mod pack_file;
+mod reasons;
 mod remote_lines;
 
+use crate::explanations::explain;
+use crate::failures::{Cause, FailedCall, Failure, Stream, Watched};
 use crate::fetching::run_fetch;
 use crate::one_request::take_request;
 use clap::error::ErrorKind;
@@ -20,7 +27,7 @@ use git_server::{ListRepo, Outcome, Repo, Server, serve};
 use git2show_lib::{ProgramFault, check, play, read_script, report, show};
 use std::alloc::{AllocError, Global};
 use std::fs::File;
-use std::io::{BufWriter, Read, Stdout};
+use std::io::{BufWriter, IsTerminal, Read, Stdout};
 use std::process::ExitCode;
 use std::{env, fs, io};
 
@@ -42,7 +49,8 @@ const BAD_COMMAND_LINE: u8 = 2;
 /// The text below the list of commands: what a status means, and the one fault line whose word needs it.
 const STATUSES: &str =
     "Status: 0 where all went well; 1 with one line on standard error where a stream or a file is at fault; 2 where the command line is.
-A fault is told by name and offset. `File` alone is a file that cannot be opened, or a text, pack or script that cannot be read.";
+A fault is reported by name and offset, and on a terminal a second line says more.
+`File` alone is a file that cannot be opened or made, or a text, pack or script that cannot be read.";
 
 /// The object formats, as the command line names them.
 static FORMATS: [&str; 2] = ["sha1", "sha256"];
@@ -84,7 +92,7 @@ fn check_command<'a>(alloc: Global) -> Result<Command<'a>, AllocError> {
         .arg(format_argument(alloc))?
         .arg(stateless_argument(
             alloc,
-            "Each response ends with a response-end packet, as where each has its own connection",
+            "Each response ends with a response-end packet, as Git's helper for HTTP gives it to Git",
         ))
 }
 
@@ -136,7 +144,7 @@ fn fetch_command<'a>(alloc: Global) -> Result<Command<'a>, AllocError> {
         .arg(format_argument(alloc))?
         .arg(stateless_argument(
             alloc,
-            "Each response ends with a response-end packet, as where each has its own connection",
+            "Each response ends with a response-end packet, as Git's helper for HTTP gives it to Git",
         ))
 }
 
@@ -209,31 +217,49 @@ fn flag_argument<'a>(alloc: Global, name: &'a str) -> Arg<'a> {
 }
 
 /// Shows the packets of standard input.
-fn run_show(rt: &HostRuntime) -> Result<(), ProgramFault> {
-    let mut reader = Told::new(Retries::new(rt.stdin()));
-    let mut writer = Told::new(rt.stdout());
+fn run_show(rt: &HostRuntime) -> Result<(), Failure> {
+    let mut input = Watched::new(Stream::Input, Retries::new(rt.stdin()));
+    let mut output = Watched::new(Stream::Output, rt.stdout());
     let mut piece = [0; PIECE];
-    Ok(show(&mut reader, &mut writer, &mut piece, TURNS)?)
+    let done = show(
+        &mut Told::new(&mut input),
+        &mut Told::new(&mut output),
+        &mut piece,
+        TURNS,
+    );
+    done.map_err(|fault| Failure::of_run(fault, input.failed_call().or(output.failed_call())))
 }
 
 /// Checks the two files that are named, and writes the transcript to standard output.
-fn run_check(rt: &HostRuntime, matches: &ArgMatches<'_>) -> Result<(), ProgramFault> {
-    let mut requests = Told::new(Retries::new(open(rt, matches, "REQUESTS")?));
-    let mut responses = Told::new(Retries::new(open(rt, matches, "RESPONSES")?));
-    let mut out = Told::new(buffered_output(rt)?);
+fn run_check(rt: &HostRuntime, matches: &ArgMatches<'_>) -> Result<(), Failure> {
+    let mut requests = watched_file(rt, matches, "REQUESTS")?;
+    let mut responses = watched_file(rt, matches, "RESPONSES")?;
+    let mut output = buffered_output(rt)?;
     let mut piece = [0; PIECE];
     let mut other_piece = [0; PIECE];
-    Ok(check(
+    let done = check(
         rt.alloc(),
-        &mut requests,
-        &mut responses,
+        &mut Told::new(&mut requests),
+        &mut Told::new(&mut responses),
         format_of(matches),
         ending_of(matches),
         &mut piece,
         &mut other_piece,
-        &mut out,
+        &mut Told::new(&mut output),
         TURNS,
-    )?)
+    );
+    let inputs = requests.failed_call().or(responses.failed_call());
+    done.map_err(|fault| Failure::of_run(fault, inputs.or(output.failed_call())))
+}
+
+/// Opens the file that an argument names, to be read by pieces.
+fn watched_file(
+    rt: &HostRuntime,
+    matches: &ArgMatches<'_>,
+    argument: &'static str,
+) -> Result<Watched<Retries<File>>, Failure> {
+    let file = open(rt, matches, argument)?;
+    Ok(Watched::new(Stream::File(argument), Retries::new(file)))
 }
 
 /// The object format, by the command line.
@@ -253,25 +279,22 @@ fn ending_of(matches: &ArgMatches<'_>) -> Ending {
 }
 
 /// Opens the file that an argument names.
-fn open(rt: &HostRuntime, matches: &ArgMatches<'_>, argument: &str) -> Result<File, ProgramFault> {
+fn open(
+    rt: &HostRuntime,
+    matches: &ArgMatches<'_>,
+    argument: &'static str,
+) -> Result<File, Failure> {
     let path = matches.get_str(argument).unwrap_or("");
-    File::open(rt, path).map_err(file_fault)
-}
-
-/// What is reported of a file that cannot be opened or read.
-fn file_fault(error: io::Error) -> ProgramFault {
-    match error.kind() {
-        io::ErrorKind::OutOfMemory => ProgramFault::OutOfMemory,
-        _ => ProgramFault::File,
-    }
+    File::open(rt, path).map_err(|error| Failure::of_file(argument, error))
 }
 
 /// Standard output, where what is written goes out by large pieces and at each flush. The buffer is no longer than the longest packet,
 /// which is so written from where it lies.
-fn buffered_output(rt: &HostRuntime) -> Result<BufWriter<Stdout>, ProgramFault> {
-    BufWriter::with_capacity(rt.alloc(), LONGEST_PACKET, rt.stdout()).map_err(
-        |_| ProgramFault::OutOfMemory,
-    )
+fn buffered_output(rt: &HostRuntime) -> Result<Watched<BufWriter<Stdout>>, ProgramFault> {
+    match BufWriter::with_capacity(rt.alloc(), LONGEST_PACKET, rt.stdout()) {
+        Ok(output) => Ok(Watched::new(Stream::Output, output)),
+        Err(_) => Err(ProgramFault::OutOfMemory),
+    }
 }
 
 /// What a server is to send.
@@ -307,7 +330,7 @@ fn limits_of(matches: &ArgMatches<'_>) -> Limits {
 }
 
 /// Serves the repository whose files are named, on standard input and output.
-fn run_serve(rt: &HostRuntime, matches: &ArgMatches<'_>) -> Result<(), ProgramFault> {
+fn run_serve(rt: &HostRuntime, matches: &ArgMatches<'_>) -> Result<(), Failure> {
     let repo = read_repository(rt, matches)?;
     let offer = Offer::everything(repo.format());
     let service = service_of(matches);
@@ -328,12 +351,13 @@ fn run_serve(rt: &HostRuntime, matches: &ArgMatches<'_>) -> Result<(), ProgramFa
 fn take_one_request(
     rt: &HostRuntime,
     server: &mut Server<ListRepo, Global>,
-) -> Result<(), RunFault> {
+) -> Result<(), Failure> {
     if !server.wants_input() {
         return Ok(());
     }
-    let mut reader = Told::new(Retries::new(rt.stdin()));
-    take_request(&mut reader, &mut [0; PIECE], server, TURNS)
+    let mut input = Watched::new(Stream::Input, Retries::new(rt.stdin()));
+    let taken = take_request(&mut Told::new(&mut input), &mut [0; PIECE], server, TURNS);
+    taken.map_err(|fault| Failure::of_run(fault, input.failed_call()))
 }
 
 /// Writes what the server owes on standard output, and answers what so many reads of standard input bring.
@@ -341,20 +365,22 @@ fn answer(
     rt: &HostRuntime,
     server: &mut Server<ListRepo, Global>,
     turns: u64,
-) -> Result<(), ProgramFault> {
-    let mut reader = Told::new(Retries::new(rt.stdin()));
-    let mut writer = Told::new(buffered_output(rt)?);
-    match serve(&mut reader, &mut writer, &mut [0; PIECE], server, turns) {
-        Ok(Outcome::Flush | Outcome::Closed) => Ok(()),
-        Ok(Outcome::Refused(fault)) => Err(RunFault::Refused(fault).into()),
-        Err(RunFault::ReadLimit) if turns == 0 => Ok(()),
-        Err(fault) => Err(fault.into()),
-    }
+) -> Result<(), Failure> {
+    let mut input = Watched::new(Stream::Input, Retries::new(rt.stdin()));
+    let mut output = buffered_output(rt)?;
+    let (reader, writer) = (&mut Told::new(&mut input), &mut Told::new(&mut output));
+    let fault = match serve(reader, writer, &mut [0; PIECE], server, turns) {
+        Ok(Outcome::Flush | Outcome::Closed) => return Ok(()),
+        Ok(Outcome::Refused(fault)) => RunFault::Refused(fault),
+        Err(RunFault::ReadLimit) if turns == 0 => return Ok(()),
+        Err(fault) => fault,
+    };
+    Err(Failure::of_run(fault, input.failed_call().or(output.failed_call())))
 }
 
 /// Plays the script that is named over the repository whose files are named, and writes the transcript to standard output. All
 /// files are read before one of them is judged.
-fn run_play(rt: &HostRuntime, matches: &ArgMatches<'_>) -> Result<(), ProgramFault> {
+fn run_play(rt: &HostRuntime, matches: &ArgMatches<'_>) -> Result<(), Failure> {
     let text = read_text(rt, open(rt, matches, "repo")?)?;
     let packs = read_packs(rt, matches)?;
     let script = read_whole(rt, matches, "script")?;
@@ -369,17 +395,18 @@ fn play_requests(
     matches: &ArgMatches<'_>,
     repo: ListRepo,
     requests: Vec<Request<Global>>,
-) -> Result<(), ProgramFault> {
-    let mut out = Told::new(buffered_output(rt)?);
-    Ok(play(
+) -> Result<(), Failure> {
+    let mut output = buffered_output(rt)?;
+    let done = play(
         rt.alloc(),
         repo,
         requests,
         cut_of(matches),
         ending_of(matches),
-        &mut out,
+        &mut Told::new(&mut output),
         &mut Discard,
-    )?)
+    );
+    done.map_err(|fault| Failure::of_run(fault, output.failed_call()))
 }
 
 /// How many bytes go over at a time, by the command line. clap refuses 0 and more than the longest, which is tested once more for the
@@ -399,7 +426,7 @@ fn read_requests(
     rt: &HostRuntime,
     matches: &ArgMatches<'_>,
     format: Format,
-) -> Result<Vec<Request<Global>>, ProgramFault> {
+) -> Result<Vec<Request<Global>>, Failure> {
     let script = read_whole(rt, matches, "script")?;
     judge_script(rt.alloc(), &script, format)
 }
@@ -409,25 +436,28 @@ fn judge_script(
     alloc: Global,
     script: &[u8],
     format: Format,
-) -> Result<Vec<Request<Global>>, ProgramFault> {
+) -> Result<Vec<Request<Global>>, Failure> {
     match read_script(alloc, script, format, Limits::DEFAULT) {
         Ok(requests) => Ok(requests),
-        Err(TextFault::Bad { line }) => Err(ProgramFault::Script(line)),
-        Err(TextFault::OutOfMemory) => Err(ProgramFault::OutOfMemory),
+        Err(TextFault::Bad { line }) => Err(Failure {
+            fault: ProgramFault::Script(line),
+            cause: Cause::ScriptLine(format),
+        }),
+        Err(TextFault::OutOfMemory) => Err(ProgramFault::OutOfMemory.into()),
     }
 }
 
 /// Reads the files of a repository: its text by pieces, and its packs whole.
-fn read_repository(rt: &HostRuntime, matches: &ArgMatches<'_>) -> Result<ListRepo, ProgramFault> {
+fn read_repository(rt: &HostRuntime, matches: &ArgMatches<'_>) -> Result<ListRepo, Failure> {
     let text = read_text(rt, open(rt, matches, "repo")?)?;
-    judge_repository(text, read_packs(rt, matches)?)
+    Ok(judge_repository(text, read_packs(rt, matches)?)?)
 }
 
 /// Reads the pack, and then the one for requests that have a filter, where a file is named for it.
-fn read_packs(rt: &HostRuntime, matches: &ArgMatches<'_>) -> Result<Packs, ProgramFault> {
+fn read_packs(rt: &HostRuntime, matches: &ArgMatches<'_>) -> Result<Packs, Failure> {
     let pack = read_whole(rt, matches, "pack")?;
     let filtered = match matches.get_str("filtered") {
-        Some(path) => Some(fs::read(rt, path).map_err(file_fault)?),
+        Some(_) => Some(read_whole(rt, matches, "filtered")?),
         None => None,
     };
     Ok(Packs { pack, filtered })
@@ -443,7 +473,7 @@ fn judge_repository(text: RepositoryReader, packs: Packs) -> Result<ListRepo, Pr
 }
 
 /// Reads the text of a repository by pieces.
-fn read_text(rt: &HostRuntime, file: File) -> Result<RepositoryReader, ProgramFault> {
+fn read_text(rt: &HostRuntime, file: File) -> Result<RepositoryReader, Failure> {
     let mut file = Retries::new(file);
     let mut reader = RepositoryReader::new(rt.alloc());
     let mut piece = [0; PIECE];
@@ -452,7 +482,7 @@ fn read_text(rt: &HostRuntime, file: File) -> Result<RepositoryReader, ProgramFa
             return Ok(reader);
         }
     }
-    Err(ProgramFault::File)
+    Err(ProgramFault::File.into())
 }
 
 /// Reads the next piece of the text of a repository. Answers whether there was one.
@@ -460,8 +490,10 @@ fn read_piece(
     file: &mut Retries<File>,
     piece: &mut [u8],
     reader: &mut RepositoryReader,
-) -> Result<bool, ProgramFault> {
-    let count = file.read(piece).map_err(file_fault)?;
+) -> Result<bool, Failure> {
+    let count = file
+        .read(piece)
+        .map_err(|error| Failure::of_file("repo", error))?;
     if count == 0 {
         return Ok(false);
     }
@@ -475,26 +507,29 @@ fn read_piece(
 fn read_whole(
     rt: &HostRuntime,
     matches: &ArgMatches<'_>,
-    argument: &str,
-) -> Result<Vec<u8>, ProgramFault> {
+    argument: &'static str,
+) -> Result<Vec<u8>, Failure> {
     let path = matches.get_str(argument).unwrap_or("");
-    fs::read(rt, path).map_err(file_fault)
+    fs::read(rt, path).map_err(|error| Failure::of_file(argument, error))
 }
 
 /// Does what the command line asks for. Answers the status.
 fn run(rt: &HostRuntime, matches: &ArgMatches<'_>) -> u8 {
-    let done = match matches.subcommand() {
-        Some(("show", _)) => run_show(rt),
-        Some(("check", words)) => run_check(rt, words),
-        Some(("serve", words)) => run_serve(rt, words),
-        Some(("fetch", words)) => run_fetch(rt, words),
-        Some(("play", words)) => run_play(rt, words),
+    let Some((name, words)) = matches.subcommand() else {
+        return BAD_COMMAND_LINE;
+    };
+    let done = match name {
+        "show" => run_show(rt),
+        "check" => run_check(rt, words),
+        "serve" => run_serve(rt, words),
+        "fetch" => run_fetch(rt, words),
+        "play" => run_play(rt, words),
         // clap takes no other word for a command.
         _ => return BAD_COMMAND_LINE,
     };
     match done {
         Ok(()) => 0,
-        Err(fault) => tell_fault(rt, fault),
+        Err(failure) => tell_failure(rt, Some(words), &failure),
     }
 }
 
@@ -556,10 +591,24 @@ fn tell(rt: &HostRuntime, error: NotTaken) -> u8 {
             }
             match printed {
                 Ok(()) => 0,
-                Err(_) => tell_fault(rt, ProgramFault::Run(RunFault::WriteFault)),
+                Err(error) => {
+                    let stream = Stream::Output;
+                    let call = Some(FailedCall { stream, error });
+                    tell_failure(rt, None, &Failure::of_run(RunFault::WriteFault, call))
+                }
             }
         }
     }
+}
+
+/// Reports a failure: by its fault's line and, where standard error is a terminal, by a second one that says more. The words are those
+/// after the command, where the command line was taken. Answers the status.
+fn tell_failure(rt: &HostRuntime, words: Option<&ArgMatches<'_>>, failure: &Failure) -> u8 {
+    let status = tell_fault(rt, failure.fault);
+    if rt.stderr().is_terminal() {
+        let _ = explain(rt, words, failure);
+    }
+    status
 }
 
 /// Writes a fault's line on standard error. Answers the status.

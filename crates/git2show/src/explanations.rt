@@ -1,0 +1,119 @@
+//! What a second line says in words of the fault that the first one names.
+
+use crate::PIECE;
+use crate::failures::{Cause, FailedCall, Failure, Stream};
+use crate::line_reasons::{repository_reason, script_reason};
+use crate::reasons::Shown;
+use clap::ArgMatches;
+use git_names::Format;
+use git_pkt::Retries;
+use git2show_lib::ProgramFault;
+use std::fmt::{self, Display, Formatter};
+use std::fs::{self, File};
+use std::io::{self, Read};
+
+/// A text whose lines are judged.
+#[derive(Clone, Copy, Debug)]
+enum Text {
+    Repository,
+    Script(Format),
+}
+
+/// Prints on standard error what is known of a failure beside its name: which file or stream it is, and what the system reported, or
+/// which word of a line is refused, and why. The words are those after the command, where the command line was taken.
+pub(crate) fn explain(
+    rt: &HostRuntime,
+    words: Option<&ArgMatches<'_>>,
+    failure: &Failure,
+) -> io::Result<()> {
+    match (failure.fault, failure.cause) {
+        (ProgramFault::Repo(number), _) => {
+            explain_line(rt, path_of(words, "repo"), number, Text::Repository)
+        }
+        (ProgramFault::Script(number), Cause::ScriptLine(format)) => {
+            explain_line(rt, path_of(words, "script"), number, Text::Script(format))
+        }
+        (_, Cause::Call(call)) => explain_call(rt, words, call),
+        _ => Ok(()),
+    }
+}
+
+/// The file that an argument names.
+fn path_of<'a>(words: Option<&'a ArgMatches<'_>>, argument: &str) -> &'a str {
+    match words {
+        Some(words) => words.get_str(argument).unwrap_or(""),
+        None => "",
+    }
+}
+
+/// Prints why a line of a file is refused.
+fn explain_line(rt: &HostRuntime, path: &str, number: u64, text: Text) -> io::Result<()> {
+    let shown = Shown(path.as_bytes());
+    let Ok(bytes) = read_again(rt, path, number) else {
+        return eprintln!(rt; "line {number} of {shown}, which cannot be read again");
+    };
+    let reason = match text {
+        Text::Repository => repository_reason(&bytes, number),
+        Text::Script(format) => script_reason(format, &bytes, number),
+    };
+    eprintln!(rt; "line {number} of {shown}: {reason}")
+}
+
+/// Reads a file once more, up to this line and a piece of it at least. What is no regular file, as a pipe, cannot be read again.
+fn read_again(rt: &HostRuntime, path: &str, number: u64) -> io::Result<Vec<u8>> {
+    if !fs::metadata(rt, path)?.is_file() {
+        return Err(io::ErrorKind::NotSeekable.into());
+    }
+    let mut file = Retries::new(File::open(rt, path)?);
+    let mut text = Vec::new(rt.alloc());
+    let mut piece = [0; PIECE];
+    // How many lines before it have not ended.
+    let mut missing = number.saturating_sub(1);
+    for _ in 0..u64::MAX {
+        let has_come = missing == 0;
+        let count = file.read(&mut piece)?;
+        text.extend_from_slice(&piece[..count])?;
+        if count == 0 || has_come {
+            break;
+        }
+        missing = missing.saturating_sub(count_lines(&piece[..count]));
+    }
+    Ok(text)
+}
+
+/// How many lines end in a piece of a text.
+fn count_lines(piece: &[u8]) -> u64 {
+    piece.iter().filter(|byte| **byte == b'\n').count() as u64
+}
+
+/// Prints what the system reported of a call.
+fn explain_call(
+    rt: &HostRuntime,
+    words: Option<&ArgMatches<'_>>,
+    call: FailedCall,
+) -> io::Result<()> {
+    let report = Report(call.error);
+    match call.stream {
+        Stream::File(argument) => {
+            let path = Shown(path_of(words, argument).as_bytes());
+            eprintln!(rt; "{path}: {report}")
+        }
+        Stream::Input => eprintln!(rt; "standard input: {report}"),
+        Stream::Output => eprintln!(rt; "standard output: {report}"),
+        Stream::Error => eprintln!(rt; "standard error: {report}"),
+    }
+}
+
+/// What the system reported, in words.
+#[derive(Clone, Copy, Debug)]
+struct Report(io::Error);
+
+impl Display for Report {
+    fn fmt<W: fmt::Write>(&self, f: &mut Formatter<W>) -> fmt::Result {
+        match self.0.kind() {
+            io::ErrorKind::BrokenPipe => write!(f, "closed by the reader"),
+            io::ErrorKind::StorageFull => write!(f, "no space left"),
+            _ => Display::fmt(&self.0, f),
+        }
+    }
+}

@@ -1,0 +1,153 @@
+//! Why a command failed, and what is known of it beside the fault that is reported.
+
+use git_names::Format;
+use git_pkt::RunFault;
+use git2show_lib::{CheckFault, ProgramFault};
+use std::io::{self, Read, Write};
+
+/// Why a command failed.
+#[derive(Debug, Drop)]
+pub(crate) struct Failure {
+    /// The fault that is reported.
+    pub(crate) fault: ProgramFault,
+    /// What is known of its cause.
+    pub(crate) cause: Cause,
+}
+
+/// What is known of the cause of a fault.
+#[derive(Clone, Copy, Debug)]
+pub(crate) enum Cause {
+    /// Nothing but its name.
+    Unknown,
+    /// A call on a file or a stream failed.
+    Call(FailedCall),
+    /// A line of a script for this object format is refused.
+    ScriptLine(Format),
+}
+
+/// A call on a file or a stream that failed, by what the system reported.
+#[derive(Clone, Copy, Debug)]
+pub(crate) struct FailedCall {
+    pub(crate) stream: Stream,
+    pub(crate) error: io::Error,
+}
+
+/// What the program reads or writes.
+#[derive(Clone, Copy, Debug)]
+pub(crate) enum Stream {
+    /// The file that the argument of this name names.
+    File(&'static str),
+    /// Standard input.
+    Input,
+    /// Standard output.
+    Output,
+    /// Standard error.
+    Error,
+}
+
+impl Failure {
+    /// A file that an argument names cannot be opened, made, read or put in its place.
+    pub(crate) fn of_file(argument: &'static str, error: io::Error) -> Failure {
+        let fault = match error.kind() {
+            io::ErrorKind::OutOfMemory => ProgramFault::OutOfMemory,
+            _ => ProgramFault::File,
+        };
+        let stream = Stream::File(argument);
+        Failure {
+            fault,
+            cause: Cause::Call(FailedCall { stream, error }),
+        }
+    }
+
+    /// A run over streams ended early. The call is one on them that failed, where there is one.
+    pub(crate) fn of_run<F: Into<ProgramFault> + Drop>(
+        fault: F,
+        call: Option<FailedCall>,
+    ) -> Failure {
+        let fault = fault.into();
+        let cause = match call {
+            Some(call) if names_a_call(&fault) => Cause::Call(call),
+            _ => Cause::Unknown,
+        };
+        Failure { fault, cause }
+    }
+}
+
+/// Whether the fault is that a call on a stream failed.
+fn names_a_call(fault: &ProgramFault) -> bool {
+    matches!(
+        fault,
+        ProgramFault::Run(RunFault::ReadFault | RunFault::WriteFault)
+            | ProgramFault::Check(CheckFault::ReadFault | CheckFault::WriteFault)
+    )
+}
+
+impl From<ProgramFault> for Failure {
+    fn from(fault: ProgramFault) -> Failure {
+        Failure {
+            fault,
+            cause: Cause::Unknown,
+        }
+    }
+}
+
+/// A reader or a writer that keeps what the system reported of the last call that failed, but for one that was interrupted, which is
+/// made again.
+#[derive(Debug, Drop)]
+pub(crate) struct Watched<T> {
+    inner: T,
+    stream: Stream,
+    error: Option<io::Error>,
+}
+
+impl<T> Watched<T> {
+    /// Wraps what reads or writes this stream.
+    pub(crate) fn new(stream: Stream, inner: T) -> Watched<T> {
+        Watched {
+            inner,
+            stream,
+            error: None,
+        }
+    }
+
+    /// The last call that failed.
+    pub(crate) fn failed_call(&self) -> Option<FailedCall> {
+        let error = self.error?;
+        let stream = self.stream;
+        Some(FailedCall { stream, error })
+    }
+
+    fn keep(&mut self, error: io::Error) {
+        if error.kind() != io::ErrorKind::Interrupted {
+            self.error = Some(error);
+        }
+    }
+}
+
+impl<R: Read> Read for Watched<R> {
+    fn read(&mut self, buf: &mut [u8]) -> io::Result<usize> {
+        let read = self.inner.read(buf);
+        if let Err(error) = &read {
+            self.keep(*error);
+        }
+        read
+    }
+}
+
+impl<W: Write> Write for Watched<W> {
+    fn write(&mut self, buf: &[u8]) -> io::Result<usize> {
+        let written = self.inner.write(buf);
+        if let Err(error) = &written {
+            self.keep(*error);
+        }
+        written
+    }
+
+    fn flush(&mut self) -> io::Result<()> {
+        let flushed = self.inner.flush();
+        if let Err(error) = &flushed {
+            self.keep(*error);
+        }
+        flushed
+    }
+}
