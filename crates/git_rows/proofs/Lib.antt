@@ -1,0 +1,2 @@
+pub mod OpenRests
+pub mod WrittenPackets

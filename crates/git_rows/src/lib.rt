@@ -1,0 +1,5 @@
+//! Worked rows: each definition that the contracts rest on, at concrete bytes where it holds and at others where it does not.
+//! Each row is the contract of a function that does nothing.
+#![tactic(auto)]
+
+pub mod packets;
