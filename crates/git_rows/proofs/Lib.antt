@@ -1,2 +1,4 @@
+pub mod NamesByComputing
+pub mod ObjectNamesByComputing
 pub mod OpenRests
 pub mod WrittenPackets

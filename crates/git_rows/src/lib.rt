@@ -2,4 +2,5 @@
 //! Each row is the contract of a function that does nothing.
 #![tactic(auto)]
 
+pub mod names;
 pub mod packets;
