@@ -1,9 +1,10 @@
 -- Which texts are names, by computing.
-use Rattle.std.proofs.Common.{◌≡◌, ◌≢◌, ℕ, zero, suc, ◌+◌, ◌-◌, ◌<◌, ◌≤◌, ◌==◌, Bool, true, false, not, nat_le, nat_lt, List, [], ◌∷◌, length, slice_index, codes, refl, arith, ◌&&◌, ◌||◌}
+use Rattle.std.proofs.Common.{◌≡◌, ◌≢◌, ℕ, zero, suc, ◌+◌, ◌-◌, ◌<◌, ◌≤◌, ◌==◌, Bool, true, false, not, nat_le, List, length, slice_index, codes, refl, arith, ◌&&◌}
 use Rattle.std.proofs.lemmas.Bool.{and_parts}
 use Rattle.bstr.specs.Find.{OccursAt}
 use Rattle.bstr.specs.Text.{Contains}
 use Rattle.git_names.specs.RefName.{BeginsWith, EndsWith, IsRefName, Lacks}
+use Rattle.git_rows.proofs.TextsByComputing.{differ}
 use Rattle.git_names.proofs.Tables.{all_pass, all_pass-at}
 
 -- the part is in the text at this place
@@ -144,3 +145,15 @@ name_by text begins h =
 -- a reference name that begins as all do but `HEAD`
 pub ref_by : (text : List ℕ) → is_at text (codes "refs/") 0 ≡ true → is_name text ≡ true → IsRefName text
 ref_by text begins h = name_by text (λ other. occurs text (codes "refs/") 0 begins) h
+
+-- a byte that is nowhere in a text
+pub lacks_by : (byte : ℕ) (text : List ℕ) → all_pass (λ k. not (slice_index text k == byte)) (length text) ≡ true → Lacks text byte
+lacks_by byte text h k lt e =
+    let other : not (slice_index text k == byte) ≡ true = all_pass-at (λ (i : ℕ). not (slice_index text i == byte)) (length text) k h lt in
+    grind arith
+
+pub head_is_name : IsRefName (codes "HEAD")
+head_is_name = name_by (codes "HEAD") (λ other. absurd (other refl)) refl
+
+pub main_is_none : ¬ IsRefName (codes "main")
+main_is_none h = let fits = (h.begins (differ (codes "main") (codes "HEAD") refl)).fits in omega (arith, fits)

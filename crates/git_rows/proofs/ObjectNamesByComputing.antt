@@ -1,11 +1,12 @@
 -- Which texts are object names, by computing.
-use Rattle.std.proofs.Common.{◌≡◌, ℕ, ◌+◌, ◌*◌, ◌<◌, ◌==◌, Bool, true, nat_lt, List, [], ◌∷◌, length, slice_index, refl, arith, ◌&&◌, false}
+use Rattle.std.proofs.Common.{◌≡◌, ℕ, ◌+◌, ◌*◌, ◌<◌, ◌==◌, Bool, true, nat_lt, List, [], ◌∷◌, length, refl, arith, ◌&&◌, false}
 use Rattle.std.proofs.lemmas.Bool.{and_parts}
-use Rattle.git_names.specs.Digits.{IsHexDigit, digit_value}
+use Rattle.git_names.specs.Digits.{digit_value}
 use Rattle.git_names.specs.ObjectName.{ArePairs, IsObjectName, IsPadded, ObjectName, name_bytes}
 use Rattle.git_names.specs.ObjectFormat.{digits_of}
 use Rattle.git_names.specs.declared.object_format.Format.{Format}
-use Rattle.git_names.proofs.Tables.{all_pass, all_pass-at}
+use Rattle.git_names.specs.declared.object_format.Format.TheVariants.{Sha1}
+use Rattle.git_rows.specs.Worked.{all_a, name_a}
 
 -- two digits that spell a byte
 abbrev pub is_pair : ℕ → ℕ → ℕ → Bool
@@ -46,3 +47,8 @@ object_name_by format text id count same pairs padded = record {
   pairs = pairs_by text (name_bytes id) pairs;
   padded = padded;
 }
+
+-- forty times the letter a, in lower case
+pub all_a_is_name : IsObjectName Sha1 all_a name_a
+unfolding digit_value
+all_a_is_name = object_name_by Sha1 all_a name_a refl refl refl refl

@@ -1,8 +1,14 @@
 -- How the rows write what they are about.
-use Rattle.std.specs.Prelude.{ℕ, List, ◌∷◌, ◌++◌, codes, replicate}
+use Rattle.std.specs.Prelude.{ℕ, Bool, false, List, [], Option, None, ◌∷◌, ◌++◌, codes, replicate}
+use Rattle.git_msg.specs.Advertisement.{everything}
+use Rattle.git_msg.specs.Asked.{FetchAsked, LsRefsAsked}
+use Rattle.git_msg.specs.Flags.{flags_where, pack_flags}
+use Rattle.git_msg.specs.WrittenRequest.{text_line}
+use Rattle.git_msg.specs.declared.offers.Offer.{Offer}
+use Rattle.git_msg.specs.declared.response_lines.Info.{Info}
 use Rattle.git_names.specs.ObjectName.{ObjectName}
 use Rattle.git_names.specs.declared.object_format.Format.TheVariants.{Sha1}
-use Rattle.git_pkt.specs.Packets.{Pkt}
+use Rattle.git_pkt.specs.Packets.{Pkt, delim, flush}
 use Rattle.git_pkt.specs.Splits.{Given}
 use Rattle.git_pkt.specs.declared.fault.Fault.{Fault}
 use Rattle.git_pkt.specs.declared.fault.Kind.{Kind}
@@ -37,3 +43,53 @@ name_of_garbage = record { format = Sha1; bytes = replicate 20 170 ++ replicate 
 -- the object name whose last digit is the next letter
 abbrev pub name_ab : ObjectName
 name_ab = record { format = Sha1; bytes = replicate 19 170 ++ 171 ∷ replicate 12 0 }
+
+-- all features, where object names are those of SHA-1
+abbrev pub offer_all : Offer
+offer_all = everything Sha1
+
+-- what a server has of an object
+abbrev pub info_of : ObjectName → Option ℕ → Info
+info_of id size = record { id = id; size = size }
+
+-- what a request for references asks for that has these prefixes and no flag
+abbrev pub ls_refs_of : List (List ℕ) → LsRefsAsked
+ls_refs_of prefixes = record { symrefs = false; peel = false; unborn = false; ref_prefixes = prefixes }
+
+-- what a fetch asks for that has these `want` lines and maybe `done`, and no other line
+abbrev pub fetch_of : List ObjectName → Bool → FetchAsked
+fetch_of wants is_done = record {
+  wants = wants;
+  haves = [];
+  flags = flags_where pack_flags (λ flag. false);
+  done = is_done;
+  filters = [];
+  shallows = [];
+  deepen = None;
+  deepen_relative = false;
+  deepen_since = None;
+  deepen_nots = [];
+  want_refs = [];
+}
+
+-- a request for references, from the offset 0 on
+abbrev pub ls_refs_packets : List Given
+ls_refs_packets = at 0 (text_line (codes "command=ls-refs")) ∷ at 20 flush ∷ []
+
+-- a fetch of one object without its last packets
+abbrev pub want_alone_packets : List Given
+want_alone_packets = at 0 (text_line (codes "command=fetch")) ∷ at 18 delim ∷ at 22 (text_line (codes "want " ++ all_a)) ∷ []
+
+-- a fetch of one object, which is done
+abbrev pub fetch_done_packets : List Given
+fetch_done_packets = want_alone_packets ++ at 72 (text_line (codes "done")) ∷ at 81 flush ∷ []
+
+-- a fetch of nothing
+abbrev pub no_want_packets : List Given
+no_want_packets = at 0 (text_line (codes "command=fetch")) ∷ at 18 delim ∷ at 22 (text_line (codes "done")) ∷ at 31 flush ∷ []
+
+-- a request for references with three arguments, of which the first two have 26 bytes
+abbrev pub three_argument_packets : List Given
+three_argument_packets =
+    at 0 (text_line (codes "command=ls-refs")) ∷ at 20 delim ∷ at 24 (text_line (codes "peel"))
+    ∷ at 33 (text_line (codes "ref-prefix refs/heads/")) ∷ at 60 (text_line (codes "symrefs")) ∷ []

@@ -1,4 +1,4 @@
-use Rattle.std.proofs.Common.{◌∷◌, [], ◌++◌, codes, refl, arith}
+use Rattle.std.proofs.Common.{codes, refl, arith}
 use Rattle.git_rows.proofs.NamesByComputing.{ends, occurs}
 use Rattle.git_rows.proofs.names.texts_that_are_no_reference_names.Goals as goal
 
