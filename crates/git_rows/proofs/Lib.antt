@@ -3,6 +3,7 @@ pub mod NamesByComputing
 pub mod ObjectNamesByComputing
 pub mod NumbersByComputing
 pub mod OpenRests
+pub mod ReceivedPackets
 pub mod RequestLines
 pub mod TextsByComputing
 pub mod WrittenPackets

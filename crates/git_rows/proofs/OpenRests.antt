@@ -1,10 +1,11 @@
 -- Rests of which a packet may still come, and rests that have a fault, by computing.
-use Rattle.std.proofs.Common.{◌≡◌, ◌≢◌, ℕ, ◌<◌, ◌≤◌, ◌==◌, Bool, true, not, nat_le, nat_lt, List, length, take, slice_index, arith, ◌&&◌, ◌||◌}
+use Rattle.std.proofs.Common.{codes, refl, ◌≡◌, ◌≢◌, ℕ, ◌<◌, ◌≤◌, ◌==◌, Bool, true, not, nat_le, nat_lt, List, length, take, slice_index, arith, ◌&&◌, ◌||◌, []}
 use Rattle.std.proofs.lemmas.Bool.{and_parts}
 use Rattle.git_names.specs.Digits.{IsHexDigit, digit_value}
 use Rattle.git_names.proofs.Tables.{all_pass, all_pass-at}
 use Rattle.git_pkt.specs.Digits.{HasDigits, digits_value}
-use Rattle.git_pkt.specs.Faults.{FirstBadDigit, IsOpen, ShowsAtEnd}
+use Rattle.git_pkt.specs.Faults.{FirstBadDigit, IsOpen, ShowsAtEnd, StopsBy}
+use Rattle.git_pkt.specs.declared.fault.Kind.TheVariants.{BadDigit}
 use Rattle.git_pkt.proofs.DigitFacts.{digits_below-four}
 
 -- the byte at this place is a digit, or there is none
@@ -51,3 +52,12 @@ bad_digit_by rest k among there before bad = record {
   before = λ j lt. digit_at (slice_index rest j) (length rest) j (all_pass-at (digit_or_end rest) k j before lt) (omega arith);
   bad = bad;
 }
+
+-- no bytes are open
+pub open_nothing : IsOpen []
+open_nothing = record { digits = λ k four lt. omega arith; allowed = λ four. omega arith }
+
+-- a letter that is no digit, at the third place
+pub stops_at_letter : StopsBy 0 (codes "00g") 3 BadDigit 2
+unfolding digit_value digits_value
+stops_at_letter = ((2, bad_digit_by (codes "00g") 2 (omega arith) (omega arith) refl (λ h. omega arith), refl), shows_by (codes "00g") refl)

@@ -1,13 +1,11 @@
-use Rattle.std.proofs.Common.{◌≡◌, codes, refl, arith, subst}
+use Rattle.std.proofs.Common.{◌≡◌, codes, arith, subst}
 use Rattle.git_names.specs.Digits.{digit_value}
-use Rattle.git_pkt.specs.Digits.{digits_value}
 use Rattle.git_pkt.specs.Faults.{FirstBadDigit}
-use Rattle.git_rows.proofs.OpenRests.{bad_digit_by, shows_by}
+use Rattle.git_rows.proofs.OpenRests.{stops_at_letter}
 use Rattle.git_rows.proofs.packets.letter_among_the_digits.Goals as goal
 
 pub returns-clause-refused : goal.returns-clause-refused
-unfolding digit_value digits_value
-returns-clause-refused c = ((2, bad_digit_by (codes "00g") 2 (omega arith) (omega arith) refl (λ h. omega arith), refl), shows_by (codes "00g") refl)
+returns-clause-refused c = stops_at_letter
 
 pub returns-clause-digits_not_refused : goal.returns-clause-digits_not_refused
 unfolding digit_value
