@@ -5,5 +5,6 @@ pub mod NumbersByComputing
 pub mod OpenRests
 pub mod ReceivedPackets
 pub mod RequestLines
+pub mod ServedRequests
 pub mod TextsByComputing
 pub mod WrittenPackets

@@ -6,7 +6,7 @@ use Rattle.git_names.specs.ObjectName.{ArePairs, IsObjectName, IsPadded, ObjectN
 use Rattle.git_names.specs.ObjectFormat.{digits_of}
 use Rattle.git_names.specs.declared.object_format.Format.{Format}
 use Rattle.git_names.specs.declared.object_format.Format.TheVariants.{Sha1}
-use Rattle.git_rows.specs.Worked.{all_a, name_a}
+use Rattle.git_rows.specs.Worked.{all_a, all_b, name_a, name_b}
 
 -- two digits that spell a byte
 abbrev pub is_pair : ℕ → ℕ → ℕ → Bool
@@ -52,3 +52,7 @@ object_name_by format text id count same pairs padded = record {
 pub all_a_is_name : IsObjectName Sha1 all_a name_a
 unfolding digit_value
 all_a_is_name = object_name_by Sha1 all_a name_a refl refl refl refl
+
+pub all_b_is_name : IsObjectName Sha1 all_b name_b
+unfolding digit_value
+all_b_is_name = object_name_by Sha1 all_b name_b refl refl refl refl

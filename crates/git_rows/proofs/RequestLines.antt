@@ -1,9 +1,10 @@
 -- Packets that are lines of a request.
-use Rattle.std.proofs.Common.{◌≡◌, ℕ, ◌≤◌, true, Some, List, [], ◌∷◌, ◌++◌, codes, refl, arith, inl}
+use Rattle.std.proofs.Common.{◌≡◌, ℕ, ◌≤◌, true, Some, List, [], ◌∷◌, ◌++◌, codes, refl, arith, inl, inr}
 use Rattle.git_pkt.specs.Packets.{flush}
+use Rattle.git_pkt.specs.declared.fault.Kind.TheVariants.{UnknownCommand}
 use Rattle.git_msg.specs.Advertisement.{takes_command}
-use Rattle.git_msg.specs.Arguments.{ReadsAs, alone, of_flag, want, with_id}
-use Rattle.git_msg.specs.Lines.{key_by, IsLine, Line, argument, command, delimiter}
+use Rattle.git_msg.specs.Arguments.{name_of, ReadsAs, alone, of_flag, want, with_id}
+use Rattle.git_msg.specs.Lines.{HasFault, key_by, IsLine, Line, argument, command, delimiter}
 use Rattle.git_msg.specs.Requests.{AreLines, Asks}
 use Rattle.git_msg.specs.Asked.{fetch, ls_refs}
 use Rattle.git_msg.specs.WrittenRequest.{text_line}
@@ -12,7 +13,7 @@ use Rattle.git_msg.specs.declared.arguments.Command.TheVariants.{Fetch, LsRefs, 
 use Rattle.git_msg.specs.declared.flags.Flag.{Flag}
 use Rattle.git_rows.specs.Worked.{all_a, at, fetch_done_packets, fetch_of, ls_refs_of, ls_refs_packets, name_a, offer_all, want_alone_packets}
 use Rattle.git_rows.proofs.ObjectNamesByComputing.{all_a_is_name}
-use Rattle.git_rows.proofs.TextsByComputing.{no_error_by}
+use Rattle.git_rows.proofs.TextsByComputing.{differ, no_error_by}
 
 takes_all : (c : Command) → takes_command offer_all c ≡ true
 takes_all LsRefs = refl
@@ -108,3 +109,26 @@ asks_ls_refs limit = record {
   asked_is = refl;
   kept_is = refl;
 }
+
+some_same : (a b : List ℕ) → Some a ≡ Some b → a ≡ b
+some_same a b e = cc
+
+no_command : (c : Command) → Some (codes "bundle-uri") ≡ Some (name_of c) → ⊥
+no_command LsRefs e = differ (codes "bundle-uri") (codes "ls-refs") refl (some_same _ _ e)
+no_command Fetch e = differ (codes "bundle-uri") (codes "fetch") refl (some_same _ _ e)
+no_command ObjectInfo e = differ (codes "bundle-uri") (codes "object-info") refl (some_same _ _ e)
+
+-- a command that is none of the three
+pub unknown_command : (limit : ℕ) → HasFault offer_all limit [] (text_line (codes "command=bundle-uri")) UnknownCommand
+unknown_command limit = inr (
+  no_error_by (codes "command=bundle-uri") refl,
+  inr (
+    (codes "command", Some (codes "bundle-uri"), (refl, refl, refl)),
+    inl (
+      key_by (codes "command"),
+      Some (codes "bundle-uri"),
+      record { word = codes "command"; is_capability = (refl, refl, refl); is_word = refl },
+      inr (refl, inl (λ named. no_command named.0 named.1, refl)),
+    ),
+  ),
+)

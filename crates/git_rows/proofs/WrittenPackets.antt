@@ -7,6 +7,7 @@ use Rattle.git_pkt.specs.Packets.{Pkt, Spells, body_of, length_field, longest_pa
 use Rattle.git_pkt.specs.Splits.{Given, NoneBegins, Splits, SpellsAll}
 use Rattle.git_pkt.proofs.DigitFacts.{digits_below-four}
 use Rattle.git_pkt.proofs.Written.{spells_written}
+use Rattle.git_server.specs.Answers.{AllFit}
 use Rattle.git_rows.specs.Worked.{at}
 
 -- the packets one after the other, from this offset on
@@ -56,3 +57,11 @@ spells packet s four a b c d field body fits = record {
   body = body;
   fits = fits;
 }
+
+-- the same of packets of an answer
+pub fit_by : (packets : List Pkt) → all_fit packets ≡ true → AllFit packets
+fit_by [] h = tt
+fit_by (packet ∷ packets) h =
+    let parts = and_parts (nat_le (length (body_of packet)) longest_payload) (all_fit packets) h in
+    let fit = parts.0 in
+    (grind arith, fit_by packets parts.1)

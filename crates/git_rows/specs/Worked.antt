@@ -36,7 +36,14 @@ name_of_bytes byte = record { format = Sha1; bytes = replicate 20 byte ++ replic
 abbrev pub name_a : ObjectName
 name_a = name_of_bytes 170
 
--- the same with bytes after the twenty that are not zero
+-- forty times the letter b, and the object name that it spells
+abbrev pub all_b : List ℕ
+all_b = codes "bbbbbbbbbbbbbbbbbbbbbbbbbbbbbbbbbbbbbbbb"
+
+abbrev pub name_b : ObjectName
+name_b = name_of_bytes 187
+
+-- the object name of all a with bytes after the twenty that are not zero
 abbrev pub name_of_garbage : ObjectName
 name_of_garbage = record { format = Sha1; bytes = replicate 20 170 ++ replicate 12 1 }
 
@@ -93,3 +100,11 @@ abbrev pub three_argument_packets : List Given
 three_argument_packets =
     at 0 (text_line (codes "command=ls-refs")) ∷ at 20 delim ∷ at 24 (text_line (codes "peel"))
     ∷ at 33 (text_line (codes "ref-prefix refs/heads/")) ∷ at 60 (text_line (codes "symrefs")) ∷ []
+
+-- a request for references with these flags and prefixes
+abbrev pub asked_with : (symrefs peel : Bool) → List (List ℕ) → LsRefsAsked
+asked_with symrefs peel prefixes = record { symrefs = symrefs; peel = peel; unborn = false; ref_prefixes = prefixes }
+
+-- a fetch that negotiates, by these `have` lines
+abbrev pub haves_of : List ObjectName → FetchAsked
+haves_of haves = record (fetch_of (name_a ∷ []) false) { haves = haves }

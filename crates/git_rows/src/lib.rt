@@ -7,3 +7,4 @@ pub mod lines;
 pub mod names;
 pub mod packets;
 pub mod requests;
+pub mod sessions;

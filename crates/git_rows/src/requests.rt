@@ -46,7 +46,7 @@ pub fn fetch_without_a_want()
 
 /// Packets that no request may have at that place, each by its name.
 pub fn packets_refused()
-    ensures unknown_command { HasFault offer_all 0 [] (text_line (codes "command=push")) UnknownCommand }
+    ensures unknown_command { HasFault offer_all 0 [] (text_line (codes "command=bundle-uri")) UnknownCommand }
     ensures two_commands { HasFault offer_all 0 (command LsRefs ∷ []) (text_line (codes "command=ls-refs")) TwoCommands }
     ensures no_command { HasFault offer_all 0 [] delim NoCommand }
     ensures no_capability { HasFault offer_all 0 [] (text_line (codes "=")) BadCapability }

@@ -1,33 +1,15 @@
 use Rattle.std.proofs.Common.{◌≡◌, ℕ, List, [], Some, None, codes, refl, arith, inl, inr}
-use Rattle.git_msg.specs.Arguments.{name_of}
 use Rattle.git_msg.specs.Lines.{key_by}
-use Rattle.git_msg.specs.declared.arguments.Command.{Command}
-use Rattle.git_msg.specs.declared.arguments.Command.TheVariants.{Fetch, LsRefs, ObjectInfo}
 use Rattle.git_msg.proofs.Keys.{no_key}
+use Rattle.git_rows.proofs.RequestLines.{unknown_command}
 use Rattle.git_rows.proofs.TextsByComputing.{differ, no_error_by}
 use Rattle.git_rows.proofs.requests.packets_refused.Goals as goal
 
 some_same : (a b : List ℕ) → Some a ≡ Some b → a ≡ b
 some_same a b e = cc
 
-no_push : (c : Command) → Some (codes "push") ≡ Some (name_of c) → ⊥
-no_push LsRefs e = differ (codes "push") (codes "ls-refs") refl (some_same _ _ e)
-no_push Fetch e = differ (codes "push") (codes "fetch") refl (some_same _ _ e)
-no_push ObjectInfo e = differ (codes "push") (codes "object-info") refl (some_same _ _ e)
-
 pub returns-clause-unknown_command : goal.returns-clause-unknown_command
-returns-clause-unknown_command c = inr (
-  no_error_by (codes "command=push") refl,
-  inr (
-    (codes "command", Some (codes "push"), (refl, refl, refl)),
-    inl (
-      key_by (codes "command"),
-      Some (codes "push"),
-      record { word = codes "command"; is_capability = (refl, refl, refl); is_word = refl },
-      inr (refl, inl (λ named. no_push named.0 named.1, refl)),
-    ),
-  ),
-)
+returns-clause-unknown_command c = unknown_command 0
 
 pub returns-clause-two_commands : goal.returns-clause-two_commands
 returns-clause-two_commands c = inr (
