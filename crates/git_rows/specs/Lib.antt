@@ -1,3 +1,4 @@
 pub mod Worked
 pub mod WorkedConversations
 pub mod WorkedSessions
+pub mod WorkedTexts

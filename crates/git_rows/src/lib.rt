@@ -8,3 +8,4 @@ pub mod names;
 pub mod packets;
 pub mod requests;
 pub mod sessions;
+pub mod texts;

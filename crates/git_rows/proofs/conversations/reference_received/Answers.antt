@@ -13,21 +13,12 @@ use Rattle.git_rows.specs.Worked.{all_a, at}
 use Rattle.git_rows.specs.WorkedConversations.{asked_refs, head_ref, offered_before, refs_begun_bytes, terms}
 use Rattle.git_rows.proofs.NamesByComputing.{head_is_name}
 use Rattle.git_rows.proofs.ObjectNamesByComputing.{all_a_is_name}
+use Rattle.git_rows.proofs.BareReferences.{head_line}
 use Rattle.git_rows.proofs.OpenRests.{open_nothing}
 use Rattle.git_rows.proofs.ReceivedPackets.{flushes_are, gives_at, offer_then}
 use Rattle.git_rows.proofs.TextsByComputing.{no_error_by}
 use Rattle.git_rows.proofs.WrittenPackets.{splits_written}
 use Rattle.git_rows.proofs.conversations.reference_received.Goals as goal
-
-head_line : IsReferenceLine Sha1 (all_a ++ codes " HEAD") head_ref
-head_line = record {
-  id = all_a;
-  attributes = [];
-  words = refl;
-  id_is = all_a_is_name;
-  name_is = head_is_name;
-  attributes_are = record { passes = tt; target_is = refl; peeled_is = refl };
-}
 
 gives_line : GivesAt terms asked_refs offered_before (text_line (all_a ++ codes " HEAD")) (reference head_ref ∷ [])
 gives_line = gives_at terms asked_refs offered_before (text_line (all_a ++ codes " HEAD")) (reference head_ref ∷ []) _ refl

@@ -7,6 +7,7 @@ use Rattle.git_msg.proofs.ReferenceLaws.{one_reference}
 use Rattle.git_msg.proofs.ReferenceFaults.{reference_or_fault}
 use Rattle.git_rows.specs.Worked.{all_a, name_a}
 use Rattle.git_rows.proofs.Attributes.{other_passes, peeled_passes, target_passes}
+use Rattle.git_rows.proofs.BareReferences.{x_line}
 use Rattle.git_rows.proofs.NamesByComputing.{head_is_name, main_is_none, ref_by}
 use Rattle.git_rows.proofs.ObjectNamesByComputing.{all_a_is_name}
 use Rattle.git_rows.proofs.TextsByComputing.{differ}
@@ -17,16 +18,6 @@ x_is_name = ref_by (codes "refs/x") refl refl
 
 y_is_name : IsRefName (codes "refs/y")
 y_is_name = ref_by (codes "refs/y") refl refl
-
-bare : IsReferenceLine Sha1 (all_a ++ codes " refs/x") (reference_of (Some name_a) (codes "refs/x") None None)
-bare = record {
-  id = all_a;
-  attributes = [];
-  words = refl;
-  id_is = all_a_is_name;
-  name_is = x_is_name;
-  attributes_are = record { passes = tt; target_is = refl; peeled_is = refl };
-}
 
 symbolic : IsReferenceLine Sha1 (all_a ++ codes " HEAD symref-target:refs/x") (reference_of (Some name_a) (codes "HEAD") (Some (codes "refs/x")) None)
 symbolic = record {
@@ -57,7 +48,7 @@ twice = record {
 }
 
 pub returns-clause-bare : goal.returns-clause-bare
-returns-clause-bare c = bare
+returns-clause-bare c = x_line
 
 pub returns-clause-symbolic : goal.returns-clause-symbolic
 returns-clause-symbolic c = symbolic
@@ -115,4 +106,4 @@ pub returns-clause-not_without_its_target : goal.returns-clause-not_without_its_
 returns-clause-not_without_its_target c = λ h. let same = ap (λ (ref : Ref). ref.target) (one_reference Sha1 _ _ _ h symbolic) in cc
 
 pub returns-clause-not_refused : goal.returns-clause-not_refused
-returns-clause-not_refused c = λ h. reference_or_fault Sha1 (all_a ++ codes " refs/x") _ BadObjectName bare h
+returns-clause-not_refused c = λ h. reference_or_fault Sha1 (all_a ++ codes " refs/x") _ BadObjectName x_line h
