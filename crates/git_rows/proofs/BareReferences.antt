@@ -1,5 +1,5 @@
 -- Lines of references without attributes.
-use Rattle.std.proofs.Common.{◌≡◌, ℕ, [], ◌∷◌, ◌++◌, None, Some, codes, refl}
+use Rattle.std.proofs.Common.{[], ◌++◌, None, Some, codes, refl}
 use Rattle.git_names.specs.declared.object_format.Format.TheVariants.{Sha1}
 use Rattle.git_msg.specs.References.{IsReferenceLine, reference_of}
 use Rattle.git_rows.specs.Worked.{all_a, name_a}

@@ -7,6 +7,7 @@ pub mod OpenRests
 pub mod ReceivedPackets
 pub mod RepositoryTexts
 pub mod RequestLines
+pub mod Scripts
 pub mod ServedRequests
 pub mod TextsByComputing
 pub mod WrittenPackets

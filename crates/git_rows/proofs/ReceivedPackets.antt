@@ -13,7 +13,10 @@ use Rattle.git_client.specs.Places.{Place, place_after, version}
 use Rattle.git_client.proofs.Determined.{one_event_list}
 use Rattle.git_client.proofs.EventsHeard.{later_questions}
 use Rattle.git_rows.specs.Worked.{at}
-use Rattle.git_rows.specs.WorkedConversations.{offered_before, terms}
+use Rattle.git_rows.specs.WorkedConversations.{offer_bytes, offered_before, terms}
+use Rattle.git_names.specs.Digits.{lower_digit}
+use Rattle.git_pkt.proofs.Spelling.{none_begins_nothing}
+use Rattle.git_rows.proofs.WrittenPackets.{splits_written}
 use Rattle.git_rows.proofs.TextsByComputing.{no_error_by}
 
 pub gives_at : (t : Terms) (asked : List Asked) (before : List Pkt) (p : Pkt) (events : List EventValue) (place : Place)
@@ -57,3 +60,14 @@ flushes_are t asked bytes events given rest h k =
 pub conversation_events : (t : Terms) (asked : List Asked) (bytes : List ℕ) (events others : List EventValue)
     → IsConversation t asked bytes events → HasEvents t (asked ++ []) bytes others → events ≡ others
 conversation_events t asked bytes events others h k = one_event_list t (asked ++ []) bytes events others (later_questions t asked [] bytes events h) k
+
+-- the advertisement alone
+abbrev pub offer_packets : List Given
+offer_packets = at 0 (text_line (codes "version 2")) ∷ at 14 flush ∷ []
+
+pub offer_splits : Splits 0 offer_bytes offer_packets []
+unfolding lower_digit
+offer_splits = splits_written 0 (text_line (codes "version 2") ∷ flush ∷ []) [] refl none_begins_nothing
+
+pub whole_offer : IsConversation terms [] offer_bytes (offered ∷ [])
+whole_offer = record { given = offer_packets; splits = offer_splits; gives = offer_then [] [] [] refl; all_flushes = refl; no_end_due = refl }

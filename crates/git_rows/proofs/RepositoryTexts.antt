@@ -1,10 +1,10 @@
 -- The text of a repository with a line of each kind.
-use Rattle.std.proofs.Common.{◌≡◌, ◌<◌, ◌≤◌, ℕ, ◌+◌, List, [], ◌∷◌, ◌++◌, true, Some, None, codes, refl, arith, sym, subst, slice_index_or}
+use Rattle.std.proofs.Common.{◌≡◌, ℕ, ◌+◌, List, [], ◌∷◌, ◌++◌, true, codes, refl, arith, sym, subst, slice_index_or}
 use Rattle.git_names.specs.declared.object_format.Format.TheVariants.{Sha1}
 use Rattle.git_msg.specs.declared.Boundary.TheVariants.{Shallow}
 use Rattle.git_server.specs.Repository.{comes_before}
 use Rattle.git_repository.specs.Packs.{no_packs}
-use Rattle.git_repository.specs.RepositoryLines.{Said, boundary, object, ready, reference}
+use Rattle.git_repository.specs.RepositoryLines.{boundary, object, ready, reference}
 use Rattle.git_repository.specs.RepositoryText.{IsRepositoryText, NamesRise}
 use Rattle.git_rows.specs.Worked.{all_a, name_a}
 use Rattle.git_rows.specs.WorkedTexts.{bare_entry, lists_of_size, repository_text}

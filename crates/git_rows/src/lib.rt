@@ -7,5 +7,6 @@ pub mod lines;
 pub mod names;
 pub mod packets;
 pub mod requests;
+pub mod runs;
 pub mod sessions;
 pub mod texts;

@@ -1,18 +1,14 @@
 use Rattle.std.proofs.Common.{◌≡◌, List, [], ◌∷◌, ◌++◌, codes, refl, arith, inl}
 use Rattle.git_names.specs.Digits.{lower_digit}
-use Rattle.git_names.specs.declared.object_format.Format.TheVariants.{Sha1}
 use Rattle.git_pkt.specs.Packets.{flush}
 use Rattle.git_pkt.specs.Splits.{Given, Splits}
 use Rattle.git_pkt.proofs.Spelling.{none_begins_nothing}
-use Rattle.git_msg.specs.References.{IsReferenceLine}
 use Rattle.git_msg.specs.WrittenRequest.{text_line}
 use Rattle.git_client.specs.Conversation.{GivesAt, HasEvents}
 use Rattle.git_client.specs.Events.{ended, offered, reference}
 use Rattle.git_client.proofs.Determined.{one_event_list}
 use Rattle.git_rows.specs.Worked.{all_a, at}
 use Rattle.git_rows.specs.WorkedConversations.{asked_refs, head_ref, offered_before, refs_begun_bytes, terms}
-use Rattle.git_rows.proofs.NamesByComputing.{head_is_name}
-use Rattle.git_rows.proofs.ObjectNamesByComputing.{all_a_is_name}
 use Rattle.git_rows.proofs.BareReferences.{head_line}
 use Rattle.git_rows.proofs.OpenRests.{open_nothing}
 use Rattle.git_rows.proofs.ReceivedPackets.{flushes_are, gives_at, offer_then}

@@ -5,7 +5,7 @@ use Rattle.git_pkt.specs.Packets.{flush}
 use Rattle.git_pkt.specs.declared.fault.Kind.TheVariants.{WrongFormat}
 use Rattle.git_pkt.proofs.Spelling.{none_begins_nothing}
 use Rattle.git_msg.specs.WrittenRequest.{text_line}
-use Rattle.git_client.specs.Conversation.{HasEvents, IsConversation}
+use Rattle.git_client.specs.Conversation.{HasEvents}
 use Rattle.git_client.specs.Events.{offered}
 use Rattle.git_client.specs.Parts.{terms_of}
 use Rattle.git_client.specs.declared.events.Ending.TheVariants.{FlushOnly}
@@ -13,32 +13,21 @@ use Rattle.git_client.proofs.EventsHeard.{later_questions}
 use Rattle.git_rows.specs.Worked.{at}
 use Rattle.git_rows.specs.WorkedConversations.{asked_refs, offer_bytes, terms}
 use Rattle.git_rows.proofs.OpenRests.{open_nothing}
-use Rattle.git_rows.proofs.ReceivedPackets.{conversation_events, flushes_are, gives_version, offer_then, refuses_at}
+use Rattle.git_rows.proofs.ReceivedPackets.{conversation_events, flushes_are, gives_version, offer_packets, offer_splits, refuses_at, whole_offer}
 use Rattle.git_rows.proofs.WrittenPackets.{splits_written}
 use Rattle.git_rows.proofs.conversations.shortest_conversation.Goals as goal
 
-whole : IsConversation terms [] offer_bytes (offered ∷ [])
-unfolding lower_digit
-whole = record {
-  given = at 0 (text_line (codes "version 2")) ∷ at 14 flush ∷ [];
-  splits = splits_written 0 (text_line (codes "version 2") ∷ flush ∷ []) [] refl none_begins_nothing;
-  gives = offer_then [] [] [] refl;
-  all_flushes = refl;
-  no_end_due = refl;
-}
-
 -- to a client of SHA-256 the advertisement ends before it has named a format that is spoken
 refused : HasEvents (terms_of Sha256 FlushOnly) [] offer_bytes []
-unfolding lower_digit
 refused = record {
   clean = at 0 (text_line (codes "version 2")) ∷ [];
   whole = [];
   opened = [];
   sounds = record {
-    given = at 0 (text_line (codes "version 2")) ∷ at 14 flush ∷ [];
+    given = offer_packets;
     rest = [];
     more = at 14 flush ∷ [];
-    splits = splits_written 0 (text_line (codes "version 2") ∷ flush ∷ []) [] refl none_begins_nothing;
+    splits = offer_splits;
     cut = refl;
     gives = ([], [], refl, gives_version (terms_of Sha256 FlushOnly) [], refl);
     stops = (WrongFormat, refuses_at (terms_of Sha256 FlushOnly) [] (text_line (codes "version 2") ∷ []) flush WrongFormat _ refl refl);
@@ -48,11 +37,11 @@ refused = record {
 }
 
 pub returns-clause-whole : goal.returns-clause-whole
-returns-clause-whole c = whole
+returns-clause-whole c = whole_offer
 
 pub returns-clause-not_without_its_event : goal.returns-clause-not_without_its_event
 returns-clause-not_without_its_event c = λ h.
-    let same : [] ≡ offered ∷ [] = conversation_events terms [] offer_bytes [] (offered ∷ []) h (later_questions terms [] [] offer_bytes (offered ∷ []) whole) in
+    let same : [] ≡ offered ∷ [] = conversation_events terms [] offer_bytes [] (offered ∷ []) h (later_questions terms [] [] offer_bytes (offered ∷ []) whole_offer) in
     cc
 
 pub returns-clause-not_before_its_flush : goal.returns-clause-not_before_its_flush
@@ -63,10 +52,8 @@ returns-clause-not_before_its_flush c = λ h.
     omega (arith, count)
 
 pub returns-clause-not_before_the_response : goal.returns-clause-not_before_the_response
-unfolding lower_digit
 returns-clause-not_before_the_response c = λ h.
-    let split = splits_written 0 (text_line (codes "version 2") ∷ flush ∷ []) [] refl none_begins_nothing in
-    let count : 1 ≡ 2 = flushes_are terms asked_refs offer_bytes (offered ∷ []) _ [] h split in
+    let count : 1 ≡ 2 = flushes_are terms asked_refs offer_bytes (offered ∷ []) offer_packets [] h offer_splits in
     omega (arith, count)
 
 pub returns-clause-not_in_another_format : goal.returns-clause-not_in_another_format

@@ -1,10 +1,9 @@
-use Rattle.std.proofs.Common.{◌≡◌, ◌≢◌, ℕ, ◌+◌, List, [], ◌∷◌, ◌++◌, codes, refl, arith, inl, inr}
-use Rattle.git_names.specs.ObjectFormat.{name_of}
+use Rattle.std.proofs.Common.{◌≡◌, ◌≢◌, [], ◌∷◌, codes, refl, arith, inl, inr}
 use Rattle.git_names.specs.declared.object_format.Format.{Format}
 use Rattle.git_names.specs.declared.object_format.Format.TheVariants.{Sha1, Sha256}
 use Rattle.git_msg.specs.declared.Boundary.TheVariants.{Shallow, Unshallow}
 use Rattle.git_repository.specs.Packs.{no_packs}
-use Rattle.git_repository.specs.RepositoryLines.{Said, SaysNothing, boundary, format_line, object, ready, reference, unborn}
+use Rattle.git_repository.specs.RepositoryLines.{SaysNothing, boundary, format_line, object, ready, reference, unborn}
 use Rattle.git_repository.specs.RepositoryText.{IsFirstBad}
 use Rattle.git_repository.proofs.TextLaws.{one_first_bad, repository_or_bad}
 use Rattle.git_rows.specs.Worked.{name_a}

@@ -1,15 +1,11 @@
-use Rattle.std.proofs.Common.{◌≡◌, ◌<◌, ◌≤◌, ℕ, ◌+◌, List, [], ◌∷◌, ◌++◌, true, Some, None, codes, refl, ap, arith, sym, subst, slice_index_or}
+use Rattle.std.proofs.Common.{[], ◌∷◌, codes, refl, ap}
 use Rattle.git_names.specs.declared.object_format.Format.TheVariants.{Sha1}
-use Rattle.git_msg.specs.declared.Boundary.TheVariants.{Shallow}
 use Rattle.git_server.specs.Lists.{Lists}
 use Rattle.git_server.specs.Objects.{size_among}
-use Rattle.git_server.specs.Repository.{comes_before}
 use Rattle.git_repository.specs.Packs.{no_packs}
-use Rattle.git_repository.specs.RepositoryLines.{Said, boundary, object, ready, reference}
-use Rattle.git_repository.specs.RepositoryText.{IsRepositoryText, NamesRise}
 use Rattle.git_repository.proofs.TextLaws.{one_repository}
 use Rattle.git_rows.specs.Worked.{all_a, name_a}
-use Rattle.git_rows.specs.WorkedTexts.{bare_entry, lists_of_size, repository_text}
+use Rattle.git_rows.specs.WorkedTexts.{lists_of_size, repository_text}
 use Rattle.git_rows.proofs.Attributes.{target_passes}
 use Rattle.git_rows.proofs.NamesByComputing.{head_is_name, ref_by}
 use Rattle.git_rows.proofs.ObjectNamesByComputing.{all_a_is_name}
