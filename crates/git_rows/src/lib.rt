@@ -2,6 +2,7 @@
 //! Each row is the contract of a function that does nothing.
 #![tactic(auto)]
 
+pub mod bands;
 pub mod conversations;
 pub mod lines;
 pub mod names;

@@ -1,15 +1,17 @@
-//! Runs: the bytes of their streams, and what `show` and `check` result in.
+//! Runs: the bytes of their streams, and what `show`, `check` and `play` result in.
 
 ghost use Rattle.std.specs.Prelude.{◌++◌, ◌∷◌, [], Err, None, Ok, Some, codes, false, true};
 ghost use Rattle.git2show_lib.specs.Machine.CheckedStreams.{Checked};
 ghost use Rattle.git2show_lib.specs.Machine.ShownStream.{Shows};
+ghost use Rattle.git_both_ends.specs.Plays.{Played};
 ghost use Rattle.git_pkt.specs.Streams.{AreRead, AreWritten, IsTimely, flow};
 ghost use Rattle.git_pkt.specs.declared.fault.Kind.TheVariants.{BadLength, StreamTooLong, Truncated};
-ghost use Rattle.git_pkt.specs.declared.fault.RunFault.TheVariants.{Refused};
+ghost use Rattle.git_pkt.specs.declared.fault.RunFault.TheVariants.{ReadFault, Refused};
 ghost use Rattle.git_rows.specs.Worked.{fault_at};
 ghost use Rattle.git_rows.specs.WorkedConversations.{offer_bytes, terms};
-ghost use Rattle.git_rows.specs.WorkedRuns.{standing};
+ghost use Rattle.git_rows.specs.WorkedRuns.{offer_transcript, repo_state, standing};
 
+use git_both_ends::answer_laws::heard_offer;
 use std::alloc::Allocator;
 
 /// What streams held before and after a run.
@@ -43,3 +45,13 @@ pub fn streams_checked<A: Allocator + Copy>()
     ensures not_while_responses_may_come { ¬ Checked A terms 0 (Ok tt) (standing true) (standing false) ([] ∷ offer_bytes ∷ []) (codes "offered\n" ∷ []) }
     ensures not_without_an_advertisement { ¬ Checked A terms 0 (Ok tt) (standing true) (standing true) ([] ∷ [] ∷ []) ([] ∷ []) }
 {}
+
+/// A play without requests: the client receives the advertisement, and leaves.
+pub fn nothing_played<A: Allocator + Copy>()
+    ensures whole { Played {A = A} ⊥ terms 0 repo_state [] (Ok tt) [] (offer_transcript ∷ [] ∷ []) }
+    ensures not_without_a_pack_writer { ¬ Played {A = A} ⊥ terms 0 repo_state [] (Ok tt) [] (offer_transcript ∷ []) }
+    ensures not_read_of_a_stream { ¬ Played {A = A} ⊥ terms 0 repo_state [] (Ok tt) (offer_transcript ∷ []) (offer_transcript ∷ [] ∷ []) }
+    ensures no_read_fails { ¬ Played {A = A} ⊥ terms 0 repo_state [] (Err ReadFault) [] ([] ∷ [] ∷ []) }
+{
+    heard_offer();
+}
