@@ -21,9 +21,9 @@ alone. An edit is counted by what was printed first:
 
 The status is 0 where no edit is of the last three kinds.
 
-With `specs` it tries the edits of definitions in specs/, or those of these names: a conjunct dropped, an arm that never holds, one
-bound for another. The code stays as it is, so the proofs of the definition's own crate refuse most of them. Each crate from that one up is
-checked in turn, git_rows last, and an edit is counted by the first that refuses it: `rows` where that is git_rows, else `proof`.
+With `specs` it tries the edits of definitions in specs/, or those of these names: a conjunct dropped, an arm that never holds, one bound for
+another. Each crate from the definition's own up is checked in turn, git_rows last, and an edit is counted by the first that refuses it:
+`rows` where that is git_rows, else `proof`.
 """
 import os, queue, re, shutil, subprocess, sys, tempfile, threading
 from collections import Counter

@@ -1,10 +1,11 @@
 -- Which texts are names, by computing.
-use Rattle.std.proofs.Common.{◌≡◌, ◌≢◌, ℕ, zero, suc, ◌+◌, ◌-◌, ◌<◌, ◌≤◌, ◌==◌, Bool, true, false, not, nat_le, List, length, slice_index, codes, refl, arith, ◌&&◌}
+use Rattle.std.proofs.Common.{◌≡◌, ◌≢◌, ℕ, zero, suc, ◌+◌, ◌-◌, ◌<◌, ◌≤◌, ◌==◌, Bool, true, false, not, nat_le}
+use Rattle.std.proofs.Common.{List, length, slice_index, codes, refl, arith, ◌&&◌}
 use Rattle.std.proofs.lemmas.Bool.{and_parts}
 use Rattle.bstr.specs.Find.{OccursAt}
 use Rattle.bstr.specs.Text.{Contains}
 use Rattle.git_names.specs.RefName.{BeginsWith, EndsWith, IsRefName, Lacks}
-use Rattle.git_rows.proofs.TextsByComputing.{differ}
+use Rattle.git_rows.proofs.TextsByComputing.{differ, not_true}
 use Rattle.git_names.proofs.Tables.{all_pass, all_pass-at}
 
 -- the part is in the text at this place
@@ -41,10 +42,6 @@ occurs_not text part k h at =
     all_pass-from (λ (j : ℕ). slice_index text (k + j) == slice_index part j) (length part) (λ j lt. let e = at.reads j lt in grind arith) in
     let both : is_at text part k ≡ true = rw (fits, same) refl in
     cc
-
-not_true : (b : Bool) → not b ≡ true → b ≡ false
-not_true true h = cc
-not_true false h = refl
 
 -- the part is nowhere in the text
 abbrev pub is_nowhere : List ℕ → List ℕ → Bool

@@ -1,5 +1,6 @@
 -- Rests of which a packet may still come, and rests that have a fault, by computing.
-use Rattle.std.proofs.Common.{codes, refl, ◌≡◌, ◌≢◌, ℕ, ◌<◌, ◌≤◌, ◌==◌, Bool, true, not, nat_le, nat_lt, List, length, take, slice_index, arith, ◌&&◌, ◌||◌, []}
+use Rattle.std.proofs.Common.{codes, refl, ◌≡◌, ◌≢◌, ℕ, ◌<◌, ◌≤◌, ◌==◌, Bool, true, not, nat_le, nat_lt}
+use Rattle.std.proofs.Common.{List, [], length, take, slice_index, arith, ◌&&◌, ◌||◌}
 use Rattle.std.proofs.lemmas.Bool.{and_parts}
 use Rattle.git_names.specs.Digits.{IsHexDigit, digit_value}
 use Rattle.git_names.proofs.Tables.{all_pass, all_pass-at}

@@ -13,7 +13,7 @@ use Rattle.git_msg.specs.declared.arguments.Command.TheVariants.{Fetch, LsRefs, 
 use Rattle.git_msg.specs.declared.flags.Flag.{Flag}
 use Rattle.git_rows.specs.Worked.{all_a, at, fetch_done_packets, fetch_of, ls_refs_of, ls_refs_packets, name_a, offer_all, want_alone_packets}
 use Rattle.git_rows.proofs.ObjectNamesByComputing.{all_a_is_name}
-use Rattle.git_rows.proofs.TextsByComputing.{differ, no_error_by}
+use Rattle.git_rows.proofs.TextsByComputing.{differ, no_error_by, some_same}
 
 takes_all : (c : Command) → takes_command offer_all c ≡ true
 takes_all LsRefs = refl
@@ -109,9 +109,6 @@ asks_ls_refs limit = record {
   asked_is = refl;
   kept_is = refl;
 }
-
-some_same : (a b : List ℕ) → Some a ≡ Some b → a ≡ b
-some_same a b e = cc
 
 no_command : (c : Command) → Some (codes "bundle-uri") ≡ Some (name_of c) → ⊥
 no_command LsRefs e = differ (codes "bundle-uri") (codes "ls-refs") refl (some_same _ _ e)

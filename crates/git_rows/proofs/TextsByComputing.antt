@@ -1,5 +1,5 @@
 -- What texts are not, by computing.
-use Rattle.std.proofs.Common.{◌≡◌, ◌≢◌, ℕ, Bool, true, false, not, List, [], ◌∷◌, codes, length, take, refl, ap, ◌∙◌, ◌&&◌}
+use Rattle.std.proofs.Common.{Some, ◌≡◌, ◌≢◌, ℕ, Bool, true, false, not, List, [], ◌∷◌, codes, length, take, refl, ap, ◌∙◌, ◌&&◌}
 use Rattle.std.proofs.Math.Seq.{take-append_seam}
 use Rattle.std.proofs.lemmas.Bool.{and_parts}
 use Rattle.std.proofs.lemmas.Slice.Eq.{bytes_eq-Decides}
@@ -11,6 +11,10 @@ pub differ : (a b : List ℕ) → bytes_eq a b ≡ false → a ≢ b
 differ a b h e =
     let same : bytes_eq a b ≡ true = (bytes_eq-Decides a b).1 e in
     cc
+
+-- texts that are one where they are there
+pub some_same : (a b : List ℕ) → Some a ≡ Some b → a ≡ b
+some_same a b e = cc
 
 -- a text begins otherwise
 pub begins_otherwise : (word text : List ℕ) → bytes_eq (take (length word) text) word ≡ false → BeginsOtherThan word text
@@ -25,7 +29,8 @@ abbrev pub begins_with_none : List (List ℕ) → List ℕ → Bool
 begins_with_none [] text = true
 begins_with_none (word ∷ words) text = not (bytes_eq (take (length word) text) word) && begins_with_none words text
 
-not_true : (b : Bool) → not b ≡ true → b ≡ false
+-- a test that fails
+pub not_true : (b : Bool) → not b ≡ true → b ≡ false
 not_true true h = cc
 not_true false h = refl
 

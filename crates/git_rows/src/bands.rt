@@ -31,7 +31,7 @@ pub fn bands_refused()
 /// What passes of packets, whole and open.
 pub fn bytes_that_pass()
     ensures pack { passed_by (payload (1 ∷ codes "AB")) ≡ on Pack 65 ∷ on Pack 66 ∷ [] }
-    ensures open { passed_by_rest (codes "0007" ++ 2 ∷ codes "A") ≡ on Progress 65 ∷ [] }
+    ensures begun { passed_by_rest (codes "0007" ++ 2 ∷ codes "A") ≡ on Progress 65 ∷ [] }
     ensures fatal_gathered { passed_by (payload (3 ∷ codes "A")) ≡ [] }
     ensures gathered { others (at 0 (payload (1 ∷ codes "A")) ∷ at 6 (payload (3 ∷ codes "x")) ∷ at 12 flush ∷ [])
         ≡ at 6 (payload (3 ∷ codes "x")) ∷ at 12 flush ∷ [] }

@@ -39,7 +39,7 @@ pub fn reference_received()
 /// A pack of one byte, received whole and as the beginning of a packet.
 pub fn pack_received()
     ensures whole { IsConversation terms asked_fetch (pack_bytes 1 (codes "0000")) (offered ∷ pack 65 ∷ ended ∷ []) }
-    ensures open { HasEvents terms asked_fetch (pack_bytes 1 (codes "0007" ++ 1 ∷ codes "B")) (offered ∷ pack 65 ∷ pack 66 ∷ []) }
+    ensures begun { HasEvents terms asked_fetch (pack_bytes 1 (codes "0007" ++ 1 ∷ codes "B")) (offered ∷ pack 65 ∷ pack 66 ∷ []) }
     ensures bytes { HasPack terms asked_fetch (pack_bytes 1 (codes "0000")) (codes "A") }
     ensures bytes_of_an_open_packet { HasPack terms asked_fetch (pack_bytes 1 (codes "0007" ++ 1 ∷ codes "B")) (codes "AB") }
     ensures progress_is_no_pack { HasPack terms asked_fetch (pack_bytes 2 (codes "0000")) [] }

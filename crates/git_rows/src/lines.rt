@@ -2,8 +2,8 @@
 
 ghost use Rattle.std.specs.Prelude.{◌≡◌, ◌≢◌, ◌++◌, ◌∷◌, [], Some, None, codes, decimal};
 ghost use Rattle.git_msg.specs.Advertisement.{everything, nothing};
-ghost use Rattle.git_msg.specs.Arguments.{IsArgumentFault, ReadsAs, alone, deepen, deepen_since, have, of_flag, want, want_ref, with_id, with_number, with_text};
-ghost use Rattle.git_msg.specs.Arguments.{deepen_not, filter_spec, object_id, ref_prefix, shallow};
+ghost use Rattle.git_msg.specs.Arguments.{IsArgumentFault, ReadsAs, alone, of_flag, want, want_ref, with_id, with_number, with_text};
+ghost use Rattle.git_msg.specs.Arguments.{deepen, deepen_not, deepen_since, filter_spec, have, object_id, ref_prefix, shallow};
 ghost use Rattle.git_msg.specs.Capability.{IsCapability, IsNoCapability};
 ghost use Rattle.git_msg.specs.declared.arguments.Command.TheVariants.{Fetch, LsRefs, ObjectInfo};
 ghost use Rattle.git_msg.specs.declared.flags.Flag.TheVariants.{Done, Peel, Size, Unborn};

@@ -58,7 +58,7 @@ pub fn letter_among_the_digits()
 /// The beginning of a packet, at which the input ends.
 pub fn packet_cut_short()
     ensures left { Splits 0 (codes "0009ab") [] (codes "0009ab") }
-    ensures open { IsOpen (codes "0009ab") }
+    ensures still_open { IsOpen (codes "0009ab") }
     ensures truncated { StopsBy 0 (codes "0009ab") 6 Truncated 0 }
     ensures not_between_packets { ¬ StopsBy 0 [] 0 Truncated 0 }
     ensures not_at_the_end { ¬ StopsBy 0 (codes "0009ab") 6 Truncated 6 }

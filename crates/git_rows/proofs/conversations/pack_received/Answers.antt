@@ -133,8 +133,8 @@ returns-clause-whole c = record {
   no_end_due = refl;
 }
 
-pub returns-clause-open : goal.returns-clause-open
-returns-clause-open c = open_events
+pub returns-clause-begun : goal.returns-clause-begun
+returns-clause-begun c = open_events
 
 pub returns-clause-bytes : goal.returns-clause-bytes
 returns-clause-bytes c = whole_pack

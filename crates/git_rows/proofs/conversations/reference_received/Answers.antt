@@ -38,7 +38,8 @@ begun = record {
     more = [];
     splits = begun_splits;
     cut = refl;
-    gives = offer_then asked_refs (at 18 (text_line (all_a ++ codes " HEAD")) ∷ []) (reference head_ref ∷ []) (reference head_ref ∷ [], [], refl, gives_line, refl);
+    gives = offer_then asked_refs (at 18 (text_line (all_a ++ codes " HEAD")) ∷ []) (reference head_ref ∷ [])
+        (reference head_ref ∷ [], [], refl, gives_line, refl);
     stops = tt;
   };
   of_rest = inl (open_nothing, refl);

@@ -41,7 +41,8 @@ returns-clause-whole c = whole_offer
 
 pub returns-clause-not_without_its_event : goal.returns-clause-not_without_its_event
 returns-clause-not_without_its_event c = λ h.
-    let same : [] ≡ offered ∷ [] = conversation_events terms [] offer_bytes [] (offered ∷ []) h (later_questions terms [] [] offer_bytes (offered ∷ []) whole_offer) in
+    let same : [] ≡ offered ∷ [] =
+    conversation_events terms [] offer_bytes [] (offered ∷ []) h (later_questions terms [] [] offer_bytes (offered ∷ []) whole_offer) in
     cc
 
 pub returns-clause-not_before_its_flush : goal.returns-clause-not_before_its_flush

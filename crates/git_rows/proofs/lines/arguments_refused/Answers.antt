@@ -29,7 +29,11 @@ returns-clause-time_too_late c = inr (inl (
   deepen_since,
   record {
     of = refl;
-    follows = record { value = codes "9223372036854775808"; spelled = refl; holds = λ number h. let is = h.is_number.value in let most = h.in_range in omega arith };
+    follows = record {
+      value = codes "9223372036854775808";
+      spelled = refl;
+      holds = λ number h. let is = h.is_number.value in let most = h.in_range in omega arith;
+    };
     named = refl;
   },
 ))
@@ -45,7 +49,11 @@ returns-clause-no_digit c = inr (inl (
   deepen,
   record {
     of = refl;
-    follows = record { value = codes "1x"; spelled = refl; holds = λ number h. let digit = h.is_number.digits 1 0 (omega arith) in let most = digit.1 in omega arith };
+    follows = record {
+      value = codes "1x";
+      spelled = refl;
+      holds = λ number h. let digit = h.is_number.digits 1 0 (omega arith) in let most = digit.1 in omega arith;
+    };
     named = refl;
   },
 ))

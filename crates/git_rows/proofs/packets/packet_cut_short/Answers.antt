@@ -9,9 +9,9 @@ pub returns-clause-left : goal.returns-clause-left
 unfolding digit_value digits_value
 returns-clause-left c = record { spelled = refl; ends = none_begins_partial (codes "0009ab") (omega arith) (omega arith) }
 
-pub returns-clause-open : goal.returns-clause-open
+pub returns-clause-still_open : goal.returns-clause-still_open
 unfolding digit_value digits_value
-returns-clause-open c = open_by (codes "0009ab") refl
+returns-clause-still_open c = open_by (codes "0009ab") refl
 
 pub returns-clause-truncated : goal.returns-clause-truncated
 unfolding digit_value digits_value

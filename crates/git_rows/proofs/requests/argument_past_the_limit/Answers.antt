@@ -18,7 +18,9 @@ symrefs_reads = record { is_argument = (refl, refl); offered = refl }
 
 refused : FirstFault offer_all 26 three_argument_packets TooMuchKept 60
 refused = record {
-  front = at 0 (text_line (codes "command=ls-refs")) ∷ at 20 delim ∷ at 24 (text_line (codes "peel")) ∷ at 33 (text_line (codes "ref-prefix refs/heads/")) ∷ [];
+  front =
+      at 0 (text_line (codes "command=ls-refs")) ∷ at 20 delim ∷ at 24 (text_line (codes "peel"))
+      ∷ at 33 (text_line (codes "ref-prefix refs/heads/")) ∷ [];
   bad = at 60 (text_line (codes "symrefs"));
   back = [];
   lines =

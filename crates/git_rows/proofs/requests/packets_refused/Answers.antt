@@ -1,12 +1,9 @@
-use Rattle.std.proofs.Common.{◌≡◌, ℕ, List, [], Some, None, codes, refl, arith, inl, inr}
+use Rattle.std.proofs.Common.{[], Some, None, codes, refl, arith, inl, inr}
 use Rattle.git_msg.specs.Lines.{key_by}
 use Rattle.git_msg.proofs.Keys.{no_key}
 use Rattle.git_rows.proofs.RequestLines.{unknown_command}
-use Rattle.git_rows.proofs.TextsByComputing.{differ, no_error_by}
+use Rattle.git_rows.proofs.TextsByComputing.{differ, no_error_by, some_same}
 use Rattle.git_rows.proofs.requests.packets_refused.Goals as goal
-
-some_same : (a b : List ℕ) → Some a ≡ Some b → a ≡ b
-some_same a b e = cc
 
 pub returns-clause-unknown_command : goal.returns-clause-unknown_command
 returns-clause-unknown_command c = unknown_command 0

@@ -20,7 +20,8 @@ use Rattle.git_rows.proofs.sessions.pack_sent.Goals as goal
 abbrev with_header : List Pkt → List Pkt
 with_header bands = text_line (codes "packfile") ∷ (bands ++ flush ∷ [])
 
-sent : (bands : List Pkt) (given : List ℕ) → AreBands Pack (codes "PACK!") bands → given ≡ spelled (with_header bands ++ []) → all_fit (with_header bands ++ []) ≡ true
+sent : (bands : List Pkt) (given : List ℕ) → AreBands Pack (codes "PACK!") bands → given ≡ spelled (with_header bands ++ [])
+    → all_fit (with_header bands ++ []) ≡ true
     → IsSession setting fetch_bytes true given Closed
 sent bands given are is fit = record {
   asked = fetch (fetch_of (name_a ∷ []) true) ∷ [];

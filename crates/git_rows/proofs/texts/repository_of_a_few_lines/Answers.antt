@@ -34,5 +34,6 @@ returns-clause-no_longer_shallow c = record { value = all_a; spelled = refl; hol
 
 pub returns-clause-not_of_another_size : goal.returns-clause-not_of_another_size
 returns-clause-not_of_another_size c = λ h.
-    let same = ap (λ (lists : Lists). size_among lists.objects name_a) (one_repository repository_text no_packs (lists_of_size 21) (lists_of_size 12) h whole_text) in
+    let same = ap (λ (lists : Lists). size_among lists.objects name_a)
+    (one_repository repository_text no_packs (lists_of_size 21) (lists_of_size 12) h whole_text) in
     cc

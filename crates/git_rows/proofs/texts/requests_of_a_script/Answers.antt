@@ -11,7 +11,8 @@ returns-clause-read c = script
 
 pub returns-clause-not_without_its_flag : goal.returns-clause-not_without_its_flag
 returns-clause-not_without_its_flag c = λ h.
-    let flags : false ∷ [] ≡ true ∷ [] = ap (map (λ (q : Kept Asked). symrefs_of q.asked)) (one_script offer_all 7 (codes "ls-refs\nsymrefs\n\n") _ _ h script) in
+    let flags : false ∷ [] ≡ true ∷ [] =
+    ap (map (λ (q : Kept Asked). symrefs_of q.asked)) (one_script offer_all 7 (codes "ls-refs\nsymrefs\n\n") _ _ h script) in
     cc
 
 pub returns-clause-not_of_fewer_bytes : goal.returns-clause-not_of_fewer_bytes
