@@ -26,14 +26,14 @@ use Rattle.git_rows.proofs.RequestLines.{asks_fetch, asks_ls_refs}
 use Rattle.git_rows.proofs.WrittenPackets.{splits_written}
 
 -- the first packet of a request is no argument that a repository refuses
-not_behind : (offer : Offer) (limit : ℕ) (g last : Given) (front : List Given) (lines : List Line) → g ∷ [] ≡ front ++ last ∷ []
+no_delimiter_before : (offer : Offer) (limit : ℕ) (g last : Given) (front : List Given) (lines : List Line) → g ∷ [] ≡ front ++ last ∷ []
     → AreLines offer limit [] front lines → has_delimiter lines ≡ true → ⊥
-not_behind offer limit g last [] [] e are behind = cc
-not_behind offer limit g last [] (line ∷ lines) e are behind = absurd are
-not_behind offer limit g last (f ∷ front) lines e are behind = omega (arith, ap length e, length-append front (last ∷ []))
+no_delimiter_before offer limit g last [] [] e are behind = cc
+no_delimiter_before offer limit g last [] (line ∷ lines) e are behind = absurd are
+no_delimiter_before offer limit g last (f ∷ front) lines e are behind = omega (arith, ap length e, length-append front (last ∷ []))
 
 pub first_is_unbarred : (offer : Offer) (limit : ℕ) (barred : Arg → Option Kind) (g : Given) → IsUnbarred offer limit barred (g ∷ [])
-first_is_unbarred offer limit barred g kind offset h = not_behind offer limit g h.last h.front h.lines h.whole h.taken h.is_barred.behind
+first_is_unbarred offer limit barred g kind offset h = no_delimiter_before offer limit g h.last h.front h.lines h.whole h.taken h.is_barred.behind
 
 -- a request for references
 pub ls_refs_request : IsRequest setting ls_refs_packets (ls_refs (ls_refs_of []))

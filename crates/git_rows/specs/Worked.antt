@@ -28,7 +28,7 @@ all_a = codes "aaaaaaaaaaaaaaaaaaaaaaaaaaaaaaaaaaaaaaaa"
 abbrev pub all_upper_a : List ℕ
 all_upper_a = codes "AAAAAAAAAAAAAAAAAAAAAAAAAAAAAAAAAAAAAAAA"
 
--- the object name of SHA-1 that all its bytes being this makes
+-- the object name of SHA-1 of which each byte is this
 abbrev pub name_of_bytes : ℕ → ObjectName
 name_of_bytes byte = record { format = Sha1; bytes = replicate 20 byte ++ replicate 12 0 }
 
@@ -44,10 +44,10 @@ abbrev pub name_b : ObjectName
 name_b = name_of_bytes 187
 
 -- the object name of all a with bytes after the twenty that are not zero
-abbrev pub name_of_garbage : ObjectName
-name_of_garbage = record { format = Sha1; bytes = replicate 20 170 ++ replicate 12 1 }
+abbrev pub name_unpadded : ObjectName
+name_unpadded = record { format = Sha1; bytes = replicate 20 170 ++ replicate 12 1 }
 
--- the object name whose last digit is the next letter
+-- the object name of all a but for a b at its end
 abbrev pub name_ab : ObjectName
 name_ab = record { format = Sha1; bytes = replicate 19 170 ++ 171 ∷ replicate 12 0 }
 

@@ -83,7 +83,7 @@ pub fn sections_received()
     ensures wanted { GivesAt terms asked_fetch (after_header (codes "wanted-refs")) (text_line (all_a ++ codes " refs/x"))
         (wanted_ref (wanted_of name_a (codes "refs/x")) ∷ []) }
     ensures bytes { GivesAt terms asked_fetch (after_header (codes "packfile")) (payload (1 ∷ codes "AB")) (pack 65 ∷ pack 66 ∷ []) }
-    ensures told { GivesAt terms asked_fetch (after_header (codes "packfile")) (payload (2 ∷ codes "A")) (progress 65 ∷ []) }
+    ensures progress_bytes { GivesAt terms asked_fetch (after_header (codes "packfile")) (payload (2 ∷ codes "A")) (progress 65 ∷ []) }
     ensures fatal { RefusesAt terms asked_fetch (after_header (codes "packfile")) (payload (3 ∷ codes "bad")) RemoteFatal }
     ensures no_band { RefusesAt terms asked_fetch (after_header (codes "packfile")) (payload []) NoBand }
     ensures bad_band { RefusesAt terms asked_fetch (after_header (codes "packfile")) (payload (4 ∷ [])) BadBand }

@@ -5,7 +5,7 @@ ghost use Rattle.git_names.specs.ObjectFormat.{NamesNoFormat, digits_of, name_of
 ghost use Rattle.git_names.specs.ObjectName.{IsNoObjectName, IsObjectName, IsOid, hex_of};
 ghost use Rattle.git_names.specs.RefName.{IsRefName};
 ghost use Rattle.git_names.specs.declared.object_format.Format.TheVariants.{Sha1, Sha256};
-ghost use Rattle.git_rows.specs.Worked.{all_a, all_upper_a, name_a, name_of_garbage};
+ghost use Rattle.git_rows.specs.Worked.{all_a, all_upper_a, name_a, name_unpadded};
 
 /// The two object formats, and a name of none.
 pub fn formats_by_their_names()
@@ -28,8 +28,8 @@ pub fn object_names_of_forty_digits()
     ensures none_of_the_other_format { IsNoObjectName Sha256 all_a }
     ensures not_refused { ¬ IsNoObjectName Sha1 all_a }
     ensures not_of_another_text { ¬ IsObjectName Sha1 (codes "aaaaaaaaaaaaaaaaaaaaaaaaaaaaaaaaaaaaaaab") name_a }
-    ensures not_without_zeros_after_it { ¬ IsObjectName Sha1 all_a name_of_garbage }
-    ensures no_value_without_them { ¬ IsOid name_of_garbage }
+    ensures not_without_zeros_after_it { ¬ IsObjectName Sha1 all_a name_unpadded }
+    ensures no_value_without_them { ¬ IsOid name_unpadded }
 {}
 
 /// Reference names at the edges of Git's rules.

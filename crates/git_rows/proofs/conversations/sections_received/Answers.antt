@@ -27,8 +27,8 @@ returns-clause-wanted c = gives_at _ _ _ _ _ _ refl (record {
 pub returns-clause-bytes : goal.returns-clause-bytes
 returns-clause-bytes c = gives_at _ _ _ _ _ _ refl refl
 
-pub returns-clause-told : goal.returns-clause-told
-returns-clause-told c = gives_at _ _ _ _ _ _ refl refl
+pub returns-clause-progress_bytes : goal.returns-clause-progress_bytes
+returns-clause-progress_bytes c = gives_at _ _ _ _ _ _ refl refl
 
 pub returns-clause-fatal : goal.returns-clause-fatal
 returns-clause-fatal c = refuses_at _ _ _ _ _ _ refl refl
