@@ -5,6 +5,7 @@ Tries every edit, those of the gate in crates/CRATE/must-fail and those beside t
 prover printed first. `make test` tries the gate's alone, one by one, and asks only whether each is refused.
 
     wrong-bodies/audit.py [CRATE..]
+    wrong-bodies/audit.py specs [NAME..]
 
 It works on copies of the repository's files as they are now, committed or not. RT is the command rt; LANES is how many checks
 run at a time (2). Edits of different functions are tried in one check: a function is proved from the contracts of those that it
@@ -19,6 +20,10 @@ alone. An edit is counted by what was printed first:
     unfit     Not applied, or not read.
 
 The status is 0 where no edit is of the last three kinds.
+
+With `specs` it tries the edits of definitions in specs/, or those of these names: a conjunct dropped, an arm that never holds, one bound for
+another. Each crate from the definition's own up is checked in turn, git_rows last, and an edit is counted by the first that refuses it:
+`rows` where that is git_rows, else `proof`.
 """
 import os, queue, re, shutil, subprocess, sys, tempfile, threading
 from collections import Counter
@@ -192,9 +197,60 @@ def read_edits(tree, wanted):
     return edits
 
 
-def summary(found):
+def summary(found, words=("goal", "proof", "hollow", "proved", "unfit")):
     kinds = Counter(kind for _, (kind, _) in found)
-    return f"{len(found)} edits: " + ", ".join(f"{kinds[it]} {it}" for it in ["goal", "proof", "hollow", "proved", "unfit"])
+    return f"{len(found)} edits: " + ", ".join(f"{kinds[it]} {it}" for it in words)
+
+
+def crates_of(tree):
+    """The crates of crates.txt in their order, each with what it uses."""
+    lines = (line.split(":") for line in (tree / "crates.txt").read_text().split("\n") if ":" in line)
+    return {head.split()[0]: uses.split() for head, uses in lines}
+
+
+def crates_above(tree, crate):
+    """This crate, those of git_rows that use it, by way of others too, and git_rows, lowest first."""
+    uses = crates_of(tree)
+    above = [crate]
+    for it in uses:
+        if it in uses["git_rows"] and set(uses[it]) & set(above) and it not in above:
+            above.append(it)
+    return [*above, "git_rows"]
+
+
+def refused_by(tree, edit):
+    """The kind of an edit of a definition, and the crate and the message that refuse it."""
+    texts, before = {}, {}
+    if edit.apply(texts, tree) is None:
+        return "unfit", edit.why
+    for file, text in texts.items():
+        before[file] = (tree / file).read_text()
+        (tree / file).write_text(text)
+    try:
+        for crate in crates_above(tree, edit.pairs[0][0].split("/")[1]):
+            ran = subprocess.run([RT, "check"], cwd=tree / "crates" / crate, capture_output=True, text=True, errors="replace")
+            if ran.returncode:
+                lines = [line for line in (ran.stdout + ran.stderr).split("\n") if MESSAGE.match(line) and (": error" in line or line.startswith("note: "))]
+                return ("rows" if crate == "git_rows" else "proof"), f"{crate}: {lines[0] if lines else ran.stdout[-200:]}"
+        return "proved", "NOT REFUSED"
+    finally:
+        for file, text in before.items():
+            (tree / file).write_text(text)
+
+
+def try_definitions(wanted):
+    with tempfile.TemporaryDirectory() as room:
+        copy_files(Path(room))
+        tree = Path(room) / "0"
+        paths = sorted((tree / "wrong-bodies/specs").glob("*.edit"))
+        edits = [Edit("specs", path, tree) for path in paths if not wanted or path.stem in wanted]
+        found = []
+        for edit in edits:
+            kind = ("unfit", edit.why) if edit.why else refused_by(tree, edit)
+            found.append((edit, kind))
+            print(f"{kind[0]:<6} {edit.name} {kind[1][:200]}", flush=True)
+    print(f"audit of definitions: {summary(found, ('rows', 'proof', 'proved', 'unfit'))}")
+    return 1 if any(kind in ("proved", "unfit") for _, (kind, _) in found) else 0
 
 
 def main(wanted):
@@ -231,4 +287,4 @@ def main(wanted):
 
 
 if __name__ == "__main__":
-    sys.exit(main(sys.argv[1:]))
+    sys.exit(try_definitions(sys.argv[2:]) if sys.argv[1:2] == ["specs"] else main(sys.argv[1:]))

@@ -1,0 +1,13 @@
+pub mod Attributes
+pub mod BareReferences
+pub mod NamesByComputing
+pub mod ObjectNamesByComputing
+pub mod NumbersByComputing
+pub mod OpenRests
+pub mod ReceivedPackets
+pub mod RepositoryTexts
+pub mod RequestLines
+pub mod Scripts
+pub mod ServedRequests
+pub mod TextsByComputing
+pub mod WrittenPackets

@@ -1,0 +1,64 @@
+-- The text of a repository with a line of each kind.
+use Rattle.std.proofs.Common.{◌≡◌, ℕ, ◌+◌, List, [], ◌∷◌, ◌++◌, true, codes, refl, arith, sym, subst, slice_index_or}
+use Rattle.git_names.specs.declared.object_format.Format.TheVariants.{Sha1}
+use Rattle.git_msg.specs.declared.Boundary.TheVariants.{Shallow}
+use Rattle.git_server.specs.Repository.{comes_before}
+use Rattle.git_repository.specs.Packs.{no_packs}
+use Rattle.git_repository.specs.RepositoryLines.{boundary, object, ready, reference}
+use Rattle.git_repository.specs.RepositoryText.{IsRepositoryText, NamesRise}
+use Rattle.git_rows.specs.Worked.{all_a, name_a}
+use Rattle.git_rows.specs.WorkedTexts.{bare_entry, lists_of_size, repository_text}
+use Rattle.git_rows.proofs.BareReferences.{head_line, x_line}
+use Rattle.git_rows.proofs.NumbersByComputing.{number_by}
+use Rattle.git_rows.proofs.ObjectNamesByComputing.{all_a_is_name}
+
+abbrev names : List (List ℕ)
+names = codes "HEAD" ∷ codes "refs/x" ∷ []
+
+names_rise : NamesRise names
+names_rise k d lt =
+    let first : k ≡ 0 = omega arith in
+    subst (λ (i : ℕ). comes_before (slice_index_or names i d) (slice_index_or names (i + 1) d) ≡ true) (sym first) refl
+
+pub whole_text : IsRepositoryText repository_text no_packs (lists_of_size 12)
+whole_text = record {
+  format = Sha1;
+  said =
+      reference (bare_entry (codes "HEAD")) ∷ reference (bare_entry (codes "refs/x")) ∷ object name_a 12 ∷ ready 1 ∷ boundary (Shallow name_a) ∷ [];
+  begins = record {
+    others =
+        (codes "ref " ++ all_a ++ codes " HEAD") ∷ (codes "ref " ++ all_a ++ codes " refs/x") ∷ (codes "object " ++ all_a ++ codes " 12")
+        ∷ codes "ready 1" ∷ (codes "shallow " ++ all_a) ∷ [];
+    spelled = refl;
+    say_all = (
+      record { value = all_a ++ codes " HEAD"; spelled = refl; holds = head_line },
+      (
+        record { value = all_a ++ codes " refs/x"; spelled = refl; holds = x_line },
+        (
+          record {
+            value = all_a ++ codes " 12";
+            spelled = refl;
+            holds = record {
+              name = all_a;
+              number = codes "12";
+              spelled = refl;
+              name_is = all_a_is_name;
+              number_is = number_by 49 (codes "2") refl;
+              in_range = omega arith;
+            };
+          },
+          (
+            record {
+              value = codes "1";
+              spelled = refl;
+              holds = record { number_is = number_by 49 [] refl; from_one = omega arith; at_most = omega arith };
+            },
+            (record { value = all_a; spelled = refl; holds = all_a_is_name }, tt),
+          ),
+        ),
+      ),
+    );
+    may_stand = record { rising_names = names_rise; rising_objects = λ k d lt. absurd (omega arith); one_count = omega arith };
+  };
+  lists_are = refl;
+}

@@ -1,0 +1,5 @@
+pub mod Worked
+pub mod WorkedConversations
+pub mod WorkedRuns
+pub mod WorkedSessions
+pub mod WorkedTexts

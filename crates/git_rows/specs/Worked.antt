@@ -1,0 +1,110 @@
+-- How the rows write what they are about.
+use Rattle.std.specs.Prelude.{ℕ, Bool, false, List, [], Option, None, ◌∷◌, ◌++◌, codes, replicate}
+use Rattle.git_msg.specs.Advertisement.{everything}
+use Rattle.git_msg.specs.Asked.{FetchAsked, LsRefsAsked}
+use Rattle.git_msg.specs.Flags.{flags_where, pack_flags}
+use Rattle.git_msg.specs.WrittenRequest.{text_line}
+use Rattle.git_msg.specs.declared.offers.Offer.{Offer}
+use Rattle.git_msg.specs.declared.response_lines.Info.{Info}
+use Rattle.git_names.specs.ObjectName.{ObjectName}
+use Rattle.git_names.specs.declared.object_format.Format.TheVariants.{Sha1}
+use Rattle.git_pkt.specs.Packets.{Pkt, delim, flush}
+use Rattle.git_pkt.specs.Splits.{Given}
+use Rattle.git_pkt.specs.declared.fault.Fault.{Fault}
+use Rattle.git_pkt.specs.declared.fault.Kind.{Kind}
+
+-- the packet, at this offset
+abbrev pub at : ℕ → Pkt → Given
+at offset packet = record { packet = packet; offset = offset }
+
+-- the fault of this name, at this offset
+abbrev pub fault_at : Kind → ℕ → Fault
+fault_at kind offset = record { kind = kind; offset = offset }
+
+-- forty times the digit a, in either case
+abbrev pub all_a : List ℕ
+all_a = codes "aaaaaaaaaaaaaaaaaaaaaaaaaaaaaaaaaaaaaaaa"
+
+abbrev pub all_upper_a : List ℕ
+all_upper_a = codes "AAAAAAAAAAAAAAAAAAAAAAAAAAAAAAAAAAAAAAAA"
+
+-- the object name of SHA-1 of which each byte is this
+abbrev pub name_of_bytes : ℕ → ObjectName
+name_of_bytes byte = record { format = Sha1; bytes = replicate 20 byte ++ replicate 12 0 }
+
+-- the object name that these digits spell
+abbrev pub name_a : ObjectName
+name_a = name_of_bytes 170
+
+-- forty times the letter b, and the object name that it spells
+abbrev pub all_b : List ℕ
+all_b = codes "bbbbbbbbbbbbbbbbbbbbbbbbbbbbbbbbbbbbbbbb"
+
+abbrev pub name_b : ObjectName
+name_b = name_of_bytes 187
+
+-- the object name of all a with bytes after the twenty that are not zero
+abbrev pub name_unpadded : ObjectName
+name_unpadded = record { format = Sha1; bytes = replicate 20 170 ++ replicate 12 1 }
+
+-- the object name of all a but for a b at its end
+abbrev pub name_ab : ObjectName
+name_ab = record { format = Sha1; bytes = replicate 19 170 ++ 171 ∷ replicate 12 0 }
+
+-- all features, where object names are those of SHA-1
+abbrev pub offer_all : Offer
+offer_all = everything Sha1
+
+-- what a server has of an object
+abbrev pub info_of : ObjectName → Option ℕ → Info
+info_of id size = record { id = id; size = size }
+
+-- what a request for references asks for that has these prefixes and no flag
+abbrev pub ls_refs_of : List (List ℕ) → LsRefsAsked
+ls_refs_of prefixes = record { symrefs = false; peel = false; unborn = false; ref_prefixes = prefixes }
+
+-- what a fetch asks for that has these `want` lines and maybe `done`, and no other line
+abbrev pub fetch_of : List ObjectName → Bool → FetchAsked
+fetch_of wants is_done = record {
+  wants = wants;
+  haves = [];
+  flags = flags_where pack_flags (λ flag. false);
+  done = is_done;
+  filters = [];
+  shallows = [];
+  deepen = None;
+  deepen_relative = false;
+  deepen_since = None;
+  deepen_nots = [];
+  want_refs = [];
+}
+
+-- a request for references, from the offset 0 on
+abbrev pub ls_refs_packets : List Given
+ls_refs_packets = at 0 (text_line (codes "command=ls-refs")) ∷ at 20 flush ∷ []
+
+-- a fetch of one object without its last packets
+abbrev pub want_alone_packets : List Given
+want_alone_packets = at 0 (text_line (codes "command=fetch")) ∷ at 18 delim ∷ at 22 (text_line (codes "want " ++ all_a)) ∷ []
+
+-- a fetch of one object, which is done
+abbrev pub fetch_done_packets : List Given
+fetch_done_packets = want_alone_packets ++ at 72 (text_line (codes "done")) ∷ at 81 flush ∷ []
+
+-- a fetch of nothing
+abbrev pub no_want_packets : List Given
+no_want_packets = at 0 (text_line (codes "command=fetch")) ∷ at 18 delim ∷ at 22 (text_line (codes "done")) ∷ at 31 flush ∷ []
+
+-- a request for references with three arguments, of which the first two have 26 bytes
+abbrev pub three_argument_packets : List Given
+three_argument_packets =
+    at 0 (text_line (codes "command=ls-refs")) ∷ at 20 delim ∷ at 24 (text_line (codes "peel"))
+    ∷ at 33 (text_line (codes "ref-prefix refs/heads/")) ∷ at 60 (text_line (codes "symrefs")) ∷ []
+
+-- a request for references with these flags and prefixes
+abbrev pub asked_with : (symrefs peel : Bool) → List (List ℕ) → LsRefsAsked
+asked_with symrefs peel prefixes = record { symrefs = symrefs; peel = peel; unborn = false; ref_prefixes = prefixes }
+
+-- a fetch that negotiates, by these `have` lines
+abbrev pub haves_of : List ObjectName → FetchAsked
+haves_of haves = record (fetch_of (name_a ∷ []) false) { haves = haves }

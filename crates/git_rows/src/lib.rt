@@ -1,0 +1,13 @@
+//! Worked rows: each definition that the contracts rest on, at concrete bytes where it holds and at others where it does not.
+//! Each row is the contract of a function that does nothing.
+#![tactic(auto)]
+
+pub mod bands;
+pub mod conversations;
+pub mod lines;
+pub mod names;
+pub mod packets;
+pub mod requests;
+pub mod runs;
+pub mod sessions;
+pub mod texts;

@@ -1,0 +1,57 @@
+//! Runs: the bytes of their streams, and what `show`, `check` and `play` result in.
+
+ghost use Rattle.std.specs.Prelude.{◌++◌, ◌∷◌, [], Err, None, Ok, Some, codes, false, true};
+ghost use Rattle.git2show_lib.specs.Machine.CheckedStreams.{Checked};
+ghost use Rattle.git2show_lib.specs.Machine.ShownStream.{Shows};
+ghost use Rattle.git_both_ends.specs.Plays.{Played};
+ghost use Rattle.git_pkt.specs.Streams.{AreRead, AreWritten, IsTimely, flow};
+ghost use Rattle.git_pkt.specs.declared.fault.Kind.TheVariants.{BadLength, StreamTooLong, Truncated};
+ghost use Rattle.git_pkt.specs.declared.fault.RunFault.TheVariants.{ReadFault, Refused};
+ghost use Rattle.git_rows.specs.Worked.{fault_at};
+ghost use Rattle.git_rows.specs.WorkedConversations.{offer_bytes, terms};
+ghost use Rattle.git_rows.specs.WorkedRuns.{offer_transcript, repo_state, standing};
+
+use git_both_ends::answer_laws::heard_offer;
+use std::alloc::Allocator;
+
+/// What streams held before and after a run.
+pub fn bytes_moved()
+    ensures read { AreRead (flow (Some (codes "ab")) (Some (codes "b")) ∷ []) (codes "a" ∷ []) }
+    ensures written { AreWritten false (flow (Some (codes "a")) (Some (codes "ab")) ∷ []) (codes "b" ∷ []) }
+    ensures front_written { AreWritten true (flow (Some []) (Some (codes "a")) ∷ []) (codes "ab" ∷ []) }
+    ensures ended { IsTimely Truncated true [] }
+    ensures one_byte_more { IsTimely StreamTooLong false (codes "a") }
+    ensures not_another_byte { ¬ AreRead (flow (Some (codes "ab")) (Some (codes "b")) ∷ []) (codes "b" ∷ []) }
+    ensures not_a_front_alone { ¬ AreWritten false (flow (Some []) (Some (codes "a")) ∷ []) (codes "ab" ∷ []) }
+    ensures not_more_than_that { ¬ AreWritten true (flow (Some []) (Some (codes "abc")) ∷ []) (codes "ab" ∷ []) }
+    ensures not_another_stream { ¬ AreWritten false [] (codes "a" ∷ []) }
+    ensures not_before_the_end { ¬ IsTimely Truncated false [] }
+    ensures not_without_a_byte_more { ¬ IsTimely StreamTooLong false [] }
+{}
+
+/// A stream shown to its end, and one that is refused.
+pub fn stream_shown()
+    ensures whole { Shows (Ok tt) true 3 (codes "0006a\n00040000" ∷ []) (codes "0 data 2 a\\n\n6 data 0\n10 flush\n" ∷ []) }
+    ensures refused { Shows (Err (Refused (fault_at BadLength 5))) false 3 (codes "0005a0003" ∷ []) (codes "0 data 1 a\n" ∷ []) }
+    ensures not_before_its_end { ¬ Shows (Ok tt) false 3 (codes "0000" ∷ []) (codes "0 flush\n" ∷ []) }
+    ensures not_without_its_line { ¬ Shows (Ok tt) true 3 (codes "0000" ∷ []) ([] ∷ []) }
+    ensures not_of_a_part { ¬ Shows (Ok tt) true 3 (codes "00000" ∷ []) (codes "0 flush\n" ∷ []) }
+{}
+
+/// No requests, and responses that are an advertisement alone.
+pub fn streams_checked<A: Allocator + Copy>()
+    ensures whole { Checked A terms 0 (Ok tt) (standing true) (standing true) ([] ∷ offer_bytes ∷ []) (codes "offered\n" ∷ []) }
+    ensures not_while_requests_may_come { ¬ Checked A terms 0 (Ok tt) (standing false) (standing true) ([] ∷ offer_bytes ∷ []) (codes "offered\n" ∷ []) }
+    ensures not_while_responses_may_come { ¬ Checked A terms 0 (Ok tt) (standing true) (standing false) ([] ∷ offer_bytes ∷ []) (codes "offered\n" ∷ []) }
+    ensures not_without_an_advertisement { ¬ Checked A terms 0 (Ok tt) (standing true) (standing true) ([] ∷ [] ∷ []) ([] ∷ []) }
+{}
+
+/// A play without requests: the client receives the advertisement, and leaves.
+pub fn nothing_played<A: Allocator + Copy>()
+    ensures whole { Played {A = A} ⊥ terms 0 repo_state [] (Ok tt) [] (offer_transcript ∷ [] ∷ []) }
+    ensures not_without_a_pack_writer { ¬ Played {A = A} ⊥ terms 0 repo_state [] (Ok tt) [] (offer_transcript ∷ []) }
+    ensures not_read_of_a_stream { ¬ Played {A = A} ⊥ terms 0 repo_state [] (Ok tt) (offer_transcript ∷ []) (offer_transcript ∷ [] ∷ []) }
+    ensures no_read_fails { ¬ Played {A = A} ⊥ terms 0 repo_state [] (Err ReadFault) [] ([] ∷ [] ∷ []) }
+{
+    heard_offer();
+}
