@@ -373,6 +373,55 @@ case_a_client_in_c_tells_why_it_fetches_nothing() {
     expect_status 2
 }
 
+# lied_to COMMAND..: runs a client in C, to which a server in the place of Git's sends what `said` has, whatever it is asked.
+lied_to() {
+    mkdir -p lying
+    printf '%s\n' '#!/bin/sh' "cat $room/said" 'exec cat > /dev/null' > lying/git
+    chmod +x lying/git
+    PATH=$room/lying:$PATH run "$@"
+}
+
+# Of what a server sends no byte goes to a terminal that could be more than a letter.
+case_a_client_in_c_lists_no_control_byte() {
+    {
+        advertisement sha1
+        packet "$one "$'refs/heads/\xc2\x9b31m symref-target:refs/heads/\xc3\xa4rger'
+        packet "$two refs/tags/v1 peeled:$one"
+        printf 0000
+    } > said
+    lied_to list-watched anywhere
+    expect 0 <(printf '%s\t%s\n' 'ref: refs/heads/\xc3\xa4rger' 'refs/heads/\xc2\x9b31m' "$one" 'refs/heads/\xc2\x9b31m' \
+        "$two" refs/tags/v1 "$one" 'refs/tags/v1^{}') /dev/null
+}
+
+case_a_client_in_c_shows_an_error_on_one_line() {
+    printf '0018ERR no \033]0;x\a\n\xff way\n' > said
+    lied_to list-watched anywhere
+    expect 1 /dev/null <(echo 'list: RemoteError at 0: no \x1b]0;x\x07\n\xff way')
+    lied_to fetch-watched anywhere HEAD pack
+    expect 1 /dev/null <(echo 'fetch: RemoteError at 0: no \x1b]0;x\x07\n\xff way')
+    printf '0008ERR ' > said
+    lied_to list-watched anywhere
+    expect 1 /dev/null <(echo 'list: RemoteError at 0: ')
+}
+
+# Its lines end as they do, and where a new one takes the place of the last.
+case_a_client_in_c_shows_no_control_byte_of_the_progress() {
+    command -v script > /dev/null || return 0
+    {
+        advertisement sha1
+        packet "$one HEAD"
+        printf 0000
+        packet packfile
+        printf '%b' '0016\002half \033]0;x\a\rdone\n' '000a\002\xc2\x9b31m' '000a\001PACK!0000'
+    } > said
+    lied_to script -q -e -c 'fetch-watched anywhere HEAD pack' /dev/null
+    expect_status 0
+    expect_same 'what the terminal gets' <(printf '%s\r' 'half \x1b]0;x\x07' && printf '%s\n' 'done' '\xc2\x9b31m'"$one") \
+        <(sed 's/\r$//' out)
+    expect_same 'the pack' <(printf 'PACK!') pack
+}
+
 # write_host_files FOLDER NAME: what a host in C is to serve of a repository, in NAME.refs and NAME.pack.
 write_host_files() {
     git -C "$1" show-ref --head > "$2.refs"
