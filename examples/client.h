@@ -16,11 +16,21 @@
 #include "greeting.h"
 
 /*
- * What a request may keep: some 23,000 lines `want` or `have`. One with more is refused. While one client's packet is made the
- * others wait: at the longest for as long as it takes to put in order the prefixes that this has room for, some hundredths of a
- * second, or to compare each `unshallow` line of the text with each `shallow` of the request: of many such lines less is better.
+ * How many bytes the texts of a request's argument lines may have. For a clone Git sends a line for each reference, `want-ref` and its name, or
+ * `want` and its object. So 300,000 references fit with names of 74 bytes on average, and with an object each, in either format. A request with
+ * more is refused.
+ *
+ * This is what a client can make its place cost until it is answered: 25 MB, and 11 for 300,000 names of 22 bytes. Beside that a place takes
+ * 200 KB, and only these while no request has come. So MOST_CLIENTS places can cost 3.3 GB: where that is too much have fewer of them, or a lower
+ * limit. With -DMOST_KEPT=1048576 some 20,000 references fit, and a place costs little more than 1 MB.
+ *
+ * While one client's packet is made the others wait: at the longest for as long as it takes to put in order the prefixes that this has room for,
+ * which is about a second for 1,700,000 of them, or to compare each `unshallow` line of the text with each `shallow` of the request: of many such
+ * lines less is better.
  */
-enum { MOST_KEPT = 1048576 };
+#ifndef MOST_KEPT
+#define MOST_KEPT 25165824
+#endif
 
 /* How many packets are made for a client before the others have their turn: a small request can be answered by a flush alone. */
 enum { MOST_PULLS = 64 };
@@ -49,12 +59,15 @@ static time_t seconds(void)
 	return moment.tv_sec;
 }
 
-/* A fault by its name and offset, until the next one is asked for. */
+/* A fault by its name and offset, and of a limit how much that allows, until the next one is asked for. */
 static const char *text_of(gitwire_answer answer)
 {
-	static char text[GITWIRE_FAULT_TEXT_ROOM + 1];
+	static char text[GITWIRE_FAULT_TEXT_ROOM + 100];
+	size_t length = gitwire_fault_text(answer.fault, answer.offset, (uint8_t *)text, GITWIRE_FAULT_TEXT_ROOM);
 
-	text[gitwire_fault_text(answer.fault, answer.offset, (uint8_t *)text, GITWIRE_FAULT_TEXT_ROOM)] = 0;
+	text[length] = 0;
+	if (answer.fault == GITWIRE_FAULT_TOO_MUCH_KEPT)
+		snprintf(text + length, sizeof text - length, ": this server takes no more than %d bytes of arguments in a request", MOST_KEPT);
 	return text;
 }
 
@@ -75,12 +88,29 @@ static void forget(struct client *c)
 	c->phase = NOBODY;
 }
 
+/* Puts an error packet after what waits to be sent. */
+static void put_error(struct client *c, const char *why)
+{
+	c->out_end += gitwire_put_error(&writer, (const uint8_t *)why, strlen(why), c->out + c->out_end, sizeof c->out - c->out_end).length;
+}
+
 /* Makes an error packet the last that is sent. */
 static void refuse(struct client *c, const char *why)
 {
 	tell("refused: ", why);
-	c->out_end = gitwire_put_error(&writer, (const uint8_t *)why, strlen(why), c->out, sizeof c->out).length;
+	put_error(c, why);
 	c->phase = ENDING;
+}
+
+/* Closes a client whose session is not over, and sends it the reason, where nothing waits to be sent: that may be amid a packet. */
+static void dismiss(struct client *c, const char *what, const char *why)
+{
+	tell(what, "");
+	if (c->out_end == 0 && c->phase != LEAVING) {
+		put_error(c, why);
+		send(c->connection, c->out, c->out_end, 0);
+	}
+	forget(c);
 }
 
 /* Reads on to the end of the first packet, whose payload comes to where the answer will be. */
@@ -108,19 +138,39 @@ static void greet(struct client *c)
 	}
 }
 
-/* Gives what the server owes, as long as there is room for a whole packet and the turn lasts, and feeds it what has come. */
+/* Whether a packet of a server is an error packet, which is its last one, and reports why it refuses. */
+static bool is_error(const uint8_t *packet, size_t length)
+{
+	return length >= 8 && memcmp(packet + 4, "ERR ", 4) == 0;
+}
+
+/* Ends a session that was refused. An error packet of the client is not answered by another. */
+static void end_refused(struct client *c, gitwire_answer answer)
+{
+	tell("a session ended with ", text_of(answer));
+	if (answer.fault != GITWIRE_FAULT_REMOTE_ERROR)
+		put_error(c, text_of(answer));
+	c->phase = ENDING;
+}
+
+/*
+ * Gives what the server owes, as long as there is room for a whole packet and the turn lasts, and feeds it what has come. In the place of
+ * its error packet goes one that also says how much a limit allows: the next pull returns the fault.
+ */
 static void serve(struct client *c)
 {
 	c->wants_input = false;
 	for (int i = 0; i < MOST_PULLS && sizeof c->out - c->out_end >= GITWIRE_PACKET_ROOM && !c->wants_input; i++) {
-		gitwire_answer answer = gitwire_server_pull(&c->server, c->out + c->out_end, sizeof c->out - c->out_end);
+		uint8_t *packet = c->out + c->out_end;
+		gitwire_answer answer = gitwire_server_pull(&c->server, packet, sizeof c->out - c->out_end);
 
 		if (answer.kind == GITWIRE_PACKET) {
-			c->out_end += answer.length;
+			c->out_end += is_error(packet, answer.length) ? 0 : answer.length;
+		} else if (answer.kind == GITWIRE_FAILED) {
+			end_refused(c, answer);
+			return;
 		} else if (answer.kind != GITWIRE_NEED_INPUT) {
 			c->phase = ENDING;
-			if (answer.kind == GITWIRE_FAILED)
-				tell("a session ended with ", text_of(answer));
 			return;
 		} else if (c->in_at < c->in_end) {
 			c->in_at += gitwire_server_feed(&c->server, c->in + c->in_at, c->in_end - c->in_at).used;

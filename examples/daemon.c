@@ -10,7 +10,9 @@
  *
  * There is a place for MOST_CLIENTS. Where another comes, the one goes of whom a whole request has been waited for longest: so those who
  * send little keep nobody out. Who takes an answer, however slowly, keeps its place: a host that strangers reach gives each address few
- * places, and each session a time for all of it.
+ * places, and each session a time for all of it. What a client may make its place cost is MOST_KEPT, in client.h.
+ *
+ * A client that is above a limit receives, in an error packet, which one that is and how much it allows: of a request, of time, of places.
  */
 #define _GNU_SOURCE
 #define PROGRAM "daemon"
@@ -34,13 +36,14 @@ static struct client *make_room(void)
 {
 	struct client *slowest = NULL;
 	time_t latest = seconds() - LEAST_SECONDS;
+	char why[100];
 
 	for (struct client *c = clients; c < clients + MOST_CLIENTS; c++)
 		if (c->phase != NOBODY && awaited(c) == POLLIN && c->since < latest && (slowest == NULL || c->since < slowest->since))
 			slowest = c;
 	if (slowest != NULL) {
-		tell("a client made room for another", "");
-		forget(slowest);
+		snprintf(why, sizeof why, "this server has places for no more than %d clients, and another one came", MOST_CLIENTS);
+		dismiss(slowest, "a client made room for another", why);
 	}
 	return slowest;
 }
@@ -69,6 +72,15 @@ static bool welcome(int listener)
 	return connection >= 0;
 }
 
+/* Closes a client whose time is over. */
+static void end_late(struct client *c)
+{
+	char why[100];
+
+	snprintf(why, sizeof why, "this server waits for a client no longer than %lld seconds", (long long)patience);
+	dismiss(c, "a client was too slow", why);
+}
+
 /* Gives each client its turn for which something has come or gone, and closes those whose time is over. */
 static void give_turns(const struct pollfd *polled)
 {
@@ -79,10 +91,8 @@ static void give_turns(const struct pollfd *polled)
 
 		if (polled[i].revents)
 			turn(c);
-		if (c->phase != NOBODY && c->deadline < now) { /* judged after its turn, which counts */
-			tell("a client was too slow", "");
-			forget(c);
-		}
+		if (c->phase != NOBODY && c->deadline < now) /* judged after its turn, which counts */
+			end_late(c);
 	}
 }
 

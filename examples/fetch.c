@@ -4,16 +4,14 @@
  *     fetch [--sha256] FOLDER REFERENCE PACK
  *
  * REFERENCE is a whole name, as `HEAD` or `refs/heads/main`; its object is printed. What the server sends of its progress is shown where
- * standard error is a terminal. `git index-pack` takes the pack.
+ * standard error is a terminal, with bytes escaped that might steer that. `git index-pack` takes the pack.
  */
-#include <gitwire.h>
+#define _POSIX_C_SOURCE 200809L
+#define PROGRAM "fetch"
+#include "upload_pack.h"
 
-#include <stdio.h>
 #include <string.h>
 #include <sys/wait.h>
-#include <unistd.h>
-
-#include "upload_pack.h"
 
 /* A fetch, from the request for the reference to the last byte of the pack. */
 struct fetch {
@@ -26,28 +24,6 @@ struct fetch {
 	FILE *pack;
 	int to, from;
 };
-
-static uint8_t room[GITWIRE_PACKET_ROOM];
-
-static int tell(const char *what)
-{
-	fprintf(stderr, "fetch: %s\n", what);
-	return 1;
-}
-
-/* Reports why the conversation was refused, and the server's message for it. */
-static int refuse(struct fetch *fetch, gitwire_answer answer)
-{
-	uint8_t text[GITWIRE_FAULT_TEXT_ROOM];
-	size_t length = gitwire_fault_text(answer.fault, answer.offset, text, sizeof text);
-	gitwire_answer message = gitwire_client_message(&fetch->client, room, sizeof room);
-
-	fprintf(stderr, "fetch: %.*s", (int)length, (const char *)text);
-	if (message.kind == GITWIRE_DONE)
-		fprintf(stderr, ": %.*s", (int)message.length, (const char *)room);
-	fputc('\n', stderr);
-	return 1;
-}
 
 /* Adds an argument of a word and a value. */
 static bool add(gitwire_request *request, const char *word, const char *value)
@@ -92,7 +68,31 @@ static int ask_next(struct fetch *fetch)
 		return tell("a reference that cannot be asked for");
 	fetch->has_asked = fetch->has_listed;
 	fetch->has_listed = true;
-	return answer.kind == GITWIRE_DONE ? -1 : refuse(fetch, answer);
+	return answer.kind == GITWIRE_DONE ? -1 : refuse(&fetch->client, answer);
+}
+
+/* How many bytes come before the end of a line: LF, or CR, after which the next line takes its place. */
+static size_t line_length(const uint8_t *text, size_t length)
+{
+	size_t at = 0;
+
+	while (at < length && text[at] != '\n' && text[at] != '\r')
+		at++;
+	return at;
+}
+
+/* Shows a part of the server's progress, with all but its line ends escaped. */
+static void show_progress(const uint8_t *text, size_t length)
+{
+	while (length > 0) {
+		size_t line = line_length(text, length);
+
+		show_bytes(stderr, text, line);
+		if (line < length)
+			fputc(text[line++], stderr);
+		text += line;
+		length -= line;
+	}
 }
 
 /* Takes an event of the server. The bytes of the pack and of its progress end at `end` of what was read; other texts lie in the room. */
@@ -111,7 +111,7 @@ static bool take(struct fetch *fetch, gitwire_event event, const uint8_t *end)
 		return fwrite(text, 1, event.text_length, fetch->pack) == event.text_length;
 	case GITWIRE_PROGRESS:
 		if (isatty(STDERR_FILENO))
-			fwrite(text, 1, event.text_length, stderr);
+			show_progress(text, event.text_length);
 		return true;
 	default:
 		return true;
@@ -130,7 +130,7 @@ static int hear(struct fetch *fetch)
 		if (count < 0)
 			return tell("the server cannot be read from");
 		if (count == 0)
-			return refuse(fetch, gitwire_client_close(&fetch->client));
+			return refuse(&fetch->client, gitwire_client_close(&fetch->client));
 		used = 0;
 		length = (size_t)count;
 	}
@@ -161,7 +161,7 @@ static int converse(struct fetch *fetch)
 			status = 0;
 			break;
 		default:
-			status = refuse(fetch, answer);
+			status = refuse(&fetch->client, answer);
 		}
 	}
 	return status;

@@ -3,24 +3,14 @@
  *
  *     list [--sha256] FOLDER [PREFIX..]
  *
- * Those alone are asked for whose names begin with one of the prefixes.
+ * Those alone are asked for whose names begin with one of the prefixes. Of a name, bytes that are no printable ASCII are escaped.
  */
-#include <gitwire.h>
-
-#include <stdio.h>
-#include <string.h>
-#include <sys/wait.h>
-#include <unistd.h>
-
+#define _POSIX_C_SOURCE 200809L
+#define PROGRAM "list"
 #include "upload_pack.h"
 
-static uint8_t room[GITWIRE_PACKET_ROOM];
-
-static int tell(const char *what)
-{
-	fprintf(stderr, "list: %s\n", what);
-	return 1;
-}
+#include <string.h>
+#include <sys/wait.h>
 
 /* Adds an argument of a word and a value. Why it cannot be added, or NULL. */
 static const char *add(gitwire_request *request, const char *word, const char *value)
@@ -55,33 +45,28 @@ static const char *make_request(gitwire_request *request, uint8_t format, char *
 	return why;
 }
 
+static void show_part(const uint8_t *part, size_t length, const char *end)
+{
+	show_bytes(stdout, part, length);
+	fputs(end, stdout);
+}
+
 /* Prints a reference, whose parts lie in the room one after another. */
 static void show(gitwire_event event)
 {
-	const char *id = (const char *)room, *name = id + event.id_length, *target = name + event.name_length;
-	const char *peeled = target + event.text_length;
-	int id_length = (int)event.id_length, name_length = (int)event.name_length;
+	const uint8_t *name = room + event.id_length, *target = name + event.name_length, *peeled = target + event.text_length;
 
-	if (event.has_text)
-		printf("ref: %.*s\t%.*s\n", (int)event.text_length, target, name_length, name);
-	printf("%.*s\t%.*s\n", id_length, id, name_length, name);
-	if (event.peeled_length > 0)
-		printf("%.*s\t%.*s^{}\n", (int)event.peeled_length, peeled, name_length, name);
-}
-
-/* Reports why the conversation was refused, and the server's message for it. */
-static int refuse(gitwire_client *client, gitwire_answer answer)
-{
-	uint8_t text[GITWIRE_FAULT_TEXT_ROOM];
-	size_t length = gitwire_fault_text(answer.fault, answer.offset, text, sizeof text);
-	gitwire_answer message = gitwire_client_message(client, room, sizeof room);
-
-	fflush(stdout);
-	fprintf(stderr, "list: %.*s", (int)length, (const char *)text);
-	if (message.kind == GITWIRE_DONE)
-		fprintf(stderr, ": %.*s", (int)message.length, (const char *)room);
-	fputc('\n', stderr);
-	return 1;
+	if (event.has_text) {
+		fputs("ref: ", stdout);
+		show_part(target, event.text_length, "\t");
+		show_part(name, event.name_length, "\n");
+	}
+	show_part(room, event.id_length, "\t");
+	show_part(name, event.name_length, "\n");
+	if (event.peeled_length > 0) {
+		show_part(peeled, event.peeled_length, "\t");
+		show_part(name, event.name_length, "^{}\n");
+	}
 }
 
 /* Does what is to be done next, until all was sent and received. Answers the program's status. */

@@ -81,19 +81,18 @@ func showPayload(out *bufio.Writer, offset uint64, payload []byte) {
 	if len(payload) > 0 {
 		out.WriteByte(' ')
 	}
-	for _, b := range payload {
-		switch {
-		case b == '\n':
-			out.WriteString("\\n")
-		case b == '\\':
-			out.WriteString("\\\\")
-		case b >= 0x20 && b <= 0x7e:
-			out.WriteByte(b)
-		default:
-			fmt.Fprintf(out, "\\x%02x", b)
-		}
-	}
+	writeEscaped(out, payload)
 	out.WriteByte('\n')
+}
+
+// writeEscaped writes a stranger's bytes as git2show shows them.
+func writeEscaped(out *bufio.Writer, rest []byte) {
+	var room [4096]byte
+	for len(rest) > 0 {
+		answer := C.gitwire_escape(bytesOf(rest), C.size_t(len(rest)), bytesOf(room[:]), C.size_t(len(room)))
+		out.Write(room[:answer.length])
+		rest = rest[answer.used:]
+	}
 }
 
 func list(reader *packetReader, most int, in io.Reader, out *bufio.Writer) error {

@@ -16,6 +16,7 @@ MOST_PIECE = 65536
 # The numbers of gitwire.h.
 DONE, MORE, FAILED, FLUSH, DELIM, RESPONSE_END = 0, 1, 2, 10, 11, 12
 PAYLOAD_ROOM = 65516
+ESCAPE_ROOM = 4
 FAULT_TEXT_ROOM = 64
 
 
@@ -40,6 +41,7 @@ def load_library():
         "packet_reader_close": (Told, [POINTER(Handle)]),
         "packet_reader_clear": (None, [POINTER(Handle)]),
         "fault_text": (c_size_t, [c_uint8, c_uint64, c_void_p, c_size_t]),
+        "escape": (Told, [c_void_p, c_size_t, c_void_p, c_size_t]),
     }
     for name, (gives, wants) in takes.items():
         call = getattr(library, "gitwire_" + name)
@@ -52,12 +54,13 @@ class Refused(Exception):
 
 
 class PacketReader:
-    """A reader of packets, which lends its room: `room[: answer.length]` is a packet's payload until the next feed."""
+    """A reader of packets, which has a packet's payload in its room until the next feed."""
 
     def __init__(self, library):
         self.library = library
         self.handle = Handle()
         self.room = create_string_buffer(PAYLOAD_ROOM)
+        self.shown = create_string_buffer(ESCAPE_ROOM * PAYLOAD_ROOM)
         if library.gitwire_packet_reader_new(byref(self.handle)) != DONE:
             raise Refused("no memory")
 
@@ -80,23 +83,22 @@ class PacketReader:
         part = byref(piece, start), end - start
         return self.judged(self.library.gitwire_packet_reader_feed(byref(self.handle), *part, self.room, len(self.room)))
 
+    def payload(self, answer):
+        """The payload of the last packet, as `git2show show` shows it."""
+        answer = self.library.gitwire_escape(self.room, answer.length, self.shown, len(self.shown))
+        return self.shown[: answer.length].decode()
+
     def close(self):
         """The input ends here."""
         return self.judged(self.library.gitwire_packet_reader_close(byref(self.handle)))
 
 
-SHOWN = [chr(byte) if 0x20 <= byte <= 0x7E else f"\\x{byte:02x}" for byte in range(256)]
-SHOWN[ord("\n")] = "\\n"
-SHOWN[ord("\\")] = "\\\\"
-
-
-def line(answer, room):
+def line(reader, answer):
     """A packet's line: its offset, its kind, and the length and bytes of its payload."""
     kinds = {FLUSH: "flush", DELIM: "delim", RESPONSE_END: "end"}
     if answer.kind in kinds:
         return f"{answer.offset} {kinds[answer.kind]}\n"
-    payload = "".join(SHOWN[byte] for byte in room[: answer.length])
-    return f"{answer.offset} data {answer.length}{' ' if payload else ''}{payload}\n"
+    return f"{answer.offset} data {answer.length}{' ' if answer.length else ''}{reader.payload(answer)}\n"
 
 
 def read_into(piece):
@@ -116,7 +118,7 @@ def list_packets(reader, most):
             answer = reader.feed(piece, used, length)
             used += answer.used
             if answer.kind != MORE:
-                sys.stdout.write(line(answer, reader.room))
+                sys.stdout.write(line(reader, answer))
     reader.close()
 
 

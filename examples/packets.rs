@@ -46,6 +46,12 @@ extern "C" {
     fn gitwire_packet_reader_close(reader: *mut Handle) -> Answer;
     fn gitwire_packet_reader_clear(reader: *mut Handle);
     fn gitwire_fault_text(fault: u8, offset: u64, room: *mut u8, room_length: usize) -> usize;
+    fn gitwire_escape(
+        bytes: *const u8,
+        bytes_length: usize,
+        room: *mut u8,
+        room_length: usize,
+    ) -> Answer;
 }
 
 /// A reader of packets. It is neither copied nor shared, and is freed once: what the header asks of a caller.
@@ -91,6 +97,18 @@ fn fault_text(answer: Answer) -> String {
     String::from_utf8_lossy(&room[..length]).into_owned()
 }
 
+/// Writes bytes as `git2show show` shows them.
+fn write_escaped(out: &mut impl Write, mut bytes: &[u8]) -> io::Result<()> {
+    let mut room = [0; 4096];
+    while !bytes.is_empty() {
+        let answer =
+            unsafe { gitwire_escape(bytes.as_ptr(), bytes.len(), room.as_mut_ptr(), room.len()) };
+        out.write_all(&room[..answer.length])?;
+        bytes = &bytes[answer.used..];
+    }
+    Ok(())
+}
+
 fn show(out: &mut impl Write, packet: Answer, room: &[u8]) -> io::Result<()> {
     let offset = packet.offset;
     match packet.kind {
@@ -106,14 +124,7 @@ fn show(out: &mut impl Write, packet: Answer, room: &[u8]) -> io::Result<()> {
         payload.len(),
         if payload.is_empty() { "" } else { " " }
     )?;
-    for byte in payload {
-        match byte {
-            b'\n' => write!(out, "\\n")?,
-            b'\\' => write!(out, "\\\\")?,
-            0x20..=0x7e => out.write_all(&[*byte])?,
-            _ => write!(out, "\\x{byte:02x}")?,
-        }
-    }
+    write_escaped(out, payload)?;
     writeln!(out)
 }
 

@@ -1,18 +1,18 @@
-/* How the programs of this folder show bytes: as `git2show` does. */
-#include <stdint.h>
+/* How the programs of this folder show a stranger's bytes: none of them steers a terminal. */
+#include <gitwire.h>
+
 #include <stdio.h>
 
-/* LF is `\n`, a backslash `\\`, printable ASCII is itself, and each other byte is `\x` and two digits. */
+/* As `git2show` shows them. */
 static void show_bytes(FILE *to, const uint8_t *bytes, size_t length)
 {
-	for (size_t i = 0; i < length; i++) {
-		if (bytes[i] == '\n')
-			fputs("\\n", to);
-		else if (bytes[i] == '\\')
-			fputs("\\\\", to);
-		else if (bytes[i] >= 0x20 && bytes[i] <= 0x7e)
-			putc(bytes[i], to);
-		else
-			fprintf(to, "\\x%02x", bytes[i]);
+	uint8_t shown[4096];
+
+	while (length > 0) {
+		gitwire_answer answer = gitwire_escape(bytes, length, shown, sizeof shown);
+
+		fwrite(shown, 1, answer.length, to);
+		bytes += answer.used;
+		length -= answer.used;
 	}
 }

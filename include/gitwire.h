@@ -49,9 +49,9 @@
  * Since 0.1.0: what a server offers, and what a client noted of that, is a set of bits (GITWIRE_FEATURE_*) instead of a field
  * each, so that a further feature breaks no program; `unborn`, `wait-for-done` and `filter` are known (GITWIRE_LIST_FILTERS,
  * gitwire_repository_new_filtered), and a reference may have no object (`id_length` 0, in gitwire_put_reference too); a feed that is
- * not due returns NOT_NOW, where it returned MORE; gitwire_kind_name; calls `_free` take NULL; calls that no program should make with NULL,
- * or whose answer none should pass over, are marked for the compilers that can check it; what a call returns is `gitwire_answer`,
- * which was `gitwire_told`.
+ * not due returns NOT_NOW, where it returned MORE; gitwire_kind_name and gitwire_escape; calls `_free` take NULL; calls that no program should
+ * make with NULL, or whose answer none should pass over, are marked for the compilers that can check it; what a call returns is
+ * `gitwire_answer`, which was `gitwire_told`.
  */
 #ifndef GITWIRE_H
 #define GITWIRE_H
@@ -92,6 +92,7 @@ extern "C" {
 #define GITWIRE_FAULT_NAME_ROOM 32          /* what gitwire_fault_name writes */
 #define GITWIRE_FAULT_TEXT_ROOM 64          /* what gitwire_fault_text writes */
 #define GITWIRE_KIND_NAME_ROOM 32           /* what gitwire_kind_name writes */
+#define GITWIRE_ESCAPE_ROOM 4               /* what gitwire_escape writes of one byte */
 #define GITWIRE_ADVERTISEMENT_ROOM 200      /* what gitwire_put_advertisement writes */
 
 /* How many bytes the texts of a request's argument lines may have together: a usual limit, and the greatest one. */
@@ -651,6 +652,16 @@ size_t gitwire_fault_text(uint8_t fault, uint64_t offset, uint8_t *room, size_t 
  * or the room is too small. GITWIRE_KIND_NAME_ROOM bytes suffice.
  */
 size_t gitwire_kind_name(uint8_t kind, uint8_t *room, size_t room_length);
+
+/*
+ * A stranger's bytes as a text that may be shown on a terminal, or be a line of a log, as `git2show show` shows them: LF is `\n`, a backslash
+ * is two, other bytes from 0x20 to 0x7e stay as they are, and each other one is `\x` and two digits. The room has GITWIRE_ESCAPE_ROOM bytes
+ * at least; so many for each byte always suffice for all.
+ *
+ * DONE: the escapes of all bytes, `length` in the room. MORE: there is room for those of the first `used` bytes alone; it is to be called
+ * again with the others. ROOM_TOO_SMALL.
+ */
+gitwire_answer gitwire_escape(const uint8_t *bytes, size_t bytes_length, uint8_t *room, size_t room_length);
 
 /* The layout that the library has: a handle is a pointer and a bool, and its allocator takes no bytes. */
 #define GITWIRE_IS_HANDLE(type) \

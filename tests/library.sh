@@ -15,6 +15,7 @@ write_examples() {
     for name in daemon fetch host list packets watch; do
         compile "$name" "$top/examples/$name.c"
     done
+    compile frugal_daemon "$top/examples/daemon.c" -DMOST_KEPT=200
     compile library_calls "$top/tests/library_calls.c"
     compile refused_memory "$top/tests/refused_memory.c" -Wl,--wrap=malloc,--wrap=realloc,--wrap=free
 }
@@ -373,6 +374,55 @@ case_a_client_in_c_tells_why_it_fetches_nothing() {
     expect_status 2
 }
 
+# lied_to COMMAND..: runs a client in C, to which a server in the place of Git's sends what `said` has, whatever it is asked.
+lied_to() {
+    mkdir -p lying
+    printf '%s\n' '#!/bin/sh' "cat $room/said" 'exec cat > /dev/null' > lying/git
+    chmod +x lying/git
+    PATH=$room/lying:$PATH run "$@"
+}
+
+# Of what a server sends no byte goes to a terminal that could be more than a letter.
+case_a_client_in_c_lists_no_control_byte() {
+    {
+        advertisement sha1
+        packet "$one "$'refs/heads/\xc2\x9b31m symref-target:refs/heads/\xc3\xa4rger'
+        packet "$two refs/tags/v1 peeled:$one"
+        printf 0000
+    } > said
+    lied_to list-watched anywhere
+    expect 0 <(printf '%s\t%s\n' 'ref: refs/heads/\xc3\xa4rger' 'refs/heads/\xc2\x9b31m' "$one" 'refs/heads/\xc2\x9b31m' \
+        "$two" refs/tags/v1 "$one" 'refs/tags/v1^{}') /dev/null
+}
+
+case_a_client_in_c_shows_an_error_on_one_line() {
+    printf '0018ERR no \033]0;x\a\n\xff way\n' > said
+    lied_to list-watched anywhere
+    expect 1 /dev/null <(echo 'list: RemoteError at 0: no \x1b]0;x\x07\n\xff way')
+    lied_to fetch-watched anywhere HEAD pack
+    expect 1 /dev/null <(echo 'fetch: RemoteError at 0: no \x1b]0;x\x07\n\xff way')
+    printf '0008ERR ' > said
+    lied_to list-watched anywhere
+    expect 1 /dev/null <(echo 'list: RemoteError at 0: ')
+}
+
+# Its lines end as they do, and where a new one takes the place of the last.
+case_a_client_in_c_shows_no_control_byte_of_the_progress() {
+    command -v script > /dev/null || return 0
+    {
+        advertisement sha1
+        packet "$one HEAD"
+        printf 0000
+        packet packfile
+        printf '%b' '0016\002half \033]0;x\a\rdone\n' '000a\002\xc2\x9b31m' '000a\001PACK!0000'
+    } > said
+    lied_to script -q -e -c 'fetch-watched anywhere HEAD pack' /dev/null
+    expect_status 0
+    expect_same 'what the terminal gets' <(printf '%s\r' 'half \x1b]0;x\x07' && printf '%s\n' 'done' '\xc2\x9b31m'"$one") \
+        <(sed 's/\r$//' out)
+    expect_same 'the pack' <(printf 'PACK!') pack
+}
+
 # write_host_files FOLDER NAME: what a host in C is to serve of a repository, in NAME.refs and NAME.pack.
 write_host_files() {
     git -C "$1" show-ref --head > "$2.refs"
@@ -664,14 +714,19 @@ memory_of() {
     sed -n "s/^$1:[^0-9]*\([0-9]*\) kB/\1/p" "/proc/$daemon/status"
 }
 
-# The pack is in memory once, and a client takes what its struct has and the library's buffer: half a megabyte at the most. It is the
-# peak that is looked at, once that of the start is forgotten; where that may not be, what the daemon has in the end.
+# forget_peak: sets `peak`, by which memory_of gives the daemon's peak from now on; where that may not be, what it has.
+forget_peak() {
+    peak=VmHWM
+    { echo 5 > "/proc/$daemon/clear_refs"; } 2> /dev/null || peak=VmRSS
+}
+
+# The pack is in memory once, and a client takes what its struct has and the library's buffer: half a megabyte at the most.
 case_a_daemon_in_c_takes_a_fixed_memory() {
-    local before after i clients=() peak=VmHWM
+    local before after i clients=()
     start_daemon heavy daemon
     before=$(memory_of VmRSS)
     [ "$before" -lt 32768 ] || differs "$before KiB for a pack that is there once"
-    { echo 5 > "/proc/$daemon/clear_refs"; } 2> /dev/null || peak=VmRSS
+    forget_peak
     for i in {1..8}; do
         timeout 200 git -c protocol.version=2 clone -q --bare "$address" "fixed-$i" > /dev/null 2>&1 &
         clients+=($!)
@@ -725,6 +780,49 @@ case_a_daemon_in_c_refuses_what_it_does_not_serve() {
     end_daemon
 }
 
+# write_many COUNT LENGTH: `many`, the history with so many branches more, of names of this length, as it is served.
+write_many() {
+    awk -v count="$1" -v digits=$(($2 - 16)) '{ print } $3 == "refs/heads/main" {
+        for (i = 1; i <= count; i++) printf "ref %s refs/heads/many/%0*d\n", $2, digits, i
+    }' history-sha1.repo > many.repo
+    cp history-sha1.pack many.pack
+}
+
+# has_many: that the clone has each reference that is served.
+has_many() {
+    sed -n 's/^ref \([^ ]*\) \(refs[^ ]*\).*/\1 \2/p' many.repo > wanted
+    git -C ours for-each-ref --format='%(objectname) %(refname)' > written
+    expect_same 'the references' wanted written
+    git -C ours fsck --full --strict --no-dangling
+}
+
+# Git asks for each reference by a line of its own.
+case_a_daemon_in_c_serves_many_references() {
+    write_many 30000 40
+    start_daemon many
+    clone "$address" ours --mirror
+    expect 0 /dev/null /dev/null
+    has_many
+    [ "$(grep -c -F 'clone> want-ref ' "$trace")" -gt 30000 ] || differs 'fewer lines than references'
+    end_daemon
+    expect_same 'what the daemon reported' /dev/null daemon.err
+}
+
+# A client that is above a limit receives which one it is, and Git shows its user that.
+case_a_daemon_in_c_tells_git_its_limit() {
+    start_daemon history-sha1 frugal_daemon-watched
+    clone "$address" ours --mirror
+    expect_status 128
+    grep -q -x 'fatal: remote error: TooMuchKept at [0-9]*: this server takes no more than 200 bytes of arguments in a request' err ||
+        differs 'what Git reported' err
+    end_daemon
+}
+
+# haves COUNT: so many lines of an object that a client has.
+haves() {
+    awk -v count="$1" -v one="$one" 'BEGIN { for (i = 0; i < count; i++) print "0032have " one }'
+}
+
 case_a_daemon_in_c_ends_a_session_at_its_fault() {
     start_daemon history-sha1
     says "$(greeting here version=2)"
@@ -733,12 +831,20 @@ case_a_daemon_in_c_ends_a_session_at_its_fault() {
     expect_same 'the answer' <(advertisement sha1 && packet 'ERR NotOurs at 22') answer
     daemon_told 'daemon: a session ended with NotOurs at 22'
     says "$(greeting here version=2)"
-    { packet command=fetch && printf 0001 && printf "0032have $one\\n%.0s" {1..23302}; } >&5
+    { packet command=fetch && printf 0001 && haves 559241; } >&5
     hears_to_the_end answer
-    expect_same 'the answer to one that asks for much' <(advertisement sha1 && packet 'ERR TooMuchKept at 1165072') answer
+    expect_same 'the answer to one that asks for much' <(
+        advertisement sha1
+        packet 'ERR TooMuchKept at 27962022: this server takes no more than 25165824 bytes of arguments in a request'
+    ) answer
     says "$(greeting here version=2)" 0000
     hears_to_the_end answer
     expect_same 'the answer to one that leaves' <(advertisement sha1) answer
+    says "$(greeting here version=2)"
+    packet 'ERR I leave' >&5
+    hears_to_the_end answer
+    expect_same 'the answer to one that refuses' <(advertisement sha1) answer
+    daemon_told 'daemon: a session ended with RemoteError at 0'
     says '0019git-up'
     exec 5>&-
     daemon_told 'daemon: refused: Truncated at 0'
@@ -751,17 +857,17 @@ case_a_daemon_in_c_ends_a_session_at_its_fault() {
 
 # One sends nothing, one not all, and one does not read what it asked for.
 case_a_daemon_in_c_closes_who_is_too_slow() {
-    local begin id
+    local begin id waits='this server waits for a client no longer than 2 seconds'
     patience=2
     start_daemon heavy
     begin=$SECONDS
     says
-    hears_to_the_end nothing
-    expect_same 'what is sent to one that sends nothing' /dev/null nothing
+    hears_to_the_end answer
+    expect_same 'what is sent to one that sends nothing' <(packet "ERR $waits") answer
     [ $((SECONDS - begin)) -ge $patience ] || differs 'a daemon that did not wait'
     says "$(greeting here version=2)" 0014comm
     hears_to_the_end answer
-    expect_same 'what is sent to one that does not go on' <(advertisement sha1) answer
+    expect_same 'what is sent to one that does not go on' <(advertisement sha1 && packet "ERR $waits") answer
     id=$(git -C heavy rev-parse main)
     says "$(greeting here version=2)"
     fetch "$id" >&5
@@ -875,8 +981,8 @@ case_a_daemon_in_c_answers_many_small_requests() {
     end_daemon
 }
 
-# While one client's 80,000 prefixes, all that a request of it may keep, are looked up among 100,000 references, another's listing comes,
-# each time: in less than a second on a quiet machine, where to compare each with each would take minutes. The limit lies between both.
+# While one client's 80,000 prefixes are looked up among 100,000 references, another's listing comes, each time: in less than a second on a
+# quiet machine, where to compare each with each would take minutes. The limit lies between both.
 case_a_daemon_in_c_lists_beside_many_prefixes() {
     local hearing begin took lists=0
     awk 'BEGIN {
@@ -921,14 +1027,17 @@ case_a_daemon_in_c_lists_beside_many_prefixes() {
 
 # A hundred and twenty-eight that send nothing have all its places, until another comes.
 case_a_daemon_in_c_makes_room() {
-    local i connection
+    local i connection first=
     start_daemon history-sha1
     for i in {1..128}; do
         exec {connection}<> "/dev/tcp/127.0.0.1/$port"
+        first=${first:-$connection}
     done
     ls_remote "$address"
     expect_same 'the list' <(git ls-remote ./history-sha1) out
     expect_same 'what the daemon reported' <(echo 'daemon: a client made room for another') daemon.err
+    limited cat <&$first > answer || differs 'a connection that did not end'
+    expect_same 'what is sent to the first' <(packet 'ERR this server has places for no more than 128 clients, and another one came') answer
     end_daemon
 }
 

@@ -910,6 +910,47 @@ static void try_texts_of_faults(void)
 	memset(room, '#', sizeof room);
 }
 
+static void try_names_of_kinds(void)
+{
+	for (unsigned kind = 0; kind < 256; kind++) {
+		size_t length = gitwire_kind_name((uint8_t)kind, ROOM);
+
+		EXPECT((length > 0) == (kind <= GITWIRE_ENDED) && length <= GITWIRE_KIND_NAME_ROOM);
+	}
+	EXPECT(gitwire_kind_name(GITWIRE_NEED_INPUT, ROOM) == 9 && memcmp(room, "NeedInput", 9) == 0);
+	EXPECT(gitwire_kind_name(GITWIRE_NEED_INPUT, room, 8) == 0);
+	memset(room, '#', sizeof room);
+}
+
+/* Whether these bytes, of which so many are escaped, have this escape at the front of the room, and the bytes after it were left alone. */
+static bool escapes(gitwire_answer answer, uint8_t kind, size_t used, const char *escape)
+{
+	bool is_it = tells(answer, kind, used, 0, strlen(escape)) && memcmp(room, escape, strlen(escape)) == 0 && room[answer.length] == '#';
+
+	memset(room, '#', sizeof room);
+	return is_it;
+}
+
+static void try_escapes(void)
+{
+	static const char some[] = "a\x1b]0;b\a \xc3\xa4~\x7f\\\n";
+
+	EXPECT(escapes(gitwire_escape(NULL, 0, ROOM), GITWIRE_DONE, 0, ""));
+	EXPECT(escapes(gitwire_escape(TEXT(some), ROOM), GITWIRE_DONE, strlen(some), "a\\x1b]0;b\\x07 \\xc3\\xa4~\\x7f\\\\\\n"));
+	EXPECT(escapes(gitwire_escape(TEXT(some), room, 8), GITWIRE_MORE, 5, "a\\x1b]0;"));
+	EXPECT(escapes(gitwire_escape(TEXT("a\n\\"), room, GITWIRE_ESCAPE_ROOM), GITWIRE_MORE, 2, "a\\n"));
+	EXPECT(escapes(gitwire_escape(TEXT("a\n"), room, GITWIRE_ESCAPE_ROOM), GITWIRE_DONE, 2, "a\\n"));
+	EXPECT(escapes(gitwire_escape(TEXT("a"), room, GITWIRE_ESCAPE_ROOM - 1), GITWIRE_ROOM_TOO_SMALL, 0, ""));
+	for (unsigned byte = 0; byte < 256; byte++) {
+		bool is_plain = byte >= ' ' && byte <= '~' && byte != '\\';
+		const uint8_t one = (uint8_t)byte;
+		char escape[GITWIRE_ESCAPE_ROOM + 1];
+
+		snprintf(escape, sizeof escape, is_plain ? "%c" : byte == '\n' ? "\\n" : byte == '\\' ? "\\\\" : "\\x%02x", byte);
+		EXPECT(escapes(gitwire_escape(&one, 1, room, GITWIRE_ESCAPE_ROOM), GITWIRE_DONE, 1, escape));
+	}
+}
+
 static void *try_all(void *nothing)
 {
 	memset(room, '#', sizeof room);
@@ -935,6 +976,8 @@ static void *try_all(void *nothing)
 	try_many_references();
 	try_names_of_faults();
 	try_texts_of_faults();
+	try_names_of_kinds();
+	try_escapes();
 	gitwire_writer_free(&writer);
 	gitwire_writer_free(&writer);
 	return nothing;

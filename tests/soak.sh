@@ -1,4 +1,5 @@
-# A thousand sessions with clients that lie (soak.py): what leaves early, garbage, silence, a byte a second, half closed, reset, deaf.
+# A thousand sessions with clients that lie (soak.py): what leaves early, garbage, silence, a byte a second, half closed, reset, deaf. And a clone
+# of as many references as the daemon has room for.
 
 # write_lie: what such a client sends: `lie`, a greeting, and `asks`, a fetch that the heavy pack answers.
 write_lie() {
@@ -44,4 +45,20 @@ case_serve_takes_a_fixed_memory_of_a_thousand_lies() {
     honest=$("$top/tests/soak.py" serve 1 asks git2show serve --repo heavy.repo --pack heavy.pack)
     most=$(timeout 300 "$top/tests/soak.py" serve 1000 asks git2show serve --repo heavy.repo --pack heavy.pack)
     [ "$most" -lt $((honest + 1024)) ] || differs "$most KiB instead of $honest"
+}
+
+# The lines of the request, `want-ref` and a name, have almost as many bytes as may be.
+case_a_daemon_in_c_serves_300000_references() {
+    local before after
+    write_many 300000 74
+    start_daemon many daemon
+    before=$(memory_of VmRSS)
+    forget_peak
+    timeout 120 git -c protocol.version=2 clone -q --mirror "$address" ours || differs 'a clone that failed'
+    after=$(memory_of $peak)
+    [ $((after - before)) -lt 32768 ] || differs "$((after - before)) KiB for a client"
+    has_many
+    end_daemon
+    expect_same 'what the daemon reported' /dev/null daemon.err
+    rm -rf ours many.repo
 }

@@ -1,6 +1,7 @@
 pub mod Answers
 pub mod Calls
 pub mod ClientAnswers
+pub mod EscapeAnswers
 pub mod EventAnswers
 pub mod FaultAnswers
 pub mod Handles

@@ -4,6 +4,7 @@
 
 mod answer;
 mod client;
+mod escape;
 mod event;
 mod faults;
 mod gatherer;
