@@ -6,6 +6,10 @@
  *
  *     < 14 capability agent=git/2.39.5
  *     > 0 request ls-refs
+ *
+ * A capability line, an argument or a command that the library does not know passes if the server advertised it (others.h); the transcript has
+ * its line. What it changes of a response is undone before the client sees that: the section `packfile-uris` and each response to such a command
+ * are passed over, and the bands that `sideband-all` puts before each line are taken off.
  */
 #include <gitwire.h>
 
@@ -13,15 +17,28 @@
 #include <stdio.h>
 #include <string.h>
 
+#include "others.h"
 #include "shown.h"
+
+/* How far the request has come that is not yet whole. */
+enum request_part { BETWEEN_REQUESTS, CAPABILITIES, ARGUMENTS, OTHER_COMMAND };
+
+/* How far the response to a `fetch` has come that the library does not know as it is. */
+enum response_part { SECTION_HEADER, SECTION_LINES, URI_LINES, PACKFILE };
 
 struct judge {
 	gitwire_client client;
 	gitwire_request_reader requests;    /* once it is known what the server offers */
 	gitwire_request request;            /* the last that was whole */
+	gitwire_offer offer;                /* what these are read against */
+	struct others others;               /* what else the server advertised */
 	uint8_t format;
 	uint64_t begins_at;                 /* where the request begins that is not yet whole */
-	bool is_inside;                     /* whether there is one */
+	enum request_part part;
+	char command[8];                    /* of that request: `fetch` or `ls-refs`, or empty */
+	struct { bool on_bands, with_uris; } asked; /* `sideband-all`, `packfile-uris` */
+	enum response_part section;
+	bool passes;                        /* the response to another command is expected */
 	uint64_t pack, progress;            /* how many bytes of these the response has given */
 	FILE *transcript;
 };
@@ -47,6 +64,7 @@ static void end_judge(struct judge *judge)
 	gitwire_client_free(&judge->client);
 	gitwire_request_reader_free(&judge->requests);
 	gitwire_request_free(&judge->request);
+	free(judge->others.lines);
 }
 
 /*
@@ -57,6 +75,8 @@ static uint8_t due(struct judge *judge)
 {
 	gitwire_answer answer;
 
+	if (judge->passes)
+		return GITWIRE_NEED_INPUT;
 	do {
 		answer = gitwire_client_pull(&judge->client, room, sizeof room);
 	} while (answer.kind == GITWIRE_PACKET);
@@ -81,45 +101,146 @@ static gitwire_answer ask(struct judge *judge)
 	return answer;
 }
 
+/* Reads requests from now on against what the server offers. */
+static bool begin_requests(struct judge *judge)
+{
+	gitwire_caps caps;
+
+	if (gitwire_client_caps(&judge->client, &caps) != GITWIRE_DONE)
+		return false;
+	judge->offer = (gitwire_offer){ .format = judge->format, .features = caps.features };
+	return gitwire_request_reader_new(&judge->requests, judge->offer, GITWIRE_USUAL_LIMIT) == GITWIRE_DONE;
+}
+
+/* The text of a packet: its payload without the LF at its end. */
+static struct text text_in(struct packet packet)
+{
+	struct text text = { (const char *)packet.bytes + 4, packet.length - 4 };
+
+	if (text.length > 0 && text.bytes[text.length - 1] == '\n')
+		text.length--;
+	return text;
+}
+
+static bool is_special(struct packet packet, char digit)
+{
+	return memcmp(packet.bytes, "000", 3) == 0 && packet.bytes[3] == digit;
+}
+
+static void show_line(struct judge *judge, char arrow, uint64_t offset, const char *what, struct text text)
+{
+	fprintf(judge->transcript, "%c %" PRIu64 " %s ", arrow, offset, what);
+	show_bytes(judge->transcript, (const uint8_t *)text.bytes, text.length);
+	putc('\n', judge->transcript);
+}
+
+/*
+ * Takes a capability line of a request that the library does not know, if it was advertised: then the library does not see it. The line that
+ * names another command begins a request of which it sees nothing.
+ */
+static bool is_other_capability(struct judge *judge, struct packet packet)
+{
+	struct text text = text_in(packet), key = cut_at(&text, '=');
+
+	if (is_text(key, "command")) {
+		snprintf(judge->command, sizeof judge->command, "%.*s", text.length < 8 ? (int)text.length : 0, text.bytes);
+		if (!has_other(&judge->others, "", text))
+			return false;
+		judge->part = OTHER_COMMAND;
+		show_line(judge, '>', judge->begins_at, "request", text);
+		return true;
+	}
+	if (!has_other(&judge->others, "", key) || memchr(text.bytes, 0, text.length) != NULL || memchr(text.bytes, '\n', text.length) != NULL)
+		return false;
+	show_line(judge, '>', packet.offset, "capability", text_in(packet));
+	return true;
+}
+
+/* Takes an argument that the library does not know, if its first word was advertised as one of the command's. */
+static bool is_other_argument(struct judge *judge, struct packet packet)
+{
+	struct text text = text_in(packet), word = cut_at(&text, ' ');
+
+	if (judge->command[0] == 0 || !has_other(&judge->others, judge->command, word))
+		return false;
+	show_line(judge, '>', packet.offset, "argument", text_in(packet));
+	if (is_text(word, "sideband-all"))
+		judge->asked.on_bands = true;
+	if (is_text(word, "packfile-uris"))
+		judge->asked.with_uris = true;
+	return true;
+}
+
+/* Takes a packet of a request of another command, up to its flush. */
+static gitwire_answer pass_request(struct judge *judge, struct packet packet)
+{
+	if (is_special(packet, '2'))
+		return refusal(GITWIRE_FAULT_UNEXPECTED_PACKET, packet.offset);
+	if (is_special(packet, '0')) {
+		judge->part = BETWEEN_REQUESTS;
+		judge->passes = true;
+		if (gitwire_request_reader_new(&judge->requests, judge->offer, GITWIRE_USUAL_LIMIT) != GITWIRE_DONE)
+			return refusal(GITWIRE_FAULT_OUT_OF_MEMORY, packet.offset);
+	} else if (!is_special(packet, '1')) {
+		show_line(judge, '>', packet.offset, "line", text_in(packet));
+	}
+	return (gitwire_answer){ .kind = GITWIRE_MORE };
+}
+
+/* Whether the library has nothing to do with the packet of a request. */
+static bool is_other(struct judge *judge, struct packet packet)
+{
+	bool is_line = !is_special(packet, '0') && !is_special(packet, '1') && !is_special(packet, '2');
+
+	if (judge->part == BETWEEN_REQUESTS) {
+		judge->begins_at = packet.offset;
+		judge->part = CAPABILITIES;
+		judge->command[0] = 0;
+		judge->asked.on_bands = judge->asked.with_uris = false;
+	}
+	if (judge->part == CAPABILITIES && is_special(packet, '1'))
+		judge->part = ARGUMENTS;
+	else if (judge->part == CAPABILITIES && is_line)
+		return is_other_capability(judge, packet);
+	else if (judge->part == ARGUMENTS && is_line)
+		return is_other_argument(judge, packet);
+	return false;
+}
+
 /* Judges a packet of the client, where it is the client's turn: FAILED, with the fault and its offset, or anything else. */
 static gitwire_answer judge_request(struct judge *judge, struct packet packet)
 {
 	gitwire_answer answer;
 
-	if (!judge->is_inside)
-		judge->begins_at = packet.offset;
-	judge->is_inside = true;
+	if (judge->part == OTHER_COMMAND)
+		return pass_request(judge, packet);
+	if (is_other(judge, packet))
+		return (gitwire_answer){ .kind = GITWIRE_MORE };
 	answer = gitwire_request_reader_feed(&judge->requests, &judge->request, packet.bytes, packet.length);
 	if (answer.kind == GITWIRE_OUT_OF_MEMORY)
 		return refusal(GITWIRE_FAULT_OUT_OF_MEMORY, packet.offset);
 	if (answer.kind == GITWIRE_STOP)
 		gitwire_client_leave(&judge->client);
-	if (answer.kind != GITWIRE_REQUEST)
+	if (answer.kind != GITWIRE_REQUEST && answer.kind != GITWIRE_STOP)
 		return answer;
-	judge->is_inside = false;
+	judge->part = BETWEEN_REQUESTS;
+	if (answer.kind == GITWIRE_STOP)
+		return answer;
+	judge->section = SECTION_HEADER;
 	return ask(judge);
 }
 
-/* Judges the end of what the client sends, where it is the client's turn. */
-static gitwire_answer judge_last_request(struct judge *judge)
+/* Judges the end of what the client sends, after so many bytes, where it is the client's turn. */
+static gitwire_answer judge_last_request(struct judge *judge, uint64_t end)
 {
 	gitwire_answer answer = gitwire_request_reader_close(&judge->requests);
+
+	if (judge->part != BETWEEN_REQUESTS)
+		return refusal(GITWIRE_FAULT_TRUNCATED, end);
 
 	if (answer.kind == GITWIRE_DONE)
 		gitwire_client_leave(&judge->client);
 	return answer;
-}
-
-/* Reads requests from now on against what the server has offered. */
-static bool begin_requests(struct judge *judge)
-{
-	gitwire_caps caps;
-	gitwire_offer offer = { .format = judge->format };
-
-	if (gitwire_client_caps(&judge->client, &caps) != GITWIRE_DONE)
-		return false;
-	offer.features = caps.features;
-	return gitwire_request_reader_new(&judge->requests, offer, GITWIRE_USUAL_LIMIT) == GITWIRE_DONE;
 }
 
 static void show_part(FILE *to, const char *mark, const uint8_t *part, size_t length)
@@ -159,9 +280,19 @@ static void show_event(struct judge *judge, gitwire_event event, uint64_t offset
 	putc('\n', to);
 }
 
+/* Notes a line of the advertisement, whose key and value lie in the room. */
+static bool note_capability(struct judge *judge, gitwire_event event)
+{
+	struct text key = { (const char *)room, event.name_length }, value = { (const char *)room + event.name_length, event.text_length };
+
+	return note_other(&judge->others, key, value);
+}
+
 /* Takes an event of the server. Bytes of the pack and of the progress are counted. False where there is no memory. */
 static bool take_event(struct judge *judge, gitwire_event event, uint64_t offset)
 {
+	if (event.kind == GITWIRE_CAPABILITY && !note_capability(judge, event))
+		return false;
 	if (event.kind == GITWIRE_PACK)
 		judge->pack += event.text_length;
 	else if (event.kind == GITWIRE_PROGRESS)
@@ -173,21 +304,30 @@ static bool take_event(struct judge *judge, gitwire_event event, uint64_t offset
 	return event.kind != GITWIRE_OFFERED || begin_requests(judge);
 }
 
-/*
- * Judges a packet of the server: FAILED, with the fault and its offset, or MORE. Out of its turn an error packet alone may be judged, as
- * where the server refuses a request before it is whole.
- */
-static gitwire_answer judge_response(struct judge *judge, struct packet packet)
+/* Takes a packet of the response to another command, up to its flush. */
+static gitwire_answer pass_response(struct judge *judge, struct packet packet)
+{
+	if (is_special(packet, '2'))
+		return refusal(GITWIRE_FAULT_UNEXPECTED_PACKET, packet.offset);
+	if (is_special(packet, '0')) {
+		judge->passes = false;
+		fprintf(judge->transcript, "< %" PRIu64 " end 0 0\n", packet.offset);
+	} else if (!is_special(packet, '1')) {
+		show_line(judge, '<', packet.offset, "line", text_in(packet));
+	}
+	return (gitwire_answer){ .kind = GITWIRE_MORE };
+}
+
+/* Gives the client a packet of the server, wherever it came from: FAILED, with the fault and its offset, or MORE. */
+static gitwire_answer feed_client(struct judge *judge, struct packet packet)
 {
 	size_t used = 0;
 
-	if (due(judge) != GITWIRE_NEED_INPUT)
-		return refusal(GITWIRE_FAULT_REMOTE_ERROR, packet.offset);
 	while (used < packet.length && due(judge) == GITWIRE_NEED_INPUT) {
 		gitwire_event event = gitwire_client_feed_in_place(&judge->client, packet.bytes + used, packet.length - used, room, sizeof room);
 
 		if (event.kind == GITWIRE_FAILED)
-			return refusal(event.fault, event.offset);
+			return refusal(event.fault, packet.offset);
 		if (!take_event(judge, event, packet.offset))
 			return refusal(GITWIRE_FAULT_OUT_OF_MEMORY, packet.offset);
 		used += event.used;
@@ -195,10 +335,89 @@ static gitwire_answer judge_response(struct judge *judge, struct packet packet)
 	return (gitwire_answer){ .kind = GITWIRE_MORE };
 }
 
-/* Judges the end of what the server sends, where it is the server's turn. */
-static gitwire_answer judge_last_response(struct judge *judge)
+/* Takes a line of the section `packfile-uris`, a name of digits, a space and an address, or the delimiter after them. */
+static gitwire_answer pass_uri(struct judge *judge, struct packet packet)
 {
-	return gitwire_client_close(&judge->client);
+	struct text text = text_in(packet), hash = cut_at(&text, ' ');
+
+	if (is_special(packet, '1')) {
+		judge->section = SECTION_HEADER;
+		return (gitwire_answer){ .kind = GITWIRE_MORE };
+	}
+	if (is_special(packet, '0') || is_special(packet, '2'))
+		return refusal(GITWIRE_FAULT_UNEXPECTED_PACKET, packet.offset);
+	if (hash.length == 0 || text.length == 0)
+		return refusal(GITWIRE_FAULT_BAD_LINE, packet.offset);
+	show_line(judge, '<', packet.offset, "packfile-uri", text_in(packet));
+	return (gitwire_answer){ .kind = GITWIRE_MORE };
+}
+
+/* Judges a packet of a section other than the pack, without its band. */
+static gitwire_answer judge_section(struct judge *judge, struct packet packet)
+{
+	if (judge->section == URI_LINES)
+		return pass_uri(judge, packet);
+	if (is_special(packet, '1')) {
+		judge->section = SECTION_HEADER;
+	} else if (judge->section == SECTION_HEADER) {
+		judge->section = is_text(text_in(packet), "packfile") ? PACKFILE : SECTION_LINES;
+		if (judge->asked.with_uris && is_text(text_in(packet), "packfile-uris")) {
+			judge->section = URI_LINES;
+			return (gitwire_answer){ .kind = GITWIRE_MORE };
+		}
+	}
+	return feed_client(judge, packet);
+}
+
+/* Takes the band off a packet that has one before the pack: a line on the first band, or progress on the second. */
+static gitwire_answer judge_band(struct judge *judge, struct packet packet)
+{
+	static uint8_t line[GITWIRE_PACKET_ROOM];
+	char digits[5];
+
+	if (packet.length == 4)
+		return refusal(GITWIRE_FAULT_NO_BAND, packet.offset);
+	if (packet.bytes[4] == GITWIRE_BAND_PROGRESS) {
+		judge->progress += packet.length - 5;
+		return (gitwire_answer){ .kind = GITWIRE_MORE };
+	}
+	if (packet.bytes[4] != GITWIRE_BAND_PACK)
+		return refusal(packet.bytes[4] == GITWIRE_BAND_FATAL ? GITWIRE_FAULT_REMOTE_FATAL : GITWIRE_FAULT_BAD_BAND, packet.offset);
+	snprintf(digits, sizeof digits, "%04x", (unsigned)(packet.length - 1));
+	memcpy(line, digits, 4);
+	memcpy(line + 4, packet.bytes + 5, packet.length - 5);
+	return judge_section(judge, (struct packet){ line, packet.length - 1, packet.offset });
+}
+
+/*
+ * Judges a packet of the server: FAILED, with the fault and its offset, or MORE. Out of its turn an error packet alone may be judged, as
+ * where the server refuses a request before it is whole.
+ */
+static gitwire_answer judge_response(struct judge *judge, struct packet packet)
+{
+	bool is_line = !is_special(packet, '0') && !is_special(packet, '1') && !is_special(packet, '2');
+
+	if (due(judge) != GITWIRE_NEED_INPUT)
+		return refusal(GITWIRE_FAULT_REMOTE_ERROR, packet.offset);
+	if (judge->passes)
+		return pass_response(judge, packet);
+	if (judge->section == PACKFILE || (!judge->asked.on_bands && !judge->asked.with_uris))
+		return feed_client(judge, packet);
+	if (judge->asked.on_bands && is_line)
+		return judge_band(judge, packet);
+	return judge_section(judge, packet);
+}
+
+/* Judges the end of what the server sends, after so many bytes, where it is the server's turn. */
+static gitwire_answer judge_last_response(struct judge *judge, uint64_t end)
+{
+	gitwire_answer answer = { .kind = GITWIRE_FAILED, .fault = GITWIRE_FAULT_TRUNCATED };
+
+	if (!judge->passes)
+		answer = gitwire_client_close(&judge->client);
+	if (answer.kind == GITWIRE_FAILED)
+		answer.offset = end; /* a packet that has not come whole is judged before */
+	return answer;
 }
 
 /* Whether a packet reports to the other end what is wrong, and so has to reach it. */

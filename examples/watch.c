@@ -131,7 +131,7 @@ static gitwire_answer judge_end(struct stream *stream)
 
 	if (answer.kind == GITWIRE_FAILED || !has_turn(stream))
 		return answer;
-	return stream == &requests ? judge_last_request(&judge) : judge_last_response(&judge);
+	return stream == &requests ? judge_last_request(&judge, stream->offset) : judge_last_response(&judge, stream->offset);
 }
 
 /* Judges what has come of a stream, and its end. */

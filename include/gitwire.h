@@ -2,7 +2,7 @@
  * Git's wire protocol, version 2 (fetch side), for programs in C: packets, requests, a server, a client, and the lines
  * that a host of its own writes. Each call is a method of a library that is proved to meet its contract; docs/PROMISES.md
  * has the promises whole, docs/PROTOCOL.md the rules and the faults. Files are named as in the project's repository;
- * docs/PROTOCOL.md, examples/ and sample/repository-text.sh are installed too, in share/doc/gitwire. The library reads and
+ * docs/PROMISES.md, docs/PROTOCOL.md, examples/ and sample/repository-text.sh are installed, in share/doc/gitwire. The library reads and
  * writes no stream, starts no thread and keeps nothing but what its handles have: a program feeds it what it has read, in
  * pieces of any size, and writes what it gives. Each end is a loop over what its pull returns, as in examples/daemon.c and
  * examples/list.c:

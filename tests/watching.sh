@@ -41,11 +41,16 @@ stands_in_its_place() {
     expect_same 'the offsets of the transcript' /dev/null misplaced
 }
 
-# went_on [OPTION..]: that each end received what the other sent, and the transcript is that of `check`.
-went_on() {
+# passed_on: that each end received what the other sent, and the watcher reported nothing.
+passed_on() {
     expect_same 'what the server got' said requests
     expect_same 'what the client got' responses heard
     expect_same 'what the watcher reported' /dev/null watched.err
+}
+
+# went_on [OPTION..]: that each end received what the other sent, and the transcript is that of `check`.
+went_on() {
+    passed_on
     run git2show check "$@" requests responses
     expect 0 <(told_by_the_watcher) /dev/null
     stands_in_its_place
@@ -130,6 +135,44 @@ case_a_watcher_passes_on_a_partial_clone() {
     same_clones
     misses_blobs history-sha1
     went_on
+}
+
+# What a server advertises and this project does not know goes on too: a key that the client then sends.
+case_a_watcher_passes_on_a_session_id() {
+    rm -rf ours
+    over_watched -c transfer.advertiseSID=true clone -q 'ext::watched history-sha1 -c transfer.advertiseSID=true' ours
+    clone_from_git history-sha1
+    same_clones
+    passed_on
+    grep -q '^> [0-9]* capability session-id=' watched.transcript || differs 'no session-id' watched.transcript
+}
+
+# An argument by which each line of the response comes on a side band.
+case_a_watcher_passes_on_lines_on_bands() {
+    grow banded history-sha1
+    both history-sha1 --no-tags
+    git -C theirs fetch -q --no-tags "file://$room/banded.git" '+refs/heads/*:refs/remotes/origin/*'
+    GIT_TEST_SIDEBAND_ALL=1 over_watched -C ours fetch -q --no-tags 'ext::watched banded.git -c uploadpack.advertiseSidebandAll=true' \
+        '+refs/heads/*:refs/remotes/origin/*'
+    same_after_fetch
+    passed_on
+    grep -q '^> [0-9]* argument sideband-all$' watched.transcript || differs 'no such argument' watched.transcript
+    expect_line 'the transcript' "ack $(git -C history-sha1 rev-parse main)" <(told_by_the_watcher)
+}
+
+# An argument by which the response has a further section, which Git's server sends on bands. Nobody has the pack at its address, so the
+# client reports that.
+case_a_watcher_passes_on_addresses_of_packs() {
+    local id hash
+    id=$(git -C history-sha1 ls-tree -r main | awk '$2 == "blob" { print $3; exit }')
+    hash=$(printf 'e%.0s' {1..40})
+    rm -rf ours
+    GIT_TEST_SIDEBAND_ALL=1 over_watched -c fetch.uriProtocols=https clone -q "ext::watched history-sha1 \
+-c uploadpack.advertiseSidebandAll=true -c uploadpack.blobPackfileUri=$id% $hash% https://127.0.0.1:1/pack" ours
+    expect_status 128
+    passed_on
+    grep -q '^> [0-9]* argument packfile-uris https$' watched.transcript || differs 'no such argument' watched.transcript
+    grep -q "^< [0-9]* packfile-uri $hash https://127.0.0.1:1/pack\$" watched.transcript || differs 'no such section' watched.transcript
 }
 
 # The sizes of objects, which Git's client does not ask for. Two requests come at once, and then the input's end.
