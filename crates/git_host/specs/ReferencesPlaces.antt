@@ -53,7 +53,7 @@ pub record IsAlike (q kept : LsRefsAsked) : Type 0 where
   pub unborn : kept.unborn ≡ q.unborn
   pub alike : ShowAlike q.ref_prefixes kept.ref_prefixes
 
--- the packets by what was reported so far
+-- the packets that what was reported so far calls for
 abbrev pub packets_so_far : LsRefsAsked → ReferencesFacts → List Pkt
 packets_so_far q t = unborn_packets q t.unborn ++ map (reference_packet q.symrefs q.peel) (shown_refs q.ref_prefixes t.refs)
 
@@ -113,21 +113,21 @@ module _ {A : Type 0} where
     pub alike : IsAlike q answer.listing.asked
     pub stands : StandsAtReferences answer.place answer.format q t answer.last given
 
-  -- it is new
+  -- the answer is new
   abbrev pub Starts : LsRefsAsked → ReferencesAnswer A → Type 0
   Starts q answer = RepresentsReferences q no_references [] answer
 
-  -- the facts become these, and a packet is given, which these bytes are
+  -- the facts become these, and these bytes are the next packet
   abbrev pub ReportsOn : (ReferencesFacts → ReferencesFacts) → ReferencesAnswer A → List ℕ → ReferencesAnswer A → Type 0
   ReportsOn with old bytes new = (q : LsRefsAsked) (t : ReferencesFacts) (given : List Pkt) → RepresentsReferences q t given old
       → (packet : Pkt) × Holds bytes packet × RepresentsReferences q (with t) (given ++ packet ∷ []) new
 
-  -- and no packet is given
+  -- the facts become these, and no packet is given
   abbrev pub ReportsHidden : (ReferencesFacts → ReferencesFacts) → ReferencesAnswer A → ReferencesAnswer A → Type 0
   ReportsHidden with old new =
       (q : LsRefsAsked) (t : ReferencesFacts) (given : List Pkt) → RepresentsReferences q t given old → RepresentsReferences q (with t) given new
 
-  -- with the reference no sound repository has what was reported
+  -- no sound repository has what was reported together with this reference
   abbrev pub IsUnsoundAfter : Entry → ReferencesAnswer A → Type 0
   IsUnsoundAfter entry old = (q : LsRefsAsked) (t : ReferencesFacts) (given : List Pkt) → RepresentsReferences q t given old
       → ¬ AreSoundReferences (format_of old) (with_ref entry t)

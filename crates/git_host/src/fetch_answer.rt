@@ -1,5 +1,5 @@
-//! The answer to one `fetch`, gitprotocol-v2(5), over a store that is asked one thing after another: each packet is given as soon as what
-//! the store reported decides it.
+//! The answer to one `fetch`, gitprotocol-v2(5), over a store that is asked one question at a time: each packet is given as soon as the
+//! reports so far decide it.
 //!
 //! ```text
 //!  Header --> Have .. Have --> (Nak) --> Ready --> Delimiter --> Shallow .. --> WantedHeader --> Wanted .. --> PackHeader --> Pack .. --> Whole
@@ -28,7 +28,7 @@ use std::alloc::Allocator;
 enum Place {
     // The header of the acknowledgments.
     Header,
-    // Whether the store has the have at this place; and whether it has one before it.
+    // Whether the store has the object of the `have` line at this place; and whether it has one of an earlier line.
     Have(usize, bool),
     // The line `NAK`.
     Nak,
@@ -156,7 +156,7 @@ impl<A: Allocator + Copy> FetchAnswer<A> {
         }
     }
 
-    // Gives the next packet of the sections after the acknowledgments, which needs no report.
+    // Gives the next packet of the sections after the acknowledgments, where it depends on no report.
     fn give_line(&mut self, hold: &mut Hold)
         requires { is_line_at (place_of self.old) ≡ true }
         ensures { ReportsAndGives (λ t. t) self.old hold.new.items self.new }
@@ -241,7 +241,8 @@ impl<A: Allocator + Copy> FetchAnswer<A> {
         true
     }
 
-    /// A line of the shallow boundary: it is given, or the header of its section, and it next. Returns whether that was asked.
+    /// A line of the shallow boundary. It is given at once, but for the first: the header of the section is given, and `next` gives the line.
+    /// Returns whether that was asked.
     pub fn boundary(&mut self, line: Boundary, hold: &mut Hold) -> bool
         ensures asked { result ≡ is_boundary (step_of self.old) }
         ensures reported { WhereAsked result (ReportsAndGives (with_line line) self.old hold.new.items self.new) self.old self.new }
