@@ -1,5 +1,5 @@
 -- An admission from one report to the next.
-use Rattle.std.proofs.Common.{arith, ◌≡◌, ◌≢◌, ℕ, ◌+◌, ◌<◌, Bool, true, false, All, List, [], ◌∷◌, ◌++◌, length, map, take, slice_get}
+use Rattle.std.proofs.Common.{arith, ◌≡◌, ℕ, ◌+◌, ◌<◌, Bool, true, false, All, List, [], ◌∷◌, ◌++◌, length, map, take}
 use Rattle.std.proofs.Common.{Option, Some, None, refl, sym, ap, ◌∙◌, subst, inl, inr}
 use Rattle.std.proofs.lemmas.List.{take_all}
 use Rattle.std.proofs.lemmas.List.Elements.{All-nil, All-push}
@@ -7,7 +7,7 @@ use Rattle.std.proofs.lemmas.Option.{slice_get_cases}
 use Rattle.git_names.specs.ObjectName.{ObjectName}
 use Rattle.git_names.specs.declared.object_format.Format.{Format}
 use Rattle.git_msg.specs.Asked.{FetchAsked}
-use Rattle.git_host.specs.Admissions.{AdmissionFacts, AtWant, AtWantRef, IsAdmitted, IsNotOurs, IsUnknownRef, StandsAtStep, all_there, nothing_reported}
+use Rattle.git_host.specs.Admissions.{AdmissionFacts, AtWant, AtWantRef, IsNotOurs, IsUnknownRef, StandsAtStep, all_there, nothing_reported}
 use Rattle.git_host.specs.Admissions.{is_want_ref, reference_step, step_by, want_step, with_found, with_want}
 use Rattle.git_host.specs.declared.admission.AdmissionStep.{AdmissionStep}
 use Rattle.git_host.specs.declared.admission.AdmissionStep.TheVariants.{AskWant, AskWantRef, Admitted, Refused}

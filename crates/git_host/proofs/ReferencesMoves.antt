@@ -1,7 +1,7 @@
 -- One reference more, and the end.
 use Rattle.std.proofs.Common.{arith, ◌≡◌, ℕ, ◌-◌, ◌<◌, Bool, true, false, List, [], ◌∷◌, ◌++◌, length, map}
 use Rattle.std.proofs.Common.{get_or, Option, Some, None, codes, if◌then◌else◌, refl, sym, ap, ◌∙◌, append_assoc, append-nil, subst}
-use Rattle.std.specs.List.{All, filter}
+use Rattle.std.specs.List.{filter}
 use Rattle.std.specs.Option.{ForSome}
 use Rattle.std.specs.Prelude.{◌≢◌, IsSome}
 use Rattle.std.proofs.lemmas.List.Elements.{All-nil, All-pop, All-push}
@@ -202,11 +202,11 @@ unsound_head Entries format q t last given entry is h sound = absurd (cc)
 unsound_head Whole format q t last given entry is h sound = absurd (cc)
 unsound_head AfterUnborn format q t last given entry is h sound =
     not_head t.unborn h.0 sound.unborn where
-  not_head : (unborn : Option (List ℕ)) → IsSome unborn → ForSome unborn (IsUnbornHead (t.refs ++ entry ∷ [])) → ⊥
-  not_head None some u = absurd (cc)
-  not_head (Some target) some u =
-      (All-pop (λ (ref : Entry). ref.name ≢ codes "HEAD") (t.refs ++ entry ∷ []) t.refs (Some entry) refl (u target refl).no_head).1
-      ((bytes_eq-Decides entry.name (codes "HEAD")).0 is)
+      not_head : (unborn : Option (List ℕ)) → IsSome unborn → ForSome unborn (IsUnbornHead (t.refs ++ entry ∷ [])) → ⊥
+      not_head None some u = absurd (cc)
+      not_head (Some target) some u =
+          (All-pop (λ (ref : Entry). ref.name ≢ codes "HEAD") (t.refs ++ entry ∷ []) t.refs (Some entry) refl (u target refl).no_head).1
+          ((bytes_eq-Decides entry.name (codes "HEAD")).0 is)
 
 module _ (format : Format) (q : LsRefsAsked) (t : ReferencesFacts) (last : Option Entry) (given : List Pkt) (target : List ℕ) (at : AtFirst t last given) where
   head_on : (b : Bool) → asks_for_unborn q ≡ b

@@ -1,6 +1,5 @@
 -- How far an answer to `fetch` has come, by what was reported and what was given.
 use Rattle.std.specs.Prelude.{◌≡◌, ℕ, ◌<◌, ◌≤◌, Bool, true, false, not, List, [], ◌∷◌, ◌++◌, length, map, take, codes}
-use Rattle.git_names.specs.ObjectName.{ObjectName}
 use Rattle.git_pkt.specs.Packets.{Pkt, body_of, longest_payload, spelling_of}
 use Rattle.git_msg.specs.declared.Boundary.{Boundary}
 use Rattle.git_msg.specs.Asked.{FetchAsked, is_empty, only_negotiates}

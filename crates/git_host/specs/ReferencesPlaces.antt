@@ -1,8 +1,7 @@
 -- How far an answer for references has come, by what was reported and what was given.
-use Rattle.std.specs.Prelude.{◌≡◌, ◌≢◌, ◌⊎◌, ℕ, Bool, true, false, All, List, [], ◌∷◌, ◌++◌, codes, map, Option, Some, None, IsSome}
+use Rattle.std.specs.Prelude.{◌≡◌, ◌≢◌, ℕ, Bool, true, false, All, List, [], ◌∷◌, ◌++◌, codes, map, Option, Some, None, IsSome}
 use Rattle.std.specs.Option.{ForSome}
 use Rattle.std.specs.Str.{bytes_eq}
-use Rattle.git_names.specs.RefName.{IsRefName}
 use Rattle.git_names.specs.declared.object_format.Format.{Format}
 use Rattle.git_pkt.specs.Packets.{Pkt}
 use Rattle.git_msg.specs.Asked.{LsRefsAsked}
@@ -13,7 +12,7 @@ use Rattle.git_host.specs.FetchPlaces.{Holds}
 use Rattle.git_host.specs.declared.references_answer.ReferencesPlace.{ReferencesPlace}
 use Rattle.git_host.specs.declared.references_answer.ReferencesPlace.TheVariants.{First, Entries, AfterUnborn, Whole}
 use Rattle.git_host.specs.declared.references_answer.Reported.{Reported}
-use Rattle.git_host.specs.declared.references_answer.Reported.TheVariants.{Packet, Hidden, Unsorted, MixedFormats, HeadTwice, NotAsked}
+use Rattle.git_host.specs.declared.references_answer.Reported.TheVariants.{Packet, Hidden, NotAsked}
 use Rattle.git_host.specs.declared.references_answer.ReferencesAnswer.{ReferencesAnswer}
 
 -- what a store reported for one request for references: what an unborn `HEAD` points to, and its references
@@ -108,6 +107,10 @@ module _ {A : Type 0} where
   abbrev pub is_whole : ReferencesAnswer A → Type 0
   is_whole answer = answer.place ≡ Whole
 
+  -- something was reported
+  abbrev pub HasBegun : ReferencesAnswer A → Type 0
+  HasBegun answer = answer.place ≢ First
+
   -- these facts were reported for a request, and these packets were given
   pub record RepresentsReferences (q : LsRefsAsked) (t : ReferencesFacts) (given : List Pkt) (answer : ReferencesAnswer A) : Type 0 where
     pub alike : IsAlike q answer.listing.asked
@@ -143,7 +146,8 @@ module _ {A : Type 0} where
   abbrev pub ReportsUnborn : List ℕ → ReferencesAnswer A → Reported → List ℕ → ReferencesAnswer A → Type 0
   ReportsUnborn target old Packet bytes new = (format_of new ≡ format_of old) × ReportsOn (with_unborn target) old bytes new
   ReportsUnborn target old Hidden bytes new = (format_of new ≡ format_of old) × ReportsHidden (with_unborn target) old new
-  ReportsUnborn target old other bytes new = new ≡ old
+  ReportsUnborn target old NotAsked bytes new = (new ≡ old) × HasBegun old
+  ReportsUnborn target old other bytes new = ⊥
 
   -- what the end does
   abbrev pub Ends : ReferencesAnswer A → Bool → List ℕ → ReferencesAnswer A → Type 0

@@ -289,7 +289,7 @@ impl<A: Allocator + Copy> FetchAnswer<A> {
         true
     }
 
-    /// Bytes of the progress, which is a text for the client's user, in the same way.
+    /// Bytes of the progress, a text for the client's user, as many as of the pack: their packet is given. Returns whether that was asked.
     pub fn progress(&mut self, bytes: &[u8], hold: &mut Hold) -> bool
         requires some { 0 < length bytes.now }
         requires fits { length bytes.now < longest_payload }
@@ -303,10 +303,11 @@ impl<A: Allocator + Copy> FetchAnswer<A> {
         true
     }
 
-    /// The pack has no more bytes: the flush is given that ends the answer.
+    /// The pack has no more bytes: the flush is given that ends the answer. Returns whether that was asked.
     pub fn pack_end(&mut self, hold: &mut Hold) -> bool
         ensures asked { result ≡ is_pack (step_of self.old) }
         ensures reported { WhereAsked result (ReportsAndGives (λ t. t) self.old hold.new.items self.new) self.old self.new }
+        ensures whole { result ≡ true → step_of self.new ≡ Step.Whole }
     {
         let Place::Pack = self.place else {
             return false;
@@ -316,10 +317,11 @@ impl<A: Allocator + Copy> FetchAnswer<A> {
         true
     }
 
-    /// The rest of the pack cannot be had: that is reported to the client, and the answer breaks off.
+    /// The rest of the pack cannot be had: a fatal error is given, and the answer breaks off. Returns whether that was asked.
     pub fn pack_failed(&mut self, hold: &mut Hold) -> bool
         ensures asked { result ≡ is_pack (step_of self.old) }
         ensures reported { WhereAsked result (ReportsAndGives (λ t. t) self.old hold.new.items self.new) self.old self.new }
+        ensures broken { result ≡ true → step_of self.new ≡ Step.Broken }
     {
         let Place::Pack = self.place else {
             return false;

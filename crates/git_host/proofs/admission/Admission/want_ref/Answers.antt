@@ -1,7 +1,7 @@
 use Rattle.std.proofs.Common.{rules, refl, ap, subst}
 use Rattle.git_host.specs.Admissions.{StandsAtStep, is_want_ref}
 use Rattle.git_host.specs.declared.admission.AdmissionStep.{AdmissionStep}
-use Rattle.git_host.proofs.AdmissionMoves.{after_found, after_missing, other_step}
+use Rattle.git_host.proofs.AdmissionMoves.{after_found, other_step}
 use Rattle.git_host.proofs.admission.Admission.want_ref.Goals as goal
 
 pub returns-in_default : goal.returns-in_default
