@@ -33,7 +33,7 @@ sources_named() {
 case_each_source_of_a_library_or_the_program_has_its_row() {
     local crate
     sources_named | sort > named
-    for crate in git_names git_pkt git_msg git_server git_client git_repository git_both_ends git2show_lib git2show gitwire; do
+    for crate in git_names git_pkt git_msg git_server git_host git_client git_repository git_both_ends git2show_lib git2show gitwire; do
         (cd "$top/crates" && find "$crate/src" -name '*.rt' ! -name lib.rt)
     done | sort > there
     expect_same 'the table of ARCHITECTURE' there named
