@@ -15,6 +15,7 @@ write_examples() {
     done
     compile frugal_daemon "$top/examples/daemon.c" -DMOST_KEPT=200
     compile library_calls "$top/tests/library_calls.c"
+    compile library_writers "$top/tests/library_writers.c"
     compile refused_memory "$top/tests/refused_memory.c" -Wl,--wrap=malloc,--wrap=realloc,--wrap=free
 }
 
@@ -145,14 +146,16 @@ shared() {
 
 # Each call is made over the shared library too.
 case_programs_take_the_shared_library() {
-    local flags
+    local flags name
     read -r -a flags <<< "$(of_library --cflags --libs)"
-    gcc -O2 -o bin/library_calls-shared "$top/tests/library_calls.c" "${flags[@]}"
     gcc -O2 -o bin/list-shared "$top/examples/list.c" "${flags[@]}"
     shared ldd bin/list-shared
     grep -q -F "libgitwire.so.0 => $installed/lib/libgitwire.so.0 " out || differs 'a program without the shared library' out
-    shared library_calls-shared
-    expect 0 /dev/null /dev/null
+    for name in library_calls library_writers; do
+        gcc -O2 -o "bin/$name-shared" "$top/tests/$name.c" "${flags[@]}"
+        shared "$name-shared"
+        expect 0 /dev/null /dev/null
+    done
     shared list-shared history-sha1
     expect 0 <(git ls-remote --symref ./history-sha1) /dev/null
 }
@@ -170,7 +173,7 @@ case_library_header_stands_alone() {
 
 case_library_programs_compile_without_a_word() {
     local name
-    for name in daemon fetch host list packets watch library_calls refused_memory; do
+    for name in daemon fetch host list packets watch library_calls library_writers refused_memory; do
         expect_same "what the compiler prints for $name" /dev/null "$name.said"
     done
 }
@@ -204,10 +207,13 @@ case_manual_page_has_each_call() {
 }
 
 case_library_calls_tell_what_the_header_says() {
-    run library_calls-watched
-    expect 0 /dev/null /dev/null
-    under_valgrind bin/library_calls
-    expect 0 /dev/null /dev/null
+    local name
+    for name in library_calls library_writers; do
+        run "$name-watched"
+        expect 0 /dev/null /dev/null
+        under_valgrind "bin/$name"
+        expect 0 /dev/null /dev/null
+    done
 }
 
 # The program prints how often each kind of handle asks for memory, and each that breaks off: once at the least.
