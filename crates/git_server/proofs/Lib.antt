@@ -16,6 +16,7 @@ pub mod Going
 pub mod Closing
 pub mod Formats
 pub mod WrittenHolds
+pub mod LatePacks
 pub mod Giving
 pub mod Breaking
 pub mod Owing

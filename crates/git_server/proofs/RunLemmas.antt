@@ -11,15 +11,17 @@ use Rattle.git_pkt.proofs.EngineLemmas.{Moved, moved_nothing, moved_flushed, mov
 use Rattle.git_server.specs.Repository.{RepoState}
 use Rattle.git_server.specs.Sessions.{Setting}
 use Rattle.git_server.specs.Machine.Server.{Running, outcome_of, wants_input}
-use Rattle.git_server.specs.Machine.ServerCalls.{Closes, EndsAs, Goes, IsAfterPull, OwesNow, Pulls, StopsInTime, TellsPulled, given_by}
-use Rattle.git_server.specs.Machine.Runs.{EndsRun, Served, Waits, WritesAll, WritesItsEnd, WritesOn, WritesPart}
+use Rattle.git_server.specs.Machine.ServerCalls.{Closes, EndsAs, Goes, IsAfterPull, OwesNoPack, OwesNow, Pulls}
+use Rattle.git_server.specs.Machine.ServerCalls.{StopsInTime, TellsPulled, given_by}
+use Rattle.git_server.specs.Machine.LatePacks.{state_with}
+use Rattle.git_server.specs.Machine.Runs.{EndsRun, Served, Waits, WritesAll, WritesFor, WritesItsEnd, WritesOn, WritesPart, WritesUnread}
 use Rattle.git_server.specs.declared.outcome.Outcome.{Outcome}
 use Rattle.git_server.specs.declared.outcome.Outcome.TheVariants.{Refused}
 use Rattle.git_server.specs.declared.server.Pulled.{Pulled}
-use Rattle.git_server.specs.declared.server.Pulled.TheVariants.{Packet, Finished}
+use Rattle.git_server.specs.declared.server.Pulled.TheVariants.{Packet, NeedInput, Finished}
 use Rattle.git_server.specs.declared.server.Server.{Server}
 use Rattle.git_pkt.proofs.Pieces.{left_of, take_joined}
-use Rattle.git_server.proofs.Going.{goes_join, no_outcome}
+use Rattle.git_server.proofs.Going.{goes_join, goes_nowhere, no_outcome}
 use Rattle.git_server.proofs.Outcomes.{too_long_before}
 use Rattle.git_server.proofs.SessionLaws.{all_answered, every_moment}
 use Rattle.git_server.proofs.TooLong.{ends_too_long}
@@ -47,7 +49,7 @@ module _ {R A : Type 0} (state : R → RepoState) where
 
   module _ (old middle new : Server R A) (held_before held held_after : Option (List ℕ)) where
     -- what a call gave was written after what was written before, as far as that went
-    writes_more : (broken : Bool) (u v h : List ℕ) → WritesOn false state old middle u (flow held_before held)
+    pub writes_more : (broken : Bool) (u v h : List ℕ) → WritesOn false state old middle u (flow held_before held)
         → WrittenAs broken (flow held held_after) h → Goes state v h middle new → WritesOn broken state old new (u ++ v) (flow held_before held_after)
     writes_more broken u v h so_far written goes =
         record {
@@ -83,6 +85,45 @@ module _ {R A : Type 0} (state : R → RepoState) where
             let none : outcome_of old ≡ None = no_outcome old.phase wants in
             absurd (cc);
       }
+
+-- the same where no byte of a pack is owed, whatever the packs are
+module _ {R A : Type 0} (state : R → RepoState) where
+  pub unread_nothing : (server : Server R A) (held : Option (List ℕ)) → OwesNoPack state server → WritesUnread false state server server (flow held held)
+  unread_nothing server held none =
+      record { writes = λ packs. record { given = []; written = written_nothing held; goes = goes_nowhere (state_with packs state) server }; owes = none }
+
+  module _ (old middle new : Server R A) (writer : Flow) (pulled : Pulled) where
+    pub unread_waits : WritesUnread false state old middle writer → Pulls state middle pulled new → pulled ≡ NeedInput → WritesUnread false state old new writer
+    unread_waits so_far pulls is =
+        let tells : TellsPulled state middle NeedInput new = subst (λ (p : Pulled). TellsPulled state middle p new) is pulls.tells in
+        subst (λ (server : Server R A). WritesUnread false state old server writer) (sym tells.1) so_far
+
+    pub unread_end : (outcome : Outcome) → WritesUnread false state old middle writer → Pulls state middle pulled new → pulled ≡ Finished outcome
+        → WritesUnread false state old new writer
+    unread_end outcome so_far pulls is =
+        let tells : TellsPulled state middle (Finished outcome) new = subst (λ (p : Pulled). TellsPulled state middle p new) is pulls.tells in
+        subst (λ (server : Server R A). WritesUnread false state old server writer) (sym tells.2) so_far
+
+  module _ (old middle new : Server R A) (held_before held held_after : Option (List ℕ)) where
+    pub unread_packet : (pulled : Pulled) (bytes : Bor (List ℕ)) → WritesUnread false state old middle (flow held_before held)
+        → Pulls state middle pulled new → pulled ≡ Packet bytes → WrittenAs false (flow held held_after) bytes.now
+        → WritesUnread false state old new (flow held_before held_after)
+    unread_packet pulled bytes so_far pulls is written =
+        let given = pulls.unread so_far.owes in
+        record {
+          writes = λ packs. writes_more (state_with packs state) old middle new held_before held held_after false [] [] bytes.now (so_far.writes packs) written
+              (subst (λ (p : Pulled). Goes (state_with packs state) [] (given_by p) middle new) is (given.goes packs));
+          owes = given.owes;
+        }
+
+  pub unread_flushed : (old new : Server R A) (before held after : Option (List ℕ)) → WritesUnread false state old new (flow before held)
+      → Keeps held after → WritesUnread false state old new (flow before after)
+  unread_flushed old new before held after so_far kept = record {
+    writes = λ packs.
+        let writes = so_far.writes packs in
+        record { given = writes.given; written = written_flushed false before held after writes.given writes.written kept; goes = writes.goes };
+    owes = so_far.owes;
+  }
 
 module _ {R A : Type 0} (state : R → RepoState) (old middle fed new : Server R A)
     (held_before held held_after : Option (List ℕ)) (bytes : List ℕ) (done used : ℕ) (within : done ≤ length bytes)
@@ -396,3 +437,22 @@ serves_at state first server result fault met ended turns reader writer named an
 -- what holds where a write failed
 pub on_err_at : {T : Type 0} (r : Result T RunFault) (fault : RunFault) (P : Type 0) → IsErrAnd r (λ e. e ≡ fault) → P → OnErr r P
 on_err_at {T} r fault P met holds = at_fault r fault fault (λ (x : Result T RunFault). OnErr x P) refl met holds
+
+-- what is written where a flush follows, or fails
+module _ {R A : Type 0} (state : R → RepoState) (old new : Server R A) (before held after : Option (List ℕ)) where
+  pub flushed_for : (outcome : Option Outcome) → WritesFor state old new [] (flow before held) outcome → Keeps held after
+      → WritesFor state old new [] (flow before after) outcome
+  flushed_for None all kept = record {
+    writes = record {
+      given = all.writes.given;
+      written = written_flushed false before held after all.writes.given all.writes.written kept;
+      goes = all.writes.goes;
+    };
+    wants = all.wants;
+  }
+  flushed_for (Some outcome) end kept = end_flushed state old new [] before held after outcome end kept
+
+  pub written_part : (outcome : Option Outcome) → WritesFor state old new [] (flow before held) outcome → Keeps held after
+      → WritesPart true state old new [] (flow before after)
+  written_part None all kept = part_flushed true state old new [] before held after (all_in_part state false old new [] (flow before held) all.writes) kept
+  written_part (Some outcome) end kept = part_flushed true state old new [] before held after end.part kept

@@ -9,6 +9,8 @@ pub mod AnsweredRequest
 pub mod PackParts
 pub mod FullParts
 pub mod Phases
+pub mod LatePacks
+pub mod LateRepo
 pub mod Server
 pub mod ServerCalls
 pub mod Runs

@@ -4,8 +4,8 @@ ghost use Rattle.std.specs.Prelude.{◌≡◌, ◌≢◌, ◌<◌, ◌≤◌, �
 ghost use Rattle.git_pkt.specs.Machine.Told.{inner_of, reads_of, has_failed, has_ended, has_wasted, IsNew};
 ghost use Rattle.git_pkt.specs.Machine.Engine.{FailsAs, IsShownBy, IsSpent};
 ghost use Rattle.git_pkt.specs.Streams.{flow, is_broken, Moves};
-ghost use Rattle.git_server.specs.Machine.Runs.{Served, WritesFor, WritesItsEnd, WritesPart};
-ghost use Rattle.git_server.specs.Machine.ServerCalls.{IsAfterPull, OwesNow};
+ghost use Rattle.git_server.specs.Machine.Runs.{Served, WritesFor, WritesItsEnd, WritesPart, WritesUnread};
+ghost use Rattle.git_server.specs.Machine.ServerCalls.{IsAfterPull, OwesNoPack, OwesNow};
 ghost use Rattle.git_server.specs.Machine.Server.{Running, outcome_of, wants_input};
 ghost use Rattle.git_server.specs.Sessions.{Setting};
 
@@ -27,6 +27,8 @@ fn drain<W: Write, R: Repo, A: Allocator + Copy>(
     ensures front { OnErr result (WritesPart true R.state server.old server.new []
         (flow (W.contents (inner_of writer.old)) (W.contents (inner_of writer.new)))) }
     ensures outcome { OnOk result (IsAfterPull (outcome_of server.old) (outcome_of server.new)) }
+    ensures unread { OwesNoPack R.state server.old → OnOk result (WritesUnread false R.state server.old server.new
+        (flow (W.contents (inner_of writer.old)) (W.contents (inner_of writer.new)))) }
     ensures fault { IfErr result (λ fault. fault ≡ RunFault.WriteFault) }
     ensures failed { has_failed writer.new ≡ (has_failed writer.old || is_err result) }
 {
@@ -62,6 +64,27 @@ fn serve_piece<W: Write, R: Repo, A: Allocator + Copy>(
         }
     }
     Ok(None)
+}
+
+/// Writes all that the server owes, and flushes the writer. Returns the outcome, if the session has ended.
+///
+/// `WriteFault` where a write or a flush fails. The server is spent then, since it may have given more than was written.
+pub fn give_owed<W: Write, R: Repo, A: Allocator + Copy>(
+    writer: &mut Told<W>,
+    server: &mut Server<R, A>,
+) -> Result<Option<Outcome>, RunFault>
+    ensures ok { IfOk result (WritesFor R.state server.old server.new []
+        (flow (W.contents (inner_of writer.old)) (W.contents (inner_of writer.new)))) }
+    ensures front { OnErr result (WritesPart true R.state server.old server.new []
+        (flow (W.contents (inner_of writer.old)) (W.contents (inner_of writer.new)))) }
+    ensures unread { OwesNoPack R.state server.old → OnOk result (WritesUnread false R.state server.old server.new
+        (flow (W.contents (inner_of writer.old)) (W.contents (inner_of writer.new)))) }
+    ensures fault { IfErr result (λ fault. fault ≡ RunFault.WriteFault) }
+    ensures failed { has_failed writer.new ≡ (has_failed writer.old || is_err result) }
+{
+    let outcome = drain(writer, server)?;
+    flush(writer)?;
+    Ok(outcome)
 }
 
 /// Runs a server, from where it is, over a reader of requests and a writer of answers, to the session's end. The piece is where

@@ -9,7 +9,9 @@ use Rattle.git_pkt.specs.declared.fault.RunFault.TheVariants.{ReadFault, WriteFa
 use Rattle.git_server.specs.Repository.{RepoState}
 use Rattle.git_server.specs.Sessions.{Setting, IsAnswered, IsRunning, IsSession}
 use Rattle.git_server.specs.Machine.Server.{Running, outcome_of, wants_input}
-use Rattle.git_server.specs.Machine.ServerCalls.{EndsAs, Goes, OwesNow, StopsInTime}
+use Rattle.git_msg.specs.Asked.{FetchAsked}
+use Rattle.git_server.specs.Machine.LatePacks.{state_with}
+use Rattle.git_server.specs.Machine.ServerCalls.{EndsAs, Goes, OwesNoPack, OwesNow, StopsInTime}
 use Rattle.git_server.specs.declared.outcome.Outcome.{Outcome}
 use Rattle.git_server.specs.declared.outcome.Outcome.TheVariants.{Refused}
 use Rattle.git_server.specs.declared.server.Server.{Server}
@@ -21,6 +23,11 @@ pub record WritesOn {R A : Type 0} (broken : Bool) (state : R → RepoState) (ol
   pub given : List ℕ
   pub written : WrittenAs broken writer given
   pub goes : Goes state bytes given old new
+
+-- nothing was used, what was given was written, whatever the packs are, and no byte of a pack is owed; where a write failed, a front of it
+pub record WritesUnread {R A : Type 0} (broken : Bool) (state : R → RepoState) (old new : Server R A) (writer : Flow) : Type 0 where
+  pub writes : (packs : FetchAsked → List ℕ) → WritesOn broken (state_with packs state) old new [] writer
+  pub owes : OwesNoPack state new
 
 -- a front of the bytes was used, and what was given for it was written; where a write failed, a front of it
 pub record WritesPart {R A : Type 0} (broken : Bool) (state : R → RepoState) (old new : Server R A) (bytes : List ℕ) (writer : Flow) : Type 0 where

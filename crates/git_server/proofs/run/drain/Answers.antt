@@ -1,6 +1,6 @@
 use Rattle.std.proofs.Common.{rules, true, false}
 use Rattle.git_server.proofs.Outcomes.{pulls_on}
-use Rattle.git_server.proofs.RunLemmas.{on_err_at, all_in_part, writes_packet, writes_end}
+use Rattle.git_server.proofs.RunLemmas.{on_err_at, all_in_part, unread_end, unread_nothing, unread_packet, unread_waits, writes_packet, writes_end}
 use Rattle.git_server.proofs.run.drain.Goals as goal
 
 pub loop-bytes-preserved : goal.loop-bytes-preserved
@@ -10,7 +10,26 @@ loop-bytes-preserved g c =
       outcome = pulls_on _ _ _ c.loop-bytes.invariant.outcome c.pull.follows.holds-at-none.outcome;
       writes = writes_packet g.R.Repo.state _ _ _ _ _ _ false _ c.in-Packet.bytes
           c.loop-bytes.invariant.writes c.pull.follows.holds-at-none c.in-Packet.is (search rules);
+      unread = λ none. unread_packet g.R.Repo.state _ _ _ _ _ _ _ c.in-Packet.bytes
+          (c.loop-bytes.invariant.unread none) c.pull.follows.holds-at-none c.in-Packet.is (search rules);
     }
+
+pub loop-bytes-init : goal.loop-bytes-init
+loop-bytes-init g c =
+    record {
+      sound = search rules;
+      outcome = search rules;
+      writes = search rules;
+      unread = λ none. unread_nothing g.R.Repo.state c.args.server.now _ none;
+    }
+
+pub returns-in-NeedInput-clause-unread : goal.returns-in-NeedInput-clause-unread
+returns-in-NeedInput-clause-unread g c none =
+    unread_waits g.R.Repo.state _ _ _ _ _ (c.loop-bytes.invariant.unread none) c.pull.follows.holds-at-none c.in-NeedInput.is
+
+pub returns-in-Finished-clause-unread : goal.returns-in-Finished-clause-unread
+returns-in-Finished-clause-unread g c none =
+    unread_end g.R.Repo.state _ _ _ _ _ c.in-Finished.outcome (c.loop-bytes.invariant.unread none) c.pull.follows.holds-at-none c.in-Finished.is
 
 pub returns-in-Finished-clause-ok : goal.returns-in-Finished-clause-ok
 returns-in-Finished-clause-ok g c =
