@@ -418,8 +418,8 @@ huge() {
     rm huge.pack
 }
 
-# negotiate ARGUMENT..: asks for a pack, and waits for acknowledgments.
-negotiate() {
+# fetch_with ARGUMENT..: asks for a pack with these arguments.
+fetch_with() {
     local argument
     packet command=fetch
     printf 0001
@@ -435,16 +435,16 @@ case_serve_reads_no_pack_that_is_not_due() {
     expect 0 <(advertisement sha1) /dev/null
     huge --stateless-rpc < <(request 'ref-prefix refs/tags/')
     expect 0 <(tags_answer) /dev/null
-    huge --stateless-rpc < <(negotiate "want $one" "have $two")
+    huge --stateless-rpc < <(fetch_with "want $one" "have $two")
     expect 0 <(packet acknowledgments; packet "ACK $two"; printf 0000) /dev/null
-    huge < <(object_info size "oid $two"; negotiate "want $one" "have $other"; request 'ref-prefix refs/tags/'; fetch $other)
+    huge < <(object_info size "oid $two"; fetch_with "want $one" "have $other"; request 'ref-prefix refs/tags/'; fetch $other)
     expect 1 <(
         advertisement sha1
         packet size; packet "$two 140"; printf 0000
         packet acknowledgments; packet NAK; printf 0000
         tags_answer
-        packet 'ERR NotOurs at 284'
-    ) <(fault 'NotOurs at 284')
+        packet 'ERR NotOurs at 292'
+    ) <(fault 'NotOurs at 292')
 }
 
 # A pack that cannot be read, or has no room, is reported where it is due, at the flush of its request.

@@ -22,7 +22,7 @@ use std::alloc::{AllocError, Global};
 use std::fs::File;
 use std::io::{BufWriter, Read, Stdout};
 use std::process::ExitCode;
-use std::{env, fs, io, mem};
+use std::{env, fs, io};
 
 /// How many bytes are read at a time.
 const PIECE: usize = 65_536;
@@ -334,22 +334,24 @@ fn serve_session(rt: &HostRuntime, server: &mut FileServer) -> Result<(), Progra
     let mut input = Retries::new(rt.stdin());
     let mut output = buffered_output(rt)?;
     let mut piece = [0; PIECE];
-    let mut last_piece = [0; PIECE];
+    let mut kept = [0; PIECE];
     let mut left = Left::NONE;
     let mut turns = TURNS;
     for _ in 0..TURNS {
         if let Some(outcome) = give_owed(&mut Told::new(&mut output), server)? {
             return ended(outcome);
         }
-        mem::swap(&mut piece, &mut last_piece);
-        let mut reader = Told::new((&last_piece[left.from..left.to]).chain(&mut input));
+        let rest = &piece[left.from..left.to];
+        let count = rest.len();
+        kept[..count].copy_from_slice(rest);
+        let mut reader = Told::new((&kept[..count]).chain(&mut input));
         left = take_request(&mut reader, &mut piece, server, turns)?;
         turns = turns.saturating_sub(reader.reads());
         if server.wants_pack() {
             server.read_packs();
             let mut reader = Told::new((&piece[left.from..left.to]).chain(input));
             let mut writer = Told::new(output);
-            return ended(serve(&mut reader, &mut writer, &mut last_piece, server, turns)?);
+            return ended(serve(&mut reader, &mut writer, &mut kept, server, turns)?);
         }
     }
     Err(RunFault::ReadLimit.into())
