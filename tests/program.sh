@@ -387,12 +387,89 @@ case_serve_tells_a_missing_file() {
     expect 1 /dev/null <(fault File)
     run git2show serve --repo / --pack empty.pack
     expect 1 /dev/null <(fault File)
-    run git2show serve --repo small.repo --pack /
-    expect 1 /dev/null <(fault File)
     serve --filtered nowhere.pack
     expect 1 /dev/null <(fault File)
-    serve --filtered /
+}
+
+# A text without a line end is refused at once, however long it goes on.
+case_serve_refuses_a_line_that_is_too_long() {
+    run git2show serve --repo /dev/zero --pack empty.pack
+    expect 1 /dev/null <(fault 'BadRepo at 1')
+    run git2show serve --repo <(cat small.repo /dev/zero) --pack empty.pack
+    expect 1 /dev/null <(fault 'BadRepo at 5')
+    run git2show serve --repo /dev/zero --pack nowhere.pack
     expect 1 /dev/null <(fault File)
+}
+
+case_play_and_fetch_refuse_a_line_that_is_too_long() {
+    run git2show play --repo small.repo --pack empty.pack --script /dev/zero
+    expect 1 /dev/null <(fault 'BadScript at 1')
+    run git2show play --repo small.repo --pack empty.pack --script <(printf 'ls-refs\n\n'; cat /dev/zero)
+    expect 1 /dev/null <(fault 'BadScript at 3')
+    run git2show fetch --script /dev/zero --pack pack
+    expect 1 /dev/null <(fault 'BadScript at 1')
+}
+
+# huge [OPTION..] < REQUESTS: a repository with a pack of 2 GB, served in 64 MB of memory.
+huge() {
+    truncate -s 2G huge.pack
+    status=0
+    (ulimit -v 65536 && limited git2show serve --repo wanted.repo --pack huge.pack "$@") > out 2> err || status=$?
+    rm huge.pack
+}
+
+# fetch_with ARGUMENT..: asks for a pack with these arguments.
+fetch_with() {
+    local argument
+    packet command=fetch
+    printf 0001
+    for argument; do
+        packet "$argument"
+    done
+    printf 0000
+}
+
+# An advertisement, references, sizes, acknowledgments alone and a refusal need none.
+case_serve_reads_no_pack_that_is_not_due() {
+    huge --advertise-refs
+    expect 0 <(advertisement sha1) /dev/null
+    huge --stateless-rpc < <(request 'ref-prefix refs/tags/')
+    expect 0 <(tags_answer) /dev/null
+    huge --stateless-rpc < <(fetch_with "want $one" "have $two")
+    expect 0 <(packet acknowledgments; packet "ACK $two"; printf 0000) /dev/null
+    huge < <(object_info size "oid $two"; fetch_with "want $one" "have $other"; request 'ref-prefix refs/tags/'; fetch $other)
+    expect 1 <(
+        advertisement sha1
+        packet size; packet "$two 140"; printf 0000
+        packet acknowledgments; packet NAK; printf 0000
+        tags_answer
+        packet 'ERR NotOurs at 292'
+    ) <(fault 'NotOurs at 292')
+}
+
+# A pack that cannot be read, or has no room, is reported where it is due, at the flush of its request.
+case_serve_tells_a_pack_that_cannot_be_read() {
+    local pack
+    fetch $one > asked
+    for pack in / /proc/self/mem; do
+        run git2show serve --repo wanted.repo --pack $pack < <(request 'ref-prefix refs/tags/'; printf 0000)
+        expect 0 <(advertisement sha1; tags_answer) /dev/null
+        run git2show serve --repo wanted.repo --pack $pack --stateless-rpc < asked
+        expect 1 <(lost_answer) <(fault "PackSource at $(flush_of asked)")
+    done
+    run git2show serve --repo wanted.repo --pack wanted.pack --filtered / < asked
+    expect 1 <(advertisement sha1; lost_answer) <(fault "PackSource at $(flush_of asked)")
+    huge < asked
+    expect 1 <(advertisement sha1; lost_answer) <(fault "PackSource at $(flush_of asked)")
+}
+
+# The answer to a fetch whose pack cannot be had, and the offset of the flush at the end of a file.
+lost_answer() {
+    packet packfile
+    printf '000f\003PackSource'
+}
+flush_of() {
+    echo $(($(wc -c < "$1") - 4))
 }
 
 case_serve_reads_its_files_before_it_judges_the_text() {
