@@ -638,8 +638,13 @@ case_a_terminal_gets_what_the_system_reported() {
     echo ls-refs > script
     on_terminal 'git2show serve --repo nowhere.repo --pack empty.pack'
     explained File '`nowhere.repo`: No such file or directory (os error 2)'
-    on_terminal 'git2show serve --repo small.repo --pack /'
+    on_terminal 'git2show play --repo small.repo --pack / --script script'
     explained File '`/`: Is a directory (os error 21)'
+    fetch $one > asked
+    on_terminal 'git2show serve --repo wanted.repo --pack / < asked > out'
+    explained "PackSource at $(flush_of asked)" '`/`: Is a directory (os error 21)'
+    on_terminal 'git2show serve --repo wanted.repo --pack wanted.pack --filtered / --stateless-rpc < asked > out'
+    explained "PackSource at $(flush_of asked)" '`/`: Is a directory (os error 21)'
     on_terminal $'git2show check /dev/null no\033where'
     explained File '`no\x1bwhere`: No such file or directory (os error 2)'
     on_terminal 'git2show fetch --script script --pack nowhere/it'
@@ -694,6 +699,10 @@ case_a_terminal_gets_why_a_line_of_a_text_is_refused() {
     on_terminal 'git2show serve --repo wrong.repo --pack empty.pack'
     explained 'BadRepo at 1' 'line 1 of `wrong.repo`: `format md5` is not `format sha1` or `format sha256`'
     refused_text 'it is empty' "ref $one HEAD" ''
+    refused_text 'it is longer than 65536 bytes' "ref $one HEAD" "object $(repeat 65530 1)"
+    repeat 65537 f > wrong.repo
+    on_terminal 'git2show serve --repo wrong.repo --pack empty.pack'
+    explained 'BadRepo at 1' 'line 1 of `wrong.repo`: it is longer than 65536 bytes'
     refused_text '`tag` is not `ref`, `object`, `ready`, `shallow` or `unshallow`' "tag $one"
     refused_text 'it ends after `ref`' ref
     refused_text "it ends after \`$one\`" "object $one"
@@ -739,6 +748,7 @@ case_a_terminal_gets_why_a_line_of_a_script_is_refused() {
     refused_script '`v1` is no reference name, `HEAD` or one below `refs/`' fetch 'want-ref v1'
     refused_script '`0` is no number that is allowed there' fetch 'deepen 0'
     refused_script 'the value of `filter` is empty or too long' fetch 'filter '
+    refused_script 'it is longer than 65536 bytes' ls-refs "ref-prefix $(repeat 65526 x)"
     printf '%s\n' object-info "oid $one" > script
     echo 'format sha256' > none.repo
     on_terminal 'git2show play --repo none.repo --pack empty.pack --script script'

@@ -257,7 +257,7 @@ fn watched_file(
     rt: &HostRuntime,
     matches: &ArgMatches<'_>,
     argument: &'static str,
-) -> Result<Watched<Retries<File>>, Failure> {
+) -> Result<WatchedFile, Failure> {
     let file = open(rt, matches, argument)?;
     Ok(Watched::new(Stream::File(argument), Retries::new(file)))
 }
@@ -297,8 +297,11 @@ fn buffered_output(rt: &HostRuntime) -> Result<Watched<BufWriter<Stdout>>, Progr
     }
 }
 
+/// A file that is read by pieces.
+type WatchedFile = Watched<Retries<File>>;
+
 /// A server of a repository in files.
-type FileServer = Server<LateRepo<File>, Global>;
+type FileServer<'a> = Server<LateRepo<&'a mut WatchedFile>, Global>;
 
 /// What a server is to send.
 #[derive(Clone, Copy, Debug, PartialEq, Eq)]
@@ -332,9 +335,31 @@ fn limits_of(matches: &ArgMatches<'_>) -> Limits {
     }
 }
 
-/// Serves the repository whose files are named, on standard input and output.
+/// Serves the repository whose files are named, on standard input and output. Nothing of its packs is read before one is due.
 fn run_serve(rt: &HostRuntime, matches: &ArgMatches<'_>) -> Result<(), Failure> {
-    let repo = open_repository(rt, matches)?;
+    let text = read_text(rt, open(rt, matches, "repo")?)?;
+    let mut pack = watched_file(rt, matches, "pack")?;
+    let mut filtered = match matches.get_str("filtered") {
+        Some(_) => Some(watched_file(rt, matches, "filtered")?),
+        None => None,
+    };
+    let no_packs = Packs {
+        pack: Vec::new(rt.alloc()),
+        filtered: None,
+    };
+    let lists = judge_repository(text, no_packs)?;
+    let repo = LateRepo::new(rt.alloc(), lists, &mut pack, filtered.as_mut());
+    let done = serve_repository(rt, matches, repo);
+    let filtered_call = filtered.and_then(|file| file.failed_call());
+    done.map_err(|failure| failure.with_pack_call(pack.failed_call().or(filtered_call)))
+}
+
+/// Serves a repository as the command line says.
+fn serve_repository(
+    rt: &HostRuntime,
+    matches: &ArgMatches<'_>,
+    repo: LateRepo<&mut WatchedFile>,
+) -> Result<(), Failure> {
     let offer = Offer::everything(repo.format());
     let service = service_of(matches);
     let advertise = service != Service::Answer;
@@ -353,7 +378,7 @@ fn run_serve(rt: &HostRuntime, matches: &ArgMatches<'_>) -> Result<(), Failure> 
 }
 
 /// Answers each request of standard input, on standard output.
-fn serve_session(rt: &HostRuntime, server: &mut FileServer) -> Result<(), Failure> {
+fn serve_session(rt: &HostRuntime, server: &mut FileServer<'_>) -> Result<(), Failure> {
     let mut input = Watched::new(Stream::Input, Retries::new(rt.stdin()));
     let mut output = buffered_output(rt)?;
     let done = answer_all(&mut input, &mut output, server);
@@ -364,7 +389,7 @@ fn serve_session(rt: &HostRuntime, server: &mut FileServer) -> Result<(), Failur
 fn answer_all<In: Read, W: Write>(
     input: &mut In,
     output: &mut W,
-    server: &mut FileServer,
+    server: &mut FileServer<'_>,
 ) -> Result<Outcome, RunFault> {
     let mut piece = [0; PIECE];
     let mut kept = [0; PIECE];
@@ -390,7 +415,7 @@ fn answer_all<In: Read, W: Write>(
 }
 
 /// Takes one request from standard input, where the server waits for one.
-fn take_one_request(rt: &HostRuntime, server: &mut FileServer) -> Result<(), Failure> {
+fn take_one_request(rt: &HostRuntime, server: &mut FileServer<'_>) -> Result<(), Failure> {
     if !server.wants_input() {
         return Ok(());
     }
@@ -402,7 +427,7 @@ fn take_one_request(rt: &HostRuntime, server: &mut FileServer) -> Result<(), Fai
 }
 
 /// Writes what the server owes on standard output.
-fn write_owed(rt: &HostRuntime, server: &mut FileServer) -> Result<(), Failure> {
+fn write_owed(rt: &HostRuntime, server: &mut FileServer<'_>) -> Result<(), Failure> {
     let mut output = buffered_output(rt)?;
     match give_owed(&mut Told::new(&mut output), server) {
         Ok(None) => Ok(()),
@@ -511,22 +536,6 @@ fn judge_script(
         }),
         Err(TextFault::OutOfMemory) => Err(ProgramFault::OutOfMemory.into()),
     }
-}
-
-/// Opens the files of a repository, in their order, and reads its text. Nothing of its packs is read.
-fn open_repository(rt: &HostRuntime, matches: &ArgMatches<'_>) -> Result<LateRepo<File>, Failure> {
-    let text = read_text(rt, open(rt, matches, "repo")?)?;
-    let pack = open(rt, matches, "pack")?;
-    let filtered = match matches.get_str("filtered") {
-        Some(_) => Some(open(rt, matches, "filtered")?),
-        None => None,
-    };
-    let no_packs = Packs {
-        pack: Vec::new(rt.alloc()),
-        filtered: None,
-    };
-    let lists = judge_repository(text, no_packs)?;
-    Ok(LateRepo::new(rt.alloc(), lists, pack, filtered))
 }
 
 /// Reads the pack, and then the one for requests that have a filter, where a file is named for it.
