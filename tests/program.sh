@@ -387,12 +387,89 @@ case_serve_tells_a_missing_file() {
     expect 1 /dev/null <(fault File)
     run git2show serve --repo / --pack empty.pack
     expect 1 /dev/null <(fault File)
-    run git2show serve --repo small.repo --pack /
-    expect 1 /dev/null <(fault File)
     serve --filtered nowhere.pack
     expect 1 /dev/null <(fault File)
-    serve --filtered /
+}
+
+# A text without a line end is refused at once, however long it goes on.
+case_serve_refuses_a_line_that_is_too_long() {
+    run git2show serve --repo /dev/zero --pack empty.pack
+    expect 1 /dev/null <(fault 'BadRepo at 1')
+    run git2show serve --repo <(cat small.repo /dev/zero) --pack empty.pack
+    expect 1 /dev/null <(fault 'BadRepo at 5')
+    run git2show serve --repo /dev/zero --pack nowhere.pack
     expect 1 /dev/null <(fault File)
+}
+
+case_play_and_fetch_refuse_a_line_that_is_too_long() {
+    run git2show play --repo small.repo --pack empty.pack --script /dev/zero
+    expect 1 /dev/null <(fault 'BadScript at 1')
+    run git2show play --repo small.repo --pack empty.pack --script <(printf 'ls-refs\n\n'; cat /dev/zero)
+    expect 1 /dev/null <(fault 'BadScript at 3')
+    run git2show fetch --script /dev/zero --pack pack
+    expect 1 /dev/null <(fault 'BadScript at 1')
+}
+
+# huge [OPTION..] < REQUESTS: a repository with a pack of 2 GB, served in 64 MB of memory.
+huge() {
+    truncate -s 2G huge.pack
+    status=0
+    (ulimit -v 65536 && limited git2show serve --repo wanted.repo --pack huge.pack "$@") > out 2> err || status=$?
+    rm huge.pack
+}
+
+# fetch_with ARGUMENT..: asks for a pack with these arguments.
+fetch_with() {
+    local argument
+    packet command=fetch
+    printf 0001
+    for argument; do
+        packet "$argument"
+    done
+    printf 0000
+}
+
+# An advertisement, references, sizes, acknowledgments alone and a refusal need none.
+case_serve_reads_no_pack_that_is_not_due() {
+    huge --advertise-refs
+    expect 0 <(advertisement sha1) /dev/null
+    huge --stateless-rpc < <(request 'ref-prefix refs/tags/')
+    expect 0 <(tags_answer) /dev/null
+    huge --stateless-rpc < <(fetch_with "want $one" "have $two")
+    expect 0 <(packet acknowledgments; packet "ACK $two"; printf 0000) /dev/null
+    huge < <(object_info size "oid $two"; fetch_with "want $one" "have $other"; request 'ref-prefix refs/tags/'; fetch $other)
+    expect 1 <(
+        advertisement sha1
+        packet size; packet "$two 140"; printf 0000
+        packet acknowledgments; packet NAK; printf 0000
+        tags_answer
+        packet 'ERR NotOurs at 292'
+    ) <(fault 'NotOurs at 292')
+}
+
+# A pack that cannot be read, or has no room, is reported where it is due, at the flush of its request.
+case_serve_tells_a_pack_that_cannot_be_read() {
+    local pack
+    fetch $one > asked
+    for pack in / /proc/self/mem; do
+        run git2show serve --repo wanted.repo --pack $pack < <(request 'ref-prefix refs/tags/'; printf 0000)
+        expect 0 <(advertisement sha1; tags_answer) /dev/null
+        run git2show serve --repo wanted.repo --pack $pack --stateless-rpc < asked
+        expect 1 <(lost_answer) <(fault "PackSource at $(flush_of asked)")
+    done
+    run git2show serve --repo wanted.repo --pack wanted.pack --filtered / < asked
+    expect 1 <(advertisement sha1; lost_answer) <(fault "PackSource at $(flush_of asked)")
+    huge < asked
+    expect 1 <(advertisement sha1; lost_answer) <(fault "PackSource at $(flush_of asked)")
+}
+
+# The answer to a fetch whose pack cannot be had, and the offset of the flush at the end of a file.
+lost_answer() {
+    packet packfile
+    printf '000f\003PackSource'
+}
+flush_of() {
+    echo $(($(wc -c < "$1") - 4))
 }
 
 case_serve_reads_its_files_before_it_judges_the_text() {
@@ -561,8 +638,13 @@ case_a_terminal_gets_what_the_system_reported() {
     echo ls-refs > script
     on_terminal 'git2show serve --repo nowhere.repo --pack empty.pack'
     explained File '`nowhere.repo`: No such file or directory (os error 2)'
-    on_terminal 'git2show serve --repo small.repo --pack /'
+    on_terminal 'git2show play --repo small.repo --pack / --script script'
     explained File '`/`: Is a directory (os error 21)'
+    fetch $one > asked
+    on_terminal 'git2show serve --repo wanted.repo --pack / < asked > out'
+    explained "PackSource at $(flush_of asked)" '`/`: Is a directory (os error 21)'
+    on_terminal 'git2show serve --repo wanted.repo --pack wanted.pack --filtered / --stateless-rpc < asked > out'
+    explained "PackSource at $(flush_of asked)" '`/`: Is a directory (os error 21)'
     on_terminal $'git2show check /dev/null no\033where'
     explained File '`no\x1bwhere`: No such file or directory (os error 2)'
     on_terminal 'git2show fetch --script script --pack nowhere/it'
@@ -617,6 +699,10 @@ case_a_terminal_gets_why_a_line_of_a_text_is_refused() {
     on_terminal 'git2show serve --repo wrong.repo --pack empty.pack'
     explained 'BadRepo at 1' 'line 1 of `wrong.repo`: `format md5` is not `format sha1` or `format sha256`'
     refused_text 'it is empty' "ref $one HEAD" ''
+    refused_text 'it is longer than 65536 bytes' "ref $one HEAD" "object $(repeat 65530 1)"
+    repeat 65537 f > wrong.repo
+    on_terminal 'git2show serve --repo wrong.repo --pack empty.pack'
+    explained 'BadRepo at 1' 'line 1 of `wrong.repo`: it is longer than 65536 bytes'
     refused_text '`tag` is not `ref`, `object`, `ready`, `shallow` or `unshallow`' "tag $one"
     refused_text 'it ends after `ref`' ref
     refused_text "it ends after \`$one\`" "object $one"
@@ -662,6 +748,7 @@ case_a_terminal_gets_why_a_line_of_a_script_is_refused() {
     refused_script '`v1` is no reference name, `HEAD` or one below `refs/`' fetch 'want-ref v1'
     refused_script '`0` is no number that is allowed there' fetch 'deepen 0'
     refused_script 'the value of `filter` is empty or too long' fetch 'filter '
+    refused_script 'it is longer than 65536 bytes' ls-refs "ref-prefix $(repeat 65526 x)"
     printf '%s\n' object-info "oid $one" > script
     echo 'format sha256' > none.repo
     on_terminal 'git2show play --repo none.repo --pack empty.pack --script script'

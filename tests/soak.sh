@@ -42,7 +42,7 @@ case_a_daemon_in_c_is_the_same_after_a_thousand_lies() {
 case_serve_takes_a_fixed_memory_of_a_thousand_lies() {
     local honest most
     write_lie
-    honest=$("$top/tests/soak.py" serve 1 asks git2show serve --repo heavy.repo --pack heavy.pack)
+    honest=$("$top/tests/soak.py" serve 4 asks git2show serve --repo heavy.repo --pack heavy.pack) # one of each kind
     most=$(timeout 300 "$top/tests/soak.py" serve 1000 asks git2show serve --repo heavy.repo --pack heavy.pack)
     [ "$most" -lt $((honest + 1024)) ] || differs "$most KiB instead of $honest"
 }

@@ -1,6 +1,7 @@
 -- Bytes that a server takes, one piece after another, while it waits for a request.
-use Rattle.std.proofs.Common.{◌≡◌, ℕ, Bool, true, false, List, [], ◌++◌, Option, take, drop, length, refl, sym, ap, subst, ◌∙◌}
+use Rattle.std.proofs.Common.{◌≡◌, ℕ, Bool, true, false, List, [], ◌++◌, Option, Result, Ok, Err, take, drop, length, refl, sym, ap, subst, ◌∙◌}
 use Rattle.std.proofs.Common.{arith, append_assoc, append-nil, take-append-drop}
+use Rattle.std.specs.Prelude.{IsErrAnd}
 use Rattle.std.proofs.lemmas.Grind.{common_steps}
 use Rattle.std.specs.Io.KnownBytes.{Consumes, Keeps}
 use Rattle.std.proofs.KnownBytes.{Consumes-nil, Consumes-trans, Consumes-kept}
@@ -8,13 +9,21 @@ use Rattle.git_pkt.specs.Streams.{Flow, flow}
 use Rattle.git_server.specs.Repository.{RepoState}
 use Rattle.git_server.specs.Sessions.{Setting}
 use Rattle.git_server.specs.Machine.Server.{Running}
-use Rattle.git_server.specs.Machine.ServerCalls.{Closes, Goes}
+use Rattle.git_msg.specs.Asked.{FetchAsked}
+use Rattle.git_server.specs.Machine.LatePacks.{setting_with, state_with}
+use Rattle.git_server.specs.Machine.ServerCalls.{Closes, ClosesUnread, Goes, GoesUnread, RunsUnread}
 use Rattle.git_server.specs.declared.server.Server.{Server}
-use Rattle.git2show.specs.OneRequest.{TakesOne}
+use Rattle.git2show.specs.OneRequest.{TakesOne, left_in}
+use Rattle.git2show.specs.declared.one_request.Left.{Left}
 
 -- a front that has as many bytes as the whole
 all_taken : (used : ℕ) (piece : List ℕ) → used ≡ length piece → take used piece ≡ piece
 all_taken used piece all = grind (arith, common_steps)
+
+-- nothing is left where a fault is returned
+pub left_of_fault : {E : Type 0} (result : Result Left E) (P : E → Type 0) (piece : List ℕ) → IsErrAnd result P → left_in result piece ≡ []
+left_of_fault (Ok left) P piece h = absurd h
+left_of_fault (Err fault) P piece h = refl
 
 module _ {R A : Type 0} (state : R → RepoState) (old : Server R A) where
   -- all that was read was used, and nothing was given
@@ -22,6 +31,7 @@ module _ {R A : Type 0} (state : R → RepoState) (old : Server R A) where
     pub bytes : List ℕ
     pub read : Consumes reader.before reader.after bytes
     pub stands : (s : Setting) (so_far given : List ℕ) → Running state s so_far false given old → Running state s (so_far ++ bytes) false given server
+    pub unread : (s : Setting) (so_far given : List ℕ) → RunsUnread state s so_far false given old → RunsUnread state s (so_far ++ bytes) false given server
 
   -- nothing was read
   pub taken_nothing : (left : Option (List ℕ)) → Taken old (flow left left)
@@ -29,21 +39,22 @@ module _ {R A : Type 0} (state : R → RepoState) (old : Server R A) where
     bytes = [];
     read = Consumes-nil left;
     stands = λ s so_far given r. subst (λ (l : List ℕ). Running state s l false given old) (sym (append-nil so_far)) r;
+    unread = λ s so_far given r. subst (λ (l : List ℕ). RunsUnread state s l false given old) (sym (append-nil so_far)) r;
   }
 
   -- a read failed
   pub taken_unread : (server : Server R A) (before left after : Option (List ℕ)) → Taken server (flow before left) → Keeps left after
       → Taken server (flow before after)
   taken_unread server before left after taken kept =
-      record { bytes = taken.bytes; read = Consumes-kept _ _ _ _ taken.read kept; stands = taken.stands }
+      record { bytes = taken.bytes; read = Consumes-kept _ _ _ _ taken.read kept; stands = taken.stands; unread = taken.unread }
 
   -- a front of a piece was used
   module _ (server new : Server R A) (piece : List ℕ) (used : ℕ) (before left after : Option (List ℕ)) (taken : Taken server (flow before left))
-      (read : Consumes left after piece) (goes : Goes state (take used piece) [] server new) where
-    pub takes_front : (ended : Bool) → TakesOne state old new ended (flow before after)
+      (read : Consumes left after piece) (goes : Goes state (take used piece) [] server new)
+      (goes_unread : GoesUnread state (take used piece) [] server new) where
+    pub takes_front : (ended : Bool) → TakesOne state old new ended (drop used piece) (flow before after)
     takes_front ended = record {
       used = taken.bytes ++ take used piece;
-      unused = drop used piece;
       over = false;
       read = subst (λ (l : List ℕ). Consumes before after l)
           (sym (append_assoc taken.bytes (take used piece) (drop used piece) ∙ ap (λ (l : List ℕ). taken.bytes ++ l) (take-append-drop used piece)))
@@ -52,6 +63,11 @@ module _ {R A : Type 0} (state : R → RepoState) (old : Server R A) where
           subst (λ (l : List ℕ). Running state s l false given new) (append_assoc so_far taken.bytes (take used piece))
           (subst (λ (l : List ℕ). Running state s ((so_far ++ taken.bytes) ++ take used piece) false l new) (append-nil given)
           (goes s (so_far ++ taken.bytes) false given (taken.stands s so_far given r)));
+      unread = λ s so_far given r packs.
+          subst (λ (l : List ℕ). Running (state_with packs state) (setting_with packs s) l false given new) (append_assoc so_far taken.bytes (take used piece))
+          (subst (λ (l : List ℕ). Running (state_with packs state) (setting_with packs s) ((so_far ++ taken.bytes) ++ take used piece) false l new)
+          (append-nil given)
+          (goes_unread packs (setting_with packs s) (so_far ++ taken.bytes) false given (taken.unread s so_far given r packs)));
       whole = λ e. absurd (cc);
     }
 
@@ -62,27 +78,31 @@ module _ {R A : Type 0} (state : R → RepoState) (old : Server R A) where
       read = Consumes-trans before left after taken.bytes piece taken.read read;
       stands = subst (λ (p : List ℕ). (s : Setting) (so_far given : List ℕ) → Running state s so_far false given old
           → Running state s (so_far ++ (taken.bytes ++ p)) false given new) (all_taken used piece all) (takes_front false).stands;
+      unread = subst (λ (p : List ℕ). (s : Setting) (so_far given : List ℕ) → RunsUnread state s so_far false given old
+          → RunsUnread state s (so_far ++ (taken.bytes ++ p)) false given new) (all_taken used piece all) (takes_front false).unread;
     }
 
   -- all that was read was used
-  pub takes_taken : (server : Server R A) (reader : Flow) (ended : Bool) → Taken server reader → TakesOne state old server ended reader
+  pub takes_taken : (server : Server R A) (reader : Flow) (ended : Bool) → Taken server reader → TakesOne state old server ended [] reader
   takes_taken server reader ended taken = record {
     used = taken.bytes;
-    unused = [];
     over = false;
     read = subst (λ (l : List ℕ). Consumes reader.before reader.after l) (sym (append-nil taken.bytes)) taken.read;
     stands = taken.stands;
+    unread = taken.unread;
     whole = λ e. absurd (cc);
   }
 
   -- the input ended
   pub takes_end : (server new : Server R A) (before left after : Option (List ℕ)) (ended : Bool) → Taken server (flow before left)
-      → Consumes left after [] → Closes state server new → ended ≡ true → TakesOne state old new ended (flow before after)
-  takes_end server new before left after ended taken nothing closes told = record {
+      → Consumes left after [] → Closes state server new → ClosesUnread state server new → ended ≡ true
+      → TakesOne state old new ended [] (flow before after)
+  takes_end server new before left after ended taken nothing closes closes_unread told = record {
     used = taken.bytes;
-    unused = [];
     over = true;
     read = Consumes-trans before left after taken.bytes [] taken.read nothing;
     stands = λ s so_far given r. (closes s (so_far ++ taken.bytes) false given (taken.stands s so_far given r)).0;
+    unread = λ s so_far given r packs.
+        (closes_unread packs (setting_with packs s) (so_far ++ taken.bytes) false given (taken.unread s so_far given r packs)).0;
     whole = λ e. (refl, told);
   }

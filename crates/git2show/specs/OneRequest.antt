@@ -1,17 +1,25 @@
 -- What is taken of a reader where a server answers one request alone.
-use Rattle.std.specs.Prelude.{◌≡◌, ℕ, Bool, true, false, List, [], ◌++◌}
+use Rattle.std.specs.Prelude.{◌≡◌, ℕ, Bool, true, false, Result, Ok, Err, List, [], ◌++◌, drop, take}
 use Rattle.std.specs.Io.KnownBytes.{Consumes}
 use Rattle.git_pkt.specs.Streams.{Flow}
 use Rattle.git_server.specs.Repository.{RepoState}
 use Rattle.git_server.specs.Sessions.{Setting}
 use Rattle.git_server.specs.Machine.Server.{Running}
+use Rattle.git_server.specs.Machine.ServerCalls.{RunsUnread}
 use Rattle.git_server.specs.declared.server.Server.{Server}
+use Rattle.git2show.specs.declared.one_request.Left.{Left}
 
--- the server used a front of what was read, and all of it where the input ended, which the reader reported; nothing was given
-pub record TakesOne {R A : Type 0} (state : R → RepoState) (old new : Server R A) (ended : Bool) (reader : Flow) : Type 0 where
+-- what was read after the request: these bytes of the piece
+abbrev pub left_in : {E : Type 0} → Result Left E → List ℕ → List ℕ
+left_in (Ok left) piece = drop left.from (take left.to piece)
+left_in (Err fault) piece = []
+
+-- the server used what was read but for what is left of it, and all of it where the input ended, which the reader reported; nothing was
+-- given, and no byte of a pack was looked at
+pub record TakesOne {R A : Type 0} (state : R → RepoState) (old new : Server R A) (ended : Bool) (unused : List ℕ) (reader : Flow) : Type 0 where
   pub used : List ℕ
-  pub unused : List ℕ
   pub over : Bool
   pub read : Consumes reader.before reader.after (used ++ unused)
   pub stands : (s : Setting) (so_far given : List ℕ) → Running state s so_far false given old → Running state s (so_far ++ used) over given new
+  pub unread : (s : Setting) (so_far given : List ℕ) → RunsUnread state s so_far false given old → RunsUnread state s (so_far ++ used) over given new
   pub whole : over ≡ true → (unused ≡ []) × (ended ≡ true)

@@ -1,16 +1,19 @@
 //! What a second line says in words of the fault that the first one names.
 
-use crate::PIECE;
 use crate::failures::{Cause, FailedCall, Failure, Stream};
 use crate::line_reasons::{repository_reason, script_reason};
 use crate::reasons::Shown;
 use clap::ArgMatches;
 use git_names::Format;
 use git_pkt::Retries;
+use git_repository::LONGEST_LINE;
 use git2show_lib::ProgramFault;
 use std::fmt::{self, Display, Formatter};
 use std::fs::{self, File};
 use std::io::{self, Read};
+
+/// How many bytes of a text are read at a time: more than a line may have.
+const PART: usize = LONGEST_LINE + 1;
 
 /// A text whose lines are judged.
 #[derive(Clone, Copy, Debug)]
@@ -66,7 +69,7 @@ fn read_again(rt: &HostRuntime, path: &str, number: u64) -> io::Result<Vec<u8>> 
     }
     let mut file = Retries::new(File::open(rt, path)?);
     let mut text = Vec::new(rt.alloc());
-    let mut piece = [0; PIECE];
+    let mut piece = [0; PART];
     // How many lines before it have not ended.
     let mut missing = number.saturating_sub(1);
     for _ in 0..u64::MAX {

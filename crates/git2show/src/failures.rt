@@ -1,7 +1,7 @@
 //! Why a command failed, and what is known of it beside the fault that is reported.
 
 use git_names::Format;
-use git_pkt::RunFault;
+use git_pkt::{Kind, RunFault};
 use git2show_lib::{CheckFault, ProgramFault};
 use std::io::{self, Read, Write};
 
@@ -70,6 +70,17 @@ impl Failure {
             _ => Cause::Unknown,
         };
         Failure { fault, cause }
+    }
+
+    /// The same, but with the call that failed if it is that a pack could not be read.
+    pub(crate) fn with_pack_call(self, call: Option<FailedCall>) -> Failure {
+        match (self.fault, call) {
+            (ProgramFault::Run(RunFault::Refused(fault)), Some(call)) if fault.kind == Kind::PackSource => Failure {
+                fault: self.fault,
+                cause: Cause::Call(call),
+            },
+            _ => self,
+        }
     }
 }
 

@@ -4,6 +4,7 @@ use crate::reasons::{Reason, Shown};
 use git_msg::{Command, Offer, after, is_word, read_argument, read_number, split_at_first};
 use git_names::{Format, Oid, RefName, Steps};
 use git_pkt::Kind;
+use git_repository::LONGEST_LINE;
 
 /// A line of a text, and what is before it.
 #[derive(Clone, Copy, Debug)]
@@ -30,6 +31,9 @@ pub(crate) fn repository_reason(text: &[u8], number: u64) -> Reason<'_> {
     let Some(line) = find_line(text, number) else {
         return Reason::Other;
     };
+    if line.text.len() > LONGEST_LINE {
+        return Reason::TooLong;
+    }
     let (first, _) = split_at_first(text, b'\n');
     match after(first, b"format ").and_then(Format::read) {
         Some(format) => item_reason(format, &line),
@@ -175,6 +179,9 @@ pub(crate) fn script_reason(format: Format, text: &[u8], number: u64) -> Reason<
     let Some(line) = find_line(text, number) else {
         return Reason::Other;
     };
+    if line.text.len() > LONGEST_LINE {
+        return Reason::TooLong;
+    }
     let Some(command) = open_command(line.before) else {
         return Reason::NoCommand(Shown(line.text));
     };

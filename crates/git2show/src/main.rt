@@ -15,19 +15,19 @@ mod remote_lines;
 use crate::explanations::explain;
 use crate::failures::{Cause, FailedCall, Failure, Stream, Watched};
 use crate::fetching::run_fetch;
-use crate::one_request::take_request;
+use crate::one_request::{Left, take_request};
 use clap::error::ErrorKind;
 use clap::{Arg, ArgAction, ArgMatches, Command, Error, value_parser};
 use git_client::Ending;
 use git_msg::{Limits, Offer, Request};
 use git_names::Format;
 use git_pkt::{Discard, LONGEST_PACKET, Retries, RunFault, Told};
-use git_repository::{Packs, RepositoryReader, TextFault};
-use git_server::{ListRepo, Outcome, Repo, Server, serve};
+use git_repository::{LONGEST_LINE, Packs, RepositoryReader, TextFault};
+use git_server::{LateRepo, ListRepo, Outcome, Repo, Server, give_owed, serve};
 use git2show_lib::{ProgramFault, check, play, read_script, report, show};
 use std::alloc::{AllocError, Global};
 use std::fs::File;
-use std::io::{BufWriter, IsTerminal, Read, Stdout};
+use std::io::{BufWriter, IsTerminal, Read, Stdout, Write};
 use std::process::ExitCode;
 use std::{env, fs, io};
 
@@ -257,7 +257,7 @@ fn watched_file(
     rt: &HostRuntime,
     matches: &ArgMatches<'_>,
     argument: &'static str,
-) -> Result<Watched<Retries<File>>, Failure> {
+) -> Result<WatchedFile, Failure> {
     let file = open(rt, matches, argument)?;
     Ok(Watched::new(Stream::File(argument), Retries::new(file)))
 }
@@ -297,6 +297,12 @@ fn buffered_output(rt: &HostRuntime) -> Result<Watched<BufWriter<Stdout>>, Progr
     }
 }
 
+/// A file that is read by pieces.
+type WatchedFile = Watched<Retries<File>>;
+
+/// A server of a repository in files.
+type FileServer<'a> = Server<LateRepo<&'a mut WatchedFile>, Global>;
+
 /// What a server is to send.
 #[derive(Clone, Copy, Debug, PartialEq, Eq)]
 enum Service {
@@ -329,53 +335,115 @@ fn limits_of(matches: &ArgMatches<'_>) -> Limits {
     }
 }
 
-/// Serves the repository whose files are named, on standard input and output.
+/// Serves the repository whose files are named, on standard input and output. Nothing of its packs is read before one is due.
 fn run_serve(rt: &HostRuntime, matches: &ArgMatches<'_>) -> Result<(), Failure> {
-    let repo = read_repository(rt, matches)?;
+    let text = read_text(rt, open(rt, matches, "repo")?)?;
+    let mut pack = watched_file(rt, matches, "pack")?;
+    let mut filtered = match matches.get_str("filtered") {
+        Some(_) => Some(watched_file(rt, matches, "filtered")?),
+        None => None,
+    };
+    let no_packs = Packs {
+        pack: Vec::new(rt.alloc()),
+        filtered: None,
+    };
+    let lists = judge_repository(text, no_packs)?;
+    let repo = LateRepo::new(rt.alloc(), lists, &mut pack, filtered.as_mut());
+    let done = serve_repository(rt, matches, repo);
+    let filtered_call = filtered.and_then(|file| file.failed_call());
+    done.map_err(|failure| failure.with_pack_call(pack.failed_call().or(filtered_call)))
+}
+
+/// Serves a repository as the command line says.
+fn serve_repository(
+    rt: &HostRuntime,
+    matches: &ArgMatches<'_>,
+    repo: LateRepo<&mut WatchedFile>,
+) -> Result<(), Failure> {
     let offer = Offer::everything(repo.format());
     let service = service_of(matches);
     let advertise = service != Service::Answer;
     let mut server = Server::new(rt.alloc(), repo, offer, limits_of(matches), advertise);
-    if service == Service::Answer {
-        take_one_request(rt, &mut server)?;
+    match service {
+        Service::Session => serve_session(rt, &mut server),
+        Service::Advertisement => write_owed(rt, &mut server),
+        Service::Answer => {
+            take_one_request(rt, &mut server)?;
+            if server.wants_pack() {
+                server.read_packs();
+            }
+            write_owed(rt, &mut server)
+        }
     }
-    let turns = match service {
-        Service::Session => TURNS,
-        // All that is owed is written, and nothing is read for it.
-        Service::Advertisement | Service::Answer => 0,
-    };
-    answer(rt, &mut server, turns)
+}
+
+/// Answers each request of standard input, on standard output.
+fn serve_session(rt: &HostRuntime, server: &mut FileServer<'_>) -> Result<(), Failure> {
+    let mut input = Watched::new(Stream::Input, Retries::new(rt.stdin()));
+    let mut output = buffered_output(rt)?;
+    let done = answer_all(&mut input, &mut output, server);
+    ended(done, input.failed_call().or(output.failed_call()))
+}
+
+/// Answers each request that comes, to the session's end. The packs are read once one is due.
+fn answer_all<In: Read, W: Write>(
+    input: &mut In,
+    output: &mut W,
+    server: &mut FileServer<'_>,
+) -> Result<Outcome, RunFault> {
+    let mut piece = [0; PIECE];
+    let mut kept = [0; PIECE];
+    let mut left = Left::NONE;
+    let mut turns = TURNS;
+    for _ in 0..TURNS {
+        if let Some(outcome) = give_owed(&mut Told::new(&mut *output), server)? {
+            return Ok(outcome);
+        }
+        let rest = &piece[left.from..left.to];
+        let count = rest.len();
+        kept[..count].copy_from_slice(rest);
+        let mut reader = Told::new((&kept[..count]).chain(&mut *input));
+        left = take_request(&mut reader, &mut piece, server, turns)?;
+        turns = turns.saturating_sub(reader.reads());
+        if server.wants_pack() {
+            server.read_packs();
+            let mut reader = Told::new((&piece[left.from..left.to]).chain(input));
+            return serve(&mut reader, &mut Told::new(output), &mut kept, server, turns);
+        }
+    }
+    Err(RunFault::ReadLimit)
 }
 
 /// Takes one request from standard input, where the server waits for one.
-fn take_one_request(
-    rt: &HostRuntime,
-    server: &mut Server<ListRepo, Global>,
-) -> Result<(), Failure> {
+fn take_one_request(rt: &HostRuntime, server: &mut FileServer<'_>) -> Result<(), Failure> {
     if !server.wants_input() {
         return Ok(());
     }
     let mut input = Watched::new(Stream::Input, Retries::new(rt.stdin()));
-    let taken = take_request(&mut Told::new(&mut input), &mut [0; PIECE], server, TURNS);
-    taken.map_err(|fault| Failure::of_run(fault, input.failed_call()))
+    match take_request(&mut Told::new(&mut input), &mut [0; PIECE], server, TURNS) {
+        Ok(_) => Ok(()),
+        Err(fault) => Err(Failure::of_run(fault, input.failed_call())),
+    }
 }
 
-/// Writes what the server owes on standard output, and answers what so many reads of standard input bring.
-fn answer(
-    rt: &HostRuntime,
-    server: &mut Server<ListRepo, Global>,
-    turns: u64,
-) -> Result<(), Failure> {
-    let mut input = Watched::new(Stream::Input, Retries::new(rt.stdin()));
+/// Writes what the server owes on standard output.
+fn write_owed(rt: &HostRuntime, server: &mut FileServer<'_>) -> Result<(), Failure> {
     let mut output = buffered_output(rt)?;
-    let (reader, writer) = (&mut Told::new(&mut input), &mut Told::new(&mut output));
-    let fault = match serve(reader, writer, &mut [0; PIECE], server, turns) {
+    match give_owed(&mut Told::new(&mut output), server) {
+        Ok(None) => Ok(()),
+        Ok(Some(outcome)) => ended(Ok(outcome), None),
+        Err(fault) => ended(Err(fault), output.failed_call()),
+    }
+}
+
+/// What is reported of a session that ended so. The call is one on its streams that failed, where there is one.
+fn ended(done: Result<Outcome, RunFault>, call: Option<FailedCall>) -> Result<(), Failure> {
+    let fault = match done {
         Ok(Outcome::Flush | Outcome::Closed) => return Ok(()),
         Ok(Outcome::Refused(fault)) => RunFault::Refused(fault),
-        Err(RunFault::ReadLimit) if turns == 0 => return Ok(()),
         Err(fault) => fault,
     };
-    Err(Failure::of_run(fault, input.failed_call().or(output.failed_call())))
+    Err(Failure::of_run(fault, call))
 }
 
 /// Plays the script that is named over the repository whose files are named, and writes the transcript to standard output. All
@@ -383,7 +451,7 @@ fn answer(
 fn run_play(rt: &HostRuntime, matches: &ArgMatches<'_>) -> Result<(), Failure> {
     let text = read_text(rt, open(rt, matches, "repo")?)?;
     let packs = read_packs(rt, matches)?;
-    let script = read_whole(rt, matches, "script")?;
+    let script = read_script_text(rt, matches)?;
     let repo = judge_repository(text, packs)?;
     let requests = judge_script(rt.alloc(), &script, repo.format())?;
     play_requests(rt, matches, repo, requests)
@@ -427,8 +495,31 @@ fn read_requests(
     matches: &ArgMatches<'_>,
     format: Format,
 ) -> Result<Vec<Request<Global>>, Failure> {
-    let script = read_whole(rt, matches, "script")?;
+    let script = read_script_text(rt, matches)?;
     judge_script(rt.alloc(), &script, format)
+}
+
+/// Reads the text of the script that is named, but nothing after a line that is too long already.
+fn read_script_text(rt: &HostRuntime, matches: &ArgMatches<'_>) -> Result<Vec<u8>, Failure> {
+    let mut file = Retries::new(open(rt, matches, "script")?);
+    let mut text = Vec::new(rt.alloc());
+    let mut piece = [0; PIECE];
+    for _ in 0..u64::MAX {
+        let count = file
+            .read(&mut piece)
+            .map_err(|error| Failure::of_file("script", error))?;
+        text.extend_from_slice(&piece[..count])
+            .map_err(|_| ProgramFault::OutOfMemory)?;
+        if count == 0 || ends_too_long(&text) {
+            return Ok(text);
+        }
+    }
+    Err(ProgramFault::File.into())
+}
+
+/// Whether the last line of a text, which has no LF yet, is longer than a line may be.
+fn ends_too_long(text: &[u8]) -> bool {
+    text.len() > LONGEST_LINE && !text[text.len() - LONGEST_LINE - 1..].contains(&b'\n')
 }
 
 /// The requests of a script.
@@ -445,12 +536,6 @@ fn judge_script(
         }),
         Err(TextFault::OutOfMemory) => Err(ProgramFault::OutOfMemory.into()),
     }
-}
-
-/// Reads the files of a repository: its text by pieces, and its packs whole.
-fn read_repository(rt: &HostRuntime, matches: &ArgMatches<'_>) -> Result<ListRepo, Failure> {
-    let text = read_text(rt, open(rt, matches, "repo")?)?;
-    Ok(judge_repository(text, read_packs(rt, matches)?)?)
 }
 
 /// Reads the pack, and then the one for requests that have a filter, where a file is named for it.
@@ -472,13 +557,13 @@ fn judge_repository(text: RepositoryReader, packs: Packs) -> Result<ListRepo, Pr
     }
 }
 
-/// Reads the text of a repository by pieces.
+/// Reads the text of a repository by pieces, but nothing after a line that is refused.
 fn read_text(rt: &HostRuntime, file: File) -> Result<RepositoryReader, Failure> {
     let mut file = Retries::new(file);
     let mut reader = RepositoryReader::new(rt.alloc());
     let mut piece = [0; PIECE];
     for _ in 0..u64::MAX {
-        if !read_piece(&mut file, &mut piece, &mut reader)? {
+        if reader.has_refused() || !read_piece(&mut file, &mut piece, &mut reader)? {
             return Ok(reader);
         }
     }

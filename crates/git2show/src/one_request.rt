@@ -1,11 +1,11 @@
 //! One request alone, as where each has a server of its own.
 
-ghost use Rattle.std.specs.Prelude.{◌≡◌, ◌<◌, ◌≤◌, true, false, length, IsTrue, IfErr, OnErr, OnOk};
+ghost use Rattle.std.specs.Prelude.{◌≡◌, ◌<◌, ◌≤◌, true, false, length, IsTrue, IfErr, IfOk, OnErr, OnOk};
 ghost use Rattle.git_pkt.specs.Machine.Told.{inner_of, reads_of, has_failed, has_ended, has_wasted, IsNew};
 ghost use Rattle.git_pkt.specs.Machine.Engine.{FailsAs, IsShownBy, IsSpent};
 ghost use Rattle.git_pkt.specs.Streams.{flow};
 ghost use Rattle.git_server.specs.Machine.Server.{wants_input};
-ghost use Rattle.git2show.specs.OneRequest.{TakesOne};
+ghost use Rattle.git2show.specs.OneRequest.{TakesOne, left_in};
 
 use git_names::Steps;
 use git_pkt::{RunFault, Told, receive};
@@ -13,9 +13,23 @@ use git_server::{Repo, Server};
 use std::alloc::Allocator;
 use std::io::Read;
 
+/// Which bytes of a piece were read after a request.
+#[derive(Clone, Copy, Debug)]
+pub(crate) struct Left {
+    /// The place of the first of them.
+    pub(crate) from: usize,
+    /// The place after the last.
+    pub(crate) to: usize,
+}
+
+impl Left {
+    /// None of them.
+    pub(crate) const NONE: Left = Left { from: 0, to: 0 };
+}
+
 /// Feeds a server that waits for a request what a reader gives, until it has an answer or a refusal to give, or the session has
-/// ended. What was read after that is dropped, and nothing more is read. The piece is where the bytes that are read go; it may not
-/// be empty.
+/// ended. Nothing more is read then; what was read after the request lies in the piece, where it is returned. The piece is where the
+/// bytes that are read go; it may not be empty.
 ///
 /// `ReadFault` where a read fails, and `ReadLimit` where a further read than the `turns` that are allowed would be needed. The
 /// server waits for input then.
@@ -24,15 +38,16 @@ pub(crate) fn take_request<In: Read, R: Repo, A: Allocator + Copy>(
     piece: &mut [u8],
     server: &mut Server<R, A>,
     turns: u64,
-) -> Result<(), RunFault>
+) -> Result<Left, RunFault>
     requires room { 0 < length piece.old }
     requires new_reader { IsNew reader.old }
     requires waits { wants_input server.old ≡ true }
 
     ensures reads { reads_of reader.new ≤ turns }
     ensures useful { has_wasted reader.new ≡ false }
-    ensures takes { TakesOne R.state server.old server.new (has_ended reader.new)
+    ensures takes { TakesOne R.state server.old server.new (has_ended reader.new) (left_in result piece.new)
         (flow (In.remaining (inner_of reader.old)) (In.remaining (inner_of reader.new))) }
+    ensures left { IfOk result (λ left. (left.from ≤ left.to) × (left.to ≤ length piece.new)) }
     ensures due { OnOk result (wants_input server.new ≡ false) }
     ensures goes_on { OnErr result (wants_input server.new ≡ true) }
     ensures fault { IfErr result (IsShownBy (IsTrue (has_failed reader.new)) ⊥ (IsSpent reader.new turns)) }
@@ -42,11 +57,14 @@ pub(crate) fn take_request<In: Read, R: Repo, A: Allocator + Copy>(
         let count = receive(reader, piece)?;
         if count == 0 {
             server.close();
-            return Ok(());
+            return Ok(Left::NONE);
         }
-        server.feed(&piece[..count], &mut Steps::new());
+        let used = server.feed(&piece[..count], &mut Steps::new());
         if !server.wants_input() {
-            return Ok(());
+            return Ok(Left {
+                from: used,
+                to: count,
+            });
         }
     }
     Err(RunFault::ReadLimit)

@@ -3,6 +3,7 @@
 use git_msg::Command;
 use git_names::Format;
 use git_pkt::escape_into;
+use git_repository::LONGEST_LINE;
 use std::fmt::{self, Display, Formatter};
 use std::str;
 use thiserror::Error;
@@ -40,6 +41,9 @@ pub(crate) enum Reason<'a> {
     /// It is empty.
     #[error("it is empty")]
     Empty,
+    /// It has more bytes than a line may have.
+    #[error("it is longer than {LONGEST_LINE} bytes")]
+    TooLong,
     /// This word begins no line of a repository text.
     #[error("{0} is not `ref`, `object`, `ready`, `shallow` or `unshallow`")]
     UnknownWord(Shown<'a>),

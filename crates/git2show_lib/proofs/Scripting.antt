@@ -1,5 +1,5 @@
 -- What one more line adds to what is held of a script.
-use Rattle.std.proofs.Common.{arith, ◌≡◌, ℕ, ◌+◌, ◌-◌, ◌==◌, true, false, Result, Ok, Err, List}
+use Rattle.std.proofs.Common.{arith, ◌≡◌, ℕ, ◌+◌, ◌-◌, ◌<◌, ◌≤◌, ◌==◌, true, false, Result, Ok, Err, List}
 use Rattle.std.proofs.Common.{[], ◌∷◌, ◌++◌, Some, None, refl, ap, sym, ◌∙◌, subst, length, map, get_or, set}
 use Rattle.std.proofs.Common.{append_assoc, length-append}
 use Rattle.std.specs.Prelude.{MatchResult}
@@ -23,6 +23,7 @@ use Rattle.git_msg.proofs.ArgumentsInOrder.{asked_snoc}
 use Rattle.git_msg.proofs.AskedValues.{says_in_range}
 use Rattle.git_msg.proofs.Rows.{argument_or_fault, one_argument}
 use Rattle.git_msg.proofs.Values.{added_or_refused}
+use Rattle.git_repository.specs.RepositoryLines.{longest_line}
 use Rattle.git_repository.specs.declared.text_faults.LineFault.{LineFault}
 use Rattle.git_repository.specs.declared.text_faults.LineFault.TheVariants.{Refused, OutOfMemory}
 use Rattle.git2show_lib.specs.Scripts.{ScriptLine, blank, command, argument, MayFollow, kept_after, nearest, open_after, request_of, requests_in}
@@ -92,8 +93,12 @@ module _ {A : Type 0} where
       added_or_refused last arg kind (fits_passes offer last text arg format (subst (FitsIn offer last text) same fits)) refuses
 
   pub fits_of_passes : (offer : Offer) (last : Request A) (text : List ℕ) (arg : Arg) → ReadsAs (command_of last) offer text arg
-      → Passes (add_checks last arg) → FitsIn offer last text arg
-  fits_of_passes offer last text arg reads passes = record { reads = reads; fits = passes.1.0 }
+      → length text ≤ longest_line → Passes (add_checks last arg) → FitsIn offer last text arg
+  fits_of_passes offer last text arg reads short passes = record { reads = reads; short = short; fits = passes.1.0 }
+
+  -- a text that is longer than a line may be is no argument that fits
+  pub long_fits_none : (offer : Offer) (last : Request A) (text : List ℕ) → longest_line < length text → (arg : Arg) → FitsIn offer last text arg → ⊥
+  long_fits_none offer last text long arg fits = omega (arith, long, fits.short)
 
   pub holds_nothing : (offer : Offer) (limit : ℕ) → Holds {A = A} [] (nothing_held offer limit)
   holds_nothing offer limit = record { requests_are = refl; of_format = All-nil _; of_limit = All-nil _; open_as = refl }
@@ -173,6 +178,7 @@ module _ {A : Type 0} where
     of = command_of o.last;
     is_open = o.open_is;
     reads = fits_in.reads;
+    short = fits_in.short;
     fits = omega (arith, fits_in.fits, o.kept_is, last_limit lines held h o);
   }
 
@@ -184,6 +190,7 @@ module _ {A : Type 0} where
       let same : may.of ≡ command_of o.last = cc in
       record {
         reads = subst (λ (c : Command). ReadsAs c held.offer text arg) same may.reads;
+        short = may.short;
         fits = omega (arith, may.fits, o.kept_is, last_limit lines held h o);
       }
 

@@ -6,7 +6,7 @@ use Rattle.git_msg.specs.declared.arguments.Command.{Command}
 use Rattle.git_msg.specs.Arguments.{Arg, ReadsAs, TakesMemory as TakesMemoryFor, name_of, stored_in, written_text}
 use Rattle.git_msg.specs.Asked.{Asked, asked_by, bytes_of}
 use Rattle.git_msg.specs.Kept.{Kept}
-use Rattle.git_repository.specs.RepositoryLines.{lines_of}
+use Rattle.git_repository.specs.RepositoryLines.{lines_of, longest_line}
 
 -- what a line is: an empty one, which ends a request; a command, which begins one; an argument of the request that is open
 pub data ScriptLine : Type 0 where
@@ -28,11 +28,12 @@ kept_after (blank ∷ before) = 0
 kept_after (command c ∷ before) = 0
 kept_after (argument arg ∷ before) = kept_after before + length (written_text arg)
 
--- the text is this argument of the request that is open, and the limit has room for it
+-- the text is this argument of the request that is open, no longer than a line may be, and the limit has room for it
 pub record IsArgumentAfter (offer : Offer) (limit : ℕ) (before : List ScriptLine) (text : List ℕ) (arg : Arg) : Type 0 where
   pub of : Command
   pub is_open : open_after before ≡ Some of
   pub reads : ReadsAs of offer text arg
+  pub short : length text ≤ longest_line
   pub fits : kept_after (argument arg ∷ before) ≤ limit
 
 -- the text is this line, which may follow those before it, the nearest first

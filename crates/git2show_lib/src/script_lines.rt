@@ -7,7 +7,7 @@ ghost use Rattle.git2show_lib.specs.Machine.HeldScripts.{AddsArgument, Begins, I
 use git_msg::{Command, Limits, Offer, Request, read_argument};
 use git_names::{Format, Steps};
 use git_pkt::Kind;
-use git_repository::LineFault;
+use git_repository::{LONGEST_LINE, LineFault};
 use std::alloc::Allocator;
 
 /// What the lines so far contain.
@@ -70,6 +70,9 @@ impl<A: Allocator + Copy> Script<A> {
     fn add(&mut self, text: &[u8]) -> Result<(), LineFault>
         ensures { AddsArgument (held self.old) text.now (held self.new) result }
     {
+        if text.len() > LONGEST_LINE {
+            return Err(LineFault::Refused);
+        }
         let Some(request) = self.requests.last_mut() else {
             return Err(LineFault::Refused);
         };

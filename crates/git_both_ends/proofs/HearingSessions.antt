@@ -111,7 +111,7 @@ each_said : (format : Format) (lines : List (List ℕ)) (said : List Said) → S
     → All (λ s. (line : List ℕ) × Says format line s) said
 each_said format [] [] h = All-nil (λ s. (line : List ℕ) × Says format line s)
 each_said format (line ∷ lines) (s ∷ said) (now, h) =
-    All-cons (λ s. (line : List ℕ) × Says format line s) s said (line, now) (each_said format lines said h)
+    All-cons (λ s. (line : List ℕ) × Says format line s) s said (line, now.1) (each_said format lines said h)
 each_said format [] (s ∷ said) h = absurd h
 each_said format (line ∷ lines) [] h = absurd h
 

@@ -1,6 +1,6 @@
 -- How far the lines of a text are read, and what a further piece changes.
-use Rattle.std.proofs.Common.{true, false, ◌==◌, ◌≢◌, ◌<◌, ◌≤◌, Bor, Option, Some, None, ◌≡◌, ℕ, List, [], ◌∷◌, ◌++◌}
-use Rattle.std.proofs.Common.{refl, ap, sym, ◌∙◌, subst, append_assoc, length, length-append, arith}
+use Rattle.std.proofs.Common.{true, false, ◌==◌, ◌≢◌, ◌<◌, ◌≤◌, ◌⊎◌, Bor, Option, Some, None, ◌≡◌, ℕ, List, [], ◌∷◌, ◌++◌}
+use Rattle.std.proofs.Common.{refl, ap, sym, ◌∙◌, subst, append_assoc, length, length-append, arith, inl, inr}
 use Rattle.std.proofs.lemmas.List.{append-nil}
 use Rattle.std.proofs.lemmas.Bool.Decides.{nat_tests}
 use Rattle.git_pkt.specs.Packets.{text_of}
@@ -14,10 +14,10 @@ use Rattle.git_repository.specs.declared.text_faults.TextFault.{TextFault}
 use Rattle.git_repository.specs.declared.drafts.Draft.{Draft}
 use Rattle.git_repository.specs.Machine.DraftLists.{drafted}
 use Rattle.git_repository.specs.LinesTold.{AreTold}
-use Rattle.git_repository.specs.Machine.RepositoryProgress.{HasFailed, HasRead, IsBegun, IsLinesFault, Stands}
+use Rattle.git_repository.specs.Machine.RepositoryProgress.{HasFailed, HasRead, HasReadTo, IsBegun, IsLinesFault, IsTooLong, Stands}
 use Rattle.git_repository.specs.declared.repository_progress.Progress.{Progress}
 use Rattle.git_repository.specs.declared.repository_progress.Progress.TheVariants.{Start, Lines, Failed}
-use Rattle.git_repository.proofs.Reading.{fault_stays}
+use Rattle.git_repository.proofs.Reading.{fault_stays, too_long_fault, too_long_on}
 use Rattle.git_repository.proofs.TextPieces.{by_line, by_line_end, first_part, last_among, none_at_all, parts_behind, parts_joined, text_ends}
 
 begun_self : (progress : Progress) (line : List ℕ) → IsBegun progress line line
@@ -25,10 +25,15 @@ begun_self Start line = refl
 begun_self (Lines draft) line = refl
 begun_self (Failed fault) line = tt
 
+read_to : (progress : Progress) (lines : List (List ℕ)) (begun : List ℕ) → HasRead progress lines → HasReadTo progress lines begun
+read_to Start lines begun h = h
+read_to (Lines draft) lines begun h = h
+read_to (Failed fault) lines begun h = inl h
+
 -- these lines were read, and this one has begun
 pub begun_behind : (progress : Progress) (held : List ℕ) (lines all : List (List ℕ)) → HasRead progress lines → all ≡ lines ++ held ∷ []
     → Stands progress held all
-begun_behind progress held lines all h is = record { ended = lines; begun = held; whole = is; read = h; is_begun = begun_self progress held }
+begun_behind progress held lines all h is = record { ended = lines; begun = held; whole = is; read = read_to progress lines held h; is_begun = begun_self progress held }
 
 -- a line was read, and the rest is after it
 pub stand_behind : (progress : Progress) (held : List ℕ) (lines : List (List ℕ)) (line text rest : List ℕ) → parts_of 10 text ≡ line ∷ parts_of 10 rest
@@ -45,9 +50,17 @@ failed_behind fault held lines first others all h is =
       ended = lines ++ last.front;
       begun = last.last;
       whole = is ∙ ap (λ (ls : List (List ℕ)). lines ++ ls) last.is ∙ sym (append_assoc lines last.front (last.last ∷ []));
-      read = fault_stays lines last.front fault h;
+      read = inl (fault_stays lines last.front fault h);
       is_begun = tt;
     }
+
+-- a line that has become too long is the fault, whether it has ended or not
+pub long_behind : (fault : TextFault) (held : List ℕ) (lines : List (List ℕ)) (first : List ℕ) (others all : List (List ℕ)) → IsTooLong lines first fault
+    → all ≡ lines ++ first ∷ others → Stands (Failed fault) held all
+long_behind fault held lines first [] all h is = record { ended = lines; begun = first; whole = is; read = inr h; is_begun = tt }
+long_behind fault held lines first (next ∷ others) all h is =
+    failed_behind fault held (lines ++ first ∷ []) next others all (too_long_fault lines first [] fault h)
+    (is ∙ sym (append_assoc lines (first ∷ []) (next ∷ others)))
 
 pub failed_text : (fault : TextFault) (held : List ℕ) (lines : List (List ℕ)) (text : List ℕ) → IsLinesFault lines fault
     → Stands (Failed fault) held (lines ++ parts_of 10 text)
@@ -61,8 +74,13 @@ failed_stays Start held text piece f h = absurd f
 failed_stays (Lines draft) held text piece f h = absurd f
 failed_stays (Failed fault) held text piece f h =
     let some = first_part piece in
-    failed_behind fault held h.ended (h.begun ++ some.first) some.others (parts_of 10 (text ++ piece)) h.read
-    (parts_joined text piece h.ended h.begun some.first some.others h.whole some.is)
+    let joined = parts_joined text piece h.ended h.begun some.first some.others h.whole some.is in
+    let read : IsLinesFault h.ended fault ⊎ IsTooLong h.ended h.begun fault = h.read in
+    elim read [
+      | inl shown ↦ failed_behind fault held h.ended (h.begun ++ some.first) some.others (parts_of 10 (text ++ piece)) shown joined
+      | inr long ↦ long_behind fault held h.ended (h.begun ++ some.first) some.others (parts_of 10 (text ++ piece))
+          (too_long_on h.ended h.begun some.first fault long) joined
+    ]
 
 -- while no line was refused, what is held is the line that has begun
 begun_of : (progress : Progress) (held begun : List ℕ) → (HasFailed progress → ⊥) → IsBegun progress held begun → held ≡ begun
@@ -121,13 +139,23 @@ end_within draft text held some h =
       | by_line_end is none ↦ absurd (some (line ∙ none))
     ]
 
+begun_fault : (fault : TextFault) (ended : List (List ℕ)) (begun : List ℕ) → IsLinesFault ended fault ⊎ IsTooLong ended begun fault
+    → IsLinesFault (ended ++ begun ∷ []) fault
+begun_fault fault ended begun (inl shown) = fault_stays ended (begun ∷ []) fault shown
+begun_fault fault ended begun (inr long) = too_long_fault ended begun [] fault long
+
+ended_fault : (fault : TextFault) (ended : List (List ℕ)) (begun : List ℕ) → begun ≡ [] → IsLinesFault ended fault ⊎ IsTooLong ended begun fault
+    → IsLinesFault ended fault
+ended_fault fault ended begun none (inl shown) = shown
+ended_fault fault ended begun none (inr long) = absurd (omega (arith, long.long, ap length none))
+
 -- the end of a text after a fault
 pub end_failed : (fault : TextFault) (text held : List ℕ) → Stands (Failed fault) held (parts_of 10 text) → IsLinesFault (lines_of text) fault
 end_failed fault text held h =
-    let read : IsLinesFault h.ended fault = h.read in
+    let read : IsLinesFault h.ended fault ⊎ IsTooLong h.ended h.begun fault = h.read in
     elim (text_ends text h.ended h.begun h.whole) [
-      | by_line is first ↦ subst (λ (ls : List (List ℕ)). IsLinesFault ls fault) (sym is) (fault_stays h.ended (h.begun ∷ []) fault read)
-      | by_line_end is none ↦ subst (λ (ls : List (List ℕ)). IsLinesFault ls fault) (sym is) read
+      | by_line is first ↦ subst (λ (ls : List (List ℕ)). IsLinesFault ls fault) (sym is) (begun_fault fault h.ended h.begun read)
+      | by_line_end is none ↦ subst (λ (ls : List (List ℕ)). IsLinesFault ls fault) (sym is) (ended_fault fault h.ended h.begun none read)
     ]
 
 -- further lines of a text were read, and after them come this line and what is left
@@ -158,11 +186,12 @@ reads_bad_line text lines line held left old fault h step =
     ∙ append_assoc lines h.more (line ∷ parts_of 10 left) ∙ ap (λ (ls : List (List ℕ)). lines ++ ls) (sym h.whole))
     (failed_text fault held ((lines ++ h.more) ++ line ∷ []) left (step (lines ++ h.more) h.told))
 
-pub reads_all : (text : List ℕ) (lines : List (List ℕ)) (line : List ℕ) (draft : Draft) → ReadsOn text lines line None (drafted draft)
-    → Stands (Lines draft) line (lines ++ parts_of 10 text)
-reads_all text lines line draft h =
-    begun_behind (Lines draft) line (lines ++ h.more) (lines ++ parts_of 10 text) h.told
-    (ap (λ (ls : List (List ℕ)). lines ++ ls) h.whole ∙ sym (append_assoc lines h.more (line ∷ [])))
+pub reads_all : (text : List ℕ) (lines : List (List ℕ)) (line held : List ℕ) (draft : Draft) → ReadsOn text lines line None (drafted draft)
+    → (progress : Progress) → ((ls : List (List ℕ)) → HasRead (Lines draft) ls → Stands progress held (ls ++ line ∷ []))
+    → Stands progress held (lines ++ parts_of 10 text)
+reads_all text lines line held draft h progress stands =
+    subst (Stands progress held) (append_assoc lines h.more (line ∷ []) ∙ ap (λ (ls : List (List ℕ)). lines ++ ls) (sym h.whole))
+    (stands (lines ++ h.more) h.told)
 
 pub cut_within : (text before : List ℕ) (rest : Option (List ℕ)) → IsCutAt 10 text before rest → length before ≤ length text
 cut_within text before None h = let same = ap length h.0 in omega (arith, same)
@@ -191,3 +220,15 @@ empty_of (x ∷ xs) e = let zero : length (x ∷ xs) ≡ 0 = grind (arith, nat_t
 pub some_of : (xs : List ℕ) → false ≡ (length xs == 0) → xs ≡ [] → ⊥
 some_of [] e same = let no : length {A = ℕ} [] ≢ 0 = grind (arith, nat_tests) in no refl
 some_of (x ∷ xs) e same = let long : length (x ∷ xs) ≡ length {A = ℕ} [] = ap length same in omega (arith, long)
+
+-- a text that has failed at the line that has begun, or before it, stands there
+pub long_stands : (progress : Progress) (held : List ℕ) (lines : List (List ℕ)) (first : List ℕ) (others all : List (List ℕ)) → HasFailed progress
+    → HasReadTo progress lines first → all ≡ lines ++ first ∷ others → Stands progress held all
+long_stands Start held lines first others all f h is = absurd f
+long_stands (Lines draft) held lines first others all f h is = absurd f
+long_stands (Failed fault) held lines first others all f h is =
+    let read : IsLinesFault lines fault ⊎ IsTooLong lines first fault = h in
+    elim read [
+      | inl shown ↦ failed_behind fault held lines first others all shown is
+      | inr long ↦ long_behind fault held lines first others all long is
+    ]

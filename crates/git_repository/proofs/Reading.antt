@@ -1,17 +1,18 @@
 -- The lines of a repository's text, read one by one.
-use Rattle.std.proofs.Common.{arith, ◌≡◌, ℕ, ◌+◌, ◌≤◌, List, [], ◌∷◌, ◌++◌, refl, ap, sym, ◌∙◌, subst, append_assoc, length, map, Option, Some, None, inl, inr}
+use Rattle.std.proofs.Common.{arith, ◌≡◌, ℕ, ◌+◌, ◌<◌, ◌≤◌, List, [], ◌∷◌, ◌++◌, refl, ap, sym, ◌∙◌, subst, append_assoc, length, map, Option, Some, None, inl, inr}
 use Rattle.std.specs.Option.{is_some}
 use Rattle.std.proofs.lemmas.List.{length-append, length-map}
 use Rattle.git_server.specs.Repository.{Entry}
 use Rattle.std.proofs.lemmas.List.Elements.{All-nil}
 use Rattle.git_names.specs.declared.object_format.Format.{Format}
+use Rattle.git_names.specs.declared.object_format.Format.TheVariants.{Sha1, Sha256}
 use Rattle.git_server.specs.Lists.{Lists}
 use Rattle.git_repository.specs.Packs.{PackBytes}
-use Rattle.git_repository.specs.RepositoryLines.{Said, reference, unborn, object, ready, boundary, Says, SaysNothing, format_line, lines_of}
+use Rattle.git_repository.specs.RepositoryLines.{Said, reference, unborn, object, ready, boundary, IsLineOf, Says, SaysNothing, format_line, lines_of, longest_line}
 use Rattle.git_repository.specs.RepositoryText.{Begins, IsRepositoryText, MayStand, SayAll, WantsMemory}
 use Rattle.git_repository.specs.RepositoryText.{boundaries_in, counts_in, first_of, names_in, objects_in, refs_in, unborn_in}
 use Rattle.git_repository.specs.LinesTold.{AreTold, lines_behind, ready_lines, unborn_lines}
-use Rattle.git_repository.specs.Machine.RepositoryProgress.{IsLinesFault}
+use Rattle.git_repository.specs.Machine.RepositoryProgress.{IsLinesFault, IsTooLong}
 use Rattle.git_repository.specs.Machine.RepositoryFaults.{IsTextFault}
 use Rattle.git_repository.specs.declared.text_faults.TextFault.{TextFault}
 use Rattle.git_repository.specs.declared.text_faults.TextFault.TheVariants.{Bad, OutOfMemory as OutOfMemoryOfText}
@@ -45,17 +46,17 @@ started format line lists is empty =
     } in
     subst (AreTold (line ∷ [])) (sym empty) there
 
-say_more : (format : Format) (lines : List (List ℕ)) (said : List Said) (line : List ℕ) (next : Said) → SayAll format lines said → Says format line next
+say_more : (format : Format) (lines : List (List ℕ)) (said : List Said) (line : List ℕ) (next : Said) → SayAll format lines said → IsLineOf format line next
     → SayAll format (lines ++ line ∷ []) (said ++ next ∷ [])
 say_more format [] [] line next h is = (is, tt)
 say_more format (l ∷ ls) (s ∷ ss) line next h is = (h.0, say_more format ls ss line next h.1 is)
 say_more format [] (s ∷ ss) line next h is = absurd h
 say_more format (l ∷ ls) [] line next h is = absurd h
 
-pub stepped : (lines : List (List ℕ)) (old new : Lists) (line : List ℕ) (says : Said) → AreTold lines old → Says old.format line says
+pub stepped : (lines : List (List ℕ)) (old new : Lists) (line : List ℕ) (says : Said) → AreTold lines old → IsLineOf old.format line says
     → (new ≡ with_said old says) × MayFollow old says → AreTold (lines ++ line ∷ []) new
 stepped lines old new line says h is kept =
-    let held = holds_more h.said old h.holds says (fit_of_says old.format line says is) kept.1 in
+    let held = holds_more h.said old h.holds says (fit_of_says old.format line says is.1) kept.1 in
     let begins : Begins old.format (lines ++ line ∷ []) (h.said ++ says ∷ []) = record {
       others = h.begins.others ++ line ∷ [];
       spelled = ap (λ (ls : List (List ℕ)). ls ++ line ∷ []) h.begins.spelled;
@@ -127,7 +128,7 @@ told_lines lines lists h =
     omega (arith, whole, all, behind)
 
 refused_at : (lines : List (List ℕ)) (lists : Lists) (line : List ℕ) (number : ℕ) → (h : AreTold lines lists) → number ≡ lines_behind lists + 1
-    → ((more : Said) → Says lists.format line more → MayStand (h.said ++ more ∷ []) → ⊥) → IsLinesFault (lines ++ line ∷ []) (Bad number)
+    → ((more : Said) → IsLineOf lists.format line more → MayStand (h.said ++ more ∷ []) → ⊥) → IsLinesFault (lines ++ line ∷ []) (Bad number)
 refused_at lines lists line number h is refused = inr (record {
   format = lists.format;
   before = lines;
@@ -142,16 +143,21 @@ refused_at lines lists line number h is refused = inr (record {
 
 pub says_nothing_at : (lines : List (List ℕ)) (lists : Lists) (line : List ℕ) (number : ℕ) → number ≡ lines_behind lists + 1
     → SaysNothing lists.format line → AreTold lines lists → IsLinesFault (lines ++ line ∷ []) (Bad number)
-says_nothing_at lines lists line number is nothing h = refused_at lines lists line number h is (λ more is may. nothing more is)
+says_nothing_at lines lists line number is nothing h = refused_at lines lists line number h is (λ more is may. nothing more is.1)
+
+-- a line that is longer than a line may be
+pub too_long_at : (lines : List (List ℕ)) (lists : Lists) (line : List ℕ) (number : ℕ) → number ≡ lines_behind lists + 1
+    → longest_line < length line → AreTold lines lists → IsLinesFault (lines ++ line ∷ []) (Bad number)
+too_long_at lines lists line number is long h = refused_at lines lists line number h is (λ more also may. absurd (omega (arith, long, also.0)))
 
 pub may_not_stand_at : (lines : List (List ℕ)) (lists : Lists) (line : List ℕ) (number : ℕ) (says : Said) → number ≡ lines_behind lists + 1
-    → Says lists.format line says → IsLineFault lists says Refused → AreTold lines lists → IsLinesFault (lines ++ line ∷ []) (Bad number)
+    → IsLineOf lists.format line says → IsLineFault lists says Refused → AreTold lines lists → IsLinesFault (lines ++ line ∷ []) (Bad number)
 may_not_stand_at lines lists line number says at is fault h = refused_at lines lists line number h at
     (λ more also may. fault (follows h.said lists h.holds says
-    (subst (λ (s : Said). MayStand (h.said ++ s ∷ [])) (one_said lists.format line more says also is) may)))
+    (subst (λ (s : Said). MayStand (h.said ++ s ∷ [])) (one_said lists.format line more says also.1 is.1) may)))
 
 pub memory_ran_out_at : (lines : List (List ℕ)) (lists : Lists) (line : List ℕ) (says : Said)
-    → Says lists.format line says → IsLineFault lists says OutOfMemory → AreTold lines lists → WantsMemory (lines ++ line ∷ [])
+    → IsLineOf lists.format line says → IsLineFault lists says OutOfMemory → AreTold lines lists → WantsMemory (lines ++ line ∷ [])
 memory_ran_out_at lines lists line says is fault h = record {
   format = lists.format;
   before = lines;
@@ -164,6 +170,54 @@ memory_ran_out_at lines lists line says is fault h = record {
   says = is;
   may_stand = stands_more h.said lists h.holds says fault.0;
   takes_memory = fault.1;
+}
+
+format_short : (format : Format) → length (format_line format) ≤ 13
+format_short Sha1 = omega arith
+format_short Sha256 = omega arith
+
+-- a line that has become too long is refused, whatever comes after it
+pub too_long_fault : (ended : List (List ℕ)) (line : List ℕ) (more : List (List ℕ)) (fault : TextFault) → IsTooLong ended line fault
+    → IsLinesFault (ended ++ line ∷ more) fault
+too_long_fault ended line more fault h =
+    subst (IsLinesFault (ended ++ line ∷ more)) (sym h.at_number) (elim h.may_go_on [
+      | inl none ↦ inl (record {
+        at_first = ap (λ (ls : List (List ℕ)). length ls + 1) none;
+        first = line;
+        others = more;
+        whole = ap (λ (ls : List (List ℕ)). ls ++ line ∷ more) none;
+        no_format = λ format e. let short = format_short format in omega (arith, h.long, short, ap length e);
+      })
+      | inr begins ↦ inr (record {
+        format = begins.0;
+        before = ended;
+        line = line;
+        behind = more;
+        whole = refl;
+        at_number = refl;
+        said = begins.1;
+        begins = begins.2;
+        refused = λ next is may. absurd (omega (arith, h.long, is.0));
+      })
+    ])
+
+-- and it stays so as it goes on
+pub too_long_on : (ended : List (List ℕ)) (line more : List ℕ) (fault : TextFault) → IsTooLong ended line fault → IsTooLong ended (line ++ more) fault
+too_long_on ended line more fault h =
+    record { may_go_on = h.may_go_on; long = omega (arith, h.long, length-append line more); at_number = h.at_number }
+
+-- the first line
+pub too_long_at_first : (lines : List (List ℕ)) (line : List ℕ) → longest_line < length line → lines ≡ [] → IsTooLong lines line (Bad 1)
+too_long_at_first lines line long none =
+    record { may_go_on = inl none; long = long; at_number = ap (λ (ls : List (List ℕ)). Bad (length ls + 1)) (sym none) }
+
+-- after lines that begin a text its number is the next one
+pub too_long_behind : (lines : List (List ℕ)) (lists : Lists) (line : List ℕ) (number : ℕ) → number ≡ lines_behind lists + 1 → longest_line < length line
+    → AreTold lines lists → IsTooLong lines line (Bad number)
+too_long_behind lines lists line number is long h = record {
+  may_go_on = inr (lists.format, h.said, h.begins);
+  long = long;
+  at_number = ap Bad (is ∙ ap (λ (n : ℕ). n + 1) (told_lines lines lists h));
 }
 
 -- a fault stays the first with the lines after it

@@ -12,7 +12,7 @@ use Rattle.git_server.specs.Objects.{AreRising, precedes}
 use Rattle.git_server.specs.Lists.{Lists}
 use Rattle.git_msg.proofs.ReferenceLaws.{same_heads}
 use Rattle.git_repository.specs.Packs.{PackBytes}
-use Rattle.git_repository.specs.RepositoryLines.{Said, Says, format_line, lines_of}
+use Rattle.git_repository.specs.RepositoryLines.{Said, IsLineOf, format_line, lines_of}
 use Rattle.git_repository.specs.RepositoryText.{Begins, HasBadLine, HasNoFormat, IsFirstBad, IsRepositoryText}
 use Rattle.git_repository.specs.RepositoryText.{MayStand, NamesRise, SayAll, count_in, counts_in, lists_said, name_in, names_in, object_in, objects_in}
 use Rattle.git_repository.proofs.Saying.{one_said}
@@ -26,7 +26,7 @@ one_format Sha256 Sha1 e = let h : length (format_line Sha256) ≡ length (forma
 one_of_all : (format : Format) (lines : List (List ℕ)) (a b : List Said) → SayAll format lines a → SayAll format lines b → a ≡ b
 one_of_all format [] [] [] h k = refl
 one_of_all format (l ∷ ls) (s ∷ ss) (t ∷ ts) h k =
-    ap (λ (x : Said). x ∷ ss) (one_said format l s t h.0 k.0) ∙ ap (λ (xs : List Said). t ∷ xs) (one_of_all format ls ss ts h.1 k.1)
+    ap (λ (x : Said). x ∷ ss) (one_said format l s t h.0.1 k.0.1) ∙ ap (λ (xs : List Said). t ∷ xs) (one_of_all format ls ss ts h.1 k.1)
 one_of_all format [] (s ∷ ss) b h k = absurd h
 one_of_all format [] [] (t ∷ ts) h k = absurd k
 one_of_all format (l ∷ ls) [] b h k = absurd h
@@ -78,7 +78,7 @@ record Cut (format : Format) (before : List (List ℕ)) (line : List ℕ) (said 
   back : List Said
   whole : said ≡ front ++ next ∷ back
   front_said : SayAll format before front
-  next_said : Says format line next
+  next_said : IsLineOf format line next
 
 cut_at : (format : Format) (before : List (List ℕ)) (line : List ℕ) (behind : List (List ℕ)) (said : List Said)
     → SayAll format (before ++ line ∷ behind) said → Cut format before line said

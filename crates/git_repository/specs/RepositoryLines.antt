@@ -1,5 +1,5 @@
 -- The lines of a repository's text, and what each contains.
-use Rattle.std.specs.Prelude.{◌≡◌, ℕ, ◌<◌, ◌≤◌, ◌^◌, Option, Some, None, List, ◌∷◌, ◌++◌, codes}
+use Rattle.std.specs.Prelude.{◌≡◌, ℕ, ◌<◌, ◌≤◌, ◌^◌, Option, Some, None, List, ◌∷◌, ◌++◌, codes, length}
 use Rattle.std.specs.Option.{option_copied}
 use Rattle.git_names.specs.declared.object_format.Format.{Format}
 use Rattle.git_names.specs.ObjectFormat.{name_of}
@@ -39,6 +39,10 @@ shown (BoundaryLine line) = boundary line
 -- the lines of a text, between LFs; the last may lack its LF
 abbrev pub lines_of : List ℕ → List (List ℕ)
 lines_of text = parts_of 10 (text_of text)
+
+-- how many bytes a line has at the most, without its LF
+abbrev pub longest_line : ℕ
+longest_line = 65536
 
 abbrev pub format_line : Format → List ℕ
 format_line format = codes "format " ++ name_of format
@@ -86,6 +90,10 @@ Says format line (object id size) = Follows (codes "object ") (IsSizedObject for
 Says format line (ready count) = Follows (codes "ready ") (IsCount count) line
 Says format line (boundary (Shallow id)) = Follows (codes "shallow ") (λ text. IsObjectName format text id) line
 Says format line (boundary (Unshallow id)) = Follows (codes "unshallow ") (λ text. IsObjectName format text id) line
+
+-- the line is no longer than a line may be, and contains this
+abbrev pub IsLineOf : Format → List ℕ → Said → Type 0
+IsLineOf format line said = (length line ≤ longest_line) × Says format line said
 
 -- the line contains nothing of a repository of this format
 abbrev pub SaysNothing : Format → List ℕ → Type 0

@@ -8,12 +8,12 @@ use Rattle.git_server.specs.Repository.{Entry, comes_before}
 use Rattle.git_server.specs.Objects.{AreRising}
 use Rattle.git_server.specs.Lists.{Lists}
 use Rattle.git_repository.specs.Packs.{PackBytes}
-use Rattle.git_repository.specs.RepositoryLines.{Said, reference, unborn, object, ready, boundary, Says, format_line, lines_of}
+use Rattle.git_repository.specs.RepositoryLines.{Said, reference, unborn, object, ready, boundary, IsLineOf, format_line, lines_of}
 
 -- each line contains what is at its place
 abbrev pub SayAll : Format → List (List ℕ) → List Said → Type 0
 SayAll format [] [] = Unit {0}
-SayAll format (line ∷ lines) (said ∷ more) = Says format line said × SayAll format lines more
+SayAll format (line ∷ lines) (said ∷ more) = IsLineOf format line said × SayAll format lines more
 SayAll format _ _ = ⊥
 
 -- the reference that a line contains, and those of all lines, in order
@@ -125,7 +125,7 @@ pub record HasBadLine (lines : List (List ℕ)) (number : ℕ) : Type 0 where
   pub at_number : number ≡ length before + 1
   pub said : List Said
   pub begins : Begins format before said
-  pub refused : (next : Said) → Says format line next → ¬ MayStand (said ++ next ∷ [])
+  pub refused : (next : Said) → IsLineOf format line next → ¬ MayStand (said ++ next ∷ [])
 
 -- the first bad line is the one of this number, from 1
 abbrev pub IsFirstBad : List ℕ → ℕ → Type 0
@@ -149,6 +149,6 @@ pub record WantsMemory (lines : List (List ℕ)) : Type 0 where
   pub said : List Said
   pub begins : Begins format before said
   pub next : Said
-  pub says : Says format line next
+  pub says : IsLineOf format line next
   pub may_stand : MayStand (said ++ next ∷ [])
   pub takes_memory : TakesMemory next

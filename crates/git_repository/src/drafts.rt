@@ -12,7 +12,7 @@ ghost use Rattle.git_repository.specs.Drafts.{ComesLast, ComesLastObject, IsFit,
 
 use crate::packs::Packs;
 use crate::repository_lines::{Item, LineEntry, read_item};
-use crate::text_faults::{LineFault, TextFault};
+use crate::text_faults::{LONGEST_LINE, LineFault, TextFault};
 use git_msg::Boundary;
 use git_names::{Format, Oid};
 use git_server::{ListRepo, RefEntry, RepoLists};
@@ -51,7 +51,7 @@ impl Draft {
     }
 
     /// The number of the next line: the first of those before it was that of the format.
-    fn next_line(&self) -> u64
+    pub(crate) fn next_line(&self) -> u64
         ensures { result ≡ lines_behind (drafted self.now) + 1 }
     {
         let ready: u64 = match self.lists.ready_after {
@@ -74,6 +74,9 @@ impl Draft {
             → MatchResult result (λ _. AreTold (lines ++ line.now ∷ []) (drafted self.new)) (IsLinesFault (lines ++ line.now ∷ [])) }
     {
         let line_number = self.next_line();
+        if line.len() > LONGEST_LINE {
+            return Err(TextFault::Bad { line: line_number });
+        }
         let Some(item) = read_item(self.lists.format, line) else {
             return Err(TextFault::Bad { line: line_number });
         };

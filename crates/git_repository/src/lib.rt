@@ -13,4 +13,4 @@ mod text_faults;
 pub use packs::Packs;
 pub use repository_reader::RepositoryReader;
 pub use repository_text::read_repo;
-pub use text_faults::{LineFault, TextFault};
+pub use text_faults::{LONGEST_LINE, LineFault, TextFault};

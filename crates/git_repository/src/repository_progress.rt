@@ -1,15 +1,15 @@
 //! How far the lines of a repository's text are read.
 
-ghost use Rattle.std.specs.Prelude.{◌≡◌, ◌↔◌, ◌+◌, ◌≤◌, ◌++◌, ◌∷◌, [], ℕ, List, IsTrue, MatchResult, length, vec_capacity};
+ghost use Rattle.std.specs.Prelude.{◌≡◌, ◌↔◌, ◌+◌, ◌<◌, ◌≤◌, ◌++◌, ◌∷◌, [], ℕ, List, IsTrue, MatchResult, length, vec_capacity};
 ghost use Rattle.git_msg.specs.Texts.{parts_of};
 ghost use Rattle.git_repository.specs.Packs.{packs_of};
 ghost use Rattle.git_repository.specs.Machine.RepositoryFaults.{IsTextFault, IsWholeText};
-ghost use Rattle.git_repository.specs.RepositoryLines.{lines_of};
+ghost use Rattle.git_repository.specs.RepositoryLines.{lines_of, longest_line};
 
 use crate::drafts::Draft;
 use crate::packs::Packs;
 use crate::repository_lines::read_format;
-use crate::text_faults::TextFault;
+use crate::text_faults::{LONGEST_LINE, TextFault};
 use git_msg::split_at_first;
 use git_server::ListRepo;
 use std::alloc::Global;
@@ -26,7 +26,7 @@ pub(crate) enum Progress {
 }
 
 impl Progress {
-    ghost use Rattle.git_repository.specs.Machine.RepositoryProgress.{HasFailed, HasRead, Stands};
+    ghost use Rattle.git_repository.specs.Machine.RepositoryProgress.{HasFailed, HasRead, HasReadTo, Stands};
 
     /// Whether a line was refused.
     pub(crate) fn has_failed(&self) -> bool
@@ -62,19 +62,46 @@ impl Progress {
         }
     }
 
+    /// After a line that has begun and is longer than a line may be: it is refused, whatever comes after it.
+    fn with_long_line(self) -> Progress
+        ensures reads { (lines : List (List ℕ)) (begun : List ℕ) → longest_line < length begun → HasRead self lines → HasReadTo result lines begun }
+        ensures failed { HasFailed result }
+    {
+        match self {
+            Progress::Start => Progress::Failed(TextFault::Bad { line: 1 }),
+            Progress::Lines(draft) => Progress::Failed(TextFault::Bad {
+                line: draft.next_line(),
+            }),
+            Progress::Failed(fault) => Progress::Failed(fault),
+        }
+    }
+
+    /// With the line that a text leaves open, which is refused if it is too long already.
+    fn with_open<'a>(self, line: &'a [u8]) -> (Progress, &'a [u8])
+        ensures stands { (lines : List (List ℕ)) → HasRead self lines → Stands result.0 result.1.now (lines ++ line.now ∷ []) }
+        ensures within { length result.1.now ≤ length line.now }
+        ensures short { length result.1.now ≤ longest_line }
+    {
+        if line.len() > LONGEST_LINE {
+            return (self.with_long_line(), &line[..0]);
+        }
+        (self, line)
+    }
+
     /// After the lines that end in the text, with the line that it leaves open.
     pub(crate) fn with_text<'a>(self, alloc: Global, text: &'a [u8]) -> (Progress, &'a [u8])
         ensures reads { (lines : List (List ℕ)) → HasRead self lines → Stands result.0 result.1.now (lines ++ parts_of 10 text.now) }
         ensures within { length result.1.now ≤ length text.now }
+        ensures short { length result.1.now ≤ longest_line }
     {
         let (first, rest) = split_at_first(text, b'\n');
         let Some(left) = rest else {
-            return (self, first);
+            return self.with_open(first);
         };
         match self.with_line(alloc, first) {
             Progress::Lines(draft) => Progress::read_on(draft, alloc, left),
-            Progress::Failed(fault) => (Progress::Failed(fault), first),
-            Progress::Start => (Progress::Start, first),
+            Progress::Failed(fault) => (Progress::Failed(fault), &text[..0]),
+            Progress::Start => (Progress::Start, &text[..0]),
         }
     }
 
@@ -82,23 +109,26 @@ impl Progress {
     fn read_on<'a>(mut draft: Draft, alloc: Global, text: &'a [u8]) -> (Progress, &'a [u8])
         ensures reads { (lines : List (List ℕ)) → HasRead (Progress.Lines draft) lines → Stands result.0 result.1.now (lines ++ parts_of 10 text.now) }
         ensures within { length result.1.now ≤ length text.now }
+        ensures short { length result.1.now ≤ longest_line }
     {
         let (mut line, mut rest) = split_at_first(text, b'\n');
         'lines: while let Some(left) = rest {
             if let Err(fault) = draft.read(alloc, line) {
-                return (Progress::Failed(fault), line);
+                return (Progress::Failed(fault), &text[..0]);
             }
             let (next_line, next) = split_at_first(left, b'\n');
             line = next_line;
             rest = next;
         }
-        (Progress::Lines(draft), line)
+        Progress::Lines(draft).with_open(line)
     }
 
     /// The progress after a piece of the text, which goes on with the open line. What the piece leaves open is the open line then.
     pub(crate) fn with_piece(self, alloc: Global, begun: &mut Vec<u8>, piece: &[u8]) -> Progress
-        requires { length begun.old.items + length piece.now ≤ vec_capacity begun.old }
-        ensures { (text : List ℕ) (lines : List (List ℕ)) → parts_of 10 text ≡ lines ++ begun.old.items ∷ [] → HasRead self lines
+        requires room { length begun.old.items + length piece.now ≤ vec_capacity begun.old }
+        requires short { length begun.old.items ≤ longest_line }
+        ensures short { length begun.new.items ≤ longest_line }
+        ensures reads { (text : List ℕ) (lines : List (List ℕ)) → parts_of 10 text ≡ lines ++ begun.old.items ∷ [] → HasRead self lines
             → Stands result begun.new.items (parts_of 10 (text ++ piece.now)) }
     {
         if begun.as_slice().is_empty() {
@@ -107,6 +137,9 @@ impl Progress {
             return progress;
         }
         let (line, rest) = split_at_first(piece, b'\n');
+        if line.len() > LONGEST_LINE - begun.len() {
+            return self.with_long_line();
+        }
         append(begun, line);
         let Some(rest) = rest else {
             return self;

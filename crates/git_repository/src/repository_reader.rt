@@ -1,6 +1,6 @@
 //! A repository that is a few lists, read from a text that comes in pieces.
 
-ghost use Rattle.std.specs.Prelude.{◌≡◌, ◌++◌, [], ℕ, List, length, IsOk, MatchResult, OnErr, OnOk};
+ghost use Rattle.std.specs.Prelude.{◌≡◌, ◌↔◌, ◌≤◌, ◌++◌, [], ℕ, List, length, IsOk, IsTrue, MatchResult, OnErr, OnOk};
 ghost use Rattle.git_repository.specs.Packs.{packs_of};
 ghost use Rattle.git_repository.specs.Machine.RepositoryFaults.{IsTextFault, IsWholeText};
 
@@ -13,17 +13,20 @@ use std::mem;
 
 /// Reads the text of a repository in pieces, however it is cut: what [`crate::read_repo`] reads from a whole one.
 ///
-/// It keeps what the lines contain, and of the text no more than the line that a piece left open, or the one that was refused.
+/// It keeps what the lines contain, and of the text no more than the line that a piece left open: [`crate::LONGEST_LINE`] bytes at the
+/// most, since a longer line is refused at once.
 #[derive(Drop)]
 pub struct RepositoryReader {
     alloc: Global,
     progress: Progress,
     /// What came of the line that has not ended. It is not read once a line was refused.
     begun: Vec<u8>,
+    ghost short: { length begun.items ≤ 65536 },
 }
 
 impl RepositoryReader {
-    ghost use Rattle.git_repository.specs.Machine.RepositoryReader.{HasRefused, LacksRoom, Reads, Stays};
+    ghost use Rattle.git_repository.specs.Machine.RepositoryReader.{HasRefused, LacksRoom, Reads, Stays, open_bytes};
+    ghost use Rattle.git_repository.specs.RepositoryLines.{longest_line};
 
     /// A reader that was fed nothing.
     pub fn new(alloc: Global) -> RepositoryReader
@@ -41,6 +44,7 @@ impl RepositoryReader {
     /// Room for the piece beside the open line is made first: where memory for it runs out, the reader is as it was. After a line
     /// that was refused a piece is passed over.
     pub fn feed(&mut self, piece: &[u8]) -> Result<(), AllocError>
+        ensures open { open_bytes self.new ≤ longest_line }
         ensures fed { OnOk result ((text : List ℕ) → Reads self.old text → Reads self.new (text ++ piece.now)) }
         ensures stays { OnErr result (Stays self.old self.new) }
         ensures full { OnErr result (LacksRoom self.old (length piece.now)) }
@@ -53,6 +57,13 @@ impl RepositoryReader {
         let progress = mem::replace(&mut self.progress, Progress::Start);
         self.progress = progress.with_piece(self.alloc, &mut self.begun, piece);
         Ok(())
+    }
+
+    /// Whether a line was refused, so that what follows is passed over.
+    pub fn has_refused(&self) -> bool
+        ensures { IsTrue result ↔ HasRefused self.now }
+    {
+        self.progress.has_failed()
     }
 
     /// The repository of the whole text, with these packs. Else `Bad` with the number of the first bad line, from 1, or

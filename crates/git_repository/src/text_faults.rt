@@ -2,6 +2,9 @@
 
 use thiserror::Error;
 
+/// The most bytes of a line of a text, without its LF. A reference line that a packet has room for has fewer.
+pub const LONGEST_LINE: usize = 65_536;
+
 /// Why a text could not be read.
 #[derive(Clone, Copy, Debug, PartialEq, Eq, Error)]
 pub enum TextFault {

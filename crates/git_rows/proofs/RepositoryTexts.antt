@@ -31,29 +31,35 @@ whole_text = record {
         ∷ codes "ready 1" ∷ (codes "shallow " ++ all_a) ∷ [];
     spelled = refl;
     say_all = (
-      record { value = all_a ++ codes " HEAD"; spelled = refl; holds = head_line },
+      (omega arith, record { value = all_a ++ codes " HEAD"; spelled = refl; holds = head_line }),
       (
-        record { value = all_a ++ codes " refs/x"; spelled = refl; holds = x_line },
+        (omega arith, record { value = all_a ++ codes " refs/x"; spelled = refl; holds = x_line }),
         (
-          record {
-            value = all_a ++ codes " 12";
-            spelled = refl;
-            holds = record {
-              name = all_a;
-              number = codes "12";
-              spelled = refl;
-              name_is = all_a_is_name;
-              number_is = number_by 49 (codes "2") refl;
-              in_range = omega arith;
-            };
-          },
           (
+            omega arith,
             record {
-              value = codes "1";
+              value = all_a ++ codes " 12";
               spelled = refl;
-              holds = record { number_is = number_by 49 [] refl; from_one = omega arith; at_most = omega arith };
+              holds = record {
+                name = all_a;
+                number = codes "12";
+                spelled = refl;
+                name_is = all_a_is_name;
+                number_is = number_by 49 (codes "2") refl;
+                in_range = omega arith;
+              };
             },
-            (record { value = all_a; spelled = refl; holds = all_a_is_name }, tt),
+          ),
+          (
+            (
+              omega arith,
+              record {
+                value = codes "1";
+                spelled = refl;
+                holds = record { number_is = number_by 49 [] refl; from_one = omega arith; at_most = omega arith };
+              },
+            ),
+            ((omega arith, record { value = all_a; spelled = refl; holds = all_a_is_name }), tt),
           ),
         ),
       ),

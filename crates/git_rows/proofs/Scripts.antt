@@ -12,7 +12,10 @@ script = record {
   lines = command LsRefs ∷ argument (alone (of_flag Flag.Symrefs)) ∷ blank ∷ [];
   follow = (
     (refl, refl),
-    (record { of = LsRefs; is_open = refl; reads = record { is_argument = (refl, refl); offered = refl }; fits = omega arith }, (refl, tt)),
+    (
+      record { of = LsRefs; is_open = refl; reads = record { is_argument = (refl, refl); offered = refl }; short = omega arith; fits = omega arith },
+      (refl, tt),
+    ),
   );
   requests_are = refl;
 }

@@ -18,6 +18,7 @@ use Rattle.git_server.specs.Sessions.{Setting, IsAnswering, IsEnding, IsLastAt, 
 use Rattle.git_server.specs.Machine.AnsweredRequest.{IsAnswerFrom, ReadsPack}
 use Rattle.git_server.specs.Machine.Phases.{FlushIsAt, LeftIn, MayBreak, Owes, kept_in, lost_pack, most_owed, outcome_in, owes_in, stored_in}
 use Rattle.git_server.specs.Machine.WrittenPackets.{Writes}
+use Rattle.git_server.specs.Machine.LatePacks.{OwesNoPackIn}
 use Rattle.git_server.specs.Machine.Server.{IsPackLost, Serves, StandsBy, outcome_of}
 use Rattle.git_server.specs.Machine.ServerCalls.{Gives, OwesNow}
 use Rattle.git_server.specs.declared.answer.Answer.{Answer}
@@ -27,6 +28,7 @@ use Rattle.git_server.specs.declared.server.Phase.{Phase}
 use Rattle.git_server.specs.declared.server.Phase.TheVariants.{Answering, Ended}
 use Rattle.git_server.specs.declared.server.Server.{Server}
 use Rattle.git_server.proofs.Going.{goes_on}
+use Rattle.git_server.proofs.LatePacks.{unbroken}
 use Rattle.git_server.proofs.Outcomes.{lost_by_pull, none_lost}
 use Rattle.git_server.proofs.Owing.{some_left}
 use Rattle.git_server.proofs.Sent.{fit_more, spelled_one}
@@ -120,6 +122,8 @@ module _ {R A : Type 0} (state : R → RepoState) (old new : Server R A) (packet
         fits = writes.fits;
         credit = ap (λ (n : ℕ). 56 * n) (shut_counts_none new.reader writes.between);
         outcome = lost_by_pull (outcome_of old) (outcome_of new) went_on lost;
+        unread = λ none. absurd (unbroken (state old.repo).answers answer (packet ∷ [])
+            (subst (λ (p : Phase A). OwesNoPackIn (state old.repo).answers p) was none) breaks);
         goes = λ s so_far over before r.
             let (not_over, h) = goes_on state old s so_far over before went_on r in
             let unfailed : (state old.repo).failures ≡ s.failures = r.failures.same (λ l. none_lost (subst IsPackLost went_on l)) in

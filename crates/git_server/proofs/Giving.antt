@@ -10,10 +10,13 @@ use Rattle.git_server.specs.Packs.{broken}
 use Rattle.git_server.specs.Machine.Phases.{FlushIsAt, LeftIn, MayBreak, kept_in, most_owed, Owes, stored_in}
 use Rattle.git_server.specs.Machine.WrittenPackets.{Writes}
 use Rattle.git_server.specs.Machine.Server.{StandsBy, outcome_of}
-use Rattle.git_server.specs.Machine.ServerCalls.{ComesBefore, Gives, Keeps, most_left}
+use Rattle.git_server.specs.Machine.LatePacks.{OwesNoPackIn, state_with, with_packs}
+use Rattle.git_server.specs.Machine.ServerCalls.{ComesBefore, Gives, GivesUnread, Goes, Keeps, OwesNoPack, most_left}
+use Rattle.git_msg.specs.Asked.{FetchAsked}
 use Rattle.git_msg.specs.Machine.RequestReader.{Takes, offer_of, limit_in, kept_so_far}
 use Rattle.git_server.specs.declared.outcome.Outcome.{Outcome}
 use Rattle.git_server.specs.declared.server.Server.{Server}
+use Rattle.git_server.proofs.LatePacks.{breaks_any, breaks_known, keeps_any, owes_any, owes_known}
 use Rattle.git_server.proofs.Outcomes.{failures_as, stays_as}
 use Rattle.git_server.proofs.Sent.{answering_one, fit_more, sent_one, spelled_one}
 
@@ -21,7 +24,6 @@ module _ {R A : Type 0} (state : R → RepoState) (old new : Server R A) (packet
     (writes : Writes old.reader packet new.reader) (keeps : Keeps state old new)
     (owed : (later : List Pkt) → Owes new.offer (state old.repo).answers new.phase later → Owes old.offer (state old.repo).answers old.phase (packet ∷ later))
     (breaks : (later : List Pkt) → MayBreak (state old.repo).answers new.phase later → MayBreak (state old.repo).answers old.phase (packet ∷ later))
-    (less : most_owed new.offer (state old.repo).answers new.phase < most_owed old.offer (state old.repo).answers old.phase)
     (same : outcome_of new ≡ outcome_of old)
     (left_stays : (left : List Given) → LeftIn old.phase left → LeftIn new.phase left)
     (flush_stays : (packets : List Given) → FlushIsAt old.phase packets → FlushIsAt new.phase packets) (no_more : kept_in new.phase ≤ kept_in old.phase)
@@ -84,35 +86,63 @@ module _ {R A : Type 0} (state : R → RepoState) (old new : Server R A) (packet
             (fit_more (advertised s ++ h.answers ++ h.sent) packet h.fit writes.fits);
       }
 
+  pub goes_now : Goes state [] (spelling_of packet) old new
+  goes_now s so_far over before r =
+      let stands = gives_in (outcome_of old) s so_far over before r.repo r.stands in
+      record {
+        offer = keeps.offer ∙ r.offer;
+        reads_for = ap offer_of keeps.requests ∙ r.reads_for;
+        limit = ap limit_in keeps.requests ∙ r.limit;
+        repo = ap (λ (x : RepoState). x.answers) keeps.repo ∙ r.repo;
+        failures = failures_as (outcome_of old) (outcome_of new) s.failures _ _ same (ap (λ (x : RepoState). x.failures) keeps.repo) r.failures;
+        within = omega (arith, r.within, ap kept_so_far keeps.requests, no_more);
+        covered = covered r.covered;
+        fits = writes.holds;
+        stands = subst (λ (o : Option Outcome). StandsBy o s (so_far ++ []) over (before ++ spelling_of packet) new) (sym same)
+            (subst (λ (l : List ℕ). StandsBy (outcome_of old) s l over (before ++ spelling_of packet) new) (sym (append-nil so_far)) stands);
+      }
+
   -- what is owed, as the repository is now
-  comes_before : ComesBefore state packet old new
+  pub comes_before : ComesBefore state packet old new
   comes_before later owes = owed later (subst (λ (r : RepoState). Owes new.offer r.answers new.phase later) keeps.repo owes)
 
+module _ {R A : Type 0} (state : R → RepoState) (old new : Server R A) (packet : Pkt)
+    (writes : Writes old.reader packet new.reader) (keeps : Keeps state old new)
+    (owed : (later : List Pkt) → Owes new.offer (state old.repo).answers new.phase later → Owes old.offer (state old.repo).answers old.phase (packet ∷ later))
+    (breaks : (later : List Pkt) → MayBreak (state old.repo).answers new.phase later → MayBreak (state old.repo).answers old.phase (packet ∷ later))
+    (less : most_owed new.offer (state old.repo).answers new.phase < most_owed old.offer (state old.repo).answers old.phase)
+    (same : outcome_of new ≡ outcome_of old)
+    (left_stays : (left : List Given) → LeftIn old.phase left → LeftIn new.phase left)
+    (flush_stays : (packets : List Given) → FlushIsAt old.phase packets → FlushIsAt new.phase packets) (no_more : kept_in new.phase ≤ kept_in old.phase)
+    (covered : stored_in old.phase ≤ kept_in old.phase → stored_in new.phase ≤ kept_in new.phase)
+    (no_pack : OwesNoPackIn (state old.repo).answers old.phase → OwesNoPackIn (state old.repo).answers new.phase) where
   fewer : most_left state new < most_left state old
   fewer = omega (arith, less, ap (λ (r : RepoState). most_owed new.offer r.answers new.phase) keeps.repo)
+
+  -- the same with any packs, where none of their bytes is owed
+  gives_unread : OwesNoPack state old → GivesUnread state old (spelling_of packet) new
+  gives_unread none =
+      let repo = (state old.repo).answers in
+      let after = no_pack none in
+      record {
+        goes = λ packs. goes_now (state_with packs state) old new packet writes (keeps_any state old new packs keeps)
+            (λ later owes. owes_any repo packs old.offer old.phase (packet ∷ later) none
+            (owed later (owes_known repo packs new.offer new.phase later after owes)))
+            (λ later may. breaks_any repo packs old.phase (packet ∷ later) none (breaks later (breaks_known repo packs new.phase later after may)))
+            same left_stays flush_stays no_more covered;
+        owes = subst (λ (r : RepoState). OwesNoPackIn r.answers new.phase) (sym keeps.repo) after;
+      }
 
   pub gives : Gives state old new
   gives =
       record {
         packet = packet;
-        owed = inl comes_before;
+        owed = inl (comes_before state old new packet writes keeps owed breaks same left_stays flush_stays no_more covered);
         less = fewer;
         held = writes.held;
         fits = writes.fits;
         credit = ap (λ (n : ℕ). 56 * n) (shut_counts_none new.reader writes.between);
         outcome = stays_as (outcome_of old) (outcome_of new) same;
-        goes = λ s so_far over before r.
-            let stands = gives_in (outcome_of old) s so_far over before r.repo r.stands in
-            record {
-              offer = keeps.offer ∙ r.offer;
-              reads_for = ap offer_of keeps.requests ∙ r.reads_for;
-              limit = ap limit_in keeps.requests ∙ r.limit;
-              repo = ap (λ (x : RepoState). x.answers) keeps.repo ∙ r.repo;
-              failures = failures_as (outcome_of old) (outcome_of new) s.failures _ _ same (ap (λ (x : RepoState). x.failures) keeps.repo) r.failures;
-              within = omega (arith, r.within, ap kept_so_far keeps.requests, no_more);
-              covered = covered r.covered;
-              fits = writes.holds;
-              stands = subst (λ (o : Option Outcome). StandsBy o s (so_far ++ []) over (before ++ spelling_of packet) new) (sym same)
-                  (subst (λ (l : List ℕ). StandsBy (outcome_of old) s l over (before ++ spelling_of packet) new) (sym (append-nil so_far)) stands);
-            };
+        goes = goes_now state old new packet writes keeps owed breaks same left_stays flush_stays no_more covered;
+        unread = gives_unread;
       }

@@ -16,6 +16,7 @@ pub mod Going
 pub mod Closing
 pub mod Formats
 pub mod WrittenHolds
+pub mod LatePacks
 pub mod Giving
 pub mod Breaking
 pub mod Owing
@@ -31,6 +32,7 @@ pub mod WantedLines
 pub mod OneSession
 pub mod TooLong
 pub mod Machines
+pub mod OwedLemmas
 pub mod RunLemmas
 pub mod OneOutcome
 pub mod OneOutput

@@ -11,6 +11,7 @@ use Rattle.git_server.specs.Answers.{offered_line, error_packet, info_packet, re
 use Rattle.git_server.specs.Packs.{whole, broken}
 use Rattle.git_server.specs.Machine.AdvertisementLines.{format_on, advertisement_packet, advertisement_line_after, advertisement_from, advertisement_after}
 use Rattle.git_server.specs.Machine.Phases.{FlushIsAt, LeftIn, MayBreak, advertising_phase, kept_in, outcome_in, Owes, most_owed, stored_in}
+use Rattle.git_server.specs.Machine.LatePacks.{OwesNoPackIn}
 use Rattle.git_server.specs.declared.advertisement.AdvertisementLine.{AdvertisementLine}
 use Rattle.git_server.specs.declared.advertisement.AdvertisementLine.TheVariants.{Version, Agent, LsRefs, Fetch, ServerOption, ObjectFormat, ObjectInfo, End}
 use Rattle.git_server.specs.declared.answer.Answer.{Answer}
@@ -77,6 +78,11 @@ module _ {A : Type 0} where
   pub none_stored_in_advertising : (o : Option AdvertisementLine) (phase : Phase A) → phase ≡ advertising_phase o → stored_in phase ≡ 0
   none_stored_in_advertising (Some line) phase is = ap stored_in is
   none_stored_in_advertising None phase is = ap stored_in is
+
+  pub none_owed_in_advertising : (o : Option AdvertisementLine) (phase : Phase A) (repo : Repository) → phase ≡ advertising_phase o
+      → OwesNoPackIn repo phase
+  none_owed_in_advertising (Some line) phase repo is = subst (OwesNoPackIn repo) (sym is) tt
+  none_owed_in_advertising None phase repo is = subst (OwesNoPackIn repo) (sym is) tt
 
   -- after a line of the advertisement the other lines are owed
   pub line_behind : (offer : Offer) (repo : Repository) (old new : Phase A) (line : AdvertisementLine) (next : Option AdvertisementLine) (packet : Pkt)

@@ -3,6 +3,7 @@ use Rattle.std.proofs.Common.{arith, ◌≡◌, ℕ, Bool, true, false, List, []
 use Rattle.git_server.specs.Repository.{Repository, RepoState}
 use Rattle.git_server.specs.Answers.{AllFit, spelled}
 use Rattle.git_server.specs.Sessions.{Setting, Stream, GoesOn, IsTail, IsEnding, IsAnswered, IsRunning, IsSession}
+use Rattle.git_server.specs.Machine.LatePacks.{state_with}
 use Rattle.git_server.specs.Machine.Phases.{LeftIn, Owes, outcome_in, owes_in, reads_in, turn_in}
 use Rattle.git_server.specs.declared.server.Phase.{Phase}
 use Rattle.git_server.specs.declared.server.Phase.TheVariants.{Advertising, Between, Within, Answering, Refusing, Ended}
@@ -134,6 +135,7 @@ ends_now {A = A} state server outcome turn =
     let nothing : OwesNow state server [] = subst (λ (p : Phase A). Owes server.offer (state server.repo).answers p []) (sym is) refl in
     record {
       goes = goes_nowhere state server;
+      unread = λ none. record { goes = λ packs. goes_nowhere (state_with packs state) server; owes = none };
       tells = (ap outcome_in is, nothing, refl, λ s used over given r. its_end state server s used over given r outcome (ap outcome_in is) nothing);
       outcome = stays_as (outcome_of server) (outcome_of server) refl;
       fits = omega arith;

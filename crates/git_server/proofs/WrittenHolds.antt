@@ -18,7 +18,7 @@ use Rattle.git_pkt.proofs.Written.{spells_written}
 use Rattle.git_msg.specs.WrittenRequest.{text_line}
 use Rattle.git_server.specs.Machine.PackParts.{part_packet}
 use Rattle.git_server.specs.Repository.{RepoState}
-use Rattle.git_server.specs.Machine.ServerCalls.{Gives, Goes, Pulls}
+use Rattle.git_server.specs.Machine.ServerCalls.{Gives, GivesUnread, Goes, Pulls}
 use Rattle.git_server.specs.Machine.WrittenPackets.{Writes}
 use Rattle.git_server.specs.declared.packfile.PartRead.{PartRead}
 use Rattle.git_server.specs.declared.packfile.PartRead.TheVariants.{Bytes, End, Failed}
@@ -74,6 +74,7 @@ module _ {R A : Type 0} (state : R → RepoState) (old new : Server R A) (gives 
   pub pulls_front : (bytes : Bor (List ℕ)) → length bytes.now ≤ 65520 → bytes.now ≡ spelling_of gives.packet → Pulls state old (Packet bytes) new
   pulls_front bytes short is = record {
     goes = subst (λ (l : List ℕ). Goes state [] l old new) (sym is) gives.goes;
+    unread = λ none. subst (λ (l : List ℕ). GivesUnread state old l new) (sym is) (gives.unread none);
     tells = (gives.packet, gives.owed, is, gives.less);
     outcome = gives.outcome;
     fits = short;

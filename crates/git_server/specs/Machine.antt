@@ -9,8 +9,11 @@ pub mod AnsweredRequest
 pub mod PackParts
 pub mod FullParts
 pub mod Phases
+pub mod LatePacks
+pub mod LateRepo
 pub mod Server
 pub mod ServerCalls
 pub mod Moved
+pub mod Owed
 pub mod Runs
 pub mod Calls

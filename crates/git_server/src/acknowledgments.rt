@@ -2,7 +2,7 @@
 
 ghost use Rattle.std.specs.Prelude.{◌≡◌, false};
 ghost use Rattle.git_pkt.specs.Machine.PacketReader.{is_open};
-ghost use Rattle.git_server.specs.FetchAnswers.{ack_packet};
+ghost use Rattle.git_server.specs.FetchAnswers.{ack_packet, is_ready_for};
 ghost use Rattle.git_server.specs.Machine.FetchPlaces.{Acknowledges, NextCommon};
 ghost use Rattle.git_server.specs.Machine.WrittenPackets.{Writes};
 
@@ -103,6 +103,14 @@ fn next_common<R: Repo>(repo: &R, haves: &[Oid], from: usize) -> Option<usize>
     None
 }
 
+/// Whether a pack follows the section: the request does not negotiate alone, and the repository is ready.
+pub(crate) fn pack_follows<R: Repo, A: Allocator + Copy>(repo: &R, request: &Fetch<A>) -> bool
+    ensures { result ≡ is_ready_for (R.state repo.now).answers request.now.asked }
+{
+    let only_negotiates = request.wait_for_done() && !request.done();
+    !only_negotiates && repo.is_ready(request)
+}
+
 // Writes what comes after the lines of the haves: whether a pack follows.
 fn write_end<R: Repo, A: Allocator + Copy>(
     repo: &R,
@@ -112,8 +120,7 @@ fn write_end<R: Repo, A: Allocator + Copy>(
     requires { is_open reader.old ≡ false }
     ensures { Acknowledges (R.state repo.now).answers request.now.asked AcknowledgmentsPlace.Through reader.old result reader.new }
 {
-    let only_negotiates = request.wait_for_done() && !request.done();
-    if !only_negotiates && repo.is_ready(request) {
+    if pack_follows(repo, request) {
         write_line(reader, b"ready", b"");
         return Acknowledged::Ready;
     }

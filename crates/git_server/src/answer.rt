@@ -1,9 +1,10 @@
 //! Answers to requests, a packet at a time.
 
-ghost use Rattle.std.specs.Prelude.{◌≡◌, ◌≤◌, false};
+ghost use Rattle.std.specs.Prelude.{◌≡◌, ◌≤◌, false, MatchBool};
 ghost use Rattle.git_pkt.specs.Machine.PacketReader.{is_open};
 ghost use Rattle.git_server.specs.Machine.AnsweredRequest.{WritesAnswer, answer_to, kept_with, stored_with};
 ghost use Rattle.git_server.specs.Machine.FullParts.{FillsAnswer};
+ghost use Rattle.git_server.specs.Machine.LatePacks.{HasNoPack};
 ghost use Rattle.git_server.specs.Machine.WrittenPackets.{IsAtFront};
 
 use crate::fetching::{FetchPlace, write_fetch};
@@ -53,6 +54,16 @@ impl<A: Allocator + Copy> Answer<A> {
         }
     }
 
+    /// Whether from its place on the answer has a pack.
+    pub(crate) fn has_pack<R: Repo>(&self, repo: &R) -> bool
+        ensures { MatchBool result (¬ HasNoPack (R.state repo.now).answers self.now) (HasNoPack (R.state repo.now).answers self.now) }
+    {
+        match self {
+            Answer::Fetching(request, place) => place.has_pack(repo, request),
+            Answer::References(_, _) | Answer::Sizes(_, _) => false,
+        }
+    }
+
     /// Writes the next packet of the answer into the reader's hold, and goes on to the one after it.
     pub(crate) fn write<R: Repo>(&mut self, repo: &mut R, reader: &mut PacketReader) -> Answered
         requires { is_open reader.old ≡ false }
@@ -60,6 +71,7 @@ impl<A: Allocator + Copy> Answer<A> {
         ensures full { FillsAnswer (R.read_gives repo.old) self.old (IsAtFront reader.new) }
         ensures kept { kept_with self.new ≡ kept_with self.old }
         ensures stored { stored_with self.new ≤ stored_with self.old }
+        ensures no_pack { HasNoPack (R.state repo.old).answers self.old → HasNoPack (R.state repo.old).answers self.new }
     {
         match self {
             Answer::References(listing, place) => {

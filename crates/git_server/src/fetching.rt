@@ -1,13 +1,16 @@
 //! The answer to `fetch`, a packet at a time: its sections, one after another.
 
-ghost use Rattle.std.specs.Prelude.{◌≡◌, false};
+ghost use Rattle.std.specs.Prelude.{◌≡◌, false, MatchBool};
 ghost use Rattle.git_pkt.specs.Machine.PacketReader.{is_open};
 ghost use Rattle.git_server.specs.Machine.AnsweredRequest.{WritesFetch};
 ghost use Rattle.git_server.specs.Machine.FetchPlaces.{first_place};
 ghost use Rattle.git_server.specs.Machine.FullParts.{FillsFetch, FillsPart};
+ghost use Rattle.git_server.specs.Machine.LatePacks.{HasNoPackFrom};
 ghost use Rattle.git_server.specs.Machine.WrittenPackets.{IsAtFront};
 
-use crate::acknowledgments::{Acknowledged, AcknowledgmentsPlace, write_acknowledgments};
+use crate::acknowledgments::{
+    Acknowledged, AcknowledgmentsPlace, pack_follows, write_acknowledgments,
+};
 use crate::answer::Answered;
 use crate::packets::write_packet;
 use crate::packfile::{PackPlace, write_pack};
@@ -35,6 +38,21 @@ pub(crate) enum FetchPlace {
 }
 
 impl FetchPlace {
+    /// Whether from here on the answer to the request has a pack.
+    pub(crate) fn has_pack<R: Repo, A: Allocator + Copy>(
+        &self,
+        repo: &R,
+        request: &Fetch<A>,
+    ) -> bool
+        ensures { MatchBool result (¬ HasNoPackFrom (R.state repo.now).answers request.now.asked self.now)
+            (HasNoPackFrom (R.state repo.now).answers request.now.asked self.now) }
+    {
+        match self {
+            FetchPlace::Acknowledgments(_) => pack_follows(repo, request),
+            _ => true,
+        }
+    }
+
     /// Where the answer to a request begins: with acknowledgments, if it negotiates.
     pub(crate) fn first<A: Allocator + Copy>(request: &Fetch<A>) -> FetchPlace
         ensures { result ≡ first_place request.now.asked }
@@ -59,6 +77,8 @@ pub(crate) fn write_fetch<R: Repo, A: Allocator + Copy>(
     requires { is_open reader.old ≡ false }
     ensures written { WritesFetch request.now.asked (R.state repo.old) place.old reader.old result (R.state repo.new) place.new reader.new }
     ensures full { FillsFetch (R.read_gives repo.old request.now.asked) place.old (IsAtFront reader.new) }
+    ensures no_pack { HasNoPackFrom (R.state repo.old).answers request.now.asked place.old
+        → HasNoPackFrom (R.state repo.old).answers request.now.asked place.new }
 {
     match *place {
         FetchPlace::Acknowledgments(at) => match write_acknowledgments(repo, request, at, reader) {

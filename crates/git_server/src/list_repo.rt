@@ -143,6 +143,14 @@ impl ListRepo {
         ListRepo { lists }
     }
 
+    /// Gives it these packs in place of its own.
+    pub(crate) fn set_packs(&mut self, pack: Vec<u8>, filtered: Option<Vec<u8>>)
+        ensures { lists_of self.new ≡ record (lists_of self.old) { pack = pack.items; filtered = bytes_of filtered } }
+    {
+        self.lists.pack = pack;
+        self.lists.filtered = filtered;
+    }
+
     // The pack for a request: the filtered one where the request has a filter and there is one.
     fn pack_for<A: Allocator + Copy>(&self, request: &Fetch<A>) -> &[u8]
         ensures { result.now ≡ pack_for (lists_of self.now) request.now.asked }

@@ -26,6 +26,7 @@ ghost use Rattle.git_server.specs.Machine.Phases.{advertising_phase, lost_pack, 
 use crate::admission::Admission;
 use crate::advertisement::AdvertisementLine;
 use crate::answer::{Answer, Answered};
+use crate::late_repo::LateRepo;
 use crate::outcome::Outcome;
 use crate::refusal::write_error;
 use crate::repo::Repo;
@@ -33,6 +34,7 @@ use git_msg::{Limits, Offer, ReadGot, RequestReader, take_packet};
 use git_names::Steps;
 use git_pkt::{Fault, Got, Kind, PacketReader, front_packet};
 use std::alloc::Allocator;
+use std::io::Read;
 
 /// How far a session has come.
 #[derive(Drop)]
@@ -84,7 +86,7 @@ pub(crate) enum Turn {
 }
 
 impl<R: Repo, A: Allocator + Copy> Server<R, A> {
-    ghost use Rattle.std.specs.Prelude.{ℕ, List, ◌+◌, ◌*◌, ◌≤◌, ◌<◌, ◌⊎◌, ◌↔◌, [], length, take, IsTrue, IsSome};
+    ghost use Rattle.std.specs.Prelude.{ℕ, List, ◌+◌, ◌*◌, ◌≤◌, ◌<◌, ◌⊎◌, ◌↔◌, [], length, take, IsTrue, IsSome, MatchBool};
     ghost use Rattle.std.specs.Borrow.{sem};
     ghost use Rattle.std.specs.Io.{StartsWith};
     ghost use Rattle.std.specs.Io.BufRead.{Rests};
@@ -93,7 +95,9 @@ impl<R: Repo, A: Allocator + Copy> Server<R, A> {
     ghost use Rattle.git_pkt.specs.Fronts.{HasFront};
     ghost use Rattle.git_pkt.specs.Packets.{Pkt, Spells};
     ghost use Rattle.git_server.specs.Machine.Server.{IsFresh, Running, reader_of, repo_of, wants_input, outcome_of};
-    ghost use Rattle.git_server.specs.Machine.ServerCalls.{Closes, FillsOwed, Gives, Goes, IsPulled, OwesNow, Pulls, StopsInTime};
+    ghost use Rattle.git_server.specs.Machine.LatePacks.{first_setting};
+    ghost use Rattle.git_server.specs.Machine.ServerCalls.{Closes, ClosesUnread, FillsOwed, Gives, Goes, GoesUnread, IsPulled, OwesNoPack, OwesNow};
+    ghost use Rattle.git_server.specs.Machine.ServerCalls.{Pulls, RunsUnread, StopsInTime};
     ghost use Rattle.git_server.specs.Machine.WrittenPackets.{IsAtFront};
     ghost use Rattle.git_pkt.specs.Machine.PacketReader.{held_of};
 
@@ -102,13 +106,8 @@ impl<R: Repo, A: Allocator + Copy> Server<R, A> {
     /// `advertise` is set. The offer has the repository's object format.
     pub fn new(alloc: A, repo: R, offer: Offer, limits: Limits, advertise: bool) -> Server<R, A>
         requires format { offer.format ≡ (R.state repo).answers.format }
-        ensures running { Running R.state (record {
-          offer = offer;
-          limit = limits.args;
-          advertise = advertise;
-          repo = (R.state repo).answers;
-          failures = (R.state repo).failures;
-        }) [] false [] result }
+        ensures running { Running R.state (first_setting R.state repo offer limits.args advertise) [] false [] result }
+        ensures unread { RunsUnread R.state (first_setting R.state repo offer limits.args advertise) [] false [] result }
         ensures repo { repo_of result ≡ repo }
         ensures open_ended { outcome_of result ≡ None }
         ensures credit { credit_of (reader_of result) ≡ 0 }
@@ -147,6 +146,16 @@ impl<R: Repo, A: Allocator + Copy> Server<R, A> {
         repo
     }
 
+    /// Whether a pack is due: of what is to be pulled, the answer to a fetch has bytes of one.
+    pub fn wants_pack(&self) -> bool
+        ensures { MatchBool result (¬ OwesNoPack R.state self.now) (OwesNoPack R.state self.now) }
+    {
+        match &self.phase {
+            Phase::Answering(answer, _) => answer.has_pack(&self.repo),
+            _ => false,
+        }
+    }
+
     /// Whether bytes are wanted: there is no outcome yet, and all that is owed was pulled.
     pub fn wants_input(&self) -> bool
         ensures value { result ≡ wants_input self.now }
@@ -176,6 +185,7 @@ impl<R: Repo, A: Allocator + Copy> Server<R, A> {
     pub fn feed(&mut self, piece: &[u8], steps: &mut Steps) -> usize
         ensures used { result ≤ length piece.now }
         ensures goes { Goes R.state (take result piece.now) [] self.old self.new }
+        ensures unread { GoesUnread R.state (take result piece.now) [] self.old self.new }
         ensures whole { IsTrue (wants_input self.new) → result ≡ length piece.now }
         ensures moves { wants_input self.old ≡ true → 0 < length piece.now → 0 < result ⊎ IsSome (outcome_of self.new) }
         ensures in_time { StopsInTime R.state self.old result piece.now (outcome_of self.new) }
@@ -195,6 +205,7 @@ impl<R: Repo, A: Allocator + Copy> Server<R, A> {
     pub fn close(&mut self)
         requires { wants_input self.old ≡ true }
         ensures closes { Closes R.state self.old self.new }
+        ensures unread { ClosesUnread R.state self.old self.new }
         ensures credit { credit_of (reader_of self.new) ≤ credit_of (reader_of self.old) }
         ensures ended { IsSome (outcome_of self.new) }
     {
@@ -288,6 +299,7 @@ impl<R: Repo, A: Allocator + Copy> Server<R, A> {
         requires some { 0 < length piece.now }
         ensures used { result ≤ length piece.now }
         ensures goes { Goes R.state (take result piece.now) [] self.old self.new }
+        ensures unread { GoesUnread R.state (take result piece.now) [] self.old self.new }
         ensures moves { 0 < result ⊎ IsSome (outcome_of self.new) }
         ensures goes_on { wants_input self.new ≡ true → 0 < result }
         ensures cost { Pays result steps.old steps.new (credit_of (reader_of self.old)) (credit_of (reader_of self.new)) }
@@ -311,6 +323,31 @@ impl<R: Repo, A: Allocator + Copy> Server<R, A> {
                 used
             }
         }
+    }
+}
+
+impl<P: Read + Drop, A: Allocator + Copy> Server<LateRepo<P>, A> {
+    ghost use Rattle.std.specs.Prelude.{ℕ, Bool, List, IfSome};
+    ghost use Rattle.git_server.specs.Sessions.{Setting};
+    ghost use Rattle.git_server.specs.Machine.LatePacks.{setting_with};
+    ghost use Rattle.git_server.specs.Machine.LateRepo.{AreReadOf, SettlesPacks, has_packs, late_lists, late_state, unread_in};
+    ghost use Rattle.git_server.specs.Machine.Server.{Running, outcome_of, repo_of, wants_input};
+    ghost use Rattle.git_server.specs.Machine.ServerCalls.{RunsUnread};
+
+    /// Reads the packs, unless that was tried before. It is to be called once a pack is due, as [`Server::wants_pack`] tells, and before
+    /// a packet of that answer is pulled: what the server has given by then is what it would have given with the packs at hand. Where
+    /// a read fails, or memory for it runs out, the server comes to `PackSource` in the place of the pack.
+    pub fn read_packs(&mut self)
+        ensures runs { (s : Setting) (used : List ℕ) (over : Bool) (given : List ℕ) → RunsUnread late_state s used over given self.old
+            → Running late_state (setting_with (late_state (repo_of self.new)).answers.pack s) used over given self.new }
+        ensures settles { SettlesPacks (late_state (repo_of self.old)) (late_state (repo_of self.new)) }
+        ensures read { IfSome (unread_in (repo_of self.old)) (λ packs. (has_packs (repo_of self.new) ≡ true
+            → AreReadOf P.remaining packs (late_lists (repo_of self.new)))) }
+        ensures again { unread_in (repo_of self.old) ≡ None → repo_of self.new ≡ repo_of self.old }
+        ensures wants { wants_input self.new ≡ wants_input self.old }
+        ensures outcome { outcome_of self.new ≡ outcome_of self.old }
+    {
+        self.repo.read_packs();
     }
 }
 

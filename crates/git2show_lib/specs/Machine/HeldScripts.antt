@@ -5,6 +5,7 @@ use Rattle.git_msg.specs.declared.arguments.Command.{Command}
 use Rattle.git_msg.specs.declared.requests.Request.{Request}
 use Rattle.git_msg.specs.Arguments.{Arg, ReadsAs, TakesMemory as TakesMemoryFor, name_of, written_text}
 use Rattle.git_msg.specs.Machine.HeldRequest.{IsEmpty, Keeps, command_of, format_of, holding_of, kept_of, limit_of}
+use Rattle.git_repository.specs.RepositoryLines.{longest_line}
 use Rattle.git_repository.specs.declared.text_faults.LineFault.{LineFault}
 use Rattle.git_repository.specs.declared.text_faults.LineFault.TheVariants.{Refused, OutOfMemory}
 use Rattle.git2show_lib.specs.Scripts.{ScriptLine, MayFollow, TakesMemory, kept_after, nearest, open_after, requests_in}
@@ -58,9 +59,10 @@ module _ {A : Type 0} where
     pub is_empty : IsEmpty of old.offer.format old.limit request
     pub new_is : new ≡ with_requests old (old.requests ++ request ∷ []) true
 
-  -- the text is an argument of the request, and its limit has room for it
+  -- the text is an argument of the request, no longer than a line may be, and its limit has room for it
   pub record FitsIn (offer : Offer) (last : Request A) (text : List ℕ) (arg : Arg) : Type 0 where
     pub reads : ReadsAs (command_of last) offer text arg
+    pub short : length text ≤ longest_line
     pub fits : kept_of last + length (written_text arg) ≤ limit_of last
 
   -- the last request with an argument more

@@ -1,6 +1,8 @@
 -- What the lines of a repository's text that have ended contain, and what has begun after them.
-use Rattle.std.specs.Prelude.{◌≡◌, ◌⊎◌, ℕ, List, [], ◌∷◌, ◌++◌}
-use Rattle.git_repository.specs.RepositoryText.{HasBadLine, HasNoFormat, WantsMemory}
+use Rattle.std.specs.Prelude.{◌≡◌, ◌⊎◌, ℕ, ◌+◌, ◌<◌, List, [], ◌∷◌, ◌++◌, length}
+use Rattle.git_names.specs.declared.object_format.Format.{Format}
+use Rattle.git_repository.specs.RepositoryLines.{Said, longest_line}
+use Rattle.git_repository.specs.RepositoryText.{Begins, HasBadLine, HasNoFormat, WantsMemory}
 use Rattle.git_repository.specs.Machine.DraftLists.{drafted}
 use Rattle.git_repository.specs.declared.repository_progress.Progress.{Progress}
 use Rattle.git_repository.specs.declared.repository_progress.Progress.TheVariants.{Start, Lines, Failed}
@@ -19,6 +21,22 @@ HasRead Start lines = lines ≡ []
 HasRead (Lines draft) lines = AreTold lines (drafted draft)
 HasRead (Failed fault) lines = IsLinesFault lines fault
 
+-- lines are none, or they begin a text
+abbrev pub MayGoOn : List (List ℕ) → Type 0
+MayGoOn lines = (lines ≡ []) ⊎ ((format : Format) × (said : List Said) × Begins format lines said)
+
+-- the line that has begun after these is already longer than a line may be, which is the fault
+pub record IsTooLong (ended : List (List ℕ)) (begun : List ℕ) (fault : TextFault) : Type 0 where
+  pub may_go_on : MayGoOn ended
+  pub long : longest_line < length begun
+  pub at_number : fault ≡ Bad (length ended + 1)
+
+-- these lines were read, and of this one what has come
+abbrev pub HasReadTo : Progress → List (List ℕ) → List ℕ → Type 0
+HasReadTo Start ended begun = ended ≡ []
+HasReadTo (Lines draft) ended begun = AreTold ended (drafted draft)
+HasReadTo (Failed fault) ended begun = IsLinesFault ended fault ⊎ IsTooLong ended begun fault
+
 -- a line was refused
 abbrev pub HasFailed : Progress → Type 0
 HasFailed Start = ⊥
@@ -36,5 +54,5 @@ pub record Stands (progress : Progress) (held : List ℕ) (lines : List (List �
   pub ended : List (List ℕ)
   pub begun : List ℕ
   pub whole : lines ≡ ended ++ begun ∷ []
-  pub read : HasRead progress ended
+  pub read : HasReadTo progress ended begun
   pub is_begun : IsBegun progress held begun

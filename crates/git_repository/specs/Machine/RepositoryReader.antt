@@ -12,6 +12,10 @@ HasRefused reader = HasFailed reader.progress
 abbrev pub LacksRoom : RepositoryReader → ℕ → Type 0
 LacksRoom reader bytes = vec_capacity reader.begun < length reader.begun.items + bytes
 
+-- how many bytes it has of the line that is open
+abbrev pub open_bytes : RepositoryReader → ℕ
+open_bytes reader = length reader.begun.items
+
 -- the reader was fed this text, or as much of it as shows the line that it refused
 abbrev pub Reads : RepositoryReader → List ℕ → Type 0
 Reads reader text = Stands reader.progress reader.begun.items (parts_of 10 text)

@@ -7,6 +7,7 @@ use Rattle.git_pkt.specs.Splits.{Given}
 use Rattle.git_pkt.specs.Machine.PacketReader.{ReadsOn, held_of}
 use Rattle.git_msg.specs.Asked.{FetchAsked}
 use Rattle.git_server.specs.Machine.FullParts.{FillsPhase}
+use Rattle.git_server.specs.Machine.LatePacks.{OwesNoPackIn, setting_with, state_with}
 use Rattle.git_server.specs.Repository.{RepoState}
 use Rattle.git_server.specs.Sessions.{Setting, IsSession}
 use Rattle.git_server.specs.Machine.Phases.{MayBreak, Owes, most_owed}
@@ -46,11 +47,32 @@ module _ {R A : Type 0} where
       (s : Setting) (so_far : List ℕ) (over : Bool) (before : List ℕ) → Running state s so_far over before old
       → Running state s (so_far ++ used) over (before ++ given) new
 
+  -- the same, whatever the packs are
+  abbrev pub GoesUnread : (R → RepoState) → List ℕ → List ℕ → Server R A → Server R A → Type 0
+  GoesUnread state used given old new = (packs : FetchAsked → List ℕ) → Goes (state_with packs state) used given old new
+
+  -- the server has used and given these bytes, whatever the packs are
+  abbrev pub RunsUnread : (R → RepoState) → Setting → List ℕ → Bool → List ℕ → Server R A → Type 0
+  RunsUnread state s used over given server = (packs : FetchAsked → List ℕ) → Running (state_with packs state) (setting_with packs s) used over given server
+
+  -- no byte of a pack is owed
+  abbrev pub OwesNoPack : (R → RepoState) → Server R A → Type 0
+  OwesNoPack state server = OwesNoPackIn (state server.repo).answers server.phase
+
+  -- these bytes were given whatever the packs are, and no byte of one is owed after them
+  pub record GivesUnread (state : R → RepoState) (old : Server R A) (given : List ℕ) (new : Server R A) : Type 0 where
+    pub goes : GoesUnread state [] given old new
+    pub owes : OwesNoPack state new
+
   -- the input ended here: the session was closed between two requests, or cut short inside one
   abbrev pub Closes : (R → RepoState) → Server R A → Server R A → Type 0
   Closes state old new =
       (s : Setting) (so_far : List ℕ) (over : Bool) (before : List ℕ) → Running state s so_far over before old
       → Running state s so_far true before new × IsClosing (outcome_of new)
+
+  -- the same, whatever the packs are
+  abbrev pub ClosesUnread : (R → RepoState) → Server R A → Server R A → Type 0
+  ClosesUnread state old new = (packs : FetchAsked → List ℕ) → Closes (state_with packs state) old new
 
   -- the stream is too long only where there was one byte more than was used
   abbrev pub StopsInTime : (R → RepoState) → Server R A → ℕ → List ℕ → Option Outcome → Type 0
@@ -101,6 +123,7 @@ module _ {R A : Type 0} where
   -- what a call of `pull` does
   pub record Pulls (state : R → RepoState) (old : Server R A) (pulled : Pulled) (new : Server R A) : Type 0 where
     pub goes : Goes state [] (given_by pulled) old new
+    pub unread : OwesNoPack state old → GivesUnread state old (given_by pulled) new
     pub tells : TellsPulled state old pulled new
     pub outcome : IsAfterPull (outcome_of old) (outcome_of new)
     pub fits : length (given_by pulled) ≤ 65520
@@ -127,4 +150,5 @@ module _ {R A : Type 0} where
     pub fits : length (body_of packet) ≤ longest_payload
     pub credit : credit_of new.reader ≡ 0
     pub goes : Goes state [] (spelling_of packet) old new
+    pub unread : OwesNoPack state old → GivesUnread state old (spelling_of packet) new
     pub outcome : IsAfterPull (outcome_of old) (outcome_of new)

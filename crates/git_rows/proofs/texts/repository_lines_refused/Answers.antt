@@ -39,7 +39,7 @@ bad_word = inr (record {
     say_all = tt;
     may_stand = record { rising_names = λ k d lt. absurd (omega arith); rising_objects = λ k d lt. absurd (omega arith); one_count = omega arith };
   };
-  refused = λ next says may_stand. nothing_said next says;
+  refused = λ next is_line may_stand. nothing_said next is_line.1;
 })
 
 pub returns-clause-no_format : goal.returns-clause-no_format

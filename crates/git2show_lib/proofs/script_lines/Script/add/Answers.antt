@@ -1,4 +1,4 @@
-use Rattle.std.proofs.Common.{subst, ◌∙◌, ap, length, inl, inr}
+use Rattle.std.proofs.Common.{arith, subst, ◌∙◌, ap, length, inl, inr}
 use Rattle.git_msg.specs.declared.arguments.Command.{Command}
 use Rattle.git_msg.specs.declared.requests.Request.{Request}
 use Rattle.git_msg.specs.Arguments.{IsArgumentFault, ReadsAs, shown, written_text}
@@ -26,7 +26,8 @@ returns-in-Ok-add g c others last is format opened =
     record {
       arg = arg;
       fits_in = subst (λ (r : Request _). FitsIn old.offer r c.args.text.now arg) same
-          (fits_of_passes old.offer c.in-Some.request.now c.args.text.now arg reads c.in-Ok-add.ensures.passes);
+          (fits_of_passes old.offer c.in-Some.request.now c.args.text.now arg reads
+          (omega (arith, c.if-text-gt-LONGEST_LINE.false)) c.in-Ok-add.ensures.passes);
       request = c.add.new.self;
       keeps = subst (λ (r : Request _). Keeps r arg (length (written_text arg)) c.add.new.self) same c.in-Ok-add.ensures.added;
       new_is = same_held (held old) others last c.add.new.self old.requests.len old.requests.ok.0 is opened;

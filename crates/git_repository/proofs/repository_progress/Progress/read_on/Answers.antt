@@ -12,15 +12,11 @@ lines-init c = record {
   room = rest_within c.args.text.now c.split_at_first.result.1 c.split_at_first.ensures.shorter;
 }
 
-pub returns-in-Err : goal.returns-in-Err
-returns-in-Err c =
+pub returns-in-Err-clause-reads : goal.returns-in-Err-clause-reads
+returns-in-Err-clause-reads c lines h =
     let now = rw c.in-Some.is at c.lines.invariant in
-    record {
-      reads = λ lines h.
-          reads_bad_line c.args.text.now lines c.lines.line.now _ c.in-Some.left.now (drafted c.lines.draft) c.in-Err.fault
-          (now.reads lines h) c.in-Err.ensures;
-      within = now.within;
-    }
+    reads_bad_line c.args.text.now lines c.lines.line.now _ c.in-Some.left.now (drafted c.lines.draft) c.in-Err.fault
+    (now.reads lines h) c.in-Err.ensures
 
 pub lines-preserved : goal.lines-preserved
 lines-preserved c =
@@ -41,7 +37,13 @@ lines-preserved c =
           omega (arith, less, room);
     }
 
-pub returns : goal.returns
-returns c =
+pub returns-clause-reads : goal.returns-clause-reads
+returns-clause-reads c lines h =
     let now = rw c.in_default.is at c.lines.invariant in
-    record { reads = λ lines h. reads_all c.args.text.now lines c.lines.line.now c.lines.draft (now.reads lines h); within = now.within }
+    reads_all c.args.text.now lines c.lines.line.now _ c.lines.draft (now.reads lines h) c.with_open.result.0 c.with_open.ensures.stands
+
+pub returns-clause-within : goal.returns-clause-within
+returns-clause-within c =
+    let now = rw c.in_default.is at c.lines.invariant in
+    let within = now.within in
+    omega (arith, within, c.with_open.ensures.within)

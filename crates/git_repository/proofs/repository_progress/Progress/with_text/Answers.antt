@@ -1,16 +1,12 @@
-use Rattle.std.specs.Option.{option_copied}
 use Rattle.std.proofs.Common.{◌∷◌, ◌++◌, []}
-use Rattle.git_repository.proofs.Progressing.{cut_within, failed_text, stand_behind}
+use Rattle.git_repository.proofs.Progressing.{failed_text, stand_behind}
 use Rattle.git_repository.specs.declared.repository_progress.Progress.TheVariants.{Failed}
 use Rattle.git_repository.proofs.repository_progress.Progress.with_text.Goals as goal
 
-pub returns-in-Failed : goal.returns-in-Failed
-returns-in-Failed c =
+pub returns-in-Failed-clause-reads : goal.returns-in-Failed-clause-reads
+returns-in-Failed-clause-reads c lines h =
     let line = c.split_at_first.result.0.now in
     let left = c.in-Some.left.now in
     let parts = rw c.in-Some.is at c.split_at_first.ensures.parts in
-    record {
-      within = cut_within c.args.text.now line (option_copied c.split_at_first.result.1) c.split_at_first.ensures.cut;
-      reads = λ lines h. stand_behind (Failed c.in-Failed.fault) line lines line c.args.text.now left parts
-          (failed_text c.in-Failed.fault line (lines ++ line ∷ []) left (c.in-Failed.ensures lines h));
-    }
+    stand_behind (Failed c.in-Failed.fault) _ lines line c.args.text.now left parts
+    (failed_text c.in-Failed.fault _ (lines ++ line ∷ []) left (c.in-Failed.ensures lines h))

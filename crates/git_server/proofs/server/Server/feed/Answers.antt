@@ -2,9 +2,10 @@ use Rattle.std.proofs.Common.{rules, ◌++◌, ◌⊎◌, ◌<◌, ◌≤◌, �
 use Rattle.std.proofs.Common.{take, drop, length, arith, subst, ap, sym, ◌∙◌, [], length-drop}
 use Rattle.git_pkt.proofs.Credits.{paid_on}
 use Rattle.git_pkt.proofs.Pieces.{left_of, take_joined}
+use Rattle.git_server.specs.Machine.LatePacks.{state_with}
 use Rattle.git_server.specs.Machine.ServerCalls.{Goes}
 use Rattle.git_server.specs.Machine.Server.{wants_input}
-use Rattle.git_server.proofs.Going.{goes_join, open_in_time}
+use Rattle.git_server.proofs.Going.{goes_join, goes_nowhere, open_in_time}
 use Rattle.git_server.proofs.server.Server.feed.Goals as goal
 
 true_not_false : true ≡ false → ⊥
@@ -33,6 +34,11 @@ loop-used-preserved g c =
       within = omega (arith, c.step-used.ensures.used, ap length (left_of piece done c.loop-used.invariant.within), length-drop done piece);
       goes = subst (λ (l : List ℕ). Goes g.R.Repo.state l [] c.args.self.now c.step-used.new.self)
           (take_joined piece done c.step-used.result c.loop-used.invariant.within) both;
+      unread = λ packs. subst (λ (l : List ℕ). Goes (state_with packs g.R.Repo.state) l [] c.args.self.now c.step-used.new.self)
+          (take_joined piece done c.step-used.result c.loop-used.invariant.within)
+          (goes_join (state_with packs g.R.Repo.state) c.args.self.now c.loop-used.self c.step-used.new.self (take done piece)
+          (take c.step-used.result (take (length piece - done) (drop done piece))) [] []
+          (c.loop-used.invariant.unread packs) (c.step-used.ensures.unread packs));
       moves = λ loud. inr (more_used done c.step-used.result _ c.step-used.ensures.moves);
       in_time =
           λ s so_far over before r wants fault ended too_long.
@@ -61,6 +67,7 @@ pub loop-used-init : goal.loop-used-init
 loop-used-init g c = record {
   within = search rules;
   goes = search rules;
+  unread = λ packs. goes_nowhere (state_with packs g.R.Repo.state) c.args.self.now;
   moves = search rules;
   in_time = open_in_time g.R.Repo.state c.args.self.now 0 c.args.piece.now;
   stays = search rules;

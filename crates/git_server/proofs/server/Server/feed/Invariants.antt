@@ -1,5 +1,5 @@
 use Rattle.std.proofs.Common.{◌⊎◌, IsSome, length, ◌-◌, ◌+◌, ◌*◌, ◌≡◌, true, false, ◌≤◌, ◌<◌, [], take, if◌then◌else◌}
-use Rattle.git_server.specs.Machine.ServerCalls.{Goes, StopsInTime}
+use Rattle.git_server.specs.Machine.ServerCalls.{Goes, GoesUnread, StopsInTime}
 use Rattle.git_pkt.specs.Machine.Credit.{Pays, credit_of}
 use Rattle.git_server.specs.Machine.Server.{reader_of, wants_input, outcome_of}
 use Rattle.git_server.proofs.server.Server.feed.Given as goal
@@ -9,6 +9,7 @@ abbrev pub invariant-loop-used : goal.invariant-loop-used
 invariant-loop-used g l = record {
   within : l.used ≤ length l.piece;
   goes : Goes g.R.Repo.state (take l.used l.piece) [] l.fn.self l.self;
+  unread : GoesUnread g.R.Repo.state (take l.used l.piece) [] l.fn.self l.self;
   moves : wants_input l.fn.self ≡ true → (wants_input l.self ≡ true) ⊎ (0 < l.used ⊎ IsSome (outcome_of l.self));
   in_time : StopsInTime g.R.Repo.state l.fn.self l.used l.piece (outcome_of l.self);
   stays : wants_input l.fn.self ≡ false → (l.used ≡ 0) × (l.self ≡ l.fn.self);

@@ -1,6 +1,12 @@
-use Rattle.std.proofs.Common.{refl, take}
+use Rattle.std.proofs.Common.{Option, refl, subst, sym, take}
 use Rattle.git_pkt.specs.Packets.{seen}
-use Rattle.git_server.proofs.Going.{goes_packet, goes_refused, open_in_time, packet_in_time, fault_in_time}
+use Rattle.git_pkt.specs.Splits.{Given}
+use Rattle.git_pkt.specs.declared.fault.Kind.{Kind}
+use Rattle.git_msg.specs.Arguments.{Arg}
+use Rattle.git_msg.specs.Machine.StreamStages.{Brings}
+use Rattle.git_server.specs.Machine.LatePacks.{state_with}
+use Rattle.git_server.proofs.LatePacks.{barred_same}
+use Rattle.git_server.proofs.Going.{goes_open, goes_packet, goes_refused, open_in_time, packet_in_time, fault_in_time}
 use Rattle.git_msg.proofs.StreamSteps.{feeds_with}
 use Rattle.git_server.proofs.server.Server.step.Goals as goal
 
@@ -22,6 +28,38 @@ returns-in-Failed-clause-goes g c =
     let feeds = feeds_with old.reader c.feed-fed.follows.lender-at-none piece fed _ c.in-Failed.is c.feed-fed.follows.holds-at-none in
     goes_refused g.R.Repo.state old _ (take fed.used piece) c.in-Failed.fault c.requires.wants (record { offer = refl; repo = refl; reads = feeds.reads })
     refl feeds.tells
+    (λ none. (c.feed-fed.follows.holds-at-none.news c.in-Failed.fault none c.in-Failed.is).not_the_end) c.refusal.ensures
+
+pub returns-in-More-clause-unread : goal.returns-in-More-clause-unread
+returns-in-More-clause-unread g c packs =
+    let old = c.args.self.now in
+    let piece = c.args.piece.now in
+    let fed = c.feed-fed.result in
+    let feeds = feeds_with old.reader c.feed-fed.follows.lender-at-none piece fed _ c.in-More.is c.feed-fed.follows.holds-at-none in
+    goes_open (state_with packs g.R.Repo.state) old _ (take fed.used piece) c.requires.wants (record { offer = refl; repo = refl; reads = feeds.reads })
+    refl refl feeds.tells.1
+
+pub returns-in-Packet-clause-unread : goal.returns-in-Packet-clause-unread
+returns-in-Packet-clause-unread g c packs =
+    let old = c.args.self.now in
+    let piece = c.args.piece.now in
+    let fed = c.feed-fed.result in
+    let feeds = feeds_with old.reader c.feed-fed.follows.lender-at-none piece fed _ c.in-Packet.is c.feed-fed.follows.holds-at-none in
+    let repo = (g.R.Repo.state old.repo).answers in
+    let packet : Given = record { packet = seen c.in-Packet.packet; offset = c.in-Packet.offset } in
+    goes_packet (state_with packs g.R.Repo.state) old _ (take fed.used piece) packet _ c.take_packet-brought.ensures.covered c.requires.wants
+    (record { offer = refl; repo = refl; reads = feeds.reads })
+    (subst (λ (bars : Arg → Option Kind). Brings bars old.requests packet c.take_packet-brought.result c.take_packet-brought.new.requests)
+    (sym (barred_same repo packs)) c.take_packet-brought.ensures.brings) c.following.ensures feeds.tells.1 feeds.tells.2
+
+pub returns-in-Failed-clause-unread : goal.returns-in-Failed-clause-unread
+returns-in-Failed-clause-unread g c packs =
+    let old = c.args.self.now in
+    let piece = c.args.piece.now in
+    let fed = c.feed-fed.result in
+    let feeds = feeds_with old.reader c.feed-fed.follows.lender-at-none piece fed _ c.in-Failed.is c.feed-fed.follows.holds-at-none in
+    goes_refused (state_with packs g.R.Repo.state) old _ (take fed.used piece) c.in-Failed.fault c.requires.wants
+    (record { offer = refl; repo = refl; reads = feeds.reads }) refl feeds.tells
     (λ none. (c.feed-fed.follows.holds-at-none.news c.in-Failed.fault none c.in-Failed.is).not_the_end) c.refusal.ensures
 
 pub returns-in-More-clause-in_time : goal.returns-in-More-clause-in_time

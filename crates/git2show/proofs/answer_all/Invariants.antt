@@ -1,0 +1,6 @@
+-- What was read after the last request lies in the piece.
+use Rattle.std.proofs.Common.{◌≤◌, length}
+use Rattle.git2show.proofs.answer_all.Given as goal
+
+abbrev pub invariant-loop : goal.invariant-loop
+invariant-loop l = record { ordered : l.left.from ≤ l.left.to; within : l.left.to ≤ length l.piece }

@@ -1,0 +1,47 @@
+-- What is written of what a server owes, without bytes or after some.
+use Rattle.std.specs.Prelude.{◌≡◌, ℕ, Bool, true, false, List, [], ◌++◌, length, Option, Some, None}
+use Rattle.git_msg.specs.Asked.{FetchAsked}
+use Rattle.git_pkt.specs.Streams.{Flow, WrittenAs}
+use Rattle.git_server.specs.Repository.{RepoState}
+use Rattle.git_server.specs.Machine.LatePacks.{state_with}
+use Rattle.git_server.specs.Machine.Server.{outcome_of, wants_input}
+use Rattle.git_server.specs.Machine.ServerCalls.{EndsAs, Goes, OwesNoPack, OwesNow, StopsInTime}
+use Rattle.git_server.specs.declared.outcome.Outcome.{Outcome}
+use Rattle.git_server.specs.declared.server.Server.{Server}
+
+-- the bytes were used, and what was given for them was written; where a write failed, a front of it
+pub record WritesOn {R A : Type 0} (broken : Bool) (state : R → RepoState) (old new : Server R A) (bytes : List ℕ) (writer : Flow) : Type 0 where
+  pub given : List ℕ
+  pub written : WrittenAs broken writer given
+  pub goes : Goes state bytes given old new
+
+-- nothing was used, what was given was written, whatever the packs are, and no byte of a pack is owed; where a write failed, a front of it
+pub record WritesUnread {R A : Type 0} (broken : Bool) (state : R → RepoState) (old new : Server R A) (writer : Flow) : Type 0 where
+  pub writes : (packs : FetchAsked → List ℕ) → WritesOn broken (state_with packs state) old new [] writer
+  pub owes : OwesNoPack state new
+
+-- a front of the bytes was used, and what was given for it was written; where a write failed, a front of it
+pub record WritesPart {R A : Type 0} (broken : Bool) (state : R → RepoState) (old new : Server R A) (bytes : List ℕ) (writer : Flow) : Type 0 where
+  pub used : List ℕ
+  pub unused : List ℕ
+  pub parts : bytes ≡ used ++ unused
+  pub writes : WritesOn broken state old new used writer
+
+module _ {R A : Type 0} (state : R → RepoState) (old new : Server R A) (bytes : List ℕ) (writer : Flow) where
+  -- all the bytes were used, and all that was given for them was written
+  pub record WritesAll : Type 0 where
+    pub writes : WritesOn false state old new bytes writer
+    pub wants : wants_input new ≡ true
+
+  -- a front of the bytes was used, the session ended so, and all that was given was written
+  pub record WritesItsEnd (outcome : Outcome) : Type 0 where
+    pub part : WritesPart false state old new bytes writer
+    pub ends : outcome_of new ≡ Some outcome
+    pub owes : OwesNow state new []
+    pub session : EndsAs state new outcome
+    pub in_time : StopsInTime state old (length part.used) bytes (Some outcome)
+
+  -- what was written, where the session goes on or ended
+  abbrev pub WritesFor : Option Outcome → Type 0
+  WritesFor None = WritesAll
+  WritesFor (Some outcome) = WritesItsEnd outcome

@@ -1,0 +1,173 @@
+//! A repository that is a few lists, whose packs are read once one is due.
+
+ghost use Rattle.std.specs.Prelude.{◌≡◌, ◌-◌, ◌<◌, IfOk, IfSome, IsErr, None, OnErr, OnOk, Some, false, length, min, true};
+ghost use Rattle.git_server.specs.Machine.LateRepo.{AreReadFrom, AreReadOf, IsReadFrom, SettlesPacks, has_packs, late_lists, late_state, unread_in};
+ghost use Rattle.git_server.specs.Repository.{bytes_of};
+ghost use Rattle.git_server.specs.Lists.{pack_for};
+ghost use Rattle.git_server.specs.Packs.{IsPackPart};
+
+use crate::entry::RefEntry;
+use crate::list_repo::ListRepo;
+use crate::repo::{PackFault, Repo};
+use git_msg::{Boundary, Fetch};
+use git_names::{Format, Oid, Steps};
+use std::alloc::{Allocator, Global};
+use std::io::Read;
+use std::mem;
+
+/// The packs of a repository, which are read late.
+#[derive(Drop)]
+enum LatePacks<P> {
+    /// None was read: the pack of each request, and that of each request that has a filter, where that is another.
+    Unread(P, Option<P>),
+    /// The lists have them.
+    Read,
+    /// A read of one of them failed, or memory for it ran out.
+    Lost,
+}
+
+/// A repository that is a few lists, of which the packs are read, whole, once one is due: [`crate::Server::read_packs`] does that.
+///
+/// A read of a pack by a server fails before that, and where the packs could not be read.
+#[derive(Drop)]
+pub struct LateRepo<P> {
+    alloc: Global,
+    lists: ListRepo,
+    packs: LatePacks<P>,
+    failed: Steps,
+}
+
+impl<P: Read + Drop> LateRepo<P> {
+    ghost use Rattle.git_server.specs.Machine.ListRepo.{lists_of, state_of};
+
+    /// The repository with these lists, whose own packs count for nothing: the pack for each request is what `pack` gives, or where
+    /// `filtered` is there, that for each request that has a filter is what `filtered` gives. Nothing of them is read.
+    pub fn new(alloc: Global, lists: ListRepo, pack: P, filtered: Option<P>) -> LateRepo<P>
+        ensures state { late_state result ≡ state_of lists }
+        ensures lists { late_lists result ≡ lists_of lists }
+        ensures unread { unread_in result ≡ Some (pack, filtered) }
+    {
+        LateRepo {
+            alloc,
+            lists,
+            packs: LatePacks::Unread(pack, filtered),
+            failed: Steps::new(),
+        }
+    }
+
+    /// Reads the packs, unless that was tried before.
+    pub(crate) fn read_packs(&mut self)
+        ensures settles { SettlesPacks (late_state self.old) (late_state self.new) }
+        ensures read { IfSome (unread_in self.old) (λ packs. (has_packs self.new ≡ true → AreReadOf P.remaining packs (late_lists self.new))) }
+        ensures tried { unread_in self.new ≡ None }
+        ensures again { unread_in self.old ≡ None → self.new ≡ self.old }
+    {
+        match mem::replace(&mut self.packs, LatePacks::Lost) {
+            LatePacks::Unread(pack, filtered) => {
+                if let Ok((pack, filtered)) = read_both(self.alloc, pack, filtered) {
+                    self.lists.set_packs(pack, filtered);
+                    self.packs = LatePacks::Read;
+                }
+            }
+            tried => self.packs = tried,
+        }
+    }
+}
+
+impl<P: Read + Drop> Repo for LateRepo<P> {
+    ghost use Rattle.git_server.specs.Machine.ListRepo.{is_short, is_sound};
+
+    ghost state = { late_state };
+
+    ghost read_gives = { λ repo request offset room count. count ≡ min (length (pack_for (late_lists repo) request) - offset) room };
+
+    ghost sound = { λ repo. is_sound repo.lists };
+
+    ghost short = { λ repo request. is_short repo.lists request };
+
+    fn format(&self) -> Format {
+        self.lists.format()
+    }
+
+    fn refs(&self) -> &[RefEntry] {
+        self.lists.refs()
+    }
+
+    fn find(&self, name: &[u8]) -> Option<Oid> {
+        self.lists.find(name)
+    }
+
+    fn unborn_head(&self) -> Option<&[u8]> {
+        self.lists.unborn_head()
+    }
+
+    fn has(&self, id: &Oid) -> bool {
+        self.lists.has(id)
+    }
+
+    fn object_size(&self, id: &Oid) -> Option<u64> {
+        self.lists.object_size(id)
+    }
+
+    fn is_ready<A: Allocator + Copy>(&self, request: &Fetch<A>) -> bool {
+        self.lists.is_ready(request)
+    }
+
+    fn boundaries<A: Allocator + Copy>(&self, request: &Fetch<A>) -> usize {
+        self.lists.boundaries(request)
+    }
+
+    fn boundary<A: Allocator + Copy>(&self, request: &Fetch<A>, i: usize) -> Boundary {
+        self.lists.boundary(request, i)
+    }
+
+    fn pack_read<A: Allocator + Copy>(
+        &mut self,
+        request: &Fetch<A>,
+        offset: u64,
+        out: &mut [u8],
+    ) -> Result<usize, PackFault>
+        requires room { 0 < length out.old }
+        ensures part { IfOk result (λ count. IsPackPart (pack_for (late_lists self.old) request.now.asked) offset count out.new) }
+        ensures fills { IfOk result (λ count. count ≡ min (length (pack_for (late_lists self.old) request.now.asked) - offset) (length out.old)) }
+        ensures cause { OnErr result ((late_state self.old).failures < (late_state self.new).failures) }
+        ensures fine { OnOk result (self.new ≡ self.old) }
+        ensures same { (late_state self.new).answers ≡ (late_state self.old).answers }
+        ensures lacks { has_packs self.old ≡ false → IsErr result }
+    {
+        match self.packs {
+            LatePacks::Read => Ok(self.lists.read_pack(request, offset, out)),
+            LatePacks::Unread(_, _) | LatePacks::Lost => {
+                self.failed.tick(1);
+                Err(PackFault)
+            }
+        }
+    }
+}
+
+// Reads both packs, where there are two.
+fn read_both<P: Read + Drop>(
+    alloc: Global,
+    pack: P,
+    filtered: Option<P>,
+) -> Result<(Vec<u8>, Option<Vec<u8>>), PackFault>
+    ensures { IfOk result (λ read. AreReadFrom P.remaining (pack, filtered) read.0.items (bytes_of read.1)) }
+{
+    let pack = read_whole(alloc, pack)?;
+    let filtered = match filtered {
+        Some(source) => Some(read_whole(alloc, source)?),
+        None => None,
+    };
+    Ok((pack, filtered))
+}
+
+// Reads all that is left of a source.
+fn read_whole<P: Read + Drop>(alloc: Global, mut source: P) -> Result<Vec<u8>, PackFault>
+    ensures { IfOk result (λ read. IsReadFrom (P.remaining source) read.items) }
+{
+    let mut read = Vec::new(alloc);
+    match source.read_to_end(&mut read) {
+        Ok(_) => Ok(read),
+        Err(_) => Err(PackFault),
+    }
+}

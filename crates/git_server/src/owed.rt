@@ -1,0 +1,60 @@
+//! What a server owes, written.
+
+ghost use Rattle.std.specs.Prelude.{◌≡◌, ◌||◌, [], true, false, IfOk, IfErr, OnErr, OnOk, is_err};
+ghost use Rattle.git_pkt.specs.Machine.Told.{inner_of, has_failed};
+ghost use Rattle.git_pkt.specs.Streams.{flow};
+ghost use Rattle.git_server.specs.Machine.Owed.{WritesFor, WritesPart, WritesUnread};
+ghost use Rattle.git_server.specs.Machine.ServerCalls.{IsAfterPull, OwesNoPack};
+ghost use Rattle.git_server.specs.Machine.Server.{outcome_of};
+
+use crate::outcome::Outcome;
+use crate::repo::Repo;
+use crate::server::{Pulled, Server};
+use git_pkt::{RunFault, Told, flush, send};
+use std::alloc::Allocator;
+use std::io::Write;
+
+/// Writes all that the server owes, and flushes the writer. Returns the outcome, if the session has ended.
+///
+/// `WriteFault` where a write or a flush fails. The server is spent then, since it may have given more than was written.
+pub fn give_owed<W: Write, R: Repo, A: Allocator + Copy>(
+    writer: &mut Told<W>,
+    server: &mut Server<R, A>,
+) -> Result<Option<Outcome>, RunFault>
+    ensures ok { IfOk result (WritesFor R.state server.old server.new []
+        (flow (W.contents (inner_of writer.old)) (W.contents (inner_of writer.new)))) }
+    ensures front { OnErr result (WritesPart true R.state server.old server.new []
+        (flow (W.contents (inner_of writer.old)) (W.contents (inner_of writer.new)))) }
+    ensures unread { OwesNoPack R.state server.old → OnOk result (WritesUnread false R.state server.old server.new
+        (flow (W.contents (inner_of writer.old)) (W.contents (inner_of writer.new)))) }
+    ensures fault { IfErr result (λ fault. fault ≡ RunFault.WriteFault) }
+    ensures failed { has_failed writer.new ≡ (has_failed writer.old || is_err result) }
+{
+    let outcome = drain(writer, server)?;
+    flush(writer)?;
+    Ok(outcome)
+}
+
+// Writes all that the server owes. The outcome, if the session has ended.
+fn drain<W: Write, R: Repo, A: Allocator + Copy>(
+    writer: &mut Told<W>,
+    server: &mut Server<R, A>,
+) -> Result<Option<Outcome>, RunFault>
+    ensures ok { IfOk result (WritesFor R.state server.old server.new []
+        (flow (W.contents (inner_of writer.old)) (W.contents (inner_of writer.new)))) }
+    ensures front { OnErr result (WritesPart true R.state server.old server.new []
+        (flow (W.contents (inner_of writer.old)) (W.contents (inner_of writer.new)))) }
+    ensures outcome { OnOk result (IsAfterPull (outcome_of server.old) (outcome_of server.new)) }
+    ensures unread { OwesNoPack R.state server.old → OnOk result (WritesUnread false R.state server.old server.new
+        (flow (W.contents (inner_of writer.old)) (W.contents (inner_of writer.new)))) }
+    ensures fault { IfErr result (λ fault. fault ≡ RunFault.WriteFault) }
+    ensures failed { has_failed writer.new ≡ (has_failed writer.old || is_err result) }
+{
+    loop {
+        match server.pull() {
+            Pulled::Packet(bytes) => send(writer, bytes)?,
+            Pulled::NeedInput => return Ok(None),
+            Pulled::Finished(outcome) => return Ok(Some(outcome)),
+        }
+    }
+}
