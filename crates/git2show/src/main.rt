@@ -23,7 +23,7 @@ use git_msg::{Limits, Offer, Request};
 use git_names::Format;
 use git_pkt::{Discard, LONGEST_PACKET, Retries, RunFault, Told};
 use git_repository::{LONGEST_LINE, Packs, RepositoryReader, TextFault};
-use git_server::{LateRepo, ListRepo, Outcome, Repo, Server, give_owed, serve};
+use git_server::{LateRepo, ListRepo, Outcome, Repo, Server, serve, write_pending};
 use git2show_lib::{ProgramFault, check, play, read_script, report, show};
 use std::alloc::{AllocError, Global};
 use std::fs::File;
@@ -396,7 +396,7 @@ fn answer_all<In: Read, W: Write>(
     let mut left = Left::NONE;
     let mut turns = TURNS;
     for _ in 0..TURNS {
-        if let Some(outcome) = give_owed(&mut Told::new(&mut *output), server)? {
+        if let Some(outcome) = write_pending(&mut Told::new(&mut *output), server)? {
             return Ok(outcome);
         }
         let rest = &piece[left.from..left.to];
@@ -429,7 +429,7 @@ fn take_one_request(rt: &HostRuntime, server: &mut FileServer<'_>) -> Result<(),
 /// Writes what the server owes on standard output.
 fn write_owed(rt: &HostRuntime, server: &mut FileServer<'_>) -> Result<(), Failure> {
     let mut output = buffered_output(rt)?;
-    match give_owed(&mut Told::new(&mut output), server) {
+    match write_pending(&mut Told::new(&mut output), server) {
         Ok(None) => Ok(()),
         Ok(Some(outcome)) => ended(Ok(outcome), None),
         Err(fault) => ended(Err(fault), output.failed_call()),

@@ -1,5 +1,5 @@
 use Rattle.git_server.proofs.OwedLemmas.{flushed_for, on_err_at, unread_flushed, written_part}
-use Rattle.git_server.proofs.owed.give_owed.Goals as goal
+use Rattle.git_server.proofs.pending.write_pending.Goals as goal
 
 pub returns-clause-unread : goal.returns-clause-unread
 returns-clause-unread g c none =

@@ -5,7 +5,7 @@ use Rattle.git_pkt.specs.Streams.{flow}
 use Rattle.git_server.specs.Machine.ServerCalls.{IsAfterPull, OwesNoPack, most_left}
 use Rattle.git_server.specs.Machine.Server.{outcome_of}
 use Rattle.git_server.specs.Machine.Owed.{WritesOn, WritesUnread}
-use Rattle.git_server.proofs.owed.drain.Given as goal
+use Rattle.git_server.proofs.pending.drain.Given as goal
 
 abbrev pub invariant-loop-bytes : goal.invariant-loop-bytes
 invariant-loop-bytes g l = record {
