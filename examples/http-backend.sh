@@ -90,7 +90,7 @@ repository=$GIT_PROJECT_ROOT/$name
 for part in repo pack filtered; do
     file=$repository.$part
     if [ $part = filtered ] && [ ! -e "$file" ]; then continue; fi
-    [ -r "$file" ] || fail "cannot read $file"
+    if [ ! -r "$file" ] || [ -d "$file" ]; then fail "cannot read $file"; fi
     set -- "$@" --$part "$file"
 done
 for program in git2show gzip; do
