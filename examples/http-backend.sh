@@ -35,8 +35,8 @@ body() {
     if [ -n "${CONTENT_LENGTH:-}" ]; then head -c "$CONTENT_LENGTH"; else cat; fi
 }
 
-# whole_body: the same, once it has been read to its end, since a web server may read no answer before: fcgiwrap does not. What is
-# beyond 32 MiB, twice what git2show keeps of a request, is dropped.
+# whole_body: the same, written only after it has been read to its end: fcgiwrap, for one, reads no answer before it has passed a body
+# on. What is beyond 32 MiB, twice what git2show keeps of a request, is dropped.
 whole_body() {
     body | {
         head -c 33554432
@@ -90,7 +90,7 @@ repository=$GIT_PROJECT_ROOT/$name
 for part in repo pack filtered; do
     file=$repository.$part
     if [ $part = filtered ] && [ ! -e "$file" ]; then continue; fi
-    [ -r "$file" ] || fail "cannot read $file"
+    if [ ! -r "$file" ] || [ -d "$file" ]; then fail "cannot read $file"; fi
     set -- "$@" --$part "$file"
 done
 for program in git2show gzip; do

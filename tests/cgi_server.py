@@ -20,15 +20,15 @@ class Handler(BaseHTTPRequestHandler):
     """Runs the script, by the environment of RFC 3875."""
 
     def body(self):
-        """The request's body. One of unknown length comes in chunks, each after its length."""
+        """The request's body. One of unknown length comes in chunks, each after its length: Git sends one for each line."""
         if self.headers.get("Transfer-Encoding", "") != "chunked":
             return self.rfile.read(int(self.headers.get("Content-Length", 0)))
-        body = b""
+        chunks = []
         while length := int(self.rfile.readline().split(b";")[0], 16):
-            body += self.rfile.read(length)
+            chunks.append(self.rfile.read(length))
             self.rfile.readline()
         self.rfile.readline()
-        return body
+        return b"".join(chunks)
 
     def environment(self):
         """What the script receives of the request."""

@@ -136,7 +136,7 @@ case_what_cannot_be_served_over_http_is_reported() {
     not_served broken/text "cannot serve $room/broken/text.repo: git2show ended with status 1, nothing was written"
     grep -q '^git2show: BadRepo at 1' err || differs 'what our program reported' err
     not_served broken/packless "cannot read $room/broken/packless.pack"
-    not_served broken/filtered "cannot serve $room/broken/filtered.repo: git2show ended with status 1, nothing was written"
+    not_served broken/filtered "cannot read $room/broken/filtered.filtered"
     not_served wanted 'GIT_PROJECT_ROOT is not set' GIT_PROJECT_ROOT=
     mkdir tools
     for tool in cat dd head gzip; do
