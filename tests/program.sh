@@ -430,7 +430,7 @@ fetch_with() {
 }
 
 # An advertisement, references, sizes, acknowledgments alone and a refusal need none.
-case_serve_reads_no_pack_that_is_not_due() {
+case_serve_reads_no_pack_before_it_is_needed() {
     huge --advertise-refs
     expect 0 <(advertisement sha1) /dev/null
     huge --stateless-rpc < <(request 'ref-prefix refs/tags/')
@@ -447,7 +447,7 @@ case_serve_reads_no_pack_that_is_not_due() {
     ) <(fault 'NotOurs at 292')
 }
 
-# A pack that cannot be read, or has no room, is reported where it is due, at the flush of its request.
+# A pack that cannot be read, or has no room, is reported in its place in the answer, at the flush of its request.
 case_serve_tells_a_pack_that_cannot_be_read() {
     local pack
     fetch $one > asked

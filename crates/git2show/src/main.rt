@@ -335,7 +335,7 @@ fn limits_of(matches: &ArgMatches<'_>) -> Limits {
     }
 }
 
-/// Serves the repository whose files are named, on standard input and output. Nothing of its packs is read before one is due.
+/// Serves the repository whose files are named, on standard input and output. Nothing is read of its packs before one is needed.
 fn run_serve(rt: &HostRuntime, matches: &ArgMatches<'_>) -> Result<(), Failure> {
     let text = read_text(rt, open(rt, matches, "repo")?)?;
     let mut pack = watched_file(rt, matches, "pack")?;
@@ -366,13 +366,13 @@ fn serve_repository(
     let mut server = Server::new(rt.alloc(), repo, offer, limits_of(matches), advertise);
     match service {
         Service::Session => serve_session(rt, &mut server),
-        Service::Advertisement => write_owed(rt, &mut server),
+        Service::Advertisement => send_pending(rt, &mut server),
         Service::Answer => {
             take_one_request(rt, &mut server)?;
             if server.wants_pack() {
                 server.read_packs();
             }
-            write_owed(rt, &mut server)
+            send_pending(rt, &mut server)
         }
     }
 }
@@ -385,7 +385,7 @@ fn serve_session(rt: &HostRuntime, server: &mut FileServer<'_>) -> Result<(), Fa
     ended(done, input.failed_call().or(output.failed_call()))
 }
 
-/// Answers each request that comes, to the session's end. The packs are read once one is due.
+/// Answers each request that comes, to the session's end. The packs are read once one is needed.
 fn answer_all<In: Read, W: Write>(
     input: &mut In,
     output: &mut W,
@@ -426,8 +426,8 @@ fn take_one_request(rt: &HostRuntime, server: &mut FileServer<'_>) -> Result<(),
     }
 }
 
-/// Writes what the server owes on standard output.
-fn write_owed(rt: &HostRuntime, server: &mut FileServer<'_>) -> Result<(), Failure> {
+/// Writes on standard output what the server has to send.
+fn send_pending(rt: &HostRuntime, server: &mut FileServer<'_>) -> Result<(), Failure> {
     let mut output = buffered_output(rt)?;
     match write_pending(&mut Told::new(&mut output), server) {
         Ok(None) => Ok(()),

@@ -1,4 +1,4 @@
-//! A repository that is a few lists, whose packs are read once one is due.
+//! A repository that is a few lists, whose packs are read once one is needed.
 
 ghost use Rattle.std.specs.Prelude.{◌≡◌, ◌-◌, ◌<◌, IfOk, IfSome, IsErr, None, OnErr, OnOk, Some, false, length, min, true};
 ghost use Rattle.git_server.specs.Machine.LateRepo.{AreReadFrom, AreReadOf, IsReadFrom, SettlesPacks, has_packs, late_lists, late_state, unread_in};
@@ -15,7 +15,7 @@ use std::alloc::{Allocator, Global};
 use std::io::Read;
 use std::mem;
 
-/// The packs of a repository, which are read late.
+/// The packs of a repository that are read late.
 #[derive(Drop)]
 enum LatePacks<P> {
     /// None was read: the pack of each request, and that of each request that has a filter, where that is another.
@@ -26,9 +26,9 @@ enum LatePacks<P> {
     Lost,
 }
 
-/// A repository that is a few lists, of which the packs are read, whole, once one is due: [`crate::Server::read_packs`] does that.
+/// A repository that is a few lists, whose packs are read whole once one is needed, by [`crate::Server::read_packs`].
 ///
-/// A read of a pack by a server fails before that, and where the packs could not be read.
+/// [`Repo::pack_read`] fails before that, and if they could not be read.
 #[derive(Drop)]
 pub struct LateRepo<P> {
     alloc: Global,
@@ -40,8 +40,8 @@ pub struct LateRepo<P> {
 impl<P: Read + Drop> LateRepo<P> {
     ghost use Rattle.git_server.specs.Machine.ListRepo.{lists_of, state_of};
 
-    /// The repository with these lists, whose own packs count for nothing: the pack for each request is what `pack` gives, or where
-    /// `filtered` is there, that for each request that has a filter is what `filtered` gives. Nothing of them is read.
+    /// The repository with these lists and, in place of their packs, those that these readers will give: `pack` for each request, but
+    /// `filtered`, if there is one, for each request that has a filter. Nothing is read of them.
     pub fn new(alloc: Global, lists: ListRepo, pack: P, filtered: Option<P>) -> LateRepo<P>
         ensures state { late_state result ≡ state_of lists }
         ensures lists { late_lists result ≡ lists_of lists }

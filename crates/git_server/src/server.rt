@@ -146,7 +146,7 @@ impl<R: Repo, A: Allocator + Copy> Server<R, A> {
         repo
     }
 
-    /// Whether a pack is due: of what is to be pulled, the answer to a fetch has bytes of one.
+    /// Whether a pack is needed: the answer that is to be pulled has bytes of one, or may fail for want of it.
     pub fn wants_pack(&self) -> bool
         ensures { MatchBool result (¬ OwesNoPack R.state self.now) (OwesNoPack R.state self.now) }
     {
@@ -334,9 +334,9 @@ impl<P: Read + Drop, A: Allocator + Copy> Server<LateRepo<P>, A> {
     ghost use Rattle.git_server.specs.Machine.Server.{Running, outcome_of, repo_of, wants_input};
     ghost use Rattle.git_server.specs.Machine.ServerCalls.{RunsUnread};
 
-    /// Reads the packs, unless that was tried before. It is to be called once a pack is due, as [`Server::wants_pack`] tells, and before
-    /// a packet of that answer is pulled: what the server has given by then is what it would have given with the packs at hand. Where
-    /// a read fails, or memory for it runs out, the server comes to `PackSource` in the place of the pack.
+    /// Reads the packs, unless that was tried before. Call it as soon as [`Server::wants_pack`] is true, before a packet of that answer
+    /// is pulled: up to there the server gives what it would give with the packs at hand. If a read fails, or memory runs out, the server
+    /// sends `PackSource` in place of the pack.
     pub fn read_packs(&mut self)
         ensures runs { (s : Setting) (used : List ℕ) (over : Bool) (given : List ℕ) → RunsUnread late_state s used over given self.old
             → Running late_state (setting_with (late_state (repo_of self.new)).answers.pack s) used over given self.new }
