@@ -42,34 +42,36 @@ const SIZES: &[u8] =
     b"0018command=object-info\n00010009size\n0031oid aaaaaaaaaaaaaaaaaaaaaaaaaaaaaaaaaaaaaaaa\n\
 0031oid bbbbbbbbbbbbbbbbbbbbbbbbbbbbbbbbbbbbbbbb\n0000";
 
-/// The request of these packets, if they are one.
-fn request_of(alloc: Global, packets: &[u8]) -> Option<Request<Global>> {
-    let mut stream = RequestStream::new(alloc, Offer::everything(Format::Sha1), Limits::DEFAULT);
-    match stream.feed(packets, &mut Steps::new()).got {
+/// The request of these packets.
+fn request_of(rt: &(impl Abort + AllocGlobal), packets: &[u8]) -> Request<Global> {
+    let offer = Offer::everything(Format::Sha1);
+    let mut stream = RequestStream::new(rt.alloc(), offer, Limits::DEFAULT);
+    let request = match stream.feed(packets, &mut Steps::new()).got {
         ReadGot::Request(request) => Some(request),
         _ => None,
-    }
+    };
+    request.expect(rt, "a request")
 }
 
 fn fetch_of(rt: &(impl Abort + AllocGlobal), packets: &[u8]) -> Fetch<Global> {
-    let fetch = match request_of(rt.alloc(), packets) {
-        Some(Request::Fetch(fetch)) => Some(fetch),
+    let fetch = match request_of(rt, packets) {
+        Request::Fetch(fetch) => Some(fetch),
         _ => None,
     };
     fetch.expect(rt, "a fetch")
 }
 
 fn ls_refs_of(rt: &(impl Abort + AllocGlobal), packets: &[u8]) -> LsRefs<Global> {
-    let ls_refs = match request_of(rt.alloc(), packets) {
-        Some(Request::LsRefs(ls_refs)) => Some(ls_refs),
+    let ls_refs = match request_of(rt, packets) {
+        Request::LsRefs(ls_refs) => Some(ls_refs),
         _ => None,
     };
     ls_refs.expect(rt, "a request for references")
 }
 
 fn object_info_of(rt: &(impl Abort + AllocGlobal), packets: &[u8]) -> ObjectInfo<Global> {
-    let object_info = match request_of(rt.alloc(), packets) {
-        Some(Request::ObjectInfo(object_info)) => Some(object_info),
+    let object_info = match request_of(rt, packets) {
+        Request::ObjectInfo(object_info) => Some(object_info),
         _ => None,
     };
     object_info.expect(rt, "a request for sizes")
@@ -179,12 +181,12 @@ fn fits(bytes: &[u8]) -> bool
 }
 
 /// Makes the report. Whether a packet was given.
-fn make_report(answer: &mut FetchAnswer<Global>, report: Report, hold: &mut Hold) -> bool {
+fn make_report(answer: &mut FetchAnswer<Global>, report: &Report, hold: &mut Hold) -> bool {
     match report {
         Report::Common => answer.common(hold),
         Report::NotCommon => !answer.not_common(),
         Report::Ready => answer.ready(hold),
-        Report::Boundary(line) => answer.boundary(line, hold),
+        Report::Boundary(line) => answer.boundary(*line, hold),
         Report::BoundaryEnd => matches!(answer.boundary_end(hold), BoundaryEnd::Packet),
         Report::Pack(bytes) if fits(bytes) => answer.pack(bytes, hold),
         Report::Progress(bytes) if fits(bytes) => answer.progress(bytes, hold),
@@ -214,8 +216,8 @@ fn expect_answer(
     let mut given = Given::new(rt.alloc());
     take_lines(answer, &mut given)?;
     given.expect(rt, opening);
-    for (what, packets) in reports {
-        if make_report(answer, *what, &mut given.hold) {
+    for (report, packets) in reports {
+        if make_report(answer, report, &mut given.hold) {
             given.keep()?;
         }
         take_lines(answer, &mut given)?;
@@ -225,26 +227,35 @@ fn expect_answer(
     Ok(())
 }
 
-/// The answer to the fetch of these packets, whose one wanted reference, if it has one, points to this object.
+/// Whether a fetch wants just so many references by their names.
+fn wants_names(fetch: &Fetch<Global>, count: usize) -> bool
+    ensures { result ≡ true → count ≡ length fetch.now.asked.want_refs }
+{
+    if fetch.want_ref(count).is_some() {
+        return false;
+    }
+    if count == 0 {
+        return true;
+    }
+    fetch.want_ref(count - 1).is_some()
+}
+
+/// The answer to the fetch of these packets, whose wanted references point to these objects.
 fn answer_to(
     rt: &(impl Abort + AllocGlobal),
     packets: &[u8],
-    wanted: Option<Oid>,
-) -> Result<FetchAnswer<Global>, AllocError> {
+    ids: Vec<Oid>,
+) -> FetchAnswer<Global> {
     let fetch = fetch_of(rt, packets);
-    let mut ids = Vec::new(rt.alloc());
-    if let Some(id) = wanted {
-        assert!(rt; fetch.want_ref(0).is_some());
-        ids.push(id)?;
-    }
-    assert!(rt; fetch.want_ref(ids.len()).is_none());
-    Ok(FetchAnswer::new(fetch, ids))
+    assert!(rt; wants_names(&fetch, ids.len()));
+    FetchAnswer::new(fetch, ids)
 }
 
 /// One of three objects is common, the boundary has two lines, and the pack comes in two pieces with progress between them.
 #[test]
 fn a_fetch_that_negotiates_is_given_each_section(rt: HostRuntime) -> Result<(), Fail> {
-    let mut answer = answer_to(&rt, NEGOTIATION, Some(id(&rt, b'b')))?;
+    let wanted = Vec::from_slice(rt.alloc(), &[id(&rt, b'b')])?;
+    let mut answer = answer_to(&rt, NEGOTIATION, wanted);
     let shallow = Report::Boundary(Boundary::Shallow(id(&rt, b'a')));
     let unshallow = Report::Boundary(Boundary::Unshallow(id(&rt, b'c')));
     let reports: [(Report, &[u8]); 11] = [
@@ -279,7 +290,7 @@ fn a_fetch_that_negotiates_is_given_each_section(rt: HostRuntime) -> Result<(), 
 /// With `done` there are no acknowledgments, and without a line of the boundary its section is left out.
 #[test]
 fn a_fetch_that_is_done_is_given_the_pack(rt: HostRuntime) -> Result<(), Fail> {
-    let mut answer = answer_to(&rt, DONE, None)?;
+    let mut answer = answer_to(&rt, DONE, Vec::new(rt.alloc()));
     let reports: [(Report, &[u8]); 3] = [
         (Report::BoundaryEnd, b"000dpackfile\n"),
         (Report::Pack(b"PACK"), b"0009\x01PACK"),

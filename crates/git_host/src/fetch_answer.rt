@@ -94,7 +94,8 @@ pub struct FetchAnswer<A: Allocator + Copy> {
 }
 
 impl<A: Allocator + Copy> FetchAnswer<A> {
-    ghost use Rattle.git_host.specs.FetchPlaces.{EndsBoundary, Steps, Represents, ReportsAlone, ReportsAndGives, WhereAsked, asked_of, is_line_at, place_of, step_of};
+    ghost use Rattle.git_host.specs.FetchPlaces.{EndsBoundary, Steps, Represents, ReportsAlone, ReportsAndGives, WhereAsked};
+    ghost use Rattle.git_host.specs.FetchPlaces.{asked_of, is_line_at, place_of, step_of};
     ghost use Rattle.git_host.specs.FetchPlaces.{is_boundary, is_asked, is_have, is_pack, is_ready_asked};
     ghost use Rattle.git_host.specs.FetchPlaces.{with_have, with_line, with_pack, with_progress, with_ready};
     ghost use Rattle.git_host.specs.FetchFacts.{no_facts};

@@ -19,7 +19,11 @@ returns-then-any-clause-reported g c t given h =
       packet = boundary_packet line;
       held = line_held _ (boundary_text line) c.put_boundary.ensures.written c.put_boundary.ensures.fits;
       same = refl;
-      holds = record { wanted = h.wanted; all = h.all; stands = subst (λ (p : Place). StandsAt p q (with_line line t) (given ++ boundary_packet line ∷ [])) (sym was) (after_line q t given line more) };
+      holds = record {
+        wanted = h.wanted;
+        all = h.all;
+        stands = subst (λ (p : Place). StandsAt p q (with_line line t) (given ++ boundary_packet line ∷ [])) (sym was) (after_line q t given line more);
+      };
     }
 
 pub returns-clause-reported : goal.returns-clause-reported

@@ -58,7 +58,8 @@ returns-in-Wanted g c t given h =
       holds = record {
         wanted = h.wanted;
         all = h.all;
-        stands = after_wanted c.after_wanted-self.result next q t given id name c.after_wanted-self.ensures.more c.after_wanted-self.ensures.over at named here;
+        stands = after_wanted c.after_wanted-self.result next q t given id name c.after_wanted-self.ensures.more c.after_wanted-self.ensures.over
+            at named here;
       };
     }
 

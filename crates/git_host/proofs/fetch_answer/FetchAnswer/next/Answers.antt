@@ -13,7 +13,12 @@ returns-in-Header-clause-steps g c t given h =
       packet = text_line (codes "acknowledgments");
       held = line_held _ (codes "acknowledgments") c.put_line.ensures.written c.put_line.ensures.fits;
       same = refl;
-      holds = record { wanted = h.wanted; all = h.all; stands = have_place c.first_have-self.result _ _ q _ _ c.first_have-self.ensures.more c.first_have-self.ensures.over (after_header q t given at) };
+      holds = record {
+        wanted = h.wanted;
+        all = h.all;
+        stands = have_place c.first_have-self.result _ _ q _ _ c.first_have-self.ensures.more c.first_have-self.ensures.over
+            (after_header q t given at);
+      };
     }
 
 pub returns-in-Nak-clause-steps : goal.returns-in-Nak-clause-steps

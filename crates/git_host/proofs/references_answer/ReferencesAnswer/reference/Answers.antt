@@ -51,7 +51,8 @@ returns-then-not-shows g c = (
       let hidden = shown_alike q kept.asked entry.name false alike (sym c.shows.ensures ∙ c.if-not-shows.true) in
       let sound = one_more_sound old.format t old.last entry at.sound at.last_is (sym c.comes_next.ensures ∙ c.if-not-comes_next.false)
       c.is_of.ensures.named (c.is_of.ensures.of_format.0 c.if-not-is_of.false)
-      (head_allowed old.place old.format q t old.last given entry.name c.in_default.not-Whole (sym c.refuses_head.ensures ∙ c.if-refuses_head.false) h.stands) in
+      (head_allowed old.place old.format q t old.last given entry.name c.in_default.not-Whole
+      (sym c.refuses_head.ensures ∙ c.if-refuses_head.false) h.stands) in
       record {
         alike = alike;
         stands = subst (λ (p : ReferencesPlace). StandsAtReferences p old.format q (with_ref entry t) (Some entry) given) (sym c.after_reference-self.ensures)
@@ -72,7 +73,8 @@ returns g c = (
       let shown = shown_alike q kept.asked entry.name true alike (sym c.shows.ensures ∙ c.if-not-shows.false) in
       let sound = one_more_sound old.format t old.last entry at.sound at.last_is (sym c.comes_next.ensures ∙ c.if-not-comes_next.false)
       c.is_of.ensures.named (c.is_of.ensures.of_format.0 c.if-not-is_of.false)
-      (head_allowed old.place old.format q t old.last given entry.name c.in_default.not-Whole (sym c.refuses_head.ensures ∙ c.if-refuses_head.false) h.stands) in
+      (head_allowed old.place old.format q t old.last given entry.name c.in_default.not-Whole
+      (sym c.refuses_head.ensures ∙ c.if-refuses_head.false) h.stands) in
       let packet = reference_packet q.symrefs q.peel entry in (
         packet,
         subst (λ (p : Pkt). Holds c.put_entry.new.hold.items p) (packet_alike q kept.asked entry alike) c.put_entry.ensures,
