@@ -2,8 +2,8 @@
 # Tests the built program `git2show` from outside: as the real Git calls it (real_git.sh, clones.sh, partial_clones.sh and fetches.sh),
 # over HTTP (http_backend.sh, http.sh and web_servers.sh), and by hand (program.sh); our client, as it asks the real Git (asking.sh); what both
 # ends of the real Git send, as `check` judges it (recorded.sh); both of our ends against each other (playing.sh); the library for programs
-# in C, as the examples use it (library.sh), and one of them between both ends of the real Git (watching.sh); and a daemon and `serve` after
-# a thousand clients that mean harm (soak.sh); and the pages of this repository beside what they speak of (pages.sh).
+# in C, as the examples use it (library.sh), one of them as a daemon (daemon.sh), and one between both ends of the real Git (watching.sh); a
+# daemon and `serve` after a thousand clients that mean harm (soak.sh); and the pages of this repository beside what they speak of (pages.sh).
 #
 #     tests/run.sh [PROGRAM [LIBRARY]]
 #
@@ -104,6 +104,7 @@ export PATH=$room/bin:$PATH
 . "$top/tests/program.sh"
 . "$top/tests/playing.sh"
 . "$top/tests/library.sh"
+. "$top/tests/daemon.sh"
 . "$top/tests/watching.sh"
 . "$top/tests/soak.sh"
 . "$top/tests/pages.sh"

@@ -1,6 +1,6 @@
 //! Tests that need code: memory that is refused, and given back, packs that come in parts or fail, readers and writers that fail or are
-//! asked when they were flushed, what a repository is asked, bytes of a pack as they pass, many packets and prefixes at once, and the
-//! names and texts of faults. What a text can state is a case of `worked_conversations`.
+//! asked when they were flushed, what a repository is asked, answers over a store that is asked, bytes of a pack as they pass, many packets
+//! and prefixes at once, and the names and texts of faults. What a text can state is a case of `worked_conversations`.
 #![tactic(auto)]
 
 #[cfg(test)]
@@ -23,6 +23,8 @@ mod faults;
 mod freed_memory;
 #[cfg(test)]
 mod full_packets;
+#[cfg(test)]
+mod host_answers;
 #[cfg(test)]
 mod many_packets;
 #[cfg(test)]

@@ -46,7 +46,8 @@ pub fn object(rt: &impl Abort, format: Format, digit: u8) -> Oid {
     Oid::from_hex(&[digit; 64][..format.digits()]).expect(rt, "an object name")
 }
 
-fn entry(
+/// A reference of this name.
+pub fn entry(
     rt: &(impl Abort + AllocGlobal),
     name: &[u8],
     id: Oid,

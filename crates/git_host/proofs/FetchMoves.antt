@@ -81,7 +81,7 @@ module _ (q : FetchAsked) (t : FetchFacts) where
   opened_by : negotiates q ≡ true → length t.has ≡ length q.haves → is_ready q t ≡ true → IsOpened q t
   opened_by e all ready = subst (λ (b : Bool). WhereNegotiating b ((length t.has ≡ length q.haves) × (is_ready q t ≡ true))) (sym e) (all, ready)
 
-  -- the pack, where it follows, makes the answer
+  -- where the pack follows, the answer is that of the facts
   answer_by : (b : Bool) (manner : Manner) (given : List Pkt) → WhereNegotiating b ((length t.has ≡ length q.haves) × (is_ready q t ≡ true))
       → HasPack manner q t given → IsFetchAnswerWhere b (is_ready q t) manner q t given
   answer_by true manner given opened h = subst (λ (r : Bool). IsFetchAnswerWhere true r manner q t given) (sym opened.1) (opened.0, h)
@@ -89,7 +89,7 @@ module _ (q : FetchAsked) (t : FetchFacts) where
 
 -- ---- the acknowledgments
 
--- what was reported of the haves before this place
+-- each have before this place was reported
 pub record SoFar (next : ℕ) (any : Bool) (q : FetchAsked) (t : FetchFacts) (given : List Pkt) : Type 0 where
   pub negotiates : negotiates q ≡ true
   pub so_far : length t.has ≡ next
@@ -179,7 +179,7 @@ after_not_common next any q t given h =
       after = record { boundary = h.after.boundary; pack = h.after.pack; progress = h.after.progress };
     }
 
--- there is one where it is asked
+-- a have is asked about only where there is one
 pub have_there : (next : ℕ) (any : Bool) (q : FetchAsked) (t : FetchFacts) (given : List Pkt) → AtHave next any q t given
     → (id : ObjectName) × (slice_get q.haves next ≡ Some id)
 have_there next any q t given h =
@@ -322,7 +322,7 @@ item_there xs at within =
     ]
 
 -- the first items and the next one
-one_more : {X : Type 0} (xs : List X) (at : ℕ) (x : X) → slice_get xs at ≡ Some x → take (at + 1) xs ≡ take at xs ++ x ∷ []
+pub one_more : {X : Type 0} (xs : List X) (at : ℕ) (x : X) → slice_get xs at ≡ Some x → take (at + 1) xs ≡ take at xs ++ x ∷ []
 one_more {X = X} xs at x here =
     take_more xs at x (slice_get_within xs at x here)
     ∙ ap (λ (y : X). take at xs ++ y ∷ []) (sym (unwrap_or-slice_get xs at x) ∙ ap (λ (o : Option X). unwrap_or o x) here)
@@ -461,7 +461,7 @@ asks_ready_at q Pack e = absurd (cc)
 asks_ready_at q AtEnd e = absurd (cc)
 asks_ready_at q AtLoss e = absurd (cc)
 
--- where neither a report is asked nor the acknowledgments go on, a line comes next
+-- where no report is asked and no acknowledgment comes next, a line does
 pub line_at : (place : Place) → ((next : ℕ) (any : Bool) → place ≡ Have next any → ⊥) → ((any : Bool) → place ≡ Shallow any → ⊥) → (place ≡ Pack → ⊥)
     → (place ≡ AtEnd → ⊥) → (place ≡ AtLoss → ⊥) → (place ≡ Header → ⊥) → (place ≡ Nak → ⊥) → (place ≡ Ready → ⊥) → is_line_at place ≡ true
 line_at Header a b c d e f g h = absurd (f refl)

@@ -1,5 +1,6 @@
 pub mod Picked
 pub mod FetchMoves
+pub mod AdmissionMoves
 pub mod RepositoryFacts
 pub mod Rising
 pub mod ReferencesMoves

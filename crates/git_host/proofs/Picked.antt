@@ -1,4 +1,4 @@
--- What was told so far, with one thing more.
+-- What was reported so far, with one report more.
 use Rattle.std.proofs.Common.{arith, ◌≡◌, ℕ, ◌+◌, ◌<◌, Bool, true, false, List, [], ◌∷◌, ◌++◌}
 use Rattle.std.proofs.Common.{length, map, slice_get, Some, refl, sym, ap, ◌∙◌, append_assoc, append-nil, inl, inr}
 use Rattle.git_names.specs.ObjectName.{ObjectName}
@@ -14,7 +14,7 @@ pub length_more : {X : Type 0} (xs : List X) (x : X) → length (xs ++ x ∷ [])
 length_more [] x = refl
 length_more (y ∷ ys) x = omega (arith, length_more ys x)
 
--- of the next item it was told that it is there
+-- the next item is reported as there
 pub picked_true : {X : Type 0} (bs : List Bool) (xs : List X) (x : X) → slice_get xs (length bs) ≡ Some x
     → picked (bs ++ true ∷ []) xs ≡ picked bs xs ++ x ∷ []
 picked_true [] [] x here = absurd (cc)
@@ -23,7 +23,7 @@ picked_true (b ∷ bs) [] x here = absurd (cc)
 picked_true (true ∷ bs) (y ∷ ys) x here = ap (λ l. y ∷ l) (picked_true bs ys x here)
 picked_true (false ∷ bs) (y ∷ ys) x here = picked_true bs ys x here
 
--- or that it is not
+-- or as absent
 pub picked_false : {X : Type 0} (bs : List Bool) (xs : List X) → picked (bs ++ false ∷ []) xs ≡ picked bs xs
 picked_false [] [] = refl
 picked_false [] (y ∷ ys) = refl
@@ -31,7 +31,7 @@ picked_false (b ∷ bs) [] = refl
 picked_false (true ∷ bs) (y ∷ ys) = ap (λ l. y ∷ l) (picked_false bs ys)
 picked_false (false ∷ bs) (y ∷ ys) = picked_false bs ys
 
--- of none it was told
+-- no item was reported yet
 pub picked_none : {X : Type 0} (xs : List X) → picked [] xs ≡ []
 picked_none xs = refl
 
@@ -87,7 +87,7 @@ module _ (bytes : List ℕ) (some : 0 < length bytes) (fits : length bytes < lon
     rest = pack_more pack h.more ps h.rest;
   })
 
-  -- so does a part of the progress
+  -- as does a part of the progress
   pub progress_more : (pack progress : List ℕ) (parts : List Pkt) → AreParts pack progress parts
       → AreParts pack (progress ++ bytes) (parts ++ band_packet Progress bytes ∷ [])
   progress_more pack progress [] h = inr (record {

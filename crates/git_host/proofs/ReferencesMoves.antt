@@ -1,7 +1,7 @@
 -- One reference more, and the end.
 use Rattle.std.proofs.Common.{arith, ◌≡◌, ℕ, ◌-◌, ◌<◌, Bool, true, false, List, [], ◌∷◌, ◌++◌, length, map}
 use Rattle.std.proofs.Common.{get_or, Option, Some, None, codes, if◌then◌else◌, refl, sym, ap, ◌∙◌, append_assoc, append-nil, subst}
-use Rattle.std.specs.List.{All, filter}
+use Rattle.std.specs.List.{filter}
 use Rattle.std.specs.Option.{ForSome}
 use Rattle.std.specs.Prelude.{◌≢◌, IsSome}
 use Rattle.std.proofs.lemmas.List.Elements.{All-nil, All-pop, All-push}
@@ -55,7 +55,7 @@ packet_alike q kept entry h = ap (λ (b : Bool). reference_packet b kept.peel en
 pub asks_alike : (q kept : LsRefsAsked) (b : Bool) → IsAlike q kept → asks_for_unborn kept ≡ b → asks_for_unborn q ≡ b
 asks_alike q kept b h is = rw (h.symrefs, h.unborn, ← h.alike (codes "HEAD")) at is
 
--- what came last is the last
+-- the reference added last is the last one
 last_before : (refs : List Entry) (last : Option Entry) (entry d : Entry) → IsLast refs last → comes_after last entry.name ≡ true
     → 0 < length refs → comes_before (get_or refs (length refs - 1) d).name entry.name ≡ true
 last_before refs None entry d none after some = absurd (omega (arith, some, ap length none))
@@ -73,7 +73,7 @@ more_rising t last entry rising is after =
 true_false : true ≡ false → ⊥
 true_false e = cc
 
--- one that does not come after it makes them not rise
+-- with a reference that does not come after the last, the names do not rise
 not_rising : (t : ReferencesFacts) (last : Option Entry) (entry : Entry) → IsLast t.refs last → comes_after last entry.name ≡ false
     → IsRising (t.refs ++ entry ∷ []) → ⊥
 not_rising t None entry is after rising = absurd (cc)
@@ -86,7 +86,7 @@ not_rising t (Some last) entry (front, is) after rising =
     let less_here : comes_before last.name entry.name ≡ true = sym (ap (λ (e : Entry). comes_before e.name entry.name) here) ∙ less in
     absurd (true_false (sym less_here ∙ after))
 
--- what is reported is sound with one reference more, which is no second `HEAD`
+-- with one reference more, which is no second `HEAD`, what was reported stays sound
 pub one_more_sound : (format : Format) (t : ReferencesFacts) (last : Option Entry) (entry : Entry) → AreSoundReferences format t → IsLast t.refs last
     → comes_after last entry.name ≡ true → IsNamed entry.name entry.target → IsOfFormat format entry
     → ForSome t.unborn (λ target. entry.name ≢ codes "HEAD") → AreSoundReferences format (with_ref entry t)
@@ -123,7 +123,7 @@ module _ (format : Format) (q : LsRefsAsked) (t : ReferencesFacts) (last : Optio
     given_is = ap (λ (l : List Pkt). l ++ reference_packet q.symrefs q.peel entry ∷ []) at.given_is ∙ sym (refs_on entry true e);
   }
 
-  -- and one that is not
+  -- a reference that is hidden
   pub after_hidden : (entry : Entry) → AreSoundReferences format (with_ref entry t) → is_shown q.ref_prefixes entry.name ≡ false
       → AtEntries format q (with_ref entry t) (Some entry) given
   after_hidden entry sound e = record {
@@ -184,7 +184,7 @@ head_allowed AfterUnborn format q t last given name unended other h =
     λ target there same. true_false (sym ((bytes_eq-Decides name (codes "HEAD")).1 same) ∙ other)
 head_allowed Whole format q t last given name unended other h = absurd (unended refl)
 
--- ---- what is refused is not sound
+-- ---- what is refused would not be sound
 
 pub unsound_order : (format : Format) (t : ReferencesFacts) (last : Option Entry) (entry : Entry) → IsLast t.refs last
     → comes_after last entry.name ≡ false → ¬ AreSoundReferences format (with_ref entry t)
@@ -202,11 +202,11 @@ unsound_head Entries format q t last given entry is h sound = absurd (cc)
 unsound_head Whole format q t last given entry is h sound = absurd (cc)
 unsound_head AfterUnborn format q t last given entry is h sound =
     not_head t.unborn h.0 sound.unborn where
-  not_head : (unborn : Option (List ℕ)) → IsSome unborn → ForSome unborn (IsUnbornHead (t.refs ++ entry ∷ [])) → ⊥
-  not_head None some u = absurd (cc)
-  not_head (Some target) some u =
-      (All-pop (λ (ref : Entry). ref.name ≢ codes "HEAD") (t.refs ++ entry ∷ []) t.refs (Some entry) refl (u target refl).no_head).1
-      ((bytes_eq-Decides entry.name (codes "HEAD")).0 is)
+      not_head : (unborn : Option (List ℕ)) → IsSome unborn → ForSome unborn (IsUnbornHead (t.refs ++ entry ∷ [])) → ⊥
+      not_head None some u = absurd (cc)
+      not_head (Some target) some u =
+          (All-pop (λ (ref : Entry). ref.name ≢ codes "HEAD") (t.refs ++ entry ∷ []) t.refs (Some entry) refl (u target refl).no_head).1
+          ((bytes_eq-Decides entry.name (codes "HEAD")).0 is)
 
 module _ (format : Format) (q : LsRefsAsked) (t : ReferencesFacts) (last : Option Entry) (given : List Pkt) (target : List ℕ) (at : AtFirst t last given) where
   head_on : (b : Bool) → asks_for_unborn q ≡ b

@@ -1,4 +1,4 @@
--- What is given by what was told is an answer of each repository that answers so.
+-- What is given by what was reported is an answer of each repository that answers so.
 use Rattle.std.proofs.Common.{arith, ◌≡◌, ℕ, ◌<◌, Bool, true, false, not, ◌&&◌, List, [], ◌∷◌, ◌++◌}
 use Rattle.std.proofs.Common.{length, map, codes, if◌then◌else◌, refl, sym, ap, ◌∙◌, append_assoc, subst, inl, inr}
 use Rattle.std.specs.List.{filter, filter_map}
@@ -67,14 +67,14 @@ ends_by broken pack bytes parts is h = record {
   packets_are = refl;
 }
 
-module _ (manner : Manner) (repo : Repository) (q : FetchAsked) (t : FetchFacts) (says : AreOfRepository manner repo q t) where
+module _ (manner : Manner) (repo : Repository) (q : FetchAsked) (t : FetchFacts) (reports : AreOfRepository manner repo q t) where
   acknowledged : acknowledgments q t ≡ acknowledgments_of repo q
   acknowledged =
-      ap (λ (bs : List Bool). text_line (codes "acknowledgments") ∷ nak_or_acks (picked bs q.haves)) says.has
+      ap (λ (bs : List Bool). text_line (codes "acknowledgments") ∷ nak_or_acks (picked bs q.haves)) reports.has
       ∙ ap (λ (ids : List ObjectName). text_line (codes "acknowledgments") ∷ nak_or_acks ids) (picked_has repo.has q.haves)
 
   ready_for : is_ready q t ≡ is_ready_for repo q
-  ready_for = ap (λ (b : Bool). not (only_negotiates q) && b) says.ready
+  ready_for = ap (λ (b : Bool). not (only_negotiates q) && b) reports.ready
 
   -- from the boundary on
   after : (parts : List Pkt) → AreParts t.pack t.progress parts
@@ -84,7 +84,7 @@ module _ (manner : Manner) (repo : Repository) (q : FetchAsked) (t : FetchFacts)
       let tail = parts ++ last_packet manner ∷ [] in
       let packs : IsPackfile manner (repo.pack q) (packfile_header ∷ tail) = record {
         tail = tail;
-        ends = ends_by manner (repo.pack q) t.pack parts says.pack (subst (λ (l : List ℕ). AreParts t.pack l parts) says.progress are);
+        ends = ends_by manner (repo.pack q) t.pack parts reports.pack (subst (λ (l : List ℕ). AreParts t.pack l parts) reports.progress are);
         packets_are = refl;
       } in
       record {
@@ -92,12 +92,12 @@ module _ (manner : Manner) (repo : Repository) (q : FetchAsked) (t : FetchFacts)
         holds = record {
           others = packfile_header ∷ tail;
           holds = packs;
-          packets_are = ap (λ (l : List Pkt). l ++ (packfile_header ∷ tail)) (found_section repo q.want_refs t.wanted says.wanted);
+          packets_are = ap (λ (l : List Pkt). l ++ (packfile_header ∷ tail)) (found_section repo q.want_refs t.wanted reports.wanted);
         };
-        packets_are = ap (λ (lines : List Boundary). shallow_info lines ++ (wanted_refs t.wanted q.want_refs ++ (packfile_header ∷ tail))) says.boundary;
+        packets_are = ap (λ (lines : List Boundary). shallow_info lines ++ (wanted_refs t.wanted q.want_refs ++ (packfile_header ∷ tail))) reports.boundary;
       }
 
-  -- all that comes with the pack
+  -- the whole answer, where the pack is part of it
   with_pack : (front : List Pkt) (packets : List Pkt) (h : HasPack manner q t packets) → opening q t ≡ front
       → packets ≡ front ++ (shallow_info t.boundary ++ (wanted_refs t.wanted q.want_refs ++ (packfile_header ∷ (h.parts ++ last_packet manner ∷ []))))
   with_pack front packets h is =
@@ -124,6 +124,6 @@ module _ (manner : Manner) (repo : Repository) (q : FetchAsked) (t : FetchFacts)
   answers_by false r packets e ready h =
       subst (EndsWithBoundary manner repo q) (sym (with_pack [] packets h (opens_by false e))) (after h.parts h.are_parts)
 
-  pub told_answers : (packets : List Pkt) → IsFetchAnswerOf manner q t packets → IsFetchAnswer manner repo q packets
-  told_answers packets h = answers_by (negotiates q) (is_ready_for repo q) packets refl refl
+  pub reported_answers : (packets : List Pkt) → IsFetchAnswerOf manner q t packets → IsFetchAnswer manner repo q packets
+  reported_answers packets h = answers_by (negotiates q) (is_ready_for repo q) packets refl refl
       (subst (λ (r : Bool). IsFetchAnswerWhere (negotiates q) r manner q t packets) ready_for h)

@@ -1,4 +1,4 @@
--- One size more, and whose they are.
+-- One size more; and answers by what a repository has.
 use Rattle.std.proofs.Common.{arith, ◌≡◌, ℕ, ◌+◌, ◌<◌, List, [], ◌∷◌, ◌++◌, length, map, slice_get, Option, Some, codes, refl, sym, ap, ◌∙◌, inl, inr}
 use Rattle.std.proofs.lemmas.Option.{slice_get_cases}
 use Rattle.git_names.specs.ObjectName.{ObjectName}

@@ -12,8 +12,8 @@ use Rattle.git_msg.specs.WrittenRequest.{text_line}
 use Rattle.git_server.specs.Packs.{Manner, whole, broken, pack_source_packet, packfile_header}
 use Rattle.git_server.specs.FetchAnswers.{IsFlushed, nak_or_acks, negotiates, ready_lines, section, shallow_info}
 
--- what a store reported for one fetch: of each object that the client has whether the store has it, by its place; whether it is ready to
--- send a pack; the shallow boundary; of each wanted reference its object, by its place; the bytes of the pack, and those of the progress
+-- what a store reported for one fetch: whether it has each object that the client has, by place; whether it is ready to send a pack; the
+-- shallow boundary; the object of each wanted reference, by place; the bytes of the pack, and those of the progress
 pub record FetchFacts : Type 0 where
   pub has : List Bool
   pub ready : Bool
@@ -26,7 +26,7 @@ pub record FetchFacts : Type 0 where
 abbrev pub no_facts : List ObjectName → FetchFacts
 no_facts wanted = record { has = []; ready = false; boundary = []; wanted = wanted; pack = []; progress = [] }
 
--- the items that are there, by what was reported of each place
+-- the items that were reported as there, by place
 abbrev pub picked : {X : Type 0} → List Bool → List X → List X
 picked (b ∷ bs) (x ∷ xs) = if b then x ∷ picked bs xs else picked bs xs
 picked _ _ = []
@@ -57,7 +57,7 @@ wanted_refs ids (name ∷ names) = section (codes "wanted-refs") (wanted_lines i
 abbrev pub before_pack : FetchAsked → FetchFacts → List Pkt
 before_pack q t = opening q t ++ (shallow_info t.boundary ++ wanted_refs t.wanted q.want_refs)
 
--- the packet has a part of the bytes on the band, and of those after it Rest holds
+-- the packet carries a first part of the bytes on the band, and Rest holds of the bytes after that part
 pub record BeginsBy (band : Band) (packet : Pkt) (bytes : List ℕ) (Rest : List ℕ → Type 0) : Type 0 where
   pub part : List ℕ
   pub more : List ℕ

@@ -1,6 +1,5 @@
 -- How far an answer to `fetch` has come, by what was reported and what was given.
 use Rattle.std.specs.Prelude.{◌≡◌, ℕ, ◌<◌, ◌≤◌, Bool, true, false, not, List, [], ◌∷◌, ◌++◌, length, map, take, codes}
-use Rattle.git_names.specs.ObjectName.{ObjectName}
 use Rattle.git_pkt.specs.Packets.{Pkt, body_of, longest_payload, spelling_of}
 use Rattle.git_msg.specs.declared.Boundary.{Boundary}
 use Rattle.git_msg.specs.Asked.{FetchAsked, is_empty, only_negotiates}
@@ -32,7 +31,7 @@ pub record NothingAfter (t : FetchFacts) : Type 0 where
 abbrev pub acks_header : Pkt
 acks_header = text_line (codes "acknowledgments")
 
--- where the request negotiates P holds
+-- P holds if the request negotiates
 abbrev pub WhereNegotiating : Bool → Type 0 → Type 0
 WhereNegotiating true P = P
 WhereNegotiating false P = Unit {0}
@@ -63,7 +62,7 @@ pub record AtHave (next : ℕ) (any : Bool) (q : FetchAsked) (t : FetchFacts) (g
   pub unready : t.ready ≡ false
   pub after : NothingAfter t
 
--- it has none of them
+-- the store has none of them
 pub record AtNak (q : FetchAsked) (t : FetchFacts) (given : List Pkt) : Type 0 where
   pub negotiates : negotiates q ≡ true
   pub all : length t.has ≡ length q.haves
@@ -140,7 +139,7 @@ StandsAt Pack q t given = AtPack q t given
 StandsAt AtEnd q t given = IsFetchAnswerOf whole q t given
 StandsAt AtLoss q t given = IsFetchAnswerOf broken q t given
 
--- what is asked at a place, or that a packet is owed, or how the answer ended
+-- what is done next at a place: a packet, a question, or the end of the answer
 abbrev pub step_at : Bool → Place → Step
 step_at alone (Have next any) = AskHave next
 step_at true Ready = Packet
@@ -151,7 +150,7 @@ step_at alone AtEnd = Whole
 step_at alone AtLoss = Broken
 step_at alone _ = Packet
 
--- a packet comes next that no report decides, after the acknowledgments
+-- the next packet comes after the acknowledgments and depends on no report
 abbrev pub is_line_at : Place → Bool
 is_line_at Delimiter = true
 is_line_at (ShallowLine line) = true
@@ -161,7 +160,7 @@ is_line_at WantedEnd = true
 is_line_at PackHeader = true
 is_line_at _ = false
 
--- the bytes are the packet's
+-- the bytes are those of the packet
 pub record Holds (bytes : List ℕ) (packet : Pkt) : Type 0 where
   pub spelled : bytes ≡ spelling_of packet
   pub fits : length (body_of packet) ≤ longest_payload
@@ -184,14 +183,14 @@ module _ {A : Type 0} where
     pub all : length t.wanted ≡ length (asked_of answer).want_refs
     pub stands : StandsAt answer.place (asked_of answer) t given
 
-  -- a packet is given, which these bytes are, and with it P holds of all that was given
+  -- these bytes are the next packet, and P holds of all that was given with it
   pub record Gives (given : List Pkt) (bytes : List ℕ) (old new : FetchAnswer A) (P : List Pkt → Type 0) : Type 0 where
     pub packet : Pkt
     pub held : Holds bytes packet
     pub same : asked_of new ≡ asked_of old
     pub holds : P (given ++ packet ∷ [])
 
-  -- the facts become these, and a packet is given, which these bytes are
+  -- the facts become these, and these bytes are the next packet
   abbrev pub ReportsAndGives : (FetchFacts → FetchFacts) → FetchAnswer A → List ℕ → FetchAnswer A → Type 0
   ReportsAndGives with old bytes new = (t : FetchFacts) (given : List Pkt) → Represents t given old
       → Gives given bytes old new (λ packets. Represents (with t) packets new)
@@ -201,12 +200,12 @@ module _ {A : Type 0} where
   ReportsAlone with old new =
       (t : FetchFacts) (given : List Pkt) → Represents t given old → (asked_of new ≡ asked_of old) × Represents (with t) given new
 
-  -- a report that was expected does this; one that was not changes nothing
+  -- a report that was asked for does this; any other changes nothing
   abbrev pub WhereAsked : Bool → Type 0 → FetchAnswer A → FetchAnswer A → Type 0
   WhereAsked true Does old new = Does
   WhereAsked false Does old new = new ≡ old
 
-  -- what `next` does, by its answer
+  -- what `next` does, by the step that it returns
   abbrev pub Steps : FetchAnswer A → Step → List ℕ → FetchAnswer A → Type 0
   Steps old Packet bytes new = ReportsAndGives (λ t. t) old bytes new
   Steps old Whole bytes new =
@@ -244,7 +243,7 @@ abbrev pub is_pack : Step → Bool
 is_pack AskPack = true
 is_pack _ = false
 
--- one thing more
+-- one report more
 abbrev pub with_have : Bool → FetchFacts → FetchFacts
 with_have has t = record t { has = t.has ++ has ∷ [] }
 
@@ -265,7 +264,7 @@ abbrev pub place_by : Bool → Place
 place_by true = Header
 place_by false = Shallow false
 
--- the place after all the objects that the client has, where one of them is common or none is
+-- the place after all the objects that the client has, by whether any is common
 abbrev pub after_haves : Bool → Place
 after_haves true = Ready
 after_haves false = Nak

@@ -1,3 +1,4 @@
+pub mod Admissions
 pub mod FetchFacts
 pub mod FetchPlaces
 pub mod ReferencesPlaces

@@ -1,8 +1,7 @@
 -- How far an answer for references has come, by what was reported and what was given.
-use Rattle.std.specs.Prelude.{◌≡◌, ◌≢◌, ◌⊎◌, ℕ, Bool, true, false, All, List, [], ◌∷◌, ◌++◌, codes, map, Option, Some, None, IsSome}
+use Rattle.std.specs.Prelude.{◌≡◌, ◌≢◌, ℕ, Bool, true, false, All, List, [], ◌∷◌, ◌++◌, codes, map, Option, Some, None, IsSome}
 use Rattle.std.specs.Option.{ForSome}
 use Rattle.std.specs.Str.{bytes_eq}
-use Rattle.git_names.specs.RefName.{IsRefName}
 use Rattle.git_names.specs.declared.object_format.Format.{Format}
 use Rattle.git_pkt.specs.Packets.{Pkt}
 use Rattle.git_msg.specs.Asked.{LsRefsAsked}
@@ -13,7 +12,7 @@ use Rattle.git_host.specs.FetchPlaces.{Holds}
 use Rattle.git_host.specs.declared.references_answer.ReferencesPlace.{ReferencesPlace}
 use Rattle.git_host.specs.declared.references_answer.ReferencesPlace.TheVariants.{First, Entries, AfterUnborn, Whole}
 use Rattle.git_host.specs.declared.references_answer.Reported.{Reported}
-use Rattle.git_host.specs.declared.references_answer.Reported.TheVariants.{Packet, Hidden, Unsorted, MixedFormats, HeadTwice, NotAsked}
+use Rattle.git_host.specs.declared.references_answer.Reported.TheVariants.{Packet, Hidden, NotAsked}
 use Rattle.git_host.specs.declared.references_answer.ReferencesAnswer.{ReferencesAnswer}
 
 -- what a store reported for one request for references: what an unborn `HEAD` points to, and its references
@@ -53,7 +52,7 @@ pub record IsAlike (q kept : LsRefsAsked) : Type 0 where
   pub unborn : kept.unborn ≡ q.unborn
   pub alike : ShowAlike q.ref_prefixes kept.ref_prefixes
 
--- the packets by what was reported so far
+-- the packets that what was reported so far calls for
 abbrev pub packets_so_far : LsRefsAsked → ReferencesFacts → List Pkt
 packets_so_far q t = unborn_packets q t.unborn ++ map (reference_packet q.symrefs q.peel) (shown_refs q.ref_prefixes t.refs)
 
@@ -108,26 +107,30 @@ module _ {A : Type 0} where
   abbrev pub is_whole : ReferencesAnswer A → Type 0
   is_whole answer = answer.place ≡ Whole
 
+  -- something was reported
+  abbrev pub HasBegun : ReferencesAnswer A → Type 0
+  HasBegun answer = answer.place ≢ First
+
   -- these facts were reported for a request, and these packets were given
   pub record RepresentsReferences (q : LsRefsAsked) (t : ReferencesFacts) (given : List Pkt) (answer : ReferencesAnswer A) : Type 0 where
     pub alike : IsAlike q answer.listing.asked
     pub stands : StandsAtReferences answer.place answer.format q t answer.last given
 
-  -- it is new
+  -- the answer is new
   abbrev pub Starts : LsRefsAsked → ReferencesAnswer A → Type 0
   Starts q answer = RepresentsReferences q no_references [] answer
 
-  -- the facts become these, and a packet is given, which these bytes are
+  -- the facts become these, and these bytes are the next packet
   abbrev pub ReportsOn : (ReferencesFacts → ReferencesFacts) → ReferencesAnswer A → List ℕ → ReferencesAnswer A → Type 0
   ReportsOn with old bytes new = (q : LsRefsAsked) (t : ReferencesFacts) (given : List Pkt) → RepresentsReferences q t given old
       → (packet : Pkt) × Holds bytes packet × RepresentsReferences q (with t) (given ++ packet ∷ []) new
 
-  -- and no packet is given
+  -- the facts become these, and no packet is given
   abbrev pub ReportsHidden : (ReferencesFacts → ReferencesFacts) → ReferencesAnswer A → ReferencesAnswer A → Type 0
   ReportsHidden with old new =
       (q : LsRefsAsked) (t : ReferencesFacts) (given : List Pkt) → RepresentsReferences q t given old → RepresentsReferences q (with t) given new
 
-  -- with the reference no sound repository has what was reported
+  -- no sound repository has what was reported together with this reference
   abbrev pub IsUnsoundAfter : Entry → ReferencesAnswer A → Type 0
   IsUnsoundAfter entry old = (q : LsRefsAsked) (t : ReferencesFacts) (given : List Pkt) → RepresentsReferences q t given old
       → ¬ AreSoundReferences (format_of old) (with_ref entry t)
@@ -143,7 +146,8 @@ module _ {A : Type 0} where
   abbrev pub ReportsUnborn : List ℕ → ReferencesAnswer A → Reported → List ℕ → ReferencesAnswer A → Type 0
   ReportsUnborn target old Packet bytes new = (format_of new ≡ format_of old) × ReportsOn (with_unborn target) old bytes new
   ReportsUnborn target old Hidden bytes new = (format_of new ≡ format_of old) × ReportsHidden (with_unborn target) old new
-  ReportsUnborn target old other bytes new = new ≡ old
+  ReportsUnborn target old NotAsked bytes new = (new ≡ old) × HasBegun old
+  ReportsUnborn target old other bytes new = ⊥
 
   -- what the end does
   abbrev pub Ends : ReferencesAnswer A → Bool → List ℕ → ReferencesAnswer A → Type 0

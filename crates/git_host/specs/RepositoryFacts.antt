@@ -1,4 +1,4 @@
--- What a store reports that answers as a repository.
+-- What a store reports if it answers as a repository does.
 use Rattle.std.specs.Prelude.{◌≡◌, ℕ, List, [], ◌∷◌, ◌++◌, Some, map}
 use Rattle.git_names.specs.ObjectName.{ObjectName}
 use Rattle.git_msg.specs.Asked.{FetchAsked}
@@ -12,7 +12,7 @@ AreFound refs [] [] = Unit {0}
 AreFound refs (name ∷ names) (id ∷ ids) = (found_ref refs name ≡ Some id) × AreFound refs names ids
 AreFound refs _ _ = ⊥
 
--- the bytes are the pack, or where it broke off a front of it
+-- the bytes are the pack, or a front of it where it broke off
 abbrev pub IsPackOf : Manner → List ℕ → List ℕ → Type 0
 IsPackOf whole pack bytes = bytes ≡ pack
 IsPackOf broken pack bytes = (more : List ℕ) × (pack ≡ bytes ++ more)

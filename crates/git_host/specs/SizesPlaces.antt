@@ -21,7 +21,7 @@ abbrev pub size_lines : List (Option ℕ) → List ObjectName → List Pkt
 size_lines (size ∷ sizes) (id ∷ ids) = size_line size id ∷ size_lines sizes ids
 size_lines _ _ = []
 
--- each object was reported on, and the packets are the answer by that
+-- the size of each object was reported, and the packets are the answer by these sizes
 pub record IsSizesAnswerOf (q : ObjectInfoAsked) (sizes : List (Option ℕ)) (packets : List Pkt) : Type 0 where
   pub all : length sizes ≡ length q.oids
   pub packets_are : packets ≡ text_line (codes "size") ∷ (size_lines sizes q.oids ++ flush ∷ [])
@@ -48,7 +48,7 @@ module _ {A : Type 0} where
   abbrev pub IsAsking : SizesAnswer A → ℕ → Type 0
   IsAsking answer at = (answer.place ≡ Object at) × (at < length (sizes_asked answer).oids)
 
-  -- the sizes become these, and a packet is given, which these bytes are
+  -- the sizes become these, and these bytes are the next packet
   pub record GivesSize (with : List (Option ℕ) → List (Option ℕ)) (old : SizesAnswer A) (bytes : List ℕ) (new : SizesAnswer A) : Type 0 where
     pub same : sizes_asked new ≡ sizes_asked old
     pub gives : (sizes : List (Option ℕ)) (given : List Pkt) → RepresentsSizes sizes given old

@@ -1,5 +1,5 @@
-//! The answer to one `fetch`, gitprotocol-v2(5), over a store that is asked one thing after another: each packet is given as soon as what
-//! the store reported decides it.
+//! The answer to one `fetch`, gitprotocol-v2(5), over a store that is asked one question at a time: each packet is given as soon as the
+//! reports so far decide it.
 //!
 //! ```text
 //!  Header --> Have .. Have --> (Nak) --> Ready --> Delimiter --> Shallow .. --> WantedHeader --> Wanted .. --> PackHeader --> Pack .. --> Whole
@@ -28,7 +28,7 @@ use std::alloc::Allocator;
 enum Place {
     // The header of the acknowledgments.
     Header,
-    // Whether the store has the have at this place; and whether it has one before it.
+    // Whether the store has the object of the `have` line at this place; and whether it has one of an earlier line.
     Have(usize, bool),
     // The line `NAK`.
     Nak,
@@ -156,7 +156,7 @@ impl<A: Allocator + Copy> FetchAnswer<A> {
         }
     }
 
-    // Gives the next packet of the sections after the acknowledgments, which needs no report.
+    // Gives the next packet of the sections after the acknowledgments, where it depends on no report.
     fn give_line(&mut self, hold: &mut Hold)
         requires { is_line_at (place_of self.old) ≡ true }
         ensures { ReportsAndGives (λ t. t) self.old hold.new.items self.new }
@@ -241,7 +241,8 @@ impl<A: Allocator + Copy> FetchAnswer<A> {
         true
     }
 
-    /// A line of the shallow boundary: it is given, or the header of its section, and it next. Returns whether that was asked.
+    /// A line of the shallow boundary. It is given at once, but for the first: the header of the section is given, and `next` gives the line.
+    /// Returns whether that was asked.
     pub fn boundary(&mut self, line: Boundary, hold: &mut Hold) -> bool
         ensures asked { result ≡ is_boundary (step_of self.old) }
         ensures reported { WhereAsked result (ReportsAndGives (with_line line) self.old hold.new.items self.new) self.old self.new }
@@ -288,7 +289,7 @@ impl<A: Allocator + Copy> FetchAnswer<A> {
         true
     }
 
-    /// Bytes of the progress, which is a text for the client's user, in the same way.
+    /// Bytes of the progress, a text for the client's user, as many as of the pack: their packet is given. Returns whether that was asked.
     pub fn progress(&mut self, bytes: &[u8], hold: &mut Hold) -> bool
         requires some { 0 < length bytes.now }
         requires fits { length bytes.now < longest_payload }
@@ -302,10 +303,11 @@ impl<A: Allocator + Copy> FetchAnswer<A> {
         true
     }
 
-    /// The pack has no more bytes: the flush is given that ends the answer.
+    /// The pack has no more bytes: the flush is given that ends the answer. Returns whether that was asked.
     pub fn pack_end(&mut self, hold: &mut Hold) -> bool
         ensures asked { result ≡ is_pack (step_of self.old) }
         ensures reported { WhereAsked result (ReportsAndGives (λ t. t) self.old hold.new.items self.new) self.old self.new }
+        ensures whole { result ≡ true → step_of self.new ≡ Step.Whole }
     {
         let Place::Pack = self.place else {
             return false;
@@ -315,10 +317,11 @@ impl<A: Allocator + Copy> FetchAnswer<A> {
         true
     }
 
-    /// The rest of the pack cannot be had: that is reported to the client, and the answer breaks off.
+    /// The rest of the pack cannot be had: a fatal error is given, and the answer breaks off. Returns whether that was asked.
     pub fn pack_failed(&mut self, hold: &mut Hold) -> bool
         ensures asked { result ≡ is_pack (step_of self.old) }
         ensures reported { WhereAsked result (ReportsAndGives (λ t. t) self.old hold.new.items self.new) self.old self.new }
+        ensures broken { result ≡ true → step_of self.new ≡ Step.Broken }
     {
         let Place::Pack = self.place else {
             return false;

@@ -13,7 +13,7 @@ use std::alloc::Allocator;
 /// How far the answer has come: what is given or asked next.
 #[derive(Clone, Copy, Debug)]
 enum SizesPlace {
-    // The line that names what follows of each object.
+    // The line that names the attribute that each object's line has.
     Header,
     // The size of the object at this place, or the flush where there is none.
     Object(usize),

@@ -10,4 +10,5 @@ pub mod packets;
 pub mod requests;
 pub mod runs;
 pub mod sessions;
+mod sizes;
 pub mod texts;

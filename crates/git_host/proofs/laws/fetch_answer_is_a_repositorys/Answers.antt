@@ -1,5 +1,5 @@
-use Rattle.git_host.proofs.RepositoryFacts.{told_answers}
+use Rattle.git_host.proofs.RepositoryFacts.{reported_answers}
 use Rattle.git_host.proofs.laws.fetch_answer_is_a_repositorys.Goals as goal
 
 pub returns : goal.returns
-returns c manner repo q t packets says h = told_answers manner repo q t says packets h
+returns c manner repo q t packets reports h = reported_answers manner repo q t reports packets h

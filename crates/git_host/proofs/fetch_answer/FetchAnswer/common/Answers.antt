@@ -16,6 +16,10 @@ returns-clause-reported g c t given h =
       packet = ack_packet id;
       held = c.put_common.ensures id here;
       same = refl;
-      holds = record { wanted = h.wanted; all = h.all; stands = have_place c.after_have-self.result _ _ q _ _ c.after_have-self.ensures.more c.after_have-self.ensures.over
-          (after_common next any q t given id at here) };
+      holds = record {
+        wanted = h.wanted;
+        all = h.all;
+        stands = have_place c.after_have-self.result _ _ q _ _ c.after_have-self.ensures.more c.after_have-self.ensures.over
+            (after_common next any q t given id at here);
+      };
     }

@@ -2,7 +2,7 @@ use Rattle.std.proofs.Common.{codes, refl, subst}
 use Rattle.git_msg.specs.WrittenRequest.{text_line}
 use Rattle.git_host.specs.FetchPlaces.{StandsAt}
 use Rattle.git_host.specs.declared.fetch_answer.Place.{Place}
-use Rattle.git_host.proofs.FetchMoves.{after_header, after_nak, have_place, line_at, line_held}
+use Rattle.git_host.proofs.FetchMoves.{after_header, after_nak, have_place, line_held}
 use Rattle.git_host.proofs.fetch_answer.FetchAnswer.next.Goals as goal
 
 pub returns-in-Header-clause-steps : goal.returns-in-Header-clause-steps

@@ -15,6 +15,10 @@ returns-clause-reported g c t given h =
       packet = band_packet Band bytes;
       held = band_held _ bytes Band c.put_band.ensures c.requires.fits;
       same = refl;
-      holds = record { wanted = h.wanted; all = h.all; stands = subst (λ (p : Place). StandsAt p q (with_pack bytes t) (given ++ band_packet Band bytes ∷ [])) (sym c.in-Pack.is)
-          (after_part q t given bytes c.requires.some c.requires.fits at) };
+      holds = record {
+        wanted = h.wanted;
+        all = h.all;
+        stands = subst (λ (p : Place). StandsAt p q (with_pack bytes t) (given ++ band_packet Band bytes ∷ [])) (sym c.in-Pack.is)
+            (after_part q t given bytes c.requires.some c.requires.fits at);
+      };
     }

@@ -5,6 +5,9 @@ use Rattle.git_host.specs.declared.references_answer.ReferencesPlace.{References
 use Rattle.git_host.proofs.ReferencesMoves.{after_head, after_no_head, asks_alike, ordered_alike}
 use Rattle.git_host.proofs.references_answer.ReferencesAnswer.unborn.Goals as goal
 
+pub returns-in_default : goal.returns-in_default
+returns-in_default g c = (refl, c.in_default.not-First)
+
 pub returns-then-not-asks_for_unborn : goal.returns-then-not-asks_for_unborn
 returns-then-not-asks_for_unborn g c = (
   refl,

@@ -1,0 +1,164 @@
+//! What a store has of what a `fetch` asks for, asked before the first packet of the answer: each wanted object, and the object of each
+//! wanted reference.
+//!
+//! ```text
+//!  Want .. --> WantRef .. --> Admitted
+//!    |            |
+//!    +------------+--> Refused
+//! ```
+
+ghost use Rattle.std.specs.Prelude.{◌≡◌, ◌+◌, ◌<◌, length};
+ghost use Rattle.git_host.specs.Admissions.{reference_step, want_step};
+
+use git_msg::Fetch;
+use git_names::{Format, Oid};
+use git_pkt::Kind;
+use std::alloc::{AllocError, Allocator};
+
+/// What is asked next, or what came of the admission.
+#[derive(Clone, Copy, Debug, PartialEq, Eq)]
+pub enum AdmissionStep {
+    /// Whether the store has the object of the `want` line at this place.
+    AskWant(usize),
+    /// The object of the reference of the `want-ref` line at this place, if there is such a reference.
+    AskWantRef(usize),
+    /// The store has all of it.
+    Admitted,
+    /// It lacks some of it, and the request is refused: `NotOurs` for an object, `UnknownRef` for a reference.
+    Refused(Kind),
+}
+
+/// What came of the report of a reference.
+#[derive(Clone, Copy, Debug, PartialEq, Eq)]
+pub enum WantRefReported {
+    /// It was kept, or the request is refused.
+    Taken,
+    /// The object is not of the request's format. Nothing changed.
+    MixedFormats,
+    /// It was not asked for. Nothing changed.
+    NotAsked,
+}
+
+/// The admission of one `fetch`.
+#[derive(Drop)]
+pub struct Admission<A: Allocator + Copy> {
+    request: Fetch<A>,
+    format: Format,
+    // The objects of the wanted references that were reported so far.
+    wanted: Vec<Oid, A>,
+    step: AdmissionStep,
+}
+
+impl<A: Allocator + Copy> Admission<A> {
+    ghost use Rattle.git_host.specs.Admissions.{IsAdmitted, ReportsWant, ReportsWantRef, RepresentsAdmission};
+    ghost use Rattle.git_host.specs.Admissions.{asked_of, format_of, nothing_reported, step_of, wanted_by, AdmissionFacts};
+
+    /// The admission of this request, whose object names have this format. It keeps the objects of wanted references in memory from
+    /// `alloc`.
+    pub fn new(alloc: A, request: Fetch<A>, format: Format) -> Admission<A>
+        ensures asked { asked_of result ≡ request.asked }
+        ensures format { format_of result ≡ format }
+        ensures represents { RepresentsAdmission nothing_reported result }
+    {
+        let step = want_at(&request, 0);
+        Admission {
+            request,
+            format,
+            wanted: Vec::new(alloc),
+            step,
+        }
+    }
+
+    /// The request that is to be admitted.
+    pub fn request(&self) -> &Fetch<A>
+        ensures { result.now.asked ≡ asked_of self.now }
+    {
+        &self.request
+    }
+
+    /// What is asked next, or what came of it.
+    pub fn step(&self) -> AdmissionStep
+        ensures { result ≡ step_of self.now }
+    {
+        self.step
+    }
+
+    /// Whether the store has the wanted object that is asked about. Returns whether that was asked; else nothing changed.
+    pub fn want(&mut self, has: bool) -> bool
+        ensures { ReportsWant has self.old result self.new }
+    {
+        let AdmissionStep::AskWant(at) = self.step else {
+            return false;
+        };
+        if !has {
+            self.step = AdmissionStep::Refused(Kind::NotOurs);
+            return true;
+        }
+        self.step = after_want(&self.request, at);
+        true
+    }
+
+    /// The object of the wanted reference that is asked for, or that there is no such reference. Where memory runs out nothing changed.
+    pub fn want_ref(&mut self, id: Option<Oid>) -> Result<WantRefReported, AllocError>
+        ensures { ReportsWantRef id self.old result self.new }
+    {
+        let AdmissionStep::AskWantRef(at) = self.step else {
+            return Ok(WantRefReported::NotAsked);
+        };
+        let Some(id) = id else {
+            self.step = AdmissionStep::Refused(Kind::UnknownRef);
+            return Ok(WantRefReported::Taken);
+        };
+        if id.format() != self.format {
+            return Ok(WantRefReported::MixedFormats);
+        }
+        match self.wanted.push(id) {
+            Ok(()) => {
+                self.step = after_want_ref(&self.request, at);
+                Ok(WantRefReported::Taken)
+            }
+            Err(_) => Err(AllocError),
+        }
+    }
+}
+
+// What is asked from the wanted object at this place on.
+fn want_at<A: Allocator + Copy>(request: &Fetch<A>, at: usize) -> AdmissionStep
+    ensures { result ≡ want_step at request.now.asked.wants request.now.asked.want_refs }
+{
+    match request.wants().get(at) {
+        Some(_) => AdmissionStep::AskWant(at),
+        None => want_ref_at(request, 0),
+    }
+}
+
+// What is asked after the wanted object at this place.
+fn after_want<A: Allocator + Copy>(request: &Fetch<A>, at: usize) -> AdmissionStep
+    ensures { at < length request.now.asked.wants → result ≡ want_step (at + 1) request.now.asked.wants request.now.asked.want_refs }
+{
+    let count = request.wants().len();
+    if at < count {
+        return want_at(request, at + 1);
+    }
+    want_ref_at(request, 0)
+}
+
+// What is asked from the wanted reference at this place on.
+fn want_ref_at<A: Allocator + Copy>(request: &Fetch<A>, at: usize) -> AdmissionStep
+    ensures { result ≡ reference_step at request.now.asked.want_refs }
+{
+    match request.want_ref(at) {
+        Some(_) => AdmissionStep::AskWantRef(at),
+        None => AdmissionStep::Admitted,
+    }
+}
+
+// What is asked after the wanted reference at this place.
+fn after_want_ref<A: Allocator + Copy>(request: &Fetch<A>, at: usize) -> AdmissionStep
+    ensures { at < length request.now.asked.want_refs → result ≡ reference_step (at + 1) request.now.asked.want_refs }
+{
+    match request.want_ref(at) {
+        Some(_) => want_ref_at(request, at + 1),
+        None => AdmissionStep::Admitted,
+    }
+}

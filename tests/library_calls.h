@@ -1,0 +1,71 @@
+/*
+ * What the programs share that call each function of the library: what an expectation is, a room, a writer of packets, and a thread
+ * with a small stack.
+ */
+#ifndef LIBRARY_CALLS_H
+#define LIBRARY_CALLS_H
+
+#include <gitwire.h>
+
+#include <limits.h>
+#include <pthread.h>
+#include <stdio.h>
+#include <stdlib.h>
+#include <string.h>
+
+static int failures;
+
+#define EXPECT(condition) \
+	((condition) ? (void)0 : (void)(failures++, printf("%s:%d: %s\n", __FILE__, __LINE__, #condition)))
+
+/* A text, as its pointer and its length. */
+#define TEXT(text) (const uint8_t *)(text), strlen(text)
+#define ROOM room, sizeof room
+
+#define ONE "1111111111111111111111111111111111111111"
+#define TWO "2222222222222222222222222222222222222222"
+#define LONG_ONE "1111111111111111111111111111111111111111111111111111111111111111"
+
+static uint8_t room[GITWIRE_PACKET_ROOM];
+static gitwire_writer writer = GITWIRE_NONE;
+
+/* Whether just these fields are set, and the others are 0. */
+static bool tells(gitwire_answer answer, uint8_t kind, size_t used, uint64_t offset, size_t length)
+{
+	return answer.kind == kind && answer.used == used && answer.offset == offset && answer.length == length && answer.fault == 0;
+}
+
+static bool tells_fault(gitwire_answer answer, uint8_t fault, size_t used, uint64_t offset)
+{
+	return answer.kind == GITWIRE_FAILED && answer.fault == fault && answer.used == used && answer.offset == offset && answer.length == 0;
+}
+
+/* Whether a whole text was put at the front of the room, and the bytes after it were left alone. */
+static bool wrote(gitwire_answer answer, const char *text)
+{
+	bool is_it = tells(answer, GITWIRE_DONE, 0, 0, strlen(text)) && memcmp(room, text, strlen(text)) == 0;
+
+	for (size_t i = answer.length; i < sizeof room; i++)
+		is_it = is_it && room[i] == '#';
+	memset(room, '#', sizeof room);
+	return is_it;
+}
+
+/* Runs all on a small stack, of which the header states what a call takes. A sanitizer takes more, and valgrind is content with less. */
+static int on_a_small_stack(void *(*try_all)(void *))
+{
+#ifdef __SANITIZE_ADDRESS__
+	const size_t stack = 1048576;
+#else
+	const size_t stack = PTHREAD_STACK_MIN;
+#endif
+	pthread_attr_t attributes;
+	pthread_t thread;
+
+	if (pthread_attr_init(&attributes) != 0 || pthread_attr_setstacksize(&attributes, stack) != 0
+		|| pthread_create(&thread, &attributes, try_all, NULL) != 0 || pthread_join(thread, NULL) != 0)
+		return 1;
+	return failures > 0;
+}
+
+#endif
