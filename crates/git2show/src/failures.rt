@@ -75,7 +75,8 @@ impl Failure {
     /// The same, but with the call that failed if it is that a pack could not be read.
     pub(crate) fn with_pack_call(self, call: Option<FailedCall>) -> Failure {
         match (self.fault, call) {
-            (ProgramFault::Run(RunFault::Refused(fault)), Some(call)) if fault.kind == Kind::PackSource => Failure {
+            (ProgramFault::Run(RunFault::Refused(fault)), Some(call))
+                if fault.kind == Kind::PackSource => Failure {
                 fault: self.fault,
                 cause: Cause::Call(call),
             },

@@ -408,7 +408,13 @@ fn answer_all<In: Read, W: Write>(
         if server.wants_pack() {
             server.read_packs();
             let mut reader = Told::new((&piece[left.from..left.to]).chain(input));
-            return serve(&mut reader, &mut Told::new(output), &mut kept, server, turns);
+            return serve(
+                &mut reader,
+                &mut Told::new(output),
+                &mut kept,
+                server,
+                turns,
+            );
         }
     }
     Err(RunFault::ReadLimit)

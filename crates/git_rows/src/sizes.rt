@@ -14,8 +14,13 @@ const MACHINE: usize = 66_560;
 const READER: usize = 512;
 
 const _: () = prove!(size_of::<RequestReader<Global>>() <= READER);
+
 const _: () = prove!(size_of::<PacketReader>() <= MACHINE);
+
 const _: () = prove!(size_of::<RequestStream<Global>>() <= MACHINE);
+
 const _: () = prove!(size_of::<Client<Global>>() <= MACHINE);
+
 const _: () = prove!(size_of::<Server<ListRepo, Global>>() <= MACHINE);
+
 const _: () = prove!(size_of::<Server<SharedRepo, Global>>() <= MACHINE);

@@ -1,6 +1,7 @@
 use Rattle.std.proofs.Common.{◌≡◌, ap, codes, refl, arith, slice_index}
 use Rattle.git_names.specs.Digits.{digit_value, lower_digit}
-use Rattle.git_names.specs.ObjectName.{ObjectName, hex_text}
+use Rattle.git_names.specs.ObjectName.{ObjectName}
+use Rattle.hex.specs.Hex.{decode_pairs, encode_with}
 use Rattle.git_names.specs.declared.object_format.Format.TheVariants.{Sha1}
 use Rattle.git_names.proofs.ObjectNames.{IsOid-of_text, one_object_name}
 use Rattle.git_names.proofs.WrittenForms.{digits-object_name}
@@ -12,11 +13,11 @@ pub returns-clause-lower : goal.returns-clause-lower
 returns-clause-lower c = all_a_is_name
 
 pub returns-clause-upper : goal.returns-clause-upper
-unfolding digit_value
+unfolding decode_pairs
 returns-clause-upper c = object_name_by Sha1 all_upper_a name_a refl refl refl refl
 
 pub returns-clause-written_in_lower_case : goal.returns-clause-written_in_lower_case
-unfolding hex_text lower_digit
+unfolding encode_with lower_digit
 returns-clause-written_in_lower_case c = refl
 
 pub returns-clause-value : goal.returns-clause-value
@@ -32,7 +33,7 @@ pub returns-clause-not_refused : goal.returns-clause-not_refused
 returns-clause-not_refused c = λ none. none name_a all_a_is_name
 
 pub returns-clause-not_of_another_text : goal.returns-clause-not_of_another_text
-unfolding digit_value
+unfolding decode_pairs
 returns-clause-not_of_another_text c = λ h.
     let other = object_name_by Sha1 (codes "aaaaaaaaaaaaaaaaaaaaaaaaaaaaaaaaaaaaaaab") name_ab refl refl refl refl in
     let same = one_object_name Sha1 (codes "aaaaaaaaaaaaaaaaaaaaaaaaaaaaaaaaaaaaaaab") name_a name_ab h other in

@@ -89,7 +89,7 @@ ending = record {
 
 pub returns-clause-whole : goal.returns-clause-whole
 unfolding escape_of lower_digit
-returns-clause-whole g c = let gives = c.heard_offer.ensures.heard terms [] given refl in record {
+returns-clause-whole g c = let gives = c.heard_offer.ensures.heard terms [] offer_all given refl refl in record {
   h = record { asked = []; left = true; used = spelled offer; events = events; given = codes "0000" };
   rest = [];
   nothing_read = refl;

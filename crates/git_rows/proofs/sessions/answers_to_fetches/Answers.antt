@@ -1,6 +1,6 @@
 use Rattle.std.proofs.Common.{[], ◌∷◌, ◌++◌, codes, refl, arith}
 use Rattle.git_names.specs.Digits.{lower_digit}
-use Rattle.git_names.specs.ObjectName.{hex_text}
+use Rattle.hex.specs.Hex.{encode_with}
 use Rattle.git_pkt.specs.Bands.{AreBands}
 use Rattle.git_pkt.specs.Packets.{delim, flush, payload}
 use Rattle.git_pkt.specs.declared.band.Band.TheVariants.{Pack}
@@ -13,11 +13,11 @@ whole : AreBands Pack (codes "PACK!") (payload (1 ∷ codes "PACK!") ∷ [])
 whole = (codes "PACK!", [], refl, omega arith, omega arith, refl, refl)
 
 pub returns-clause-one_common : goal.returns-clause-one_common
-unfolding hex_text lower_digit
+unfolding encode_with lower_digit
 returns-clause-one_common c = refl
 
 pub returns-clause-is_ready : goal.returns-clause-is_ready
-unfolding hex_text lower_digit
+unfolding encode_with lower_digit
 returns-clause-is_ready c = record {
   others = text_line (codes "shallow-info") ∷ text_line (codes "shallow " ++ all_a) ∷ delim ∷ text_line (codes "packfile")
       ∷ payload (1 ∷ codes "PACK!") ∷ flush ∷ [];

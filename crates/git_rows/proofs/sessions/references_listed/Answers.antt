@@ -1,6 +1,6 @@
 use Rattle.std.proofs.Common.{◌≡◌, ℕ, true, List, [], ◌∷◌, ◌++◌, codes, refl, ap, sym, subst, ◌∙◌}
 use Rattle.git_names.specs.Digits.{lower_digit}
-use Rattle.git_names.specs.ObjectName.{hex_text}
+use Rattle.hex.specs.Hex.{encode_with}
 use Rattle.git_pkt.specs.Packets.{Pkt, flush}
 use Rattle.git_pkt.specs.Splits.{Given}
 use Rattle.git_pkt.proofs.Streams.{one_split}
@@ -23,7 +23,7 @@ abbrev listed : List Pkt
 listed = text_line (all_a ++ codes " HEAD") ∷ text_line (all_b ++ codes " refs/tags/v1") ∷ flush ∷ []
 
 answered : IsSession setting ls_refs_bytes true listed_bytes Closed
-unfolding hex_text lower_digit
+unfolding encode_with lower_digit
 answered = record {
   asked = ls_refs (ls_refs_of []) ∷ [];
   left = [];
@@ -45,7 +45,7 @@ one_answer answers (answer, more, parts, is, ends) =
 
 -- these bytes have no other output where the input ends after them
 only_output : (given : List ℕ) → IsSession setting ls_refs_bytes true given Closed → given ≡ listed_bytes
-unfolding hex_text lower_digit
+unfolding encode_with lower_digit
 only_output given h =
     let split = one_split 0 ls_refs_bytes h.stream.packets ls_refs_stream.packets h.rest [] h.stream.splits.spelled ls_refs_stream.splits.spelled
     h.stream.splits.ends ls_refs_stream.splits.ends in
