@@ -14,9 +14,9 @@ use std::alloc::Allocator;
 /// A request is a line that names its command (`ls-refs`, `fetch` or `object-info`) and then a line for each of its
 /// arguments, as gitprotocol-v2(5) spells them and as one who offers everything reads them. An empty line or the end of
 /// the text ends it, and further empty lines are passed over. Lines are parted by LF, which the last may lack, and have at most
-/// [`git_repository::LONGEST_LINE`] bytes. The first line that is none of these, or whose argument has no room within the limit, is `Bad`. `OutOfMemory` is reported at a line
-/// that is allowed there, of a command or of an argument that takes memory, and all memory comes from `alloc`. What is judged
-/// at the end of a request, as that a fetch wants nothing, is not judged here.
+/// [`git_repository::LONGEST_LINE`] bytes. The first line that is none of these, or whose argument has no room within the limit, is
+/// `Bad`. `OutOfMemory` is reported at a line that is allowed there, of a command or of an argument that takes memory, and all
+/// memory comes from `alloc`. What is judged at the end of a request, as that a fetch wants nothing, is not judged here.
 pub fn read_script<A: Allocator + Copy>(
     alloc: A,
     text: &[u8],

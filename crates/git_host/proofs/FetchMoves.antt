@@ -1,6 +1,7 @@
 -- From one place of an answer to the next.
 use Rattle.std.proofs.Common.{arith, ◌≡◌, ℕ, ◌+◌, ◌<◌, ◌≤◌, Bool, true, false, not, ◌&&◌, List, [], ◌∷◌, ◌++◌, length}
-use Rattle.std.proofs.Common.{map, slice_get, take, unwrap_or, Option, Some, if◌then◌else◌, codes, refl, sym, ap, ◌∙◌, append_assoc, append-nil, length-append, subst, inl, inr}
+use Rattle.std.proofs.Common.{map, slice_get, take, unwrap_or, Option, Some, if◌then◌else◌, codes, refl}
+use Rattle.std.proofs.Common.{sym, ap, ◌∙◌, append_assoc, append-nil, length-append, subst, inl, inr}
 use Rattle.std.proofs.lemmas.List.{length-take-le, take_all, take_more}
 use Rattle.std.proofs.lemmas.Option.{slice_get_cases, slice_get_within, unwrap_or-slice_get}
 use Rattle.git_names.specs.ObjectName.{ObjectName}

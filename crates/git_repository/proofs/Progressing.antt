@@ -33,7 +33,13 @@ read_to (Failed fault) lines begun h = inl h
 -- these lines were read, and this one has begun
 pub begun_behind : (progress : Progress) (held : List ℕ) (lines all : List (List ℕ)) → HasRead progress lines → all ≡ lines ++ held ∷ []
     → Stands progress held all
-begun_behind progress held lines all h is = record { ended = lines; begun = held; whole = is; read = read_to progress lines held h; is_begun = begun_self progress held }
+begun_behind progress held lines all h is = record {
+  ended = lines;
+  begun = held;
+  whole = is;
+  read = read_to progress lines held h;
+  is_begun = begun_self progress held;
+  }
 
 -- a line was read, and the rest is after it
 pub stand_behind : (progress : Progress) (held : List ℕ) (lines : List (List ℕ)) (line text rest : List ℕ) → parts_of 10 text ≡ line ∷ parts_of 10 rest

@@ -1,5 +1,6 @@
 -- The lines of a repository's text, read one by one.
-use Rattle.std.proofs.Common.{arith, ◌≡◌, ℕ, ◌+◌, ◌<◌, ◌≤◌, List, [], ◌∷◌, ◌++◌, refl, ap, sym, ◌∙◌, subst, append_assoc, length, map, Option, Some, None, inl, inr}
+use Rattle.std.proofs.Common.{arith, ◌≡◌, ℕ, ◌+◌, ◌<◌, ◌≤◌, List, [], ◌∷◌, ◌++◌, refl}
+use Rattle.std.proofs.Common.{ap, sym, ◌∙◌, subst, append_assoc, length, map, Option, Some, None, inl, inr}
 use Rattle.std.specs.Option.{is_some}
 use Rattle.std.proofs.lemmas.List.{length-append, length-map}
 use Rattle.git_server.specs.Repository.{Entry}
@@ -8,7 +9,8 @@ use Rattle.git_names.specs.declared.object_format.Format.{Format}
 use Rattle.git_names.specs.declared.object_format.Format.TheVariants.{Sha1, Sha256}
 use Rattle.git_server.specs.Lists.{Lists}
 use Rattle.git_repository.specs.Packs.{PackBytes}
-use Rattle.git_repository.specs.RepositoryLines.{Said, reference, unborn, object, ready, boundary, IsLineOf, Says, SaysNothing, format_line, lines_of, longest_line}
+use Rattle.git_repository.specs.RepositoryLines.{Said, reference, unborn, object, ready, boundary}
+use Rattle.git_repository.specs.RepositoryLines.{IsLineOf, Says, SaysNothing, format_line, lines_of, longest_line}
 use Rattle.git_repository.specs.RepositoryText.{Begins, IsRepositoryText, MayStand, SayAll, WantsMemory}
 use Rattle.git_repository.specs.RepositoryText.{boundaries_in, counts_in, first_of, names_in, objects_in, refs_in, unborn_in}
 use Rattle.git_repository.specs.LinesTold.{AreTold, lines_behind, ready_lines, unborn_lines}
