@@ -13,7 +13,6 @@ use git_msg::{
 };
 use git_names::{Format, Oid, RefName, Steps};
 use git_pkt::{Hold, Kind};
-use git_server::RefEntry;
 use std::alloc::{AllocError, Global};
 use std::process::Abort;
 use std::test::Fail;
@@ -312,27 +311,60 @@ fn report_unborn(
     }
 }
 
-/// Reports a reference, from which this outcome and these packets are expected.
-fn expect_reference(
-    rt: &impl Abort,
+/// A reference as a store reports it: its name, what it points to and what it is peeled to; what came of it, and its packet.
+#[derive(Clone, Copy, Debug)]
+struct Row {
+    name: &'static [u8],
+    target: Option<&'static [u8]>,
+    id: Oid,
+    peeled: Option<Oid>,
+    reported: Reported,
+    packet: &'static [u8],
+}
+
+impl Row {
+    fn new(name: &'static [u8], id: Oid, reported: Reported, packet: &'static [u8]) -> Row {
+        Row {
+            name,
+            target: None,
+            id,
+            peeled: None,
+            reported,
+            packet,
+        }
+    }
+}
+
+/// Reports each reference in turn, from which the outcome and the packet of its row are expected.
+fn expect_references(
+    rt: &(impl Abort + AllocGlobal),
     answer: &mut ReferencesAnswer<Global>,
     given: &mut Given,
-    reference: RefEntry,
-    reported: Reported,
-    packets: &[u8],
-) -> Result<(), AllocError> {
-    let came = answer.reference(reference, &mut given.hold);
-    expect(rt, &came, &reported);
-    if came == Reported::Packet {
-        given.keep()?;
+    rows: &[Row],
+) -> Result<(), Fail> {
+    for row in rows {
+        let reference = entry(rt, row.name, row.id, row.target, row.peeled)?;
+        let reported = answer.reference(reference, &mut given.hold);
+        expect(rt, &reported, &row.reported);
+        if reported == Reported::Packet {
+            given.keep()?;
+        }
+        given.expect(rt, row.packet);
     }
-    given.expect(rt, packets);
     Ok(())
 }
 
-/// A reference that points to the object of this digit.
-fn named(rt: &(impl Abort + AllocGlobal), name: &[u8], digit: u8) -> Result<RefEntry, Fail> {
-    entry(rt, name, id(rt, digit), None, None)
+/// An unborn `HEAD` comes first, and no other `HEAD` after it.
+#[test]
+fn an_unborn_head_is_given_as_it_is_reported(rt: HostRuntime) -> Result<(), Fail> {
+    let mut answer = ReferencesAnswer::new(ls_refs_of(&rt, REFERENCES), Format::Sha1);
+    let mut given = Given::new(rt.alloc());
+    let unborn = report_unborn(&mut answer, b"refs/heads/main", &mut given.hold);
+    expect(&rt, &unborn, &Some(Reported::Packet));
+    given.keep()?;
+    given.expect(&rt, b"002eunborn HEAD symref-target:refs/heads/main\n");
+    let head = Row::new(b"HEAD", id(&rt, b'a'), Reported::HeadTwice, b"");
+    expect_references(&rt, &mut answer, &mut given, &[head])
 }
 
 /// A reference that is refused changes nothing: the next one is given.
@@ -342,59 +374,32 @@ fn references_are_given_as_they_are_reported(rt: HostRuntime) -> Result<(), Fail
     let mut given = Given::new(rt.alloc());
     let a = id(&rt, b'a');
     let b = id(&rt, b'b');
-    let of_other_format = object(&rt, Format::Sha256, b'b');
-    let unborn = report_unborn(&mut answer, b"refs/heads/main", &mut given.hold);
-    expect(&rt, &unborn, &Some(Reported::Packet));
-    given.keep()?;
-    given.expect(&rt, b"002eunborn HEAD symref-target:refs/heads/main\n");
-    let references: [(RefEntry, Reported, &[u8]); 7] = [
-        (named(&rt, b"HEAD", b'a')?, Reported::HeadTwice, b""),
-        (
-            named(&rt, b"refs/heads/main", b'a')?,
-            Reported::Packet,
-            b"003daaaaaaaaaaaaaaaaaaaaaaaaaaaaaaaaaaaaaaaa refs/heads/main\n",
-        ),
-        (
-            named(&rt, b"refs/heads/main", b'b')?,
-            Reported::Unsorted,
-            b"",
-        ),
-        (
-            entry(&rt, b"refs/heads/next", of_other_format, None, None)?,
-            Reported::MixedFormats,
-            b"",
-        ),
-        (
-            entry(&rt, b"refs/heads/next", b, Some(b"refs/heads/main"), None)?,
-            Reported::Packet,
-            b"005bbbbbbbbbbbbbbbbbbbbbbbbbbbbbbbbbbbbbbbbb refs/heads/next symref-target:refs/heads/main\n",
-        ),
-        (
-            named(&rt, b"refs/notes/commits", b'a')?,
-            Reported::Hidden,
-            b"",
-        ),
-        (
-            entry(&rt, b"refs/tags/v1", b, None, Some(a))?,
-            Reported::Packet,
-            b"006abbbbbbbbbbbbbbbbbbbbbbbbbbbbbbbbbbbbbbbb refs/tags/v1 peeled:aaaaaaaaaaaaaaaaaaaaaaaaaaaaaaaaaaaaaaaa\n",
-        ),
+    let other = object(&rt, Format::Sha256, b'b');
+    let main = b"003daaaaaaaaaaaaaaaaaaaaaaaaaaaaaaaaaaaaaaaa refs/heads/main\n";
+    let next =
+        b"005bbbbbbbbbbbbbbbbbbbbbbbbbbbbbbbbbbbbbbbbb refs/heads/next symref-target:refs/heads/main\n";
+    let tag =
+        b"006abbbbbbbbbbbbbbbbbbbbbbbbbbbbbbbbbbbbbbbbb refs/tags/v1 peeled:aaaaaaaaaaaaaaaaaaaaaaaaaaaaaaaaaaaaaaaa\n";
+    let rows = [
+        Row::new(b"refs/heads/main", a, Reported::Packet, main),
+        Row::new(b"refs/heads/main", b, Reported::Unsorted, b""),
+        Row::new(b"refs/heads/next", other, Reported::MixedFormats, b""),
+        Row {
+            target: Some(b"refs/heads/main"),
+            ..Row::new(b"refs/heads/next", b, Reported::Packet, next)
+        },
+        Row::new(b"refs/notes/commits", a, Reported::Hidden, b""),
+        Row {
+            peeled: Some(a),
+            ..Row::new(b"refs/tags/v1", b, Reported::Packet, tag)
+        },
     ];
-    for (reference, reported, packets) in references {
-        expect_reference(&rt, &mut answer, &mut given, reference, reported, packets)?;
-    }
+    expect_references(&rt, &mut answer, &mut given, &rows)?;
     assert!(rt; answer.end(&mut given.hold));
     given.keep()?;
     given.expect(&rt, b"0000");
-    expect_reference(
-        &rt,
-        &mut answer,
-        &mut given,
-        named(&rt, b"refs/tags/v2", b'a')?,
-        Reported::NotAsked,
-        b"",
-    )?;
-    Ok(())
+    let late = Row::new(b"refs/tags/v2", a, Reported::NotAsked, b"");
+    expect_references(&rt, &mut answer, &mut given, &[late])
 }
 
 /// An object that the store does not have has a line without a size.
