@@ -379,7 +379,7 @@ fn references_are_given_as_they_are_reported(rt: HostRuntime) -> Result<(), Fail
     let next =
         b"005bbbbbbbbbbbbbbbbbbbbbbbbbbbbbbbbbbbbbbbbb refs/heads/next symref-target:refs/heads/main\n";
     let tag =
-        b"006abbbbbbbbbbbbbbbbbbbbbbbbbbbbbbbbbbbbbbbbb refs/tags/v1 peeled:aaaaaaaaaaaaaaaaaaaaaaaaaaaaaaaaaaaaaaaa\n";
+        b"006abbbbbbbbbbbbbbbbbbbbbbbbbbbbbbbbbbbbbbbb refs/tags/v1 peeled:aaaaaaaaaaaaaaaaaaaaaaaaaaaaaaaaaaaaaaaa\n";
     let rows = [
         Row::new(b"refs/heads/main", a, Reported::Packet, main),
         Row::new(b"refs/heads/main", b, Reported::Unsorted, b""),
