@@ -39,7 +39,7 @@ begun_behind progress held lines all h is = record {
   whole = is;
   read = read_to progress lines held h;
   is_begun = begun_self progress held;
-  }
+}
 
 -- a line was read, and the rest is after it
 pub stand_behind : (progress : Progress) (held : List ℕ) (lines : List (List ℕ)) (line text rest : List ℕ) → parts_of 10 text ≡ line ∷ parts_of 10 rest
