@@ -10,7 +10,7 @@ use Rattle.git_names.specs.declared.object_format.Format.TheVariants.{Sha1, Sha2
 use Rattle.git_server.specs.Lists.{Lists}
 use Rattle.git_repository.specs.Packs.{PackBytes}
 use Rattle.git_repository.specs.RepositoryLines.{Said, reference, unborn, object, ready, boundary}
-use Rattle.git_repository.specs.RepositoryLines.{IsLineOf, Says, SaysNothing, format_line, lines_of, longest_line}
+use Rattle.git_repository.specs.RepositoryLines.{IsLineOf, SaysNothing, format_line, lines_of, longest_line}
 use Rattle.git_repository.specs.RepositoryText.{Begins, IsRepositoryText, MayStand, SayAll, WantsMemory}
 use Rattle.git_repository.specs.RepositoryText.{boundaries_in, counts_in, first_of, names_in, objects_in, refs_in, unborn_in}
 use Rattle.git_repository.specs.LinesTold.{AreTold, lines_behind, ready_lines, unborn_lines}

@@ -10,9 +10,8 @@ use Rattle.git_server.specs.Packs.{broken}
 use Rattle.git_server.specs.Machine.Phases.{FlushIsAt, LeftIn, MayBreak, kept_in, most_owed, Owes, stored_in}
 use Rattle.git_server.specs.Machine.WrittenPackets.{Writes}
 use Rattle.git_server.specs.Machine.Server.{StandsBy, outcome_of}
-use Rattle.git_server.specs.Machine.LatePacks.{OwesNoPackIn, state_with, with_packs}
+use Rattle.git_server.specs.Machine.LatePacks.{OwesNoPackIn, state_with}
 use Rattle.git_server.specs.Machine.ServerCalls.{ComesBefore, Gives, GivesUnread, Goes, Keeps, OwesNoPack, most_left}
-use Rattle.git_msg.specs.Asked.{FetchAsked}
 use Rattle.git_msg.specs.Machine.RequestReader.{Takes, offer_of, limit_in, kept_so_far}
 use Rattle.git_server.specs.declared.outcome.Outcome.{Outcome}
 use Rattle.git_server.specs.declared.server.Server.{Server}

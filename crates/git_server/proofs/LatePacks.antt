@@ -2,7 +2,6 @@
 use Rattle.std.proofs.Common.{arith, ◌≡◌, ℕ, Bool, true, false, Option, Some, None, List, refl, sym, ap, subst, ◌∙◌}
 use mathlib.Core.Path.{fun_ext}
 use Rattle.git_pkt.specs.Packets.{Pkt}
-use Rattle.git_pkt.specs.declared.fault.Kind.{Kind}
 use Rattle.git_msg.specs.Arguments.{Arg, Value, Word, id_value, text_value, want, want_ref}
 use Rattle.git_msg.specs.Asked.{FetchAsked}
 use Rattle.git_msg.specs.declared.offers.Offer.{Offer}

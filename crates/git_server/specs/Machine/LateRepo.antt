@@ -1,7 +1,5 @@
 -- What a clause sees of a `LateRepo`.
 use Rattle.std.specs.Prelude.{◌≡◌, ℕ, Bool, true, false, Option, Some, None, List}
-use Rattle.std.specs.Option.{IfSome}
-use Rattle.git_msg.specs.Asked.{FetchAsked}
 use Rattle.git_server.specs.Lists.{Lists}
 use Rattle.git_server.specs.Repository.{RepoState}
 use Rattle.git_server.specs.Machine.LatePacks.{with_packs}

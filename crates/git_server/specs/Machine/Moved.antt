@@ -1,6 +1,6 @@
 -- The states that a server has for a run, and the laws by which its calls join.
-use Rattle.std.specs.Prelude.{◌≡◌, ℕ, Bool, true, List, [], ◌++◌, Option, Some, None, IsSome}
-use Rattle.std.proofs.Common.{refl, sym, append_assoc, append-nil, subst}
+use Rattle.std.specs.Prelude.{◌≡◌, ℕ, Bool, true, List, [], ◌++◌, Option, Some, IsSome}
+use Rattle.std.proofs.Common.{sym, append_assoc, append-nil, subst}
 use Rattle.std.specs.Io.{StartsWith}
 use Rattle.git_pkt.specs.Packets.{Pkt, Spells}
 use Rattle.git_pkt.specs.Machine.PacketReader.{held_of}

@@ -1,4 +1,4 @@
-use Rattle.std.proofs.Common.{List, ℕ, inl, inr, subst}
+use Rattle.std.proofs.Common.{inl, inr, subst}
 use Rattle.git_repository.specs.Machine.DraftLists.{drafted}
 use Rattle.git_repository.specs.Machine.RepositoryProgress.{HasRead}
 use Rattle.git_repository.specs.declared.repository_progress.Progress.{Progress}

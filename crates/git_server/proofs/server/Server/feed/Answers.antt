@@ -1,4 +1,4 @@
-use Rattle.std.proofs.Common.{rules, ◌++◌, ◌⊎◌, ◌<◌, ◌≤◌, ◌*◌, inl, inr, ℕ, List, ◌≡◌, ◌+◌, ◌-◌, true, false}
+use Rattle.std.proofs.Common.{rules, ◌++◌, ◌⊎◌, ◌<◌, inl, inr, ℕ, List, ◌≡◌, ◌+◌, ◌-◌, true, false}
 use Rattle.std.proofs.Common.{take, drop, length, arith, subst, ap, sym, ◌∙◌, [], length-drop}
 use Rattle.git_pkt.proofs.Credits.{paid_on}
 use Rattle.git_pkt.proofs.Pieces.{left_of, take_joined}
