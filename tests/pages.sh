@@ -32,11 +32,11 @@ sources_named() {
 
 case_each_source_of_a_library_or_the_program_has_its_row() {
     local crate
-    sources_named | sort > named
+    sources_named | sort > source_rows
     for crate in git_names git_pkt git_loop git_msg git_server git_host git_client git_repository git_both_ends git2show_lib git_rows git2show gitwire; do
         (cd "$top/crates" && find "$crate/src" -name '*.rt' ! -name lib.rt)
     done | sort > there
-    expect_same 'the table of ARCHITECTURE' there named
+    expect_same 'the table of ARCHITECTURE' there source_rows
 }
 
 # In a crate with machines the definitions of its protocol stand without them. The laws on both ends, the program and C state only calls.
