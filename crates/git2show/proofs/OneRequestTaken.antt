@@ -9,7 +9,6 @@ use Rattle.git_pkt.specs.Streams.{Flow, flow}
 use Rattle.git_server.specs.Repository.{RepoState}
 use Rattle.git_server.specs.Sessions.{Setting}
 use Rattle.git_server.specs.Machine.Server.{Running}
-use Rattle.git_msg.specs.Asked.{FetchAsked}
 use Rattle.git_server.specs.Machine.LatePacks.{setting_with, state_with}
 use Rattle.git_server.specs.Machine.ServerCalls.{Closes, ClosesUnread, Goes, GoesUnread, RunsUnread}
 use Rattle.git_server.specs.declared.server.Server.{Server}
