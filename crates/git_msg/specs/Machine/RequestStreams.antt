@@ -5,7 +5,8 @@ use Rattle.git_pkt.specs.Machine.LentHold.{with_hold}
 use Rattle.git_pkt.specs.Splits.{Given, Splits}
 use Rattle.git_pkt.specs.Faults.{IsOpen, StopsBy}
 use Rattle.git_pkt.specs.Machine.Credit.{credit_of as packet_credit}
-use Rattle.git_pkt.specs.Machine.PacketReader.{Reads, bytes_held as held_in_packet, held_of as held_in, ShownByFeed, is_open, position_of, fault_of as packet_fault}
+use Rattle.git_pkt.specs.Machine.PacketReader.{Reads, bytes_held as held_in_packet, held_of as held_in}
+use Rattle.git_pkt.specs.Machine.PacketReader.{ShownByFeed, is_open, position_of, fault_of as packet_fault}
 use Rattle.git_pkt.specs.declared.fault.Fault.{Fault}
 use Rattle.git_pkt.specs.declared.fault.Kind.TheVariants.{Truncated}
 use Rattle.git_msg.specs.declared.offers.Offer.{Offer}
