@@ -8,7 +8,7 @@ LIBRARY ?= crates/gitwire/out/libgitwire.a
 KIT = $(shell dirname "$$($(RT) doc)")
 VERSION = 0.2.0
 
-.PHONY: run program library install test test-program audit cases bench
+.PHONY: run program library install test test-program test-git-suite audit cases bench
 
 # The crates of this repository that a crate depends on, lowest first, and it: its line of crates.txt names them in that order.
 with_those_below = $(foreach it,$(shell sed -n 's/^$(1)\( staticlib\)\{0,1\}: //p' crates.txt) $(1),$(if $(wildcard crates/$(it)),$(it)))
@@ -105,3 +105,9 @@ bench:
 	@cd crates/bench_names && $(RT) run > /dev/null
 	@$(MAKE) --no-print-directory program library > /dev/null
 	@bench/run.sh
+
+# Git's own tests of version 2, with examples/upload-pack.c in the place of Git's server: no part of what a merge waits for. It fetches and builds
+# the source package of the installed Git, once, in the folder that GIT_SUITE names. TESTS names some of its test files, where not all are to run.
+test-git-suite: $(LIBRARY)
+	@$(CC) -std=c11 -O2 -Iinclude -o /tmp/gitwire-upload-pack examples/upload-pack.c "$(LIBRARY)" "$(KIT)/c/liblibc_c.a"
+	@tests/git-suite.sh /tmp/gitwire-upload-pack $(TESTS)

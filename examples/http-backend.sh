@@ -8,8 +8,10 @@
 # the status is 500, and a line on standard error, which web servers keep in a log, names the file.
 set -eu
 
-# refuse STATUS TEXT: answers with a line for the user, which Git prints.
+# refuse STATUS TEXT: answers with a line for the user, which Git prints. A body that was not read is read first: where a script ends
+# before that, fcgiwrap reports status 502 in the place of this one.
 refuse() {
+    [ "$unread" != yes ] || body > /dev/null
     printf 'Status: %s\r\nContent-Type: text/plain; charset=utf-8\r\n\r\n%s\n' "$1" "$2"
     exit
 }
@@ -65,6 +67,9 @@ pass_on() {
     cat
 }
 
+# Whether there is a body that was not read.
+if [ "${REQUEST_METHOD:-}" = POST ]; then unread=yes; else unread=no; fi
+
 case ${REQUEST_METHOD:-}:${PATH_INFO:-}:${QUERY_STRING:-} in
     GET:*/info/refs:service=git-upload-pack)
         name=${PATH_INFO%/info/refs}
@@ -97,6 +102,7 @@ for program in git2show gzip; do
     command -v $program > /dev/null || fail "$program is not on the path, $PATH"
 done
 
+unread=no
 case :${HTTP_GIT_PROTOCOL:-}: in
     *:version=2:*) ;;
     *)

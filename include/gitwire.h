@@ -15,11 +15,13 @@
  *                NEED_INPUT   read from the server and feed what came, which returns an event; at the input's end close
  *                FINISHED, FAILED: the conversation is over
  *
+ * A server over a store of the host's own (gitwire_host) is asked what it needs of it, by that same loop.
+ *
  * Of every call:
  *
  *   - It returns, whatever the bytes are. What is not allowed at a moment, a room that is too small, a number that means
  *     nothing and a handle with nothing in it are reported by a code, and then nothing was used or changed: by false of
- *     gitwire_request_flag, and by 0 of gitwire_fault_name, gitwire_fault_text and gitwire_kind_name. A feed that is not due
+ *     gitwire_request_flag and gitwire_host_flag, and by 0 of gitwire_fault_name, gitwire_fault_text and gitwire_kind_name. A feed that is not due
  *     uses nothing, and returns NOT_NOW, or the fault that there was: a loop that feeds until all is used might not end.
  *   - A text is a pointer and a length, and has no NUL at its end. A room is where a call writes: a pointer and how many
  *     bytes are there. What it writes is at the front of the room, and it reports how many bytes that are; those after
@@ -138,7 +140,18 @@ enum {
 	GITWIRE_INFO = 30,            /* the size of an object */
 	GITWIRE_PACK = 31,            /* bytes of the pack */
 	GITWIRE_PROGRESS = 32,        /* bytes of a text for the user */
-	GITWIRE_ENDED = 33            /* the response is whole */
+	GITWIRE_ENDED = 33,           /* the response is whole */
+	/* what a host is asked */
+	GITWIRE_ASKED = 34,           /* a whole request came: gitwire_host_accept, gitwire_host_refuse */
+	GITWIRE_NEED_WANT = 35,       /* whether the store has the object at a place of LIST_WANTS: gitwire_host_want */
+	GITWIRE_NEED_WANT_REF = 36,   /* the object of the reference at a place of LIST_WANT_REFS: gitwire_host_want_ref */
+	GITWIRE_NEED_HAVE = 37,       /* whether the store has the object at a place of LIST_HAVES: gitwire_host_have */
+	GITWIRE_NEED_READY = 38,      /* whether enough is common to make a pack: gitwire_host_ready */
+	GITWIRE_NEED_BOUNDARY = 39,   /* the next line of the shallow boundary, or its end: gitwire_host_boundary, _boundary_end */
+	GITWIRE_NEED_PACK = 40,       /* bytes of the pack or of progress, or the end: gitwire_host_pack, _progress, _pack_end, _fail */
+	GITWIRE_NEED_REFERENCE = 41,  /* the next reference, or the end: gitwire_host_reference, _unborn, _references_end */
+	GITWIRE_NEED_SIZE = 42,       /* the size of the object at a place of LIST_OIDS: gitwire_host_size */
+	GITWIRE_OUT_OF_ORDER = 43     /* a reference does not come after the one that was reported before it; nothing changed */
 };
 
 /* Why something was refused: `fault` of what is returned. docs/PROTOCOL.md lists where the offset of each is. */
@@ -168,7 +181,7 @@ enum {
 	GITWIRE_FAULT_REMOTE_ERROR = 23,
 	GITWIRE_FAULT_UNKNOWN_REF = 24,
 	GITWIRE_FAULT_NOT_OURS = 25,
-	GITWIRE_FAULT_PACK_SOURCE = 26,   /* no call reports it: here a pack is in memory */
+	GITWIRE_FAULT_PACK_SOURCE = 26,   /* of a gitwire_host alone: a gitwire_server has its pack in memory */
 	GITWIRE_FAULT_NOT_VERSION_2 = 27,
 	GITWIRE_FAULT_UNEXPECTED_SECTION = 28,
 	GITWIRE_FAULT_BAD_LINE = 29,
@@ -226,6 +239,7 @@ typedef struct { void *at_; bool is_made_; } gitwire_repository;
 typedef struct { void *at_; bool is_made_; } gitwire_server;
 typedef struct { void *at_; bool is_made_; } gitwire_client;
 typedef struct { void *at_; bool is_made_; } gitwire_writer;
+typedef struct { void *at_; bool is_made_; } gitwire_host;
 
 /*
  * Making and freeing, of each kind of handle.
@@ -465,6 +479,124 @@ gitwire_answer gitwire_server_pull(gitwire_server *server, uint8_t *room, size_t
 GITWIRE_FREES(gitwire_server)
 
 /*
+ * A server over a store of the host's own: one with millions of objects, whose references change, whose packs come out of a process. It reads
+ * requests as a gitwire_server does, and for each it asks what it needs of the store, one thing after another; the host reports it when it has
+ * it. However the input is cut, the output is the session that the input and what was reported call for: its sections in their
+ * order, with each line that belongs there and no other. Its loop is over what gitwire_host_pull returns:
+ *
+ *     PACKET       write it to the client
+ *     NEED_INPUT   read from the client and feed what came; at the input's end close
+ *     ASKED        a whole request came: look at it, and accept it, or refuse it
+ *     NEED_..      report what is asked
+ *     ENDED_BY_FLUSH, ENDED_BY_CLOSE, FAILED: the session is over
+ *
+ * A call that reports returns PACKET, with `length` bytes in the room that are to be sent now, or MORE: there is nothing to send yet. It may be
+ * made where a pull would return what it is named after, and else it returns NOT_NOW: so no order of calls gives a wrong answer. No pull is
+ * needed between two reports of references, of objects or of bytes of a pack; a line of the boundary may come after a header, and is to be pulled.
+ * What is reported may differ from what was reported for an earlier request of the session. Of it only the name of the last reference is kept once
+ * its packet was given, and the objects of wanted references, which are 33 bytes each. No call waits for anything: a host may serve many clients in
+ * one thread, and report to each when its store has answered.
+ *
+ * A call that reports changes nothing where it returns NOT_NOW, FAILED, OUT_OF_ORDER, OUT_OF_MEMORY, ROOM_TOO_SMALL or NO_HANDLE. The room of
+ * each has GITWIRE_PACKET_ROOM bytes at least. Objects are named by their digits, of either case and of the offer's format: else BadObjectName.
+ */
+
+/* A host's server at the beginning of a session, which gives the advertisement of the offer first where `advertise` is set. BAD_VALUE for a
+ * format or a feature that is none, and for a limit above GITWIRE_MOST_LIMIT. */
+GITWIRE_LOOKED_AT
+uint8_t gitwire_host_new(gitwire_host *host, gitwire_offer offer, uint32_t limit, bool advertise);
+
+/* As gitwire_server_feed and gitwire_server_close. A request is refused at its first bad packet, before it is ASKED. NOT_NOW while one is ASKED or
+ * answered, while a packet waits to be pulled, and after the end: so pull until NEED_INPUT before you feed the others. */
+GITWIRE_LOOKED_AT
+gitwire_answer gitwire_host_feed(gitwire_host *host, const uint8_t *piece, size_t piece_length);
+GITWIRE_GIVEN
+uint8_t gitwire_host_close(gitwire_host *host);
+
+/*
+ * The next packet to be sent, or what is to be done in its place: called again before that is done, it returns the same. PACKET, NEED_INPUT,
+ * ENDED_BY_FLUSH, ENDED_BY_CLOSE: as of gitwire_server_pull. ASKED: `offset` is the request's command. NEED_WANT, NEED_WANT_REF, NEED_HAVE,
+ * NEED_SIZE: `offset` is the place of what is asked in its list. NEED_READY, NEED_BOUNDARY, NEED_PACK, NEED_REFERENCE. FAILED: the input was
+ * refused; or the request was, by NotOurs, UnknownRef or PackSource at its flush. ROOM_TOO_SMALL, NO_HANDLE.
+ */
+GITWIRE_LOOKED_AT
+gitwire_answer gitwire_host_pull(gitwire_host *host, uint8_t *room, size_t room_length);
+
+/* The request that is ASKED or answered, looked at as by gitwire_request_command, _flag, _number and _item: NOTHING, or false, where there is
+ * none. Once it is accepted, the prefixes of one for references are in the order of their bytes, without those that begin with another. */
+GITWIRE_LOOKED_AT
+gitwire_answer gitwire_host_command(gitwire_host *host);
+GITWIRE_LOOKED_AT
+bool gitwire_host_flag(gitwire_host *host, uint8_t flag);
+GITWIRE_LOOKED_AT
+gitwire_answer gitwire_host_number(gitwire_host *host, uint8_t which);
+GITWIRE_LOOKED_AT
+gitwire_answer gitwire_host_item(gitwire_host *host, uint8_t list, size_t index, uint8_t *room, size_t room_length);
+
+/* The request that is ASKED is answered from now on: DONE. Or it is refused: PACKET, an error packet with this text, and the session is over
+ * (NotOurs); a text of more than 65,511 bytes is BadLine. NOT_NOW where none is ASKED. */
+GITWIRE_LOOKED_AT
+uint8_t gitwire_host_accept(gitwire_host *host);
+GITWIRE_LOOKED_AT
+gitwire_answer gitwire_host_refuse(gitwire_host *host, const uint8_t *text, size_t text_length, uint8_t *room, size_t room_length);
+
+/* For `fetch`: whether the store has the wanted object that is asked about; and the object of the wanted reference that is asked for, or a length
+ * of 0. MORE. Where it has none the error packet is to be pulled, and the session is over (NotOurs, UnknownRef). OUT_OF_MEMORY of a reference. */
+GITWIRE_LOOKED_AT
+gitwire_answer gitwire_host_want(gitwire_host *host, bool has, uint8_t *room, size_t room_length);
+GITWIRE_LOOKED_AT
+gitwire_answer gitwire_host_want_ref(gitwire_host *host, const uint8_t *id, size_t id_length, uint8_t *room, size_t room_length);
+
+/* Whether the store has the object of the client that is asked about: PACKET, its `ACK`, or MORE. Then whether enough is common to make a pack,
+ * which then follows: PACKET, `ready`, or the flush that ends the answer. */
+GITWIRE_LOOKED_AT
+gitwire_answer gitwire_host_have(gitwire_host *host, bool has, uint8_t *room, size_t room_length);
+GITWIRE_LOOKED_AT
+gitwire_answer gitwire_host_ready(gitwire_host *host, bool ready, uint8_t *room, size_t room_length);
+
+/* A line of the shallow boundary, `shallow` or else `unshallow`: PACKET, its line or, of the first, the header of the section; then that line is
+ * to be pulled before anything else is reported. And that there are no more: PACKET, or MORE where there was none. */
+GITWIRE_LOOKED_AT
+gitwire_answer gitwire_host_boundary(gitwire_host *host, bool shallow, const uint8_t *id, size_t id_length, uint8_t *room, size_t room_length);
+GITWIRE_LOOKED_AT
+gitwire_answer gitwire_host_boundary_end(gitwire_host *host, uint8_t *room, size_t room_length);
+
+/*
+ * Bytes of the pack, or of a text for the client's user: PACKET, and `used` of them are in it, 65,515 at most. The others are reported by a further
+ * call. No bytes are MORE; so is a text where the request has `no-progress`, and all of it is used. The pack's end: PACKET, the flush that ends the
+ * answer. That the rest cannot be had, as where a process failed: PACKET, a text on the band of fatal errors, and the session is over
+ * (PackSource). That one too may be made where NEED_PACK is asked alone; a request that is ASKED can be refused, and elsewhere a host hangs up.
+ */
+GITWIRE_LOOKED_AT
+gitwire_answer gitwire_host_pack(gitwire_host *host, const uint8_t *bytes, size_t length, uint8_t *room, size_t room_length);
+GITWIRE_LOOKED_AT
+gitwire_answer gitwire_host_progress(gitwire_host *host, const uint8_t *text, size_t length, uint8_t *room, size_t room_length);
+GITWIRE_LOOKED_AT
+gitwire_answer gitwire_host_pack_end(gitwire_host *host, uint8_t *room, size_t room_length);
+GITWIRE_LOOKED_AT
+gitwire_answer gitwire_host_fail(gitwire_host *host, uint8_t *room, size_t room_length);
+
+/*
+ * For `ls-refs`: any reference of the store, in the order of the bytes of their names. PACKET where the request asks for it, else MORE. A target or a
+ * peeled object of length 0 is none. Parts are checked from left to right: BadObjectName, BadRefName. OUT_OF_ORDER where its name does not come
+ * after that of the one before it, or it is a `HEAD` that was reported as unborn. OUT_OF_MEMORY. What an unborn `HEAD` points to is reported before
+ * any reference. Their end: PACKET, the flush that ends the answer.
+ */
+GITWIRE_LOOKED_AT
+gitwire_answer gitwire_host_reference(gitwire_host *host, const uint8_t *id, size_t id_length, const uint8_t *name, size_t name_length,
+	const uint8_t *target, size_t target_length, const uint8_t *peeled, size_t peeled_length, uint8_t *room, size_t room_length);
+GITWIRE_LOOKED_AT
+gitwire_answer gitwire_host_unborn(gitwire_host *host, const uint8_t *target, size_t target_length, uint8_t *room, size_t room_length);
+GITWIRE_LOOKED_AT
+gitwire_answer gitwire_host_references_end(gitwire_host *host, uint8_t *room, size_t room_length);
+
+/* For `object-info`: the size of the object that is asked about, where the store has it. PACKET. */
+GITWIRE_LOOKED_AT
+gitwire_answer gitwire_host_size(gitwire_host *host, bool has_size, uint64_t size, uint8_t *room, size_t room_length);
+
+GITWIRE_FREES(gitwire_host)
+
+/*
  * The client's end of a conversation: for every cutting of the advertisement and the responses, the events handed out are
  * those of the bytes fed, under what was asked; the first fault is reported by name and offset, and stays; the pack is the
  * bytes of PACK, in order. Beside one request that it is asking it has one buffer of GITWIRE_PACKET_ROOM bytes.
@@ -673,6 +805,7 @@ GITWIRE_IS_HANDLE(gitwire_repository);
 GITWIRE_IS_HANDLE(gitwire_server);
 GITWIRE_IS_HANDLE(gitwire_client);
 GITWIRE_IS_HANDLE(gitwire_writer);
+GITWIRE_IS_HANDLE(gitwire_host);
 #undef GITWIRE_IS_HANDLE
 #undef GITWIRE_FREES
 GITWIRE_STATIC_ASSERT(sizeof(size_t) == 8 && sizeof(void *) == 8 && sizeof(bool) == 1, "the library is of 64 bits");

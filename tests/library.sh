@@ -10,12 +10,13 @@ write_examples() {
     local name
     make -s -C "$top" install PREFIX="$installed" PROGRAM="$program" LIBRARY="$library" RT="${RT:-rt}" >&2 ||
         stop 'what was built could not be installed'
-    for name in daemon fetch host list packets watch; do
+    for name in daemon fetch host list packets upload-pack watch; do
         compile "$name" "$top/examples/$name.c"
     done
     compile frugal_daemon "$top/examples/daemon.c" -DMOST_KEPT=200
     compile library_calls "$top/tests/library_calls.c"
     compile library_writers "$top/tests/library_writers.c"
+    compile library_host "$top/tests/library_host.c"
     compile refused_memory "$top/tests/refused_memory.c" -Wl,--wrap=malloc,--wrap=realloc,--wrap=free
 }
 
@@ -151,7 +152,7 @@ case_programs_take_the_shared_library() {
     gcc -O2 -o bin/list-shared "$top/examples/list.c" "${flags[@]}"
     shared ldd bin/list-shared
     grep -q -F "libgitwire.so.0 => $installed/lib/libgitwire.so.0 " out || differs 'a program without the shared library' out
-    for name in library_calls library_writers; do
+    for name in library_calls library_writers library_host; do
         gcc -O2 -o "bin/$name-shared" "$top/tests/$name.c" "${flags[@]}"
         shared "$name-shared"
         expect 0 /dev/null /dev/null
@@ -173,7 +174,7 @@ case_library_header_stands_alone() {
 
 case_library_programs_compile_without_a_word() {
     local name
-    for name in daemon fetch host list packets watch library_calls library_writers refused_memory; do
+    for name in daemon fetch host list packets watch library_calls library_writers library_host refused_memory; do
         expect_same "what the compiler prints for $name" /dev/null "$name.said"
     done
 }
@@ -208,7 +209,7 @@ case_manual_page_has_each_call() {
 
 case_library_calls_tell_what_the_header_says() {
     local name
-    for name in library_calls library_writers; do
+    for name in library_calls library_writers library_host; do
         run "$name-watched"
         expect 0 /dev/null /dev/null
         under_valgrind "bin/$name"
@@ -221,7 +222,7 @@ case_library_frees_all_where_memory_is_refused() {
     run refused_memory-watched
     expect_status 0
     expect_same 'standard error' /dev/null err
-    grep -q -x -E '[1-9][0-9]*( [1-9][0-9]*){11}' out || differs 'what was printed' out
+    grep -q -x -E '[1-9][0-9]*( [1-9][0-9]*){12}' out || differs 'what was printed' out
     under_valgrind bin/refused_memory
     expect_status 0
 }

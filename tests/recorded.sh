@@ -186,6 +186,42 @@ END
     expect_status 1
 }
 
+# What a server advertised and this project does not know may be in a request too: a key that the client then sends.
+case_check_takes_a_session_id() {
+    rm -rf ours
+    recorded -c transfer.advertiseSID=true clone -q 'ext::record history-sha1 -c transfer.advertiseSID=true' ours
+    checks
+    grep -a -q 'session-id=' requests || differs 'no session-id' requests
+    sed 's/session-id=/session-ix=/' requests > requests.tried
+    run git2show check requests.tried responses
+    expect_status 1
+    grep -a -q -x 'git2show: requests: NotAdvertised at [0-9]*' err || differs 'another fault' err
+}
+
+# An argument that asks for a section, which this response has not.
+case_check_takes_an_argument_for_addresses_of_packs() {
+    local id hash
+    id=$(printf 'f%.0s' {1..40})
+    hash=$(printf 'e%.0s' {1..40})
+    rm -rf ours
+    recorded -c fetch.uriProtocols=https clone -q \
+        "ext::record history-sha1 -c uploadpack.blobPackfileUri=$id% $hash% https://127.0.0.1:1/pack" ours
+    checks
+    grep -a -q '0017packfile-uris https' requests || differs 'no such argument' requests
+}
+
+# An argument by which each line of the response comes on a side band: the request is taken, and the response is not known.
+case_check_refuses_lines_on_bands() {
+    rm -rf ours
+    GIT_TEST_SIDEBAND_ALL=1 recorded clone -q 'ext::record history-sha1 -c uploadpack.advertiseSidebandAll=true' ours
+    grep -a -q '0010sideband-all' requests || differs 'no such argument' requests
+    run git2show check requests responses
+    expect_status 1
+    grep -a -q -x 'git2show: responses: UnexpectedSection at [0-9]*' err || differs 'another fault' err
+    expect_line 'the transcript' 'request fetch' out
+    withstands_damage
+}
+
 case_check_tells_an_error_of_the_server() {
     git init -q ours
     recorded -C ours fetch -q 'ext::record history-sha1' "$(printf 'f%.0s' {1..40})"

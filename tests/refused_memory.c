@@ -284,6 +284,63 @@ static void run_server(void)
 	gitwire_server_free(&server);
 }
 
+/* Whether a report is taken, once memory for it is had: where it is refused nothing changed, and it is made again. */
+static void expect_reported(gitwire_host *host, uint8_t kind, gitwire_answer (*report)(gitwire_host *))
+{
+	gitwire_answer answer = report(host);
+
+	if (answer.kind == GITWIRE_OUT_OF_MEMORY) {
+		expect(refused > 0, "a report");
+		answer = report(host);
+	}
+	expect(answer.kind == kind || (answer.kind == GITWIRE_OUT_OF_MEMORY && refused_after), "what came of a report");
+}
+
+static gitwire_answer report_reference(gitwire_host *host)
+{
+	return gitwire_host_reference(host, TEXT(ONE), TEXT("refs/heads/a-name-of-more-than-32-bytes"), TEXT("refs/a"), NULL, 0, room, sizeof room);
+}
+
+static gitwire_answer report_wanted(gitwire_host *host)
+{
+	return gitwire_host_want_ref(host, TEXT(ONE), room, sizeof room);
+}
+
+/* A session over a store that is asked: references, and a wanted one. It ends well, or is refused as OutOfMemory. */
+static void run_host(void)
+{
+	static const char *const said = LS_REFS "0012command=fetch\n" "0001" "0014want-ref refs/a\n" "0009done\n" "0000";
+	gitwire_host host = GITWIRE_NONE;
+	gitwire_offer offer = { .features = GITWIRE_FEATURES_ALL };
+	gitwire_answer answer = { .kind = GITWIRE_PACKET };
+	size_t used = 0;
+	bool made;
+
+	if (is_made(gitwire_host_new(&host, offer, 1000, true), "a host's server")) {
+		while (answer.kind != GITWIRE_ENDED_BY_CLOSE && answer.kind != GITWIRE_FAILED && answer.kind != GITWIRE_NEED_BOUNDARY) {
+			answer = gitwire_host_pull(&host, room, sizeof room);
+			if (answer.kind == GITWIRE_NEED_INPUT && used < strlen(said))
+				used += gitwire_host_feed(&host, (const uint8_t *)said + used, strlen(said) - used).used;
+			else if (answer.kind == GITWIRE_NEED_INPUT)
+				gitwire_host_close(&host);
+			else if (answer.kind == GITWIRE_ASKED)
+				expect(gitwire_host_accept(&host) == GITWIRE_DONE, "a request that is accepted");
+			else if (answer.kind == GITWIRE_NEED_REFERENCE) {
+				expect_reported(&host, GITWIRE_PACKET, report_reference);
+				expect(gitwire_host_references_end(&host, room, sizeof room).kind == GITWIRE_PACKET, "the end of references");
+			} else if (answer.kind == GITWIRE_NEED_WANT_REF) {
+				expect_reported(&host, GITWIRE_MORE, report_wanted);
+				if (refused_after && refused > 0)
+					break;
+			}
+		}
+		expect(answer.kind != GITWIRE_FAILED || (answer.fault == GITWIRE_FAULT_OUT_OF_MEMORY && refused > 0), "a session of a host");
+		made = is_made(gitwire_host_new(&host, offer, 1000, true), "a further host's server");
+		expect(host.is_made_ == made, "what a host's handle has");
+	}
+	gitwire_host_free(&host);
+}
+
 static void run_client(void)
 {
 	gitwire_client client = GITWIRE_NONE;
@@ -443,7 +500,7 @@ static bool run(void (*scenario)(void), long at, bool after)
 int main(void)
 {
 	static void (*const scenarios[])(void) = { run_packet_reader, run_writer, run_request_reader, run_request, run_flags, run_repository,
-		run_filtered_repository, run_server, run_client, run_broken_requests, run_broken_session, run_broken_conversation };
+		run_filtered_repository, run_server, run_host, run_client, run_broken_requests, run_broken_session, run_broken_conversation };
 
 	for (size_t i = 0; i < sizeof scenarios / sizeof *scenarios; i++) {
 		long at = 0;

@@ -96,6 +96,7 @@ export PATH=$room/bin:$PATH
 . "$top/tests/clones.sh"
 . "$top/tests/partial_clones.sh"
 . "$top/tests/fetches.sh"
+. "$top/tests/upload_packs.sh"
 . "$top/tests/http_backend.sh"
 . "$top/tests/http.sh"
 . "$top/tests/web_servers.sh"

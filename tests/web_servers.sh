@@ -178,9 +178,24 @@ serves_compressed_chunks() {
     grep -a -q -F "$(git -C history-sha1 rev-parse main) refs/heads/main" out || differs 'the answer' out
 }
 
+# refuses_long STATUS PATH: that a body of 3 MB that is posted there is answered by this status.
+refuses_long() {
+    exec 5<> "/dev/tcp/127.0.0.1/$port"
+    {
+        printf '%s\r\n' "POST /git/$2 HTTP/1.1" 'Host: localhost' 'Connection: close' 'Git-Protocol: version=2' \
+            'Content-Type: application/x-git-upload-pack-request' 'Content-Length: 3000000' ''
+        head -c 3000000 /dev/zero
+    } >&5
+    limited cat <&5 > out
+    exec 5>&-
+    expect_line "the answer to a long body at $2" "HTTP/1.1 $1"$'\r' out
+}
+
 # reports_refusals LOG: what is not there, what cannot be served, another version, and the end of a long request that is refused at
 # its beginning.
 reports_refusals() {
+    refuses_long '404 Not Found' nowhere/git-upload-pack
+    refuses_long '403 Forbidden' folder/history-sha1/git-receive-pack
     ls_remote "$web/folder/nowhere"
     expect_line 'what Git reported' 'remote: no such repository' err
     ls_remote "$web/broken/text"

@@ -471,7 +471,7 @@ fn play_requests(
     requests: Vec<Request<Global>>,
 ) -> Result<(), Failure> {
     let mut output = buffered_output(rt)?;
-    let done = play(
+    let (_, done) = play(
         rt.alloc(),
         repo,
         requests,

@@ -1,6 +1,6 @@
 -- A check so far: what was read of both streams, what was asked and received; and what it results in at each of its ends.
-use Rattle.std.proofs.Common.{arith, ◌≡◌, inl, inr, ◌⊎◌, ℕ, ◌-◌, ◌<◌, Bool, true, false, List, [], ◌∷◌, ◌++◌, length, map, Option, None}
-use Rattle.std.proofs.Common.{Result, Ok, Err, IfErr, refl, sym, ap, ◌∙◌, append_assoc, append-nil, length-append}
+use Rattle.std.proofs.Common.{arith, ◌≡◌, inl, inr, ◌⊎◌, ℕ, ◌-◌, ◌<◌, Bool, true, false, List, [], ◌∷◌, ◌++◌, length, map, Option, None, Some}
+use Rattle.std.proofs.Common.{Result, Ok, Err, IfErr, refl, sym, subst, ap, ◌∙◌, append_assoc, append-nil, length-append}
 use Rattle.std.proofs.lemmas.List.{map-append}
 use Rattle.std.proofs.KnownBytes.{Consumes-nil, Consumes-trans}
 use Rattle.std.specs.Io.KnownBytes.{Consumes}
@@ -8,6 +8,8 @@ use Rattle.git_pkt.specs.Machine.Engine.{FailsAs, IsShownBy, IsSpent}
 use Rattle.git_pkt.specs.Faults.{IsOpen, last_position}
 use Rattle.git_pkt.specs.Splits.{Given}
 use Rattle.git_pkt.specs.Streams.{Flow, flow, Moves, is_broken}
+use Rattle.git_pkt.specs.declared.fault.Fault.{Fault}
+use Rattle.git_pkt.specs.declared.fault.Kind.{Kind}
 use Rattle.git_pkt.specs.declared.fault.RunFault.{RunFault}
 use Rattle.git_pkt.specs.declared.fault.RunFault.TheVariants.{ReadFault, WriteFault, ReadLimit, Refused}
 use Rattle.git_pkt.specs.Machine.Told.{has_ended, has_failed}
@@ -17,11 +19,9 @@ use Rattle.git_msg.specs.Advertisement.{noted_offer}
 use Rattle.git_msg.specs.Asked.{Asked}
 use Rattle.git_msg.specs.Machine.HeldRequest.{asked_of}
 use Rattle.git_msg.specs.Requests.{IsStop}
-use Rattle.git_msg.specs.Machine.RequestStreams.{HasRead, AreAsked, IsRefusedAs, bytes_used, limit_of, offer_of}
+use Rattle.git_msg.specs.Machine.RequestStreams.{IsRefusedAs}
 use Rattle.git_msg.specs.Machine.StreamStages.{AreBegun}
-use Rattle.git_msg.specs.declared.offers.Offer.{Offer}
 use Rattle.git_msg.specs.declared.requests.Request.{Request}
-use Rattle.git_msg.specs.declared.streams.RequestStream.{RequestStream}
 use Rattle.git_client.specs.Machine.Client.{History, Converses, nothing_yet, bytes_used as client_bytes, can_ask, caps_of}
 use Rattle.git_client.specs.Machine.Client.{wants_input}
 use Rattle.git_client.specs.Parts.{Terms}
@@ -33,6 +33,11 @@ use Rattle.git_client.proofs.AskedInTurn.{commands_advertised}
 use Rattle.git_client.proofs.ClientRuns.{Running, Ran, ran, ran_as, ran_unasked, begins, asks_on, hears_on, hears_whole, read_on, refused_next}
 use Rattle.git_client.proofs.EventsHeard.{awaits_more, has_events, has_noted, is_whole, position_is}
 use Rattle.git_client.proofs.Faults.{first_fault}
+use Rattle.git2show_lib.specs.Others.{Advertised, HasLines}
+use Rattle.git2show_lib.specs.Machine.JudgedRequests.{HasRead, AreAskedBy, advertised_by, bytes_used, limit_of, offer_of, text_of}
+use Rattle.git2show_lib.specs.Machine.Noting.{AreLost, HasNotedLines, IsLost}
+use Rattle.git2show_lib.specs.declared.judged_requests.JudgedRequests.{JudgedRequests}
+use Rattle.git2show_lib.specs.declared.noting.Noting.{Noting}
 use Rattle.git2show_lib.specs.Machine.CheckFaults.{run_fault, run_result, standing_of}
 use Rattle.git2show_lib.specs.Machine.CheckSteps.{Asking, ReadsAll, ReadsNoMore, ReadsOn, ReadsRequest, ReadsTo, SeesEnd}
 use Rattle.git2show_lib.specs.Machine.CheckedStreams.{AreAllAsked, AreAnswered, AreOver, AreUnread, Checked, EndsAs, Found, IsOffered, IsWithinRequest}
@@ -50,7 +55,7 @@ silent = flow None None
 -- ---- what an advertisement offers
 
 -- what was offered stays so when more bytes come
-offered_on : (t : Terms) (bytes more : List ℕ) (offer : Offer) → IsOffered t bytes offer → IsOffered t (bytes ++ more) offer
+offered_on : (t : Terms) (bytes more : List ℕ) (offer : Advertised) → IsOffered t bytes offer → IsOffered t (bytes ++ more) offer
 offered_on t bytes more offer o = record {
   advertised = o.advertised;
   more = o.more ++ more;
@@ -60,14 +65,15 @@ offered_on t bytes more offer o = record {
   whole = o.whole;
   noted = o.noted;
   offers = o.offers;
+  lines = o.lines;
 }
 
 -- the same offer of the same bytes
-still_offered : (t : Terms) {bytes all : List ℕ} {offer other : Offer} → other ≡ offer → all ≡ bytes → IsOffered t bytes offer → IsOffered t all other
+still_offered : (t : Terms) {bytes all : List ℕ} {offer other : Advertised} → other ≡ offer → all ≡ bytes → IsOffered t bytes offer → IsOffered t all other
 still_offered t same grown offered = rw (same, grown) offered
 
 -- the same where perhaps no request was read yet
-known_on : (t : Terms) (bytes more all : List ℕ) (offer : Offer) (found : Found) → all ≡ bytes ++ more → IsOffered t bytes offer ⊎ AreUnread found
+known_on : (t : Terms) (bytes more all : List ℕ) (offer : Advertised) (found : Found) → all ≡ bytes ++ more → IsOffered t bytes offer ⊎ AreUnread found
     → IsOffered t all offer ⊎ AreUnread found
 known_on t bytes more all offer found grown (inl offered) =
     inl (rw grown (offered_on t bytes more offer offered))
@@ -78,7 +84,7 @@ abbrev nothing_found : Found
 nothing_found = record { used = []; unused = []; asked = []; left = []; rest = [] }
 
 -- no bytes ask for nothing
-none_asked : (offer : Offer) (limit : ℕ) → AreAsked offer limit [] [] [] []
+none_asked : (offer : Advertised) (limit : ℕ) → AreAskedBy offer limit [] [] [] []
 none_asked offer limit = record { packets = []; splits = record { spelled = refl; ends = none_begins_nothing }; requests = refl }
 
 module _ {A : Type 0} (t : Terms) where
@@ -86,7 +92,7 @@ module _ {A : Type 0} (t : Terms) where
     -- ---- a check so far
 
     -- of the requests these bytes were used, which ask for these, and these wait
-    pub record Reading (asked : List Asked) (stream : RequestStream A) (waiting : List ℕ) (requests : Flow) : Type 0 where
+    pub record Reading (asked : List Asked) (stream : JudgedRequests A) (waiting : List ℕ) (requests : Flow) : Type 0 where
       pub used : List ℕ
       pub has_read : HasRead used asked stream
       pub read : Consumes requests.before requests.after (used ++ waiting)
@@ -95,30 +101,36 @@ module _ {A : Type 0} (t : Terms) where
     -- a response is due: the advertisement, or that to the last of the requests that were read
     pub record Awaiting (broken : Bool) (front : List (Request A)) (client : Client A) (waiting : List ℕ) (requests responses out : Flow) : Type 0 where
       pub found : Found
-      pub offer : Offer
+      pub offer : Advertised
       pub h : History
       pub runs : Running broken t h front client no_counts waiting responses silent out silent silent
       pub read : Consumes requests.before requests.after (found.used ++ found.unused)
-      pub asks : AreAsked offer limit found.used found.asked found.left found.rest
+      pub asks : AreAskedBy offer limit found.used found.asked found.left found.rest
       pub asked : found.asked ≡ map asked_of front
       pub nothing_left : found.left ≡ []
       pub no_rest : found.rest ≡ []
       pub offered : IsOffered t h.used offer ⊎ AreUnread found
 
     -- the next request can come: those that were read were asked, and the response to each was received whole
-    pub record Checking (client : Client A) (stream : RequestStream A) (held waiting : List ℕ) (requests responses out : Flow) : Type 0 where
+    pub record Checking (client : Client A) (stream : JudgedRequests A) (held waiting : List ℕ) (requests responses out : Flow) : Type 0 where
       pub front : List (Request A)
       pub h : History
       pub runs : Running false t h front client no_counts waiting responses silent out silent silent
       pub reading : Reading (map asked_of front) stream held requests
-      pub offered : IsOffered t h.used (offer_of stream)
+      pub offered : IsOffered t h.used (advertised_by stream)
       pub ready : can_ask client ≡ true
+
+module _ {A : Type 0} {t : Terms} where
+  -- before the first byte nothing was asked and received
+  pub nothing_run : (client : Client A) (responses out : Option (List ℕ)) → wants_input client ≡ true → Converses t nothing_yet client
+      → Running false t nothing_yet [] client no_counts [] (flow responses responses) silent (flow out out) silent silent
+  nothing_run client responses out due stands = begins t client responses None None out None None due stands tt
 
 module _ {A : Type 0} {t : Terms} {limit : ℕ} where
   -- ---- the requests
 
   -- they were read on
-  reads_on : {asked more : List Asked} {old new : RequestStream A} {waiting unused : List ℕ} {before held after : Option (List ℕ)}
+  reads_on : {asked more : List Asked} {old new : JudgedRequests A} {waiting unused : List ℕ} {before held after : Option (List ℕ)}
       → Reading t limit asked old waiting (flow before held) → ReadsOn old new more waiting unused (flow held after)
       → Reading t limit (asked ++ more) new unused (flow before after)
   reads_on {asked} {waiting = waiting} {unused} {before} {held} {after} r step = record {
@@ -128,18 +140,18 @@ module _ {A : Type 0} {t : Terms} {limit : ℕ} where
     limit_is = step.limit ∙ r.limit_is;
   }
 
-  module _ {asked : List Asked} {stream : RequestStream A} {waiting : List ℕ} {requests : Flow} (r : Reading t limit asked stream waiting requests)
+  module _ {asked : List Asked} {stream : JudgedRequests A} {waiting : List ℕ} {requests : Flow} (r : Reading t limit asked stream waiting requests)
       (left : List Given) (rest : List ℕ) where
     -- what is found in them, where this comes after the last whole request
     abbrev found_in : Found
     found_in = record { used = r.used; unused = waiting; asked = asked; left = left; rest = rest }
 
     -- that is what the requests ask within this limit
-    asks_within : AreAsked (offer_of stream) (limit_of stream) r.used asked left rest → AreAsked (offer_of stream) limit r.used asked left rest
+    asks_within : AreAskedBy (advertised_by stream) (limit_of stream) r.used asked left rest → AreAskedBy (advertised_by stream) limit r.used asked left rest
     asks_within are_asked = rw r.limit_is at are_asked
 
   -- a request takes the reader a byte on, or more
-  pub comes_nearer : {asked : List Asked} {old new : RequestStream A} {request : Request A} {ended : Bool} {waiting unused : List ℕ}
+  pub comes_nearer : {asked : List Asked} {old new : JudgedRequests A} {request : Request A} {ended : Bool} {waiting unused : List ℕ}
       {before held after : Option (List ℕ)} → Reading t limit asked old waiting (flow before held)
       → ReadsRequest ended old new request waiting unused (flow held after) → last_position - bytes_used new < last_position - bytes_used old
   comes_nearer {asked} r step =
@@ -149,13 +161,13 @@ module _ {A : Type 0} {t : Terms} {limit : ℕ} where
   -- ---- the client
 
   -- before the first byte
-  pub advertisement_due : (client : Client A) (offer : Offer) (requests responses out : Option (List ℕ)) → wants_input client ≡ true
+  pub advertisement_due : (client : Client A) (offer : Advertised) (requests responses out : Option (List ℕ)) → wants_input client ≡ true
       → Converses t nothing_yet client → Awaiting t limit false [] client [] (flow requests requests) (flow responses responses) (flow out out)
   advertisement_due client offer requests responses out due stands = record {
     found = nothing_found;
     offer = offer;
     h = nothing_yet;
-    runs = begins t client responses None None out None None due stands tt;
+    runs = nothing_run client responses out due stands;
     read = Consumes-nil requests;
     asks = none_asked offer limit;
     asked = refl;
@@ -164,17 +176,17 @@ module _ {A : Type 0} {t : Terms} {limit : ℕ} where
     offered = inr (record { nothing_used = refl; nothing_waits = refl });
   }
 
-  -- the advertisement was received whole, and a reader of requests was made of what it offers
-  pub advertised : {old new : Client A} {stream : RequestStream A} {window : Window} {piece : List ℕ} {requests : Option (List ℕ)}
+  -- the advertisement was received whole, and a reader of requests was made of what it has
+  pub advertised : {old new : Client A} {stream : JudgedRequests A} {window : Window} {piece : List ℕ} {requests : Option (List ℕ)}
       {before held after out_before out_held out_after : Option (List ℕ)}
-      → Awaiting t limit false [] old [] (flow requests requests) (flow before held) (flow out_before out_held)
-      → wants_input old ≡ true → HearsWhole window old new [] piece (flow held after) (flow out_held out_after) silent silent
-      → HasRead [] [] stream → offer_of stream ≡ noted_offer (caps_of new) t.format → limit_of stream ≡ limit
+      → Running false t nothing_yet [] old no_counts [] (flow before held) silent (flow out_before out_held) silent silent
+      → wants_input old ≡ true → (heard : HearsWhole window old new [] piece (flow held after) (flow out_held out_after) silent silent)
+      → HasRead [] [] stream → offer_of stream ≡ noted_offer (caps_of new) t.format → HasLines heard.hears.used (text_of stream) → limit_of stream ≡ limit
       → Checking t limit new stream [] (window_of window piece) (flow requests requests) (flow before after) (flow out_before out_after)
-  advertised {old} {new} {window = window} {piece} {requests} a due heard reads offers kept =
-      let on = hears_whole t [] old new [] window piece a.runs due heard in
+  advertised {old} {new} {window = window} {piece} {requests} runs due heard reads offers lines kept =
+      let on = hears_whole t [] old new [] window piece runs due heard in
       let stands = on.along.stands in
-      let now : History = record a.h { used = a.h.used ++ heard.hears.used; events = a.h.events ++ heard.hears.bytes.events } in
+      let now : History = record nothing_yet { used = heard.hears.used; events = heard.hears.bytes.events } in
       record {
         front = [];
         h = now;
@@ -186,15 +198,16 @@ module _ {A : Type 0} {t : Terms} {limit : ℕ} where
           events = now.events;
           caps = caps_of new;
           cut = sym (append-nil now.used);
-          whole = rw on.in_turn.are at (is_whole t now new stands heard.can_ask_on);
-          noted = rw on.in_turn.are at (has_noted t now new stands);
+          whole = is_whole t now new stands heard.can_ask_on;
+          noted = has_noted t now new stands;
           offers = offers;
+          lines = lines;
         };
         ready = heard.can_ask_on;
       }
 
   -- a request was read
-  module _ {old : Client A} {stream next : RequestStream A} {request : Request A} {ended : Bool} {held later waiting : List ℕ} {responses : Flow}
+  module _ {old : Client A} {stream next : JudgedRequests A} {request : Request A} {ended : Bool} {held later waiting : List ℕ} {responses : Flow}
       {before left after out_before out_held : Option (List ℕ)}
       (c : Checking t limit old stream held waiting (flow before left) responses (flow out_before out_held))
       (step : ReadsRequest ended stream next request held later (flow left after)) where
@@ -207,7 +220,7 @@ module _ {A : Type 0} {t : Terms} {limit : ℕ} where
         let (left, rest, are_asked, (nothing, none)) = step.alone reading.used asked reading.has_read in
         record {
           found = found_in reading left rest;
-          offer = offer_of next;
+          offer = advertised_by next;
           h = _;
           runs = asks_on t broken c.front old new request no_counts waiting c.runs c.ready asks;
           read = reading.read;
@@ -215,11 +228,11 @@ module _ {A : Type 0} {t : Terms} {limit : ℕ} where
           asked = sym (map-append asked_of c.front (request ∷ []));
           nothing_left = nothing;
           no_rest = none;
-          offered = inl (still_offered t step.reads.offer refl c.offered);
+          offered = inl (still_offered t step.reads.advertised refl c.offered);
         }
 
   -- a request was read and asked, and the response to it was received whole
-  pub response_heard : {old middle new : Client A} {stream next : RequestStream A} {request : Request A} {ended : Bool}
+  pub response_heard : {old middle new : Client A} {stream next : JudgedRequests A} {request : Request A} {ended : Bool}
       {held later waiting : List ℕ} {window : Window} {piece : List ℕ}
       {before left after heard_before heard heard_after out_before out_held out_asked out_after : Option (List ℕ)}
       → Checking t limit old stream held waiting (flow before left) (flow heard_before heard) (flow out_before out_held)
@@ -232,9 +245,20 @@ module _ {A : Type 0} {t : Terms} {limit : ℕ} where
     runs = hears_whole t (c.front ++ request ∷ []) middle new waiting window piece
         (asks_on t false c.front old middle request no_counts waiting c.runs c.ready asks) due heard;
     reading = rw (map-append asked_of c.front (request ∷ [])) (reads_on c.reading step.reads);
-    offered = still_offered t step.reads.offer refl (offered_on t c.h.used heard.hears.used (offer_of stream) c.offered);
+    offered = still_offered t step.reads.advertised refl (offered_on t c.h.used heard.hears.used (advertised_by stream) c.offered);
     ready = heard.can_ask_on;
   }
+
+module _ {A : Type 0} where
+  -- what was noted is what the bytes have
+  pub lines_noted : {notes : Noting A} {used text : List ℕ} → HasNotedLines used notes → (notes.lost ≡ None) × (text ≡ notes.text.items) → HasLines used text
+  lines_noted noted (sound, same) =
+      let n = noted.notes sound in
+      record { given = n.given; rest = n.rest; splits = n.reads.splits; text_is = same ∙ n.text_is }
+
+  -- why a line was not kept
+  pub why_lost : {notes : Noting A} {used : List ℕ} {kind : Kind} → HasNotedLines used notes → notes.lost ≡ Some kind → IsLost kind
+  why_lost noted is = subst AreLost is noted.why
 
 -- ---- how a check ends
 
@@ -246,11 +270,11 @@ module _ (A : Type 0) (t : Terms) (limit : ℕ) {Q R : Type 0} (of_requests : To
       (requests ∷ responses ∷ []) (out ∷ [])
 
   -- what the run of the client and the requests mean for a check that ends here
-  ends : (result : Result (Unit {0}) CheckFault) (found : Found) (offer : Offer) (h : History) (front : List (Request A)) (client : Client A)
+  ends : (result : Result (Unit {0}) CheckFault) (found : Found) (offer : Advertised) (h : History) (front : List (Request A)) (client : Client A)
       (unused : List ℕ) (requests responses out : Flow) → Consumes requests.before requests.after (found.used ++ found.unused)
       → Ran (is_broken (run_result result)) t h front client unused responses silent out silent silent → IsOffered t h.used offer ⊎ AreUnread found
-      → AreAsked offer limit found.used found.asked found.left found.rest
-      → EndsAs A t offer limit result (standing_of of_requests) (standing_of of_responses) unused h found → CheckEnds result requests responses out
+      → AreAskedBy offer limit found.used found.asked found.left found.rest
+      → EndsAs A t offer.offer limit result (standing_of of_requests) (standing_of of_responses) unused h found → CheckEnds result requests responses out
   ends result found offer h front client unused requests responses out read at offered asks ended = record {
     used = (found.used ++ found.unused) ∷ (h.used ++ unused) ∷ [];
     given = transcript_of h.asked h.events ∷ [];
@@ -260,7 +284,7 @@ module _ (A : Type 0) (t : Terms) (limit : ℕ) {Q R : Type 0} (of_requests : To
       h = h;
       unused = unused;
       found = found;
-      offer = offer;
+      by = offer;
       were_read = refl;
       told = refl;
       heard = has_events t h client at.stands;
@@ -281,7 +305,7 @@ module _ (A : Type 0) (t : Terms) (limit : ℕ) {Q R : Type 0} (of_requests : To
     heard_up_to : (result : Result (Unit {0}) CheckFault) (unused : List ℕ)
         (step : HearsFrom (is_broken (run_result result)) old new waiting unused (flow held after) (flow out_held out_after) silent silent)
         → ((h : History) → Converses t h new → AreAllAsked h a.found
-        → EndsAs A t a.offer limit result (standing_of of_requests) (standing_of of_responses) unused h a.found)
+        → EndsAs A t a.offer.offer limit result (standing_of of_requests) (standing_of of_responses) unused h a.found)
         → CheckEnds result requests (flow before after) (flow out_before out_after)
     heard_up_to result unused step ended =
         let on = hears_on t (is_broken (run_result result)) front old new waiting unused a.runs due step in
@@ -305,10 +329,28 @@ module _ (A : Type 0) (t : Terms) (limit : ℕ) {Q R : Type 0} (of_requests : To
         heard_up_to (Err (Responses fault)) step.unused step.hears (λ h stands all_asked.
         inl (record { all_asked = all_asked; malformed = record { first = first_fault t h new fault stands step.told; timely = step.timely } }))
 
+  -- the advertisement was received whole, and a line of it was not kept
+  pub not_noted : {old : Client A} (new : Client A) {window : Window} {piece : List ℕ} {requests : Flow}
+      {before held out_before out_held : Option (List ℕ)} (after out_after : Option (List ℕ)) (fault : Fault)
+      → Awaiting t limit false [] old [] requests (flow before held) (flow out_before out_held) → wants_input old ≡ true
+      → HearsWhole window old new [] piece (flow held after) (flow out_held out_after) silent silent → IsLost fault.kind → fault.offset ≡ client_bytes new
+      → CheckEnds (Err (Responses fault)) requests (flow before after) (flow out_before out_after)
+  not_noted {old} new {window} {piece} after out_after fault a due heard lost at =
+      let on = hears_whole t [] old new [] window piece a.runs due heard in
+      let stands = on.along.stands in
+      ends (Err (Responses fault)) a.found a.offer _ [] new (window_of window piece) _ _ _ a.read (ran on)
+      (known_on t a.h.used heard.hears.used _ a.offer a.found refl a.offered) a.asks
+      (inr (inl (record {
+        answered = record { asked = a.asked ∙ sym on.in_turn.are; whole = is_whole t _ new stands heard.can_ask_on };
+        none_asked = on.in_turn.are;
+        why = lost;
+        at = at ∙ position_is t _ new stands;
+      })))
+
   -- ---- a request was not asked
 
   -- the client refuses it, or a write failed
-  pub asking_stopped : (fault : RunFault) {old : Client A} (new : Client A) {stream next : RequestStream A} {request : Request A} {ended : Bool}
+  pub asking_stopped : (fault : RunFault) {old : Client A} (new : Client A) {stream next : JudgedRequests A} {request : Request A} {ended : Bool}
       {held later waiting : List ℕ} {responses : Flow} {before left after out_before out_held : Option (List ℕ)} (out_after : Option (List ℕ))
       → Checking t limit old stream held waiting (flow before left) responses (flow out_before out_held)
       → ReadsRequest ended stream next request held later (flow left after)
@@ -324,20 +366,20 @@ module _ (A : Type 0) (t : Terms) (limit : ℕ) {Q R : Type 0} (of_requests : To
       let asked = map asked_of c.front ++ asked_of request ∷ [] in
       let reading = reads_on c.reading step.reads in
       let (remaining, rest, are_asked, (nothing, none)) = step.alone reading.used asked reading.has_read in
-      ends (Err (Responses fault)) (found_in reading remaining rest) (offer_of next) c.h c.front old waiting _ _ _ reading.read
-      (ran_unasked t c.runs asks) (inl (still_offered t step.reads.offer refl c.offered)) (asks_within reading remaining rest are_asked)
-      (inr (inl (record {
+      ends (Err (Responses fault)) (found_in reading remaining rest) (advertised_by next) c.h c.front old waiting _ _ _ reading.read
+      (ran_unasked t c.runs asks) (inl (still_offered t step.reads.advertised refl c.offered)) (asks_within reading remaining rest are_asked)
+      (inr (inr (inl (record {
         request = request;
         format = step.format;
         asked = ap (λ (l : List Asked). l ++ asked_of request ∷ []) (sym c.runs.in_turn.are);
         nothing_left = nothing;
         no_rest = none;
         refused = refused_next t c.h [] request old new fault c.runs.along.stands c.ready asks;
-      })))
+      }))))
 
   -- ---- no further request was read
 
-  module _ {client : Client A} {stream : RequestStream A} (next : RequestStream A) {held waiting : List ℕ} {before left heard_before heard : Option (List ℕ)}
+  module _ {client : Client A} {stream : JudgedRequests A} (next : JudgedRequests A) {held waiting : List ℕ} {before left heard_before heard : Option (List ℕ)}
       {out : Flow}
       (after : Option (List ℕ)) (c : Checking t limit client stream held waiting (flow before left) (flow heard_before heard) out) where
     -- what is found in the requests: those that were asked, and this after them
@@ -361,9 +403,9 @@ module _ (A : Type 0) (t : Terms) (limit : ℕ) {Q R : Type 0} (of_requests : To
         let so : Ran false t h c.front client (waiting ++ came) (flow heard_before heard_after) silent out silent silent =
         ran_as at (rw (append_assoc h.used waiting came) at (Consumes-trans heard_before heard heard_after (h.used ++ waiting) came at.read read))
         at.said at.told at.sent at.reported in
-        ends result (found_after reading.used unused remaining rest) (offer_of next) h c.front client (waiting ++ came) _ _ _ reading.read
+        ends result (found_after reading.used unused remaining rest) (advertised_by next) h c.front client (waiting ++ came) _ _ _ reading.read
         (rw sound so)
-        (inl (still_offered t step.offer refl c.offered)) (asks_within reading remaining rest are_asked)
+        (inl (still_offered t step.advertised refl c.offered)) (asks_within reading remaining rest are_asked)
         (ended reading.used remaining rest stands (record { asked = sym c.runs.in_turn.are; whole = is_whole t h client at.stands c.ready }))
 
     -- all bytes of the requests were read, and more can come
@@ -426,12 +468,12 @@ module _ (A : Type 0) (t : Terms) (limit : ℕ) {Q R : Type 0} (of_requests : To
           (λ found answered over. record { answered = answered; over = over; nothing_left = append-nil waiting ∙ seen.none_waits; ended = ended })
       seen_the_end (Err (Requests fault)) position turns F W heard_after place seen told shown = absurd seen
       seen_the_end (Err (Responses fault)) position turns F W heard_after place (seen, fault_is) told shown =
-          seen_then (Err (Responses fault)) refl seen.came heard_after seen.read (λ found answered over. inr (inr (record {
+          seen_then (Err (Responses fault)) refl seen.came heard_after seen.read (λ found answered over. inr (inr (inr (record {
             answered = answered;
             over = over;
             more = seen.some;
             fault_is = rw (place, position_is t c.h client c.runs.along.stands) at fault_is;
-          })))
+          }))))
       seen_the_end (Err CheckReadFault) position turns F W heard_after place seen told shown =
           seen_then (Err CheckReadFault) refl [] heard_after seen.read
           (λ found answered over. inr (inr (record { answered = answered; over = over; nothing_left = append-nil waiting ∙ seen.none_waits }, told.0)))

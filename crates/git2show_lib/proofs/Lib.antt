@@ -1,4 +1,9 @@
 pub mod CheckRuns
+pub mod OtherLines
+pub mod KnownLines
+pub mod JudgedSteps
+pub mod JudgedReadings
+pub mod AdvertisementNoted
 pub mod Sendings
 pub mod Printing
 pub mod ScriptLists

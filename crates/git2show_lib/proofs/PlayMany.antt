@@ -31,10 +31,10 @@ use Rattle.git_server.specs.Sessions.{Setting, IsAnswered}
 use Rattle.git_server.specs.declared.server.Server.{Server}
 use Rattle.git_server.proofs.Going.{no_outcome}
 use Rattle.git2show_lib.specs.Machine.PlaySteps.{Answers, AnswersTo, AsksServer, HearsMessage, Settled, Stands}
-use Rattle.git_both_ends.specs.Plays.{AreAll, AreSaid, CanFail, IsDone, IsTalk, Talk, said_each, setting_of, with_end}
+use Rattle.git_both_ends.specs.Plays.{AreAll, AreSaid, IsDone, IsTalk, Talk, said_each, setting_of, with_end}
 use Rattle.git2show_lib.proofs.PlayFlushes.{questions_close, questions_count}
 use Rattle.git2show_lib.proofs.PlayRuns.{PlayEnds, Plays, Runs, Turn, answer_stopped, begun, first_turn, given_is, heard, now_whole, play_ends, settled, waits}
-use Rattle.git2show_lib.proofs.PlayTalks.{spelled-append, talk_of}
+use Rattle.git2show_lib.proofs.PlayTalks.{failed_in, spelled-append, talk_of}
 
 -- a response end, as the code writes it
 abbrev pub end_bytes : List ℕ
@@ -158,8 +158,8 @@ module _ {R A : Type 0} {state : R → RepoState} {t : Terms} {limit : ℕ} {s0 
               );
           gave = λ all.
               rw (sym p.rest.packets_are ∙ p.rest.gave, flat_map-append with_end later (talk_of question all ∷ [])) (simp (append_assoc, append-nil));
-          talks = λ all. with_one (IsTalk (CanFail state s0)) t limit s0 first later (talk_of question all) p.rest.talks;
-          done = λ all. with_one (IsDone (CanFail state s0)) t limit s0 first later (talk_of question all) p.rest.done;
+          talks = λ failed all. with_one (IsTalk failed) t limit s0 first later (talk_of question all) (p.rest.talks failed);
+          done = λ failed all. with_one (IsDone failed) t limit s0 first later (talk_of question all) (p.rest.done failed);
           answered = λ all. with_one (λ s talk. IsAnswered s talk.said talk.given) t limit s0 first later (talk_of question all) p.rest.answered;
         }
 
@@ -168,7 +168,7 @@ module _ {R A : Type 0} {state : R → RepoState} {t : Terms} {limit : ℕ} {s0 
       -- and not answered
       pub many_stopped : (requests later : List (Request A)) (fault : RunFault) → requests ≡ front ++ request ∷ later
           → AnswersTo state (Err fault) end_bytes old new request next after (flow o1 o2) (flow p1 p2)
-          → PlayEnds t (CanFail state s0) limit s0 requests (Err fault) (flow o0 o2) (flow p0 p2)
+          → PlayEnds t (failed_in state after) limit s0 requests (Err fault) (flow o0 o2) (flow p0 p2)
       many_stopped requests later fault split step =
           answer_stopped requests p later request fault split (λ asking told written step. (_, next_turn request asking next told st step))
           (rw end_is at step)
@@ -183,11 +183,11 @@ module _ {R A : Type 0} {state : R → RepoState} {t : Terms} {limit : ℕ} {s0 
 
     -- all requests were answered
     pub many_end : {requests : List (Request A)} → requests ≡ front ++ []
-        → PlayEnds t (CanFail state s0) limit s0 requests (Ok tt) (flow o0 o1) (flow p0 p1)
+        → PlayEnds t (failed_in state server) limit s0 requests (Ok tt) (flow o0 o1) (flow p0 p1)
     many_end {requests} split =
         let h = p.h in
         let stands = p.runs.along.stands in
-        play_ends t (CanFail state s0) limit s0 requests (Ok tt) h front [] old split (ran p.runs) (record {
+        play_ends t (failed_in state server) limit s0 requests (Ok tt) h front [] old split (ran p.runs) (record {
           first = p.rest.first;
           later = p.rest.later;
           run = record {

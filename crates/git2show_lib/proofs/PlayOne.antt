@@ -23,11 +23,11 @@ use Rattle.git_server.proofs.AtRest.{front_of, packets_of}
 use Rattle.git_server.proofs.Flushes.{flushes-append}
 use Rattle.git_server.proofs.Going.{no_outcome}
 use Rattle.git2show_lib.specs.Machine.PlaySteps.{Answers, AnswersTo, AsksServer, HearsMessage, Settled, Stands, StandsOn, TellsAll}
-use Rattle.git_both_ends.specs.Plays.{AreSaid, CanFail, said_each, setting_of}
+use Rattle.git_both_ends.specs.Plays.{AreSaid, said_each, setting_of}
 use Rattle.git2show_lib.proofs.PlayFlushes.{Closes, advertises_once, closes_both, flushes_nearest, questions_close, questions_count}
 use Rattle.git2show_lib.proofs.PlayRuns.{PlayEnds, Plays, Runs, Turn, answer_stopped, begun, first_turn, given_is, sole_turn, heard, now_whole, play_ends}
 use Rattle.git2show_lib.proofs.PlayRuns.{rested, settled, used_all}
-use Rattle.git2show_lib.proofs.PlayTalks.{settle, talk, talk_of}
+use Rattle.git2show_lib.proofs.PlayTalks.{failed_in, settle, talk, talk_of}
 
 module _ {R A : Type 0} (state : R → RepoState) (t : Terms) (limit : ℕ) (s0 : RepoState) where
   -- the server was sent all, and gave all, that the client sent and received
@@ -104,7 +104,7 @@ module _ {R A : Type 0} {state : R → RepoState} {t : Terms} {limit : ℕ} {s0 
     pub one_stopped : (requests later : List (Request A)) (request : Request A) (fault : RunFault) {new : Client A} {after : Server R A}
         {o2 p2 : Option (List ℕ)} → requests ≡ front ++ request ∷ later
         → AnswersTo state (Err fault) [] old new request server after (flow o1 o2) (flow p1 p2)
-        → PlayEnds t (CanFail state s0) limit s0 requests (Err fault) (flow o0 o2) (flow p0 p2)
+        → PlayEnds t (failed_in state after) limit s0 requests (Err fault) (flow o0 o2) (flow p0 p2)
     one_stopped requests later request fault split step =
         answer_stopped requests p later request fault split (λ asking told written step. (_, next_turn request asking told step)) step
 
@@ -118,7 +118,7 @@ module _ {R A : Type 0} {state : R → RepoState} {t : Terms} {limit : ℕ} {s0 
 
     -- all requests were answered, and the client left the server
     pub one_end : {requests : List (Request A)} {mid new : Client A} {after : Server R A} → requests ≡ front ++ [] → Leaves old mid
-        → TellsAll state mid new server after → PlayEnds t (CanFail state s0) limit s0 requests (Ok tt) (flow o0 o1) (flow p0 p1)
+        → TellsAll state mid new server after → PlayEnds t (failed_in state after) limit s0 requests (Ok tt) (flow o0 o1) (flow p0 p1)
     one_end {requests} {mid} {new} {after} split leaving tells =
         let h = p.h in
         let s = setting_of t limit s0 true in
@@ -142,7 +142,7 @@ module _ {R A : Type 0} {state : R → RepoState} {t : Terms} {limit : ℕ} {s0 
           questions_count t.format all.caps h.asked,
           advertises_once s refl,
         )) in
-        play_ends t (CanFail state s0) limit s0 requests (Ok tt) now front [] new split at (record {
+        play_ends t (failed_in state after) limit s0 requests (Ok tt) now front [] new split at (record {
           first = talk_of given h.used;
           later = [];
           run = record { all = refl; whole = is_whole t h old p.runs.along.stands p.ready; leaves = ap leaves_last (sym ending); said = all };

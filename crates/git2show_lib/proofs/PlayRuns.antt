@@ -34,9 +34,9 @@ use Rattle.git_server.proofs.AtRest.{packets_of}
 use Rattle.git_server.proofs.Flushes.{flushes-append}
 use Rattle.git2show_lib.specs.Machine.PlaySteps.{AnswersTo, AsksServer, AsksServerTo, Hears, HearsMessage, HearsMessageTo, IsSpent}
 use Rattle.git2show_lib.specs.Machine.PlaySteps.{Settled, Stands, silent}
-use Rattle.git_both_ends.specs.Plays.{AreAll, AreSaid, AreServed, CanFail, EndsAs, IsDone, IsServed, IsTalk, Played, Talk, said_each, setting_of, with_end}
+use Rattle.git_both_ends.specs.Plays.{AreAll, AreSaid, AreServed, EndsAs, IsDone, IsServed, IsTalk, Played, Talk, said_each, setting_of, with_end}
 use Rattle.git2show_lib.proofs.PlayFlushes.{Closes, advertises_once, flushes_nearest}
-use Rattle.git2show_lib.proofs.PlayTalks.{Enough, Quota, Rests, done, enough_heard, last_of_closed, no_end_unheard, nothing_unheard}
+use Rattle.git2show_lib.proofs.PlayTalks.{Enough, Quota, Rests, done, enough_heard, failed_in, last_of_closed, no_end_unheard, nothing_unheard}
 use Rattle.git2show_lib.proofs.PlayTalks.{rests, settle, spelled-append, talk, talk_of, unheard_packets, waits_on}
 
 -- ---- the client's run
@@ -58,13 +58,13 @@ module _ {A : Type 0} (t : Terms) where
       ∙ ap (λ (b : Bool). spelled (said_of t.format (caps_of client) h.asked b)) (stayed t h client stands quietly)
       ∙ ap spelled (append-nil (questions_of t.format (caps_of client) h.asked))
 
-  module _ (Fails : Type 0) (limit : ℕ) (s0 : RepoState) (requests : List (Request A)) where
+  module _ (failed : ℕ) (limit : ℕ) (s0 : RepoState) (requests : List (Request A)) where
     -- how a play with this answer moved its streams
     abbrev pub PlayEnds : Result (Unit {0}) RunFault → Flow → Flow → Type 0
-    PlayEnds result out pack = Moves (is_broken result) (Played Fails t limit s0 requests result) [] (out ∷ pack ∷ [])
+    PlayEnds result out pack = Moves (is_broken result) (Played failed t limit s0 requests result) [] (out ∷ pack ∷ [])
 
     pub play_ends : (result : Result (Unit {0}) RunFault) (h : History) (front rest : List (Request A)) (client : Client A) {out pack : Flow}
-        → requests ≡ front ++ rest → Ran (is_broken result) t h front client [] silent silent out pack silent → EndsAs Fails t limit s0 result rest h
+        → requests ≡ front ++ rest → Ran (is_broken result) t h front client [] silent silent out pack silent → EndsAs failed t limit s0 result rest h
         → PlayEnds result out pack
     play_ends result h front rest client split at ends = record {
       used = [];
@@ -85,13 +85,13 @@ module _ {A : Type 0} (t : Terms) where
 -- ---- the servers
 
 -- all servers are at rest: each gave all that its session gives for what was sent to it, and the client received it
-pub record AtRest (Fails : Type 0) (t : Terms) (limit : ℕ) (s0 : RepoState) (h : History) : Type 0 where
+pub record AtRest (t : Terms) (limit : ℕ) (s0 : RepoState) (h : History) : Type 0 where
   pub first : Talk
   pub later : List Talk
   pub said : (caps : Caps) → HasNoted t h.asked h.used caps → AreSaid t.ending first later h.given (said_each t caps h.asked)
   pub gave : h.used ≡ first.given ++ flat_map with_end later
-  pub talks : AreAll (IsTalk Fails) t limit s0 first later
-  pub done : AreAll (IsDone Fails) t limit s0 first later
+  pub talks : (failed : ℕ) → AreAll (IsTalk failed) t limit s0 first later
+  pub done : (failed : ℕ) → AreAll (IsDone failed) t limit s0 first later
   pub answered : AreAll (λ s talk. IsAnswered s talk.said talk.given) t limit s0 first later
   pub packets : List Pkt
   pub packets_are : h.used ≡ spelled packets
@@ -125,10 +125,10 @@ module _ {R A : Type 0} (state : R → RepoState) (t : Terms) (limit : ℕ) (s0 
     pub all_said : (all : List ℕ) (caps : Caps) (x : List ℕ) → HasNoted t h.asked (h.used ++ x) caps
         → AreSaid t.ending (first all) (later all) h.given (said_each t caps h.asked)
     pub gave : (all : List ℕ) → spelled before ++ (all ++ spelled tail) ≡ (first all).given ++ flat_map with_end (later all)
-    pub talks : (all : List ℕ) → IsTalk (CanFail state s0) (setting_of t limit s0 advertise) (talk_of said all)
-        → AreAll (IsTalk (CanFail state s0)) t limit s0 (first all) (later all)
-    pub done : (all : List ℕ) → IsDone (CanFail state s0) (setting_of t limit s0 advertise) (talk_of said all)
-        → AreAll (IsDone (CanFail state s0)) t limit s0 (first all) (later all)
+    pub talks : (failed : ℕ) (all : List ℕ) → IsTalk failed (setting_of t limit s0 advertise) (talk_of said all)
+        → AreAll (IsTalk failed) t limit s0 (first all) (later all)
+    pub done : (failed : ℕ) (all : List ℕ) → IsDone failed (setting_of t limit s0 advertise) (talk_of said all)
+        → AreAll (IsDone failed) t limit s0 (first all) (later all)
     pub answered : (all : List ℕ) → IsAnswered (setting_of t limit s0 advertise) said all
         → AreAll (λ s talk. IsAnswered s talk.said talk.given) t limit s0 (first all) (later all)
 
@@ -138,7 +138,7 @@ module _ {R A : Type 0} (state : R → RepoState) (t : Terms) (limit : ℕ) (s0 
     pub h : History
     pub runs : Runs t false h front client no_counts out pack
     pub ready : can_ask client ≡ true
-    pub rest : AtRest (CanFail state s0) t limit s0 h
+    pub rest : AtRest t limit s0 h
     pub stands : StandsBy h server
 
 -- a message was received, as far as that went
@@ -173,8 +173,8 @@ module _ {R A : Type 0} {state : R → RepoState} {t : Terms} {limit : ℕ} {s0 
         later = λ all. [];
         all_said = λ all caps x noted. all_said all caps;
         gave = λ all. refl;
-        talks = λ all talk. (talk, All-nil (IsTalk (CanFail state s0) (setting_of t limit s0 false)));
-        done = λ all done. (done, All-nil (IsDone (CanFail state s0) (setting_of t limit s0 false)));
+        talks = λ failed all talk. (talk, All-nil (IsTalk failed (setting_of t limit s0 false)));
+        done = λ failed all done. (done, All-nil (IsDone failed (setting_of t limit s0 false)));
         answered = λ all answered. (answered, All-nil (λ (talk : Talk). IsAnswered (setting_of t limit s0 false) talk.said talk.given));
       }
 
@@ -193,7 +193,7 @@ module _ {R A : Type 0} {state : R → RepoState} {t : Terms} {limit : ℕ} {s0 
     gave_all = simp (turn.used_is, append_assoc, hears.parts)
 
     -- what was received comes of the servers
-    served : (events : List EventValue) → IsServed (CanFail state s0) t limit s0 (record h { used = h.used ++ hears.used; events = events })
+    served : (events : List EventValue) → IsServed (failed_in state after) t limit s0 (record h { used = h.used ++ hears.used; events = events })
     served events =
         let all = turn.given ++ hears.given in
         record {
@@ -201,13 +201,13 @@ module _ {R A : Type 0} {state : R → RepoState} {t : Terms} {limit : ℕ} {s0 
           later = turn.later all;
           unheard = unheard;
           served = record { said = λ caps noted. turn.all_said all caps hears.used noted; gave = gave_all ∙ turn.gave all };
-          sessions = turn.talks all (talk turn.closes settled turn.said_is);
+          sessions = turn.talks (failed_in state after) all (talk turn.closes settled turn.said_is);
         }
 
     -- nothing more is given
     all_done : IsSpent state after
-        → AreAll (IsDone (CanFail state s0)) t limit s0 (turn.first (turn.given ++ hears.given)) (turn.later (turn.given ++ hears.given))
-    all_done spent = turn.done (turn.given ++ hears.given) (done turn.closes settled turn.said_is spent)
+        → AreAll (IsDone (failed_in state after)) t limit s0 (turn.first (turn.given ++ hears.given)) (turn.later (turn.given ++ hears.given))
+    all_done spent = turn.done (failed_in state after) (turn.given ++ hears.given) (done turn.closes settled turn.said_is spent)
 
     -- a message was received whole
     module _ {events : List EventValue} (whole : IsConversation t h.asked (h.used ++ hears.used) events) where
@@ -226,7 +226,7 @@ module _ {R A : Type 0} {state : R → RepoState} {t : Terms} {limit : ℕ} {s0 
       pub waits : waits_for_input after ≡ true
       waits = waits_on turn.closes settled turn.said_is enough
 
-      pub rested : Rests (CanFail state s0) (setting_of t limit s0 advertise) (flushes turn.asks + flushes (advertised (setting_of t limit s0 advertise))) said
+      pub rested : Rests (setting_of t limit s0 advertise) (flushes turn.asks + flushes (advertised (setting_of t limit s0 advertise))) said
           (turn.given ++ hears.given)
       rested = rests turn.closes settled turn.said_is enough
 
@@ -248,7 +248,7 @@ module _ {R A : Type 0} {state : R → RepoState} {t : Terms} {limit : ℕ} {s0 
       pub used_all : h.used ++ hears.used ≡ spelled before ++ ((turn.given ++ hears.given) ++ spelled tail)
       used_all = sym (append-nil (h.used ++ hears.used)) ∙ ap (λ (l : List ℕ). (h.used ++ hears.used) ++ l) (sym none_unheard) ∙ gave_all
 
-      pub at_rest : AtRest (CanFail state s0) t limit s0 (record h { used = h.used ++ hears.used; events = events })
+      pub at_rest : AtRest t limit s0 (record h { used = h.used ++ hears.used; events = events })
       at_rest =
           let all = turn.given ++ hears.given in
           record {
@@ -256,8 +256,8 @@ module _ {R A : Type 0} {state : R → RepoState} {t : Terms} {limit : ℕ} {s0 
             later = turn.later all;
             said = λ caps noted. turn.all_said all caps hears.used noted;
             gave = used_all ∙ turn.gave all;
-            talks = turn.talks all rested.talk;
-            done = all_done (inl waits);
+            talks = λ failed. turn.talks failed all (rested.talk failed);
+            done = λ failed. turn.done failed all (rested.gave_all failed);
             answered = turn.answered all rested.done;
             packets = before ++ (rested.packets ++ tail);
             packets_are = used_all ∙ simp (spelled-append, rested.given_is);
@@ -301,14 +301,14 @@ module _ {R A : Type 0} {state : R → RepoState} {t : Terms} {limit : ℕ} {s0 
         → wants_input old ≡ true
         → Turn state t limit s0 advertise before tail said h server → Runs t false h front old no_counts (flow o0 o1) (flow p0 p1)
         → HearsMessageTo state (Err fault) (spelled tail) old new server after (flow o1 o2) (flow p1 p2)
-        → PlayEnds t (CanFail state s0) limit s0 requests (Err fault) (flow o0 o2) (flow p0 p2)
+        → PlayEnds t (failed_in state after) limit s0 requests (Err fault) (flow o0 o2) (flow p0 p2)
     unfolding served
     stopped ReadFault front rest new after split due turn r (ended, counts, none) = absurd none
     stopped ReadLimit front rest new after split due turn r (ended, counts, none) = absurd none
     stopped WriteFault {h = h} front rest {old} new after split due turn r (ended, counts, (unheard, hears)) =
         let now : History = record h { used = h.used ++ hears.used; events = h.events ++ hears.heard.events } in
         let on = heard_runs r due hears in
-        play_ends t (CanFail state s0) limit s0 requests (Err WriteFault) now front rest new split (ran on) (record {
+        play_ends t (failed_in state after) limit s0 requests (Err WriteFault) now front rest new split (ran on) (record {
           reached = now;
           same_used = refl;
           asked = inl refl;
@@ -322,7 +322,7 @@ module _ {R A : Type 0} {state : R → RepoState} {t : Terms} {limit : ℕ} {s0 
         let on = heard_runs r due hears in
         let quietly = quiet_where_failed (phase_of new) fault step.told in
         let given = served turn hears now.events in
-        play_ends t (CanFail state s0) limit s0 requests (Err (Refused fault)) now front rest new split (ran on) (record {
+        play_ends t (failed_in state after) limit s0 requests (Err (Refused fault)) now front rest new split (ran on) (record {
           first = turn.first (turn.given ++ hears.given);
           later = turn.later (turn.given ++ hears.given);
           unheard = unheard;
@@ -339,7 +339,7 @@ module _ {R A : Type 0} {state : R → RepoState} {t : Terms} {limit : ℕ} {s0 
     pub advertising_stopped : (fault : RunFault) {old : Client A} (new : Client A) {server : Server R A} (after : Server R A) {o1 o2 p1 p2 : Option (List ℕ)}
         → wants_input old ≡ true → Converses t nothing_yet old → Stands state (setting_of t limit s0 true) [] [] server
         → HearsMessageTo state (Err fault) [] old new server after (flow o1 o2) (flow p1 p2)
-        → PlayEnds t (CanFail state s0) limit s0 requests (Err fault) (flow o1 o2) (flow p1 p2)
+        → PlayEnds t (failed_in state after) limit s0 requests (Err fault) (flow o1 o2) (flow p1 p2)
     advertising_stopped fault {old} new {server} after {o1} {p1 = p1} due stands st step =
         stopped fault [] requests new after refl due (first_turn server st) (begun t old o1 p1 due stands) step
 
@@ -354,22 +354,24 @@ module _ {R A : Type 0} {state : R → RepoState} {t : Terms} {limit : ℕ} {s0 
       -- it was refused, or its line could not be written
       asking_stopped : (fault : RunFault) (new : Client A) (next after : Server R A) {o2 : Option (List ℕ)} → requests ≡ front ++ request ∷ later
           → AsksServerTo state (Err fault) old new request next after (flow o1 o2)
-          → PlayEnds t (CanFail state s0) limit s0 requests (Err fault) (flow o0 o2) (flow p0 p1)
+          → PlayEnds t (failed_in state after) limit s0 requests (Err fault) (flow o0 o2) (flow p0 p1)
       asking_stopped ReadFault new next after split step = absurd step
       asking_stopped ReadLimit new next after split step = absurd step
       asking_stopped WriteFault new next after split step =
-          play_ends t (CanFail state s0) limit s0 requests (Err WriteFault) _ (front ++ request ∷ []) later new
+          play_ends t (failed_in state after) limit s0 requests (Err WriteFault) _ (front ++ request ∷ []) later new
           (split ∙ sym (append_assoc front (request ∷ []) later)) (ran (asks_on t true front old new request no_counts [] p.runs p.ready step)) (record {
             reached = p.h;
             same_used = refl;
             asked = inr (asked_of request, refl);
             stays = p.runs.stays;
             all_said = quietly_said t p.h old p.runs.along.stands (quiet_where_ready (phase_of old) p.ready);
-            is_served = record { first = p.rest.first; later = p.rest.later; unheard = []; served = still_served; sessions = p.rest.talks };
+            is_served = record { first = p.rest.first; later = p.rest.later; unheard = []; served = still_served;
+                sessions = p.rest.talks (failed_in state after) };
           })
       asking_stopped (Refused fault) new next after split (step, same) =
           let stands = p.runs.along.stands in
-          play_ends t (CanFail state s0) limit s0 requests (Err (Refused fault)) p.h front (request ∷ later) old split (ran_unasked t p.runs step) (record {
+          play_ends t (failed_in state after) limit s0 requests (Err (Refused fault)) p.h front (request ∷ later) old split
+              (ran_unasked t p.runs step) (record {
             first = p.rest.first;
             later = p.rest.later;
             unheard = [];
@@ -378,7 +380,7 @@ module _ {R A : Type 0} {state : R → RepoState} {t : Terms} {limit : ℕ} {s0 
             stays = p.runs.stays;
             said = quietly_said t p.h old stands (quiet_where_ready (phase_of old) p.ready);
             served = still_served;
-            sessions = p.rest.talks;
+            sessions = p.rest.talks (failed_in state after);
             done = λ no. absurd (cc);
           })
 
@@ -389,11 +391,11 @@ module _ {R A : Type 0} {state : R → RepoState} {t : Terms} {limit : ℕ} {s0 
           → (said : List ℕ) × Turn state t limit s0 advertise before tail said
           (record p.h { asked = p.h.asked ++ asked_of request ∷ []; given = p.h.given ++ step.asks.given }) told)
           → AnswersTo state (Err fault) (spelled tail) old new request next after (flow o1 o2) (flow p1 p2)
-          → PlayEnds t (CanFail state s0) limit s0 requests (Err fault) (flow o0 o2) (flow p0 p2)
+          → PlayEnds t (failed_in state after) limit s0 requests (Err fault) (flow o0 o2) (flow p0 p2)
       answer_stopped fault {new} {after = after} split turns (inl a) =
           let (said, turn) = turns a.asking a.told a.written a.asks in
           stopped fault (front ++ request ∷ []) later new after (split ∙ sym (append_assoc front (request ∷ []) later)) a.asks.waits turn
           (asks_on t false front old a.asking request no_counts [] p.runs p.ready a.asks.asks) a.hears
       answer_stopped fault {new} {next} {after} {o2 = o2} split turns (inr (step, same)) =
-          subst (λ (p2 : Option (List ℕ)). PlayEnds t (CanFail state s0) limit s0 requests (Err fault) (flow o0 o2) (flow p0 p2)) (sym same)
+          subst (λ (p2 : Option (List ℕ)). PlayEnds t (failed_in state after) limit s0 requests (Err fault) (flow o0 o2) (flow p0 p2)) (sym same)
           (asking_stopped fault new next after split step)

@@ -19,9 +19,9 @@ use Rattle.git_server.proofs.Flushes.{flushes-append}
 use Rattle.git_server.proofs.Going.{no_outcome, owes_some}
 use Rattle.git_server.proofs.OneSession.{answers_end, owes_flush}
 use Rattle.git_server.proofs.Sent.{is_whole}
-use Rattle.git_server.proofs.SessionLaws.{all_answered, going}
+use Rattle.git_server.proofs.SessionLaws.{all_answered, going, going_on}
 use Rattle.git2show_lib.specs.Machine.PlaySteps.{IsSpent, Settled, Stands}
-use Rattle.git_both_ends.specs.Plays.{CanFail, IsDone, IsLostFor, IsTalk, Talk}
+use Rattle.git_both_ends.specs.Plays.{IsDone, IsLostFor, IsTalk, Talk}
 use Rattle.git2show_lib.proofs.PlayFlushes.{Closes, LastFlush, closes_both, ends_closed, flushes_nearest, given_close}
 
 pub spelled-append : (ps qs : List Pkt) → spelled (ps ++ qs) ≡ spelled ps ++ spelled qs
@@ -30,13 +30,14 @@ spelled-append ps qs = flat_map-append spelling_of ps qs
 abbrev pub talk_of : List ℕ → List ℕ → Talk
 talk_of said given = record { said = said; given = given }
 
--- the repository of a server, as it was at its beginning
-abbrev pub state_of : Setting → RepoState
-state_of s = record { answers = s.repo; failures = s.failures }
+-- how many reads of a server's repository have failed
+abbrev pub failed_in : {R A : Type 0} → (R → RepoState) → Server R A → ℕ
+failed_in state server = (state (repo_of server)).failures
 
 -- all was given that is due for what was sent
-pub record Rests (Fails : Type 0) (s : Setting) (count : ℕ) (said given : List ℕ) : Type 0 where
-  pub talk : IsTalk Fails s (talk_of said given)
+pub record Rests (s : Setting) (count : ℕ) (said given : List ℕ) : Type 0 where
+  pub talk : (failed : ℕ) → IsTalk failed s (talk_of said given)
+  pub gave_all : (failed : ℕ) → IsDone failed s (talk_of said given)
   pub done : IsAnswered s said given
   pub packets : List Pkt
   pub given_is : given ≡ spelled packets
@@ -82,11 +83,11 @@ module _ {R A : Type 0} {state : R → RepoState} {s : Setting} {qs : List Pkt} 
 module _ {R A : Type 0} {state : R → RepoState} {s : Setting} {qs : List Pkt} {said given : List ℕ} {server : Server R A} (closes : Closes qs)
     (st : Settled state s said given server) (is : said ≡ spelled qs) where
   -- a pack was lost after a read that failed
-  lost_for : (outcome : Outcome) → outcome_of server ≡ Some outcome → IsLostFor (CanFail state (state_of s)) outcome
-  lost_for outcome some lost = (repo_of server, st.runs.repo, st.runs.failures.risen (subst IsPackLost (sym some) lost))
+  lost_for : (outcome : Outcome) → outcome_of server ≡ Some outcome → IsLostFor s.failures (failed_in state server) outcome
+  lost_for outcome some lost = st.runs.failures.risen (subst IsPackLost (sym some) lost)
 
   talk_by : (o : Option Outcome) → outcome_of server ≡ o → StandsBy o s st.used false given server
-      → IsTalk (CanFail state (state_of s)) s (talk_of said given)
+      → IsTalk (failed_in state server) s (talk_of said given)
   talk_by None none h =
       let goes = going state server s st.used false given st.runs h in
       record { used = st.used; unused = st.unused; parts = st.parts; runs = inl (st.settled none, goes.1) }
@@ -94,11 +95,11 @@ module _ {R A : Type 0} {state : R → RepoState} {s : Setting} {qs : List Pkt} 
       let (owed, owes) = owes_some server.offer s.repo server.phase in
       record { used = st.used; unused = st.unused; parts = st.parts; runs = inr (outcome, owed, h owed owes, lost_for outcome some) }
 
-  pub talk : IsTalk (CanFail state (state_of s)) s (talk_of said given)
+  pub talk : IsTalk (failed_in state server) s (talk_of said given)
   talk = talk_by (outcome_of server) refl st.runs.stands
 
   -- a server that gives nothing more
-  pub done : IsSpent state server → IsDone (CanFail state (state_of s)) s (talk_of said given)
+  pub done : IsSpent state server → IsDone (failed_in state server) s (talk_of said given)
   done (inl waits) = record {
     used = st.used;
     unused = st.unused;
@@ -117,7 +118,7 @@ module _ {R A : Type 0} {state : R → RepoState} {s : Setting} {qs : List Pkt} 
   waits_on enough =
       (at_rest state server s qs st.used st.unused given st.runs (sym is ∙ st.parts) (ends_closed qs closes) enough st.in_time).waits
 
-  pub rests : Enough s qs given → Rests (CanFail state (state_of s)) s (flushes qs + flushes (advertised s)) said given
+  pub rests : Enough s qs given → Rests s (flushes qs + flushes (advertised s)) said given
   rests enough =
       let rest = at_rest state server s qs st.used st.unused given st.runs (sym is ∙ st.parts) (ends_closed qs closes) enough st.in_time in
       let used_all : said ≡ st.used = rw (rest.all, append-nil st.used) at st.parts in
@@ -125,7 +126,13 @@ module _ {R A : Type 0} {state : R → RepoState} {s : Setting} {qs : List Pkt} 
       let few = few_asked s qs said [] (sym is ∙ sym (append-nil said)) (ends_closed qs closes) all.asked all.left all.rest all.stream in
       let many = enough (advertised s ++ all.answers) all.fit all.given_is in
       record {
-        talk = talk;
+        talk = λ failed. record {
+          used = st.used;
+          unused = st.unused;
+          parts = st.parts;
+          runs = inl (rest.all, (going_on state server s st.used false given st.runs (no_outcome server.phase rest.waits)).1);
+        };
+        gave_all = λ failed. record { used = said; unused = []; parts = sym (append-nil said); done = inl (refl, all) };
         done = all;
         packets = advertised s ++ all.answers;
         given_is = all.given_is;

@@ -1,5 +1,5 @@
 -- The next request, read a piece at a time: what all pieces so far result in, and what each end of the reading states of them.
-use Rattle.std.proofs.Common.{arith, ◌≡◌, ℕ, ◌-◌, ◌≤◌, Bool, true, false, List, [], ◌++◌, length, take, drop, Option, None, Result, Ok, Err}
+use Rattle.std.proofs.Common.{arith, ◌≡◌, ℕ, ◌-◌, ◌≤◌, Bool, true, false, List, [], ◌++◌, length, take, drop, Option, Result, Ok, Err}
 use Rattle.std.proofs.Common.{IsErrAnd, inl, inr, refl, sym, ap, ◌∙◌, append_assoc, append-nil, length-append, length-drop, take-append-drop}
 use Rattle.std.proofs.Math.Seq.{drop-length}
 use Rattle.std.proofs.lemmas.List.{length-take-le}
@@ -9,20 +9,19 @@ use Rattle.std.proofs.KnownBytes.{Consumes-nil, Consumes-trans, Consumes-kept}
 use Rattle.git_pkt.specs.declared.fault.Fault.{Fault}
 use Rattle.git_pkt.specs.Streams.{Flow, flow}
 use Rattle.git_pkt.proofs.EngineLemmas.{timely}
-use Rattle.git_msg.specs.Machine.RequestStreams.{Closes, Feeds, asked_by, fault_of, wants_input}
-use Rattle.git_msg.specs.Machine.StreamStages.{fault_in}
+use Rattle.git_msg.specs.Machine.RequestStreams.{asked_by}
+use Rattle.git_msg.specs.declared.offers.Offer.{Offer}
 use Rattle.git_msg.specs.declared.requests.Request.{Request as HeldRequest}
-use Rattle.git_msg.specs.declared.streams.RequestStream.{RequestStream}
 use Rattle.git_msg.specs.declared.streams.ReadGot.{ReadGot}
 use Rattle.git_msg.specs.declared.streams.ReadGot.TheVariants.{More, Request, Stop, Failed}
 use Rattle.git_msg.specs.declared.streams.ReadRequest.{ReadRequest}
-use Rattle.git_msg.specs.declared.streams.Stage.{Stage}
-use Rattle.git_msg.proofs.StreamReadings.{asked_so_far, begun_so_far, nothing_begun, reads_between, refused_as, stopped_at}
-use Rattle.git_msg.proofs.StreamSteps.{reading}
 use Rattle.git_client.specs.Machine.RunSteps.{window_of}
 use Rattle.git_client.specs.declared.hearing.Window.{Window}
 use Rattle.git2show_lib.specs.declared.checking.CheckFault.{CheckFault}
 use Rattle.git2show_lib.specs.declared.checking.CheckFault.TheVariants.{ReadFault}
+use Rattle.git2show_lib.specs.Machine.JudgedRequests.{Closes, Feeds, IsReady, advertised_by, offer_of, text_of}
+use Rattle.git2show_lib.specs.declared.judged_requests.JudgedRequests.{JudgedRequests}
+use Rattle.git2show_lib.proofs.JudgedReadings.{asked_so_far, begun_so_far, nothing_begun, refused_as, stopped_at}
 use Rattle.git2show_lib.specs.Machine.CheckSteps.{ReadsAll, ReadsFault, ReadsNoMore, ReadsOn, ReadsRequest, ReadsTo}
 
 -- the bytes at the front of a piece are a window of it
@@ -31,24 +30,29 @@ front_window end piece = let same : end ≡ end - 0 = omega arith in ap (λ (n :
 
 module _ {A : Type 0} where
   -- what a call of `feed` did, by its answer
-  feeds_with : {old new : RequestStream A} {piece : List ℕ} (read : ReadRequest A) {got : ReadGot A} → read.got ≡ got → Feeds old piece read new
+  feeds_with : {old new : JudgedRequests A} {piece : List ℕ} (read : ReadRequest A) {got : ReadGot A} → read.got ≡ got → Feeds old piece read new
       → Feeds old piece (record { used = read.used; got = got }) new
   feeds_with {old = old} {new = new} {piece = piece} read is feeds =
       rw is at feeds
 
+  -- what was advertised stays
+  advertised_stays : (old new : JudgedRequests A) → offer_of new ≡ offer_of old → text_of new ≡ text_of old → advertised_by new ≡ advertised_by old
+  advertised_stays old new offer text =
+      ap (λ (o : Offer). record { offer = o; text = text_of new }) offer ∙ ap (λ (l : List ℕ). record { offer = offer_of old; text = l }) text
+
   -- before the first byte all that waits is left
-  pub reads_nothing : (s : RequestStream A) (waiting : List ℕ) (left : Option (List ℕ)) → ReadsOn s s [] waiting waiting (flow left left)
+  pub reads_nothing : (s : JudgedRequests A) (waiting : List ℕ) (left : Option (List ℕ)) → ReadsOn s s [] waiting waiting (flow left left)
   reads_nothing s waiting left = record {
     came = [];
     used = [];
     read = Consumes-nil left;
     parts = append-nil waiting;
     reads = λ before known h. rw (append-nil before, append-nil known) h;
-    offer = refl;
+    advertised = refl;
     limit = refl;
   }
 
-  module _ {old middle : RequestStream A} {waiting unused : List ℕ} {before left : Option (List ℕ)}
+  module _ {old middle : JudgedRequests A} {waiting unused : List ℕ} {before left : Option (List ℕ)}
       (so_far : ReadsOn old middle [] waiting unused (flow before left)) where
     -- more bytes came
     pub came_more : {after : Option (List ℕ)} (came : List ℕ) → Consumes left after came → ReadsOn old middle [] waiting (unused ++ came) (flow before after)
@@ -58,7 +62,7 @@ module _ {A : Type 0} where
       read = Consumes-trans before left after so_far.came came so_far.read read;
       parts = sym (append_assoc waiting so_far.came came) ∙ rw so_far.parts (append_assoc so_far.used unused came);
       reads = so_far.reads;
-      offer = so_far.offer;
+      advertised = so_far.advertised;
       limit = so_far.limit;
     }
 
@@ -70,12 +74,12 @@ module _ {A : Type 0} where
       read = Consumes-kept before left after so_far.came so_far.read kept;
       parts = so_far.parts;
       reads = so_far.reads;
-      offer = so_far.offer;
+      advertised = so_far.advertised;
       limit = so_far.limit;
     }
 
     -- of the bytes that were left some were read
-    module _ {used : ℕ} {got : ReadGot A} {new : RequestStream A} (feeds : Feeds middle unused (record { used = used; got = got }) new) where
+    module _ {used : ℕ} {got : ReadGot A} {new : JudgedRequests A} (feeds : Feeds middle unused (record { used = used; got = got }) new) where
       fed : ReadsOn old new (asked_by got) waiting (drop used unused) (flow before left)
       fed = record {
         came = so_far.came;
@@ -85,25 +89,25 @@ module _ {A : Type 0} where
         reads = λ bytes known h.
             rw (append_assoc bytes so_far.used (take used unused), append-nil known) at
             (feeds.reads (bytes ++ so_far.used) (known ++ []) (so_far.reads bytes known h));
-        offer = feeds.offer ∙ so_far.offer;
+        advertised = advertised_stays middle new feeds.offer feeds.text ∙ so_far.advertised;
         limit = feeds.limit ∙ so_far.limit;
       }
 
-    module _ {new : RequestStream A} (read : ReadRequest A) where
+    module _ {new : JudgedRequests A} (read : ReadRequest A) where
       -- they end a request
       pub fed_request : {ended : Bool} {request : HeldRequest A} {rest : List ℕ} → read.got ≡ Request request → Feeds middle unused read new
           → read.used ≤ length unused → drop read.used unused ≡ rest → ended ≡ false → ReadsRequest ended old new request waiting rest (flow before left)
       unfolding fed
       fed_request {ended = ended} {request = request} is feeds within rest_is open_ended =
           let news = feeds_with read is feeds in
-          let (some, between, shut, format, kept, limit) = news.leaves in
+          let (some, ready, between, shut, format) = news.leaves in
           rw (← rest_is) (record {
             reads = fed news;
-            onward = reads_between new.stage between;
+            onward = ready;
             can_come = open_ended;
             format = format;
             some = omega (arith, some, within, length-append so_far.used (take read.used unused), length-take-le read.used unused within);
-            alone = λ bytes known h. (h.left, h.rest, asked_so_far h, nothing_begun h between shut);
+            alone = λ bytes known h. (h.left, h.rest, asked_so_far h, nothing_begun h between shut ready.sound);
           })
 
       -- they end in a flush instead of a request
@@ -118,12 +122,11 @@ module _ {A : Type 0} where
           }
 
       -- they are refused
-      pub fed_fault : {ended : Bool} {fault : Fault} → read.got ≡ Failed fault → Feeds middle unused read new → wants_input middle ≡ true
+      pub fed_fault : {ended : Bool} {fault : Fault} → read.got ≡ Failed fault → Feeds middle unused read new
           → ReadsFault fault ended old new waiting (flow before left)
-      fed_fault {ended = ended} {fault = fault} is feeds wants =
+      fed_fault {ended = ended} {fault = fault} is feeds =
           let news = feeds_with read is feeds in
-          let sound : fault_of middle ≡ None = reading (λ (s : Stage). fault_in s ≡ None) refl refl middle.stage wants in
-          let shown = news.news fault sound refl in
+          let shown = news.news fault refl in
           record {
             unused = drop read.used unused;
             reads = fed news;
@@ -133,21 +136,20 @@ module _ {A : Type 0} where
           }
 
       -- they end nothing: all of them were used, and more are wanted
-      pub fed_more : read.got ≡ More → Feeds middle unused read new → wants_input middle ≡ true
-          → (wants_input new ≡ true) × ReadsOn old new [] waiting [] (flow before left)
-      fed_more is feeds wants =
+      pub fed_more : read.got ≡ More → Feeds middle unused read new → IsReady new × ReadsOn old new [] waiting [] (flow before left)
+      fed_more is feeds =
           let news = feeds_with read is feeds in
-          let (all, onward) = news.leaves wants in
+          let (all, onward) = news.leaves in
           let none : drop read.used unused ≡ [] = rw all (drop-length unused) in
           (onward, rw none at (fed news))
 
-  module _ {old middle : RequestStream A} {waiting : List ℕ} {before left : Option (List ℕ)}
+  module _ {old middle : JudgedRequests A} {waiting : List ℕ} {before left : Option (List ℕ)}
       (so_far : ReadsOn old middle [] waiting [] (flow before left)) where
     -- all that came was used, and more can come
-    pub read_all : {ended : Bool} → wants_input middle ≡ true → ended ≡ false → ReadsAll ended old middle waiting (flow before left)
-    read_all wants open_ended = record {
+    pub read_all : {ended : Bool} → IsReady middle → ended ≡ false → ReadsAll ended old middle waiting (flow before left)
+    read_all ready open_ended = record {
       reads = so_far;
-      begun = λ bytes known h. (h.left, h.rest, asked_so_far h, begun_so_far h wants);
+      begun = λ bytes known h. (h.left, h.rest, asked_so_far h, begun_so_far h ready);
       can_come = open_ended;
     }
 
@@ -163,7 +165,7 @@ module _ {A : Type 0} where
       read_nothing = came_more so_far [] (rw none at read)
 
       -- the input ended after a whole request, or before the first one
-      pub ended_whole : {ended : Bool} {new : RequestStream A} {done : Unit {0}} → ended ≡ true → Closes (Ok done) middle new
+      pub ended_whole : {ended : Bool} {new : JudgedRequests A} {done : Unit {0}} → ended ≡ true → Closes (Ok done) middle new
           → ReadsNoMore ended old new waiting (flow before after)
       ended_whole {ended = ended} at_end (same, whole) =
           rw same (record {
@@ -173,10 +175,10 @@ module _ {A : Type 0} where
           })
 
       -- the input ended inside a request
-      pub ended_inside : {ended : Bool} {new : RequestStream A} {fault : Fault} → ended ≡ true → Closes (Err fault) middle new
+      pub ended_inside : {ended : Bool} {new : JudgedRequests A} {fault : Fault} → ended ≡ true → Closes (Err fault) middle new
           → ReadsFault fault ended old new waiting (flow before after)
       unfolding read_nothing came_more
-      ended_inside {ended = ended} at_end (kind, told, offer, limit, carries) =
+      ended_inside {ended = ended} at_end (kind, told, advertised, limit, carries) =
           record {
             unused = [];
             reads = record {
@@ -185,7 +187,7 @@ module _ {A : Type 0} where
               read = read_nothing.read;
               parts = read_nothing.parts;
               reads = λ bytes known h. carries (bytes ++ so_far.used) (known ++ []) (so_far.reads bytes known h);
-              offer = offer ∙ so_far.offer;
+              advertised = advertised ∙ so_far.advertised;
               limit = limit ∙ so_far.limit;
             };
             refused = λ bytes known h. (h.left, h.rest, asked_so_far h, refused_as h told);
@@ -193,7 +195,7 @@ module _ {A : Type 0} where
           }
 
   -- a read failed, and a `?` answers the fault that it met
-  pub read_fault : (result : Result (Option (HeldRequest A)) CheckFault) (fault : CheckFault) (ended : Bool) (old new : RequestStream A)
+  pub read_fault : (result : Result (Option (HeldRequest A)) CheckFault) (fault : CheckFault) (ended : Bool) (old new : JudgedRequests A)
       (waiting : List ℕ) (window : Window) (piece : List ℕ) (reader : Flow) → IsErrAnd result (λ e. e ≡ fault) → fault ≡ ReadFault
       → ReadsAll ended old new waiting reader → ReadsTo result ended old new waiting window piece reader
   read_fault result fault ended old new waiting window piece reader answered named all =

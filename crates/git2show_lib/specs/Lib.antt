@@ -1,3 +1,4 @@
 pub mod PacketLines
+pub mod Others
 pub mod Scripts
 pub mod Machine

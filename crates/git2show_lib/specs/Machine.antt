@@ -2,6 +2,8 @@
 pub mod ShownStream
 pub mod Reports
 pub mod CheckFaults
+pub mod Noting
+pub mod JudgedRequests
 pub mod CheckSteps
 pub mod CheckedStreams
 pub mod HeldScripts

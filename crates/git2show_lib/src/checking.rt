@@ -8,10 +8,13 @@ ghost use Rattle.git_client.specs.Parts.{terms_of};
 ghost use Rattle.git2show_lib.specs.Machine.CheckFaults.{run_fault, run_result, standing_of, AreSpent};
 ghost use Rattle.git2show_lib.specs.Machine.CheckedStreams.{of_responses, Checked};
 
+use crate::advertisement::hear_advertisement;
+use crate::judged_requests::JudgedRequests;
 use crate::left_over::see_the_end;
+use crate::noting::Noting;
 use crate::requests_read::next_request;
 use git_client::{Client, Ending, Window, ask_next, hear};
-use git_msg::{Limits, RequestStream};
+use git_msg::Limits;
 use git_names::Format;
 use git_pkt::{Discard, Fault, RunFault, Told};
 use std::alloc::Allocator;
@@ -60,8 +63,12 @@ impl From<RunFault> for CheckFault {
 ///
 /// The transcript is written to `out`: a line for each event and for each request. It is flushed before each read and at the end.
 ///
+/// A request may have what was advertised and is not known: a capability line by its key, and an argument by its first word, where that is
+/// among the words of the command. It is taken as it comes, and changes nothing.
+///
 /// `Requests` and `Responses` with the first fault that is met in this order: a byte left over is `UnexpectedPacket` at its offset, and
-/// what [`Client::ask`] refuses of a request is a fault of the responses, at the offset where its response would begin. `ReadFault`
+/// what [`Client::ask`] refuses of a request is a fault of the responses, at the offset where its response would begin. What an
+/// advertisement has beside what is known is kept up to the usual limit: `TooMuchKept`, or `OutOfMemory`, of the responses, at its end. `ReadFault`
 /// where a read of either stream fails, `WriteFault` where a write or a flush does, and `ReadLimit` where a further read than the
 /// `turns` that are allowed to both would be needed.
 pub fn check<Q: Read, R: Read, O: Write, A: Allocator + Copy>(
@@ -94,18 +101,27 @@ pub fn check<Q: Read, R: Read, O: Write, A: Allocator + Copy>(
     ensures told { FailsAs (run_result result) (has_failed requests.new || has_failed responses.new) (has_failed out.new) }
 {
     let mut client = Client::new(format, ending);
-    let mut waiting = Window { start: 0, end: 0 };
-    let mut left = hear(
+    let mut noting = Noting::new(alloc);
+    let mut left = hear_advertisement(
         &mut client,
+        &mut noting,
         responses,
         other_piece,
-        waiting,
         out,
-        &mut Discard,
-        &mut Discard,
         turns,
     )?;
-    let mut asking = RequestStream::new(alloc, client.caps().offer(format), Limits::DEFAULT);
+    let advertised = match noting.into_text() {
+        Ok(text) => text,
+        Err(kind) => {
+            return Err(CheckFault::Responses(Fault {
+                kind,
+                offset: client.position(),
+            }));
+        }
+    };
+    let offer = client.caps().offer(format);
+    let mut asking = JudgedRequests::new(alloc, offer, advertised, Limits::DEFAULT);
+    let mut waiting = Window { start: 0, end: 0 };
     while let Some(request) = next_request(
         &mut asking,
         requests,

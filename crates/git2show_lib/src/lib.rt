@@ -1,9 +1,13 @@
 //! What the program `git2show` does, over any reader and writer.
 #![tactic(auto)]
 
+mod advertisement;
 mod checking;
+mod judged_requests;
 mod left_over;
 mod lines;
+mod noting;
+mod others;
 mod playing;
 mod reports;
 mod requests_read;

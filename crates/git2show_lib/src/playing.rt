@@ -9,7 +9,7 @@ ghost use Rattle.git_client.specs.Machine.Client.{can_ask, fault_of, wants_input
 ghost use Rattle.git_client.specs.Parts.{terms_of};
 ghost use Rattle.git_client.specs.Machine.RunSteps.{HearsPieceTo};
 ghost use Rattle.git_server.specs.Machine.Server.{outcome_of};
-ghost use Rattle.git_both_ends.specs.Plays.{CanFail, Played, setting_of};
+ghost use Rattle.git_both_ends.specs.Plays.{Played, setting_of};
 ghost use Rattle.git2show_lib.specs.Machine.PlaySteps.{AnswersTo, AsksServerTo, EndsMessageTo, HearsMessageTo, HearsServerTo};
 ghost use Rattle.git2show_lib.specs.Machine.PlaySteps.{Stands, StandsOn, TellsAll, silent};
 
@@ -223,7 +223,8 @@ fn answer_request<R: Repo, O: Write, P: Output, A: Allocator + Copy>(
 /// after each, the first server only advertises, and each request is answered by one that does not, and then the client gets the response
 /// end. A server keeps arguments in memory from `alloc`, up to the usual limit for each request.
 ///
-/// The client's transcript is written to `out`, and what came of packs, in order, to `pack`. Both are flushed after each response.
+/// The client's transcript is written to `out`, and what came of packs, in order, to `pack`. Both are flushed after each response. The
+/// repository is handed back: a pack breaks off only where more of its reads have failed since.
 ///
 /// `Refused` with the first fault of what the client received, truncated where the server gives nothing more and more is due, or with
 /// what [`Client::ask`] refused of a request; `WriteFault` where a write or a flush fails. No other fault is met.
@@ -235,16 +236,16 @@ pub fn play<R: Repo + Drop, O: Write, P: Output, A: Allocator + Copy>(
     ending: Ending,
     out: &mut Told<O>,
     pack: &mut P,
-) -> Result<(), RunFault>
+) -> (R, Result<(), RunFault>)
     requires cut { 0 < cut }
     requires sound_out { has_failed out.old ≡ false }
     requires sound_pack { P.failed pack.old ≡ false }
-    ensures played { Moves (is_broken result)
-        (Played (CanFail R.state (R.state repo)) (terms_of (R.state repo).answers.format ending) Limits.USUAL (R.state repo)
-        requests.items result) []
+    ensures played { Moves (is_broken result.1)
+        (Played (R.state result.0).failures (terms_of (R.state repo).answers.format ending) Limits.USUAL (R.state repo)
+        requests.items result.1) []
         (flow (O.contents (inner_of out.old)) (O.contents (inner_of out.new)) ∷ flow (P.contents pack.old) (P.contents pack.new) ∷ []) }
-    ensures fault { IfErr result (IsShownBy ⊥ (IsTrue (has_failed out.new || P.failed pack.new)) ⊥) }
-    ensures told { FailsAs result false (has_failed out.new || P.failed pack.new) }
+    ensures fault { IfErr result.1 (IsShownBy ⊥ (IsTrue (has_failed out.new || P.failed pack.new)) ⊥) }
+    ensures told { FailsAs result.1 false (has_failed out.new || P.failed pack.new) }
 {
     match ending {
         Ending::FlushOnly => play_one(alloc, repo, requests, cut, out, pack),
@@ -260,26 +261,30 @@ fn play_one<R: Repo + Drop, O: Write, P: Output, A: Allocator + Copy>(
     cut: usize,
     out: &mut Told<O>,
     pack: &mut P,
-) -> Result<(), RunFault>
+) -> (R, Result<(), RunFault>)
     requires cut { 0 < cut }
     requires sound_out { has_failed out.old ≡ false }
     requires sound_pack { P.failed pack.old ≡ false }
-    ensures played { Moves (is_broken result)
-        (Played (CanFail R.state (R.state repo)) (terms_of (R.state repo).answers.format Ending.FlushOnly) Limits.USUAL
-        (R.state repo) requests.items result) []
+    ensures played { Moves (is_broken result.1)
+        (Played (R.state result.0).failures (terms_of (R.state repo).answers.format Ending.FlushOnly) Limits.USUAL
+        (R.state repo) requests.items result.1) []
         (flow (O.contents (inner_of out.old)) (O.contents (inner_of out.new)) ∷ flow (P.contents pack.old) (P.contents pack.new) ∷ []) }
-    ensures fault { IfErr result (IsShownBy ⊥ (IsTrue (has_failed out.new || P.failed pack.new)) ⊥) }
-    ensures told { FailsAs result false (has_failed out.new || P.failed pack.new) }
+    ensures fault { IfErr result.1 (IsShownBy ⊥ (IsTrue (has_failed out.new || P.failed pack.new)) ⊥) }
+    ensures told { FailsAs result.1 false (has_failed out.new || P.failed pack.new) }
 {
     let mut client = Client::new(repo.format(), Ending::FlushOnly);
     let mut server = new_server(alloc, repo, true);
-    hear_message(&mut client, &mut server, b"", cut, out, pack)?;
+    if let Err(fault) = hear_message(&mut client, &mut server, b"", cut, out, pack) {
+        return (server.into_repo(), Err(fault));
+    }
     for request in requests {
-        answer_request(&mut client, request, &mut server, b"", cut, out, pack)?;
+        if let Err(fault) = answer_request(&mut client, request, &mut server, b"", cut, out, pack) {
+            return (server.into_repo(), Err(fault));
+        }
     }
     client.leave();
     tell_all(&mut client, &mut server, cut);
-    Ok(())
+    (server.into_repo(), Ok(()))
 }
 
 /// The first server only advertises. Each request is answered by one of its own, and a response end comes after the response.
@@ -290,25 +295,37 @@ fn play_each<R: Repo + Drop, O: Write, P: Output, A: Allocator + Copy>(
     cut: usize,
     out: &mut Told<O>,
     pack: &mut P,
-) -> Result<(), RunFault>
+) -> (R, Result<(), RunFault>)
     requires cut { 0 < cut }
     requires sound_out { has_failed out.old ≡ false }
     requires sound_pack { P.failed pack.old ≡ false }
-    ensures played { Moves (is_broken result)
-        (Played (CanFail R.state (R.state repo)) (terms_of (R.state repo).answers.format Ending.ResponseEnd) Limits.USUAL
-        (R.state repo) requests.items result) []
+    ensures played { Moves (is_broken result.1)
+        (Played (R.state result.0).failures (terms_of (R.state repo).answers.format Ending.ResponseEnd) Limits.USUAL
+        (R.state repo) requests.items result.1) []
         (flow (O.contents (inner_of out.old)) (O.contents (inner_of out.new)) ∷ flow (P.contents pack.old) (P.contents pack.new) ∷ []) }
-    ensures fault { IfErr result (IsShownBy ⊥ (IsTrue (has_failed out.new || P.failed pack.new)) ⊥) }
-    ensures told { FailsAs result false (has_failed out.new || P.failed pack.new) }
+    ensures fault { IfErr result.1 (IsShownBy ⊥ (IsTrue (has_failed out.new || P.failed pack.new)) ⊥) }
+    ensures told { FailsAs result.1 false (has_failed out.new || P.failed pack.new) }
 {
     let mut client = Client::new(repo.format(), Ending::ResponseEnd);
     let mut server = new_server(alloc, repo, true);
-    hear_message(&mut client, &mut server, b"", cut, out, pack)?;
+    if let Err(fault) = hear_message(&mut client, &mut server, b"", cut, out, pack) {
+        return (server.into_repo(), Err(fault));
+    }
     for request in requests {
         server = new_server(alloc, server.into_repo(), false);
-        answer_request(&mut client, request, &mut server, b"0002", cut, out, pack)?;
+        if let Err(fault) = answer_request(
+            &mut client,
+            request,
+            &mut server,
+            b"0002",
+            cut,
+            out,
+            pack,
+        ) {
+            return (server.into_repo(), Err(fault));
+        }
     }
-    Ok(())
+    (server.into_repo(), Ok(()))
 }
 
 /// A server that offers everything.

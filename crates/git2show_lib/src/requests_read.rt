@@ -1,18 +1,18 @@
 //! The requests of a recorded conversation, one after another.
 
-ghost use Rattle.std.specs.Prelude.{◌≡◌, ◌≤◌, ◌<◌, length, true, false, IsTrue, IfErr};
+ghost use Rattle.std.specs.Prelude.{◌≡◌, ◌≤◌, ◌<◌, length, false, IsTrue, IfErr};
 ghost use Rattle.git_pkt.specs.Machine.Told.{inner_of, reads_of, has_failed, has_ended, has_wasted};
 ghost use Rattle.git_pkt.specs.Machine.Engine.{FailsAs, IsShownBy, IsSpent};
 ghost use Rattle.git_pkt.specs.Streams.{flow};
-ghost use Rattle.git_msg.specs.Machine.RequestStreams.{wants_input};
 ghost use Rattle.git_client.specs.Machine.RunSteps.{window_of};
 ghost use Rattle.git2show_lib.specs.Machine.CheckFaults.{run_fault, run_result};
 ghost use Rattle.git2show_lib.specs.Machine.CheckSteps.{ReadsTo};
+ghost use Rattle.git2show_lib.specs.Machine.JudgedRequests.{IsReady};
 
 use crate::checking::CheckFault;
+use crate::judged_requests::JudgedRequests;
 use git_client::Window;
-use git_msg::{ReadGot, Request, RequestStream};
-use git_names::Steps;
+use git_msg::{ReadGot, Request};
 use git_pkt::{Told, receive};
 use std::alloc::Allocator;
 use std::io::Read;
@@ -23,13 +23,13 @@ use std::io::Read;
 /// `Requests` with the first fault of the requests, `ReadFault` where a read fails, and `ReadLimit` where the reader has made as many
 /// reads as `turns` and needs one more.
 pub(crate) fn next_request<R: Read, A: Allocator + Copy>(
-    stream: &mut RequestStream<A>,
+    stream: &mut JudgedRequests<A>,
     reader: &mut Told<R>,
     piece: &mut [u8],
     waiting: &mut Window,
     turns: u64,
 ) -> Result<Option<Request<A>>, CheckFault>
-    requires waits { wants_input stream.old ≡ true }
+    requires ready { IsReady stream.old }
     requires room { 0 < length piece.old }
     requires ordered { waiting.old.start ≤ waiting.old.end }
     requires within { waiting.old.end ≤ length piece.old }
@@ -48,7 +48,7 @@ pub(crate) fn next_request<R: Read, A: Allocator + Copy>(
     ensures told { FailsAs (run_result result) (has_failed reader.new) false }
 {
     loop {
-        let read = stream.feed(&piece[waiting.start..waiting.end], &mut Steps::new());
+        let read = stream.feed(&piece[waiting.start..waiting.end]);
         waiting.start += read.used;
         match read.got {
             ReadGot::Request(request) => return Ok(Some(request)),

@@ -51,7 +51,7 @@ fn play_within<'h>(
     let repo = repository(rt, Format::Sha1)?;
     let mut out = Vec::new(rt.alloc());
     let mut pack = Vec::new(rt.alloc());
-    let ended = play(
+    let (_, ended) = play(
         heap,
         repo,
         requests,

@@ -26,6 +26,7 @@ use Rattle.git_client.specs.Parts.{Terms, advertisement_of, is_end_due, is_zero,
 use Rattle.git_client.specs.Places.{capabilities, place_after, version}
 use Rattle.git_client.specs.declared.events.Ending.{Ending}
 use Rattle.git_client.specs.declared.events.Ending.TheVariants.{FlushOnly, ResponseEnd}
+use Rattle.git_client.proofs.ConversationRules.{line_due, or_false}
 use Rattle.git_client.proofs.Notes.{first_of_cut, stays_advertised}
 use Rattle.git_client.proofs.Sequences.{gives_more, nearest-append}
 use Rattle.git_server.specs.Answers.{AllFit, advertisement_of as server_says, fetch_line, ls_refs_line, offered_line}
@@ -34,13 +35,6 @@ use Rattle.git_both_ends.proofs.Hearing.{AnswerGives, given_give, given_whole, n
 use Rattle.git_both_ends.proofs.SpelledPackets.{front_are}
 
 -- ---- the lines
-
--- after a line of the advertisement another one may come
-line_due : (format : Format) (ending : Ending) (line : List ℕ) (before : List Pkt) → flushes before ≡ 0
-    → place_after (terms_of format ending) [] (payload line ∷ before)
-    ≡ Some (capabilities (is_spoken (noted_of (payload line ∷ message_of before)) format))
-line_due format FlushOnly line before none = rw none refl
-line_due format ResponseEnd line before none = rw none refl
 
 -- a line: a key, and a value where there is one
 abbrev OfferLine : Type 0
@@ -86,7 +80,7 @@ others_told false true format = refl
 others_told false false format = refl
 
 -- the packets of a list, the last one first, after those before
-abbrev pushed : List Pkt → List Pkt → List Pkt
+abbrev pub pushed : List Pkt → List Pkt → List Pkt
 pushed [] before = before
 pushed (p ∷ ps) before = pushed ps (p ∷ before)
 
@@ -112,7 +106,7 @@ lines_advertised ((key, value) ∷ lines) before none =
 lines_due : (format : Format) (ending : Ending) (lines : List OfferLine) (line : List ℕ) (before : List Pkt) → flushes before ≡ 0
     → place_after (terms_of format ending) [] (pushed (line_packets lines) (payload line ∷ before))
     ≡ Some (capabilities (is_spoken (noted_of (pushed (line_packets lines) (payload line ∷ message_of before))) format))
-lines_due format ending [] line before none = line_due format ending line before none
+lines_due format ending [] line before none = line_due (terms_of format ending) [] line before none
 lines_due format ending ((key, value) ∷ lines) line before none =
     lines_due format ending lines (valued key value ++ 10 ∷ []) (payload line ∷ before) none
 
@@ -219,10 +213,6 @@ is_said offer =
     ∙ spoken_by offer.server_option offer.object_info offer.format (commands_noted offer)
 
 -- and offers what it offers
-or_false : (b : Bool) → (b || false) ≡ b
-or_false true = refl
-or_false false = refl
-
 offered_so : (offer : Offer) → noted_offer (all_noted offer) offer.format ≡ offer
 offered_so offer = λ i. record {
   format = offer.format;
@@ -328,7 +318,7 @@ module _ (format : Format) (ending : Ending) where
         refl,
         record {
           place = place;
-          is_place = line_due format ending line before none;
+          is_place = line_due (terms_of format ending) [] line before none;
           gives = rw (text_of-line_end text)
               (record { no_error = no_error text (other_byte (slice_index text 0) parts.begins); says = capability_of key value parts.is });
         },
@@ -386,7 +376,7 @@ advertisement_fits offer =
 -- ---- wherever the packets are
 
 -- packets are the same wherever they are in the stream
-nearest_pushed : (gs : List Given) (before : List Pkt) → nearest gs before ≡ pushed (packets_of gs) before
+pub nearest_pushed : (gs : List Given) (before : List Pkt) → nearest gs before ≡ pushed (packets_of gs) before
 nearest_pushed [] before = refl
 nearest_pushed (g ∷ gs) before = nearest_pushed gs (g.packet ∷ before)
 

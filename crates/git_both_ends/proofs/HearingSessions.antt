@@ -1,8 +1,7 @@
 -- Answers one after the other, and repositories whose answers can be written.
 use Rattle.std.proofs.Common.{◌≡◌, ℕ, All, List, [], ◌∷◌, ◌++◌, Option, Some, None, IfSome, refl, ap, sym, ◌∙◌, subst, append_assoc}
-use Rattle.std.proofs.Common.{drop, length, take, take-append-drop}
 use Rattle.std.proofs.lemmas.Bool.{cond_both}
-use Rattle.std.proofs.lemmas.List.{append-nil, drop-map, drop_at, take-map, take_at}
+use Rattle.std.proofs.lemmas.List.{append-nil}
 use Rattle.std.proofs.lemmas.List.Elements.{All-cons, All-head, All-nil, All-tail, All-weaker}
 use Rattle.std.specs.List.{filter_map}
 use Rattle.std.specs.Ordering.{is_eq}
@@ -32,32 +31,13 @@ use Rattle.git_server.specs.declared.list_repo.ListRepo.{ListRepo}
 use Rattle.git_repository.specs.Packs.{PackBytes}
 use Rattle.git_repository.specs.RepositoryLines.{Said, Says, boundary, object, ref_of, reference}
 use Rattle.git_repository.specs.RepositoryText.{IsRepositoryText, SayAll, boundary_in, object_in, ref_in}
+use Rattle.git_client.proofs.ConversationRules.{cut_at}
 use Rattle.git_client.proofs.Sequences.{give_all_append, nearest-append}
 use Rattle.git_both_ends.specs.ToldAnswers.{AsksIn, IsEntryOfNames, CanBeWritten, end_packets, packets_of, told_all, told_by}
 use Rattle.git_msg.proofs.FoundParts.{All-filter_map}
 use Rattle.git_both_ends.proofs.HearingAnswers.{heard, whole_after}
 
 -- ---- answers one after the other
-
--- packets that are two lists fall into these two
-pub record Cut (gs : List Given) (front back : List Pkt) : Type 0 where
-  pub first : List Given
-  pub second : List Given
-  pub whole : gs ≡ first ++ second
-  pub first_are : packets_of first ≡ front
-  pub second_are : packets_of second ≡ back
-
--- as they do
-pub cut_at : (gs : List Given) (front back : List Pkt) → packets_of gs ≡ front ++ back → Cut gs front back
-cut_at gs front back e =
-    let packets = λ (g : Given). g.packet in
-    record {
-      first = take (length front) gs;
-      second = drop (length front) gs;
-      whole = sym (take-append-drop (length front) gs);
-      first_are = rw (← take-map packets (length front) gs, e) (take_at front back (length front) refl);
-      second_are = rw (← drop-map packets (length front) gs, e) (drop_at front back (length front) refl);
-    }
 
 -- the packets are an answer to each request, in their order, each with what comes after its flush
 abbrev pub AreEnded : Ending → Repository → List Asked → List Pkt → Type 0

@@ -7,3 +7,7 @@ pub mod RequestsHeard
 mod SpelledPackets
 mod PacksTold
 mod PlaysTold
+mod FrontsHeard
+mod ServerGave
+mod AskedAfterOffer
+mod NeitherWaits

@@ -29,6 +29,7 @@ use Rattle.git_client.specs.Parts.{Terms, advertisement_of, nearest, terms_of}
 use Rattle.git_client.specs.Transcript.{transcript_of}
 use Rattle.git_client.specs.declared.events.Ending.{Ending}
 use Rattle.git_client.specs.declared.events.Ending.TheVariants.{FlushOnly, ResponseEnd}
+use Rattle.git_client.proofs.ConversationRules.{cut_at}
 use Rattle.git_client.proofs.Determined.{one_note, same_sounds}
 use Rattle.git_client.proofs.Sequences.{give_all_append, nearest-append}
 use Rattle.git_server.specs.Answers.{AllFit, advertisement_of as server_says}
@@ -38,7 +39,7 @@ use Rattle.git_server.proofs.Sent.{spelled_both}
 use Rattle.git_both_ends.specs.Plays.{IsWholePlay, Played, Talk, said_each, setting_of, with_end}
 use Rattle.git_both_ends.specs.ToldAnswers.{AsksIn, CanBeWritten, told_all, told_offer, told_play}
 use Rattle.git_both_ends.proofs.HearingOffers.{format_meant, lines_said, nearest_offer, noted_after_all, offer_heard, offer_whole}
-use Rattle.git_both_ends.proofs.HearingSessions.{AreEnded, all_heard, cut_at, ended_by_flush}
+use Rattle.git_both_ends.proofs.HearingSessions.{AreEnded, all_heard, ended_by_flush}
 use Rattle.git_both_ends.proofs.RequestsHeard.{HaveValues, requests_are, written_all}
 use Rattle.git_both_ends.proofs.SpelledPackets.{are_spelled, fit_both, fit_front, front_are, packets_are, requests_fit}
 
@@ -74,7 +75,7 @@ asks_in format (object_info q) values =
 
 -- ---- what a server reads that offers everything
 
-takes_all : (format : Format) (command : Command) → takes_command (everything format) command ≡ true
+pub takes_all : (format : Format) (command : Command) → takes_command (everything format) command ≡ true
 takes_all format LsRefs = refl
 takes_all format Fetch = refl
 takes_all format ObjectInfo = refl
@@ -83,11 +84,11 @@ offers_word : (format : Format) (word : Word) → (row word).offered (everything
 offers_word format (of_flag Flag.Size) = refl
 offers_word format word = refl
 
-offers_all : (format : Format) (arg : Arg) → is_offered (everything format) arg ≡ true
+pub offers_all : (format : Format) (arg : Arg) → is_offered (everything format) arg ≡ true
 offers_all format arg = offers_word format arg.word
 
 -- the requests that it has read and answered, of written requests, are those
-stream_asks : (format : Format) (ending : Ending) (limit : ℕ) (state : RepoState) (advertise says_agent says_format : Bool) (asked : List Asked)
+pub stream_asks : (format : Format) (ending : Ending) (limit : ℕ) (state : RepoState) (advertise says_agent says_format : Bool) (asked : List Asked)
     {used given : List ℕ} → IsFormatMeant format says_format → HaveValues asked → used ≡ spelled (written_all says_agent says_format format asked)
     → (a : IsAnswered (setting_of (terms_of format ending) limit state advertise) used given) → (a.asked ≡ asked) × All (HasValues format) asked
 stream_asks format ending limit state advertise says_agent says_format asked {used} meant values e a =
@@ -191,10 +192,10 @@ module _ (format : Format) (limit : ℕ) (state : RepoState) where
         in_format = All-cons (HasValues format) q asked (All-head (HasValues format) q [] read.1) then.in_format;
       }
 
-module _ {A : Type 0} (Fails : Type 0) (format : Format) (limit : ℕ) (state : RepoState) (sound : IsSound state.answers) (written : CanBeWritten state.answers)
+module _ {A : Type 0} (now : ℕ) (format : Format) (limit : ℕ) (state : RepoState) (sound : IsSound state.answers) (written : CanBeWritten state.answers)
     (same : state.answers.format ≡ format) where
   -- one server answers all requests
-  told_by_flush : (rest : List (Request A)) (h : History) → HaveValues h.asked → IsWholePlay Fails (terms_of format FlushOnly) limit state rest h
+  told_by_flush : (rest : List (Request A)) (h : History) → HaveValues h.asked → IsWholePlay now (terms_of format FlushOnly) limit state rest h
       → h.events ≡ told_play format state.answers h.asked
   told_by_flush rest h values p =
       let t = terms_of format FlushOnly in
@@ -218,7 +219,7 @@ module _ {A : Type 0} (Fails : Type 0) (format : Format) (limit : ℕ) (state : 
       p.run.whole
 
   -- the first server only advertises, and each request has a server of its own
-  told_by_ends : (rest : List (Request A)) (h : History) → HaveValues h.asked → IsWholePlay Fails (terms_of format ResponseEnd) limit state rest h
+  told_by_ends : (rest : List (Request A)) (h : History) → HaveValues h.asked → IsWholePlay now (terms_of format ResponseEnd) limit state rest h
       → h.events ≡ told_play format state.answers h.asked
   told_by_ends rest h values p =
       let t = terms_of format ResponseEnd in
@@ -240,19 +241,19 @@ module _ {A : Type 0} (Fails : Type 0) (format : Format) (limit : ℕ) (state : 
 
   -- either ending
   told_whole : (ending : Ending) (rest : List (Request A)) (h : History) → HaveValues h.asked
-      → IsWholePlay Fails (terms_of format ending) limit state rest h → h.events ≡ told_play format state.answers h.asked
+      → IsWholePlay now (terms_of format ending) limit state rest h → h.events ≡ told_play format state.answers h.asked
   told_whole FlushOnly rest h values p = told_by_flush rest h values p
   told_whole ResponseEnd rest h values p = told_by_ends rest h values p
 
 -- ---- what is given
 
-pub as_told : {A : Type 0} (Fails : Type 0) (t : Terms) (limit : ℕ) (state : RepoState) (requests : List (Request A)) (done : Unit {0})
+pub as_told : {A : Type 0} (now : ℕ) (t : Terms) (limit : ℕ) (state : RepoState) (requests : List (Request A)) (done : Unit {0})
     (read given : List (List ℕ))
-    → Played Fails t limit state requests (Ok done) read given → IsSound state.answers → CanBeWritten state.answers → state.answers.format ≡ t.format
+    → Played now t limit state requests (Ok done) read given → IsSound state.answers → CanBeWritten state.answers → state.answers.format ≡ t.format
     → All (λ request. HasValues (format_of request) (asked_of request)) requests
     → given ≡ transcript_of (map asked_of requests) (told_play t.format state.answers (map asked_of requests))
     ∷ pack_bytes (told_all state.answers (map asked_of requests)) ∷ []
-as_told {A = A} Fails t limit state requests done read given p sound written same values =
+as_told {A = A} now t limit state requests done read given p sound written same values =
     let h = p.h in
     let repo = state.answers in
     let all : requests ≡ p.asked.front =
@@ -261,7 +262,7 @@ as_told {A = A} Fails t limit state requests done read given p sound written sam
     let own : All (λ (request : Request A). HasOwn (asked_of request)) requests =
     All-weaker (λ (request : Request A). HasValues (format_of request) (asked_of request)) (λ (request : Request A). HasOwn (asked_of request))
     (λ request values. (format_of request, values)) requests values in
-    let events = told_whole Fails t.format limit state sound written same t.ending p.rest h
+    let events = told_whole now t.format limit state sound written same t.ending p.rest h
     (subst HaveValues (sym asked) (All-map HasOwn asked_of requests own)) p.ends in
     let told = told_play t.format repo in
     p.told ∙ ap (λ (l : List EventValue). transcript_of h.asked l ∷ pack_bytes l ∷ []) events

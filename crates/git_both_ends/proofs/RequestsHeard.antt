@@ -1,6 +1,6 @@
 -- A server reads of what a client wrote just the requests that were written.
 use Rattle.std.proofs.Common.{arith, ◌≡◌, ℕ, ◌+◌, ◌≤◌, Bool, true, false, All, flat_map, List, [], ◌∷◌, ◌++◌, codes, refl}
-use Rattle.std.proofs.Common.{ap, sym, ◌∙◌, append_assoc, get_or}
+use Rattle.std.proofs.Common.{ap, sym, ◌∙◌, append_assoc, get_or, subst}
 use Rattle.std.proofs.lemmas.List.{map-append}
 use Rattle.std.proofs.lemmas.List.Elements.{All-cons, All-head, All-nil, All-tail}
 use Rattle.git_names.specs.declared.object_format.Format.{Format}
@@ -18,6 +18,7 @@ use Rattle.git_msg.specs.WrittenRequest.{agent_line, format_line, lines_written,
 use Rattle.git_msg.proofs.LineLaws.{fronts_same, one_list_of_lines}
 use Rattle.git_msg.proofs.RoundTrip.{lines_read_back}
 use Rattle.git_msg.proofs.WholeRequests.{NoFlush, lines_have_no_flush, whole_then}
+use Rattle.git_client.specs.Machine.Client.{farewell}
 use Rattle.git_server.proofs.Flushes.{flushes-append}
 use Rattle.git_server.specs.Sessions.{IsRequest, Setting}
 use Rattle.git_both_ends.specs.ToldAnswers.{packets_of}
@@ -114,7 +115,36 @@ no_flush_among (g ∷ gs) (p ∷ front) back none e =
     let rest : packets_of gs ≡ front ++ flush ∷ back = cc in
     no_flush_among gs front back none.1 rest
 
+-- ---- packets wherever they are
+
+-- packets of a stream, at any offsets
+pub wherever : List Pkt → List Given
+wherever [] = []
+wherever (p ∷ ps) = record { packet = p; offset = 0 } ∷ wherever ps
+
+pub wherever_are : (ps : List Pkt) → packets_of (wherever ps) ≡ ps
+unfolding wherever
+wherever_are [] = refl
+wherever_are (p ∷ ps) = ap (λ (l : List Pkt). p ∷ l) (wherever_are ps)
+
+pub join_packets : (gs hs : List Given) → packets_of (gs ++ hs) ≡ packets_of gs ++ packets_of hs
+join_packets gs hs = map-append (λ (g : Given). g.packet) gs hs
+
 -- ---- all requests
+
+-- no lines are a request
+no_lines : (offer : Offer) (limit : ℕ) (front : List Given) (lines : List Line) (command : Command) → front ≡ [] → AreLines offer limit [] front lines
+    → commands_of lines ≡ command ∷ [] → ⊥
+no_lines offer limit [] [] command none taken once = cc
+no_lines offer limit [] (line ∷ lines) command none taken once = taken
+no_lines offer limit (g ∷ front) lines command none taken once = cc
+
+-- nor is the flush by which a client leaves
+no_request : (leaves : Bool) (front more : List Given) (last : Given) (later : List Pkt) → packets_of (front ++ last ∷ more) ++ later ≡ farewell leaves
+    → NoFlush front → (front ≡ [] → ⊥) → ⊥
+no_request leaves [] more last later e none some = some refl
+no_request false (g ∷ front) more last later e none some = cc
+no_request true (g ∷ front) more last later e none some = let same : g.packet ≡ flush = cc in none.0 same
 
 -- packets with one among them are some
 some_packet : (front more : List Given) (last : Given) → packets_of (front ++ last ∷ more) ≡ [] → ⊥
@@ -131,13 +161,23 @@ written_all says_agent says_format format asked = flat_map (lines_written says_a
 
 module _ (s : Setting) (says_agent says_format : Bool) (meant : IsFormatMeant s.offer.format says_format)
     (takes : (c : Command) → takes_command s.offer c ≡ true) (offers : (arg : Arg) → is_offered s.offer arg ≡ true) where
-  -- the packets of the first request, and of the others
-  first_apart : (q : Asked) (asked : List Asked)
-      → written_all says_agent says_format s.offer.format (q ∷ asked)
-      ≡ lines_of says_agent says_format s.offer.format q ++ flush ∷ written_all says_agent says_format s.offer.format asked
-  first_apart q asked =
-      ap (λ (l : List Pkt). l ++ written_all says_agent says_format s.offer.format asked) (lines_end says_agent says_format s.offer.format q)
-      ∙ append_assoc (lines_of says_agent says_format s.offer.format q) (flush ∷ []) (written_all says_agent says_format s.offer.format asked)
+  -- the first request that is read is the first that was written, and what comes after it was written after it
+  first_read : (q r : Asked) (kept : ℕ) (front more gs : List Given) (back : List Pkt) → (format : Format) × HasValues format q → gs ≡ front ++ more
+      → packets_of gs ≡ lines_written says_agent says_format s.offer.format q ++ back → Asks s.offer s.limit front r kept
+      → (r ≡ q) × HasValues s.offer.format q × (packets_of more ≡ back)
+  first_read q r kept front more gs back (written, in_written) whole e a =
+      let format = s.offer.format in
+      let lines = lines_of says_agent says_format format q in
+      let apart : lines_written says_agent says_format format q ++ back ≡ lines ++ flush ∷ back =
+      ap (λ (l : List Pkt). l ++ back) (lines_end says_agent says_format format q) ∙ append_assoc lines (flush ∷ []) back in
+      let parts = first_flush a.front more a.last lines back (lines_have_no_flush s.offer s.limit [] a.front a.lines a.taken) a.ends
+      (lines_clear says_agent says_format format q) (sym (ap packets_of (whole_then s.offer s.limit front more gs r kept a whole)) ∙ e ∙ apart) in
+      let own : packets_of front ≡ lines_written says_agent says_format format q =
+      rw (a.whole, map-append (λ (g : Given). g.packet) a.front (a.last ∷ []), parts.0, a.ends) (sym (lines_end says_agent says_format format q)) in
+      let in_format : HasValues format q =
+      arguments_fit_in s.offer s.limit (command_asked q) written (arguments_in q) (capability_packets says_agent says_format format q) [] a.front a.lines
+      a.taken parts.0 in_written in
+      (one_written s.offer says_agent says_format meant takes offers s.limit kept q r front in_format own a, in_format, parts.1)
 
   -- the requests that are read are those that were written, and their object names have the reader's format
   pub requests_are : (asked others : List Asked) (gs left : List Given) → HaveValues asked
@@ -147,19 +187,43 @@ module _ (s : Setting) (says_agent says_format : Bool) (meant : IsFormatMeant s.
   requests_are [] (r ∷ rs) gs left values e over (front, more, whole, (kept, a, has), later) =
       absurd (some_packet a.front more a.last (sym (ap packets_of (whole_then s.offer s.limit front more gs r kept a whole)) ∙ e))
   requests_are (q ∷ qs) [] gs left values e over h =
-      absurd (no_flush_among left (lines_of says_agent says_format s.offer.format q) (written_all says_agent says_format s.offer.format qs) over
-      (sym (ap packets_of h) ∙ e ∙ first_apart q qs))
+      let format = s.offer.format in
+      let lines = lines_of says_agent says_format format q in
+      let back = written_all says_agent says_format format qs in
+      absurd (no_flush_among left lines back over (sym (ap packets_of h) ∙ e
+      ∙ ap (λ (l : List Pkt). l ++ back) (lines_end says_agent says_format format q) ∙ append_assoc lines (flush ∷ []) back))
   requests_are (q ∷ qs) (r ∷ rs) gs left values e over (front, more, whole, (kept, a, has), later) =
       let format = s.offer.format in
-      let parts = first_flush a.front more a.last (lines_of says_agent says_format format q) (written_all says_agent says_format format qs)
-      (lines_have_no_flush s.offer s.limit [] a.front a.lines a.taken) a.ends (lines_clear says_agent says_format format q)
-      (sym (ap packets_of (whole_then s.offer s.limit front more gs r kept a whole)) ∙ e ∙ first_apart q qs) in
-      let own : packets_of front ≡ lines_written says_agent says_format format q =
-      rw (a.whole, map-append (λ (g : Given). g.packet) a.front (a.last ∷ []), parts.0, a.ends) (sym (lines_end says_agent says_format format q)) in
-      let (written, in_written) = All-head (λ (q : Asked). (format : Format) × HasValues format q) q qs values in
-      let in_format : HasValues format q =
-      arguments_fit_in s.offer s.limit (command_asked q) written (arguments_in q) (capability_packets says_agent says_format format q) [] a.front a.lines
-      a.taken parts.0 in_written in
-      let first = one_written s.offer says_agent says_format meant takes offers s.limit kept q r front in_format own a in
-      let rest = requests_are qs rs more left (All-tail (λ (q : Asked). (format : Format) × HasValues format q) q qs values) parts.1 over later in
+      let (first, in_format, back) = first_read q r kept front more gs (written_all says_agent says_format format qs)
+      (All-head (λ (q : Asked). (format : Format) × HasValues format q) q qs values) whole e a in
+      let rest = requests_are qs rs more left (All-tail (λ (q : Asked). (format : Format) × HasValues format q) q qs values) back over later in
       (rw (first, rest.0), All-cons (HasValues format) q qs in_format rest.1)
+
+  -- the requests that are read of the first packets are the first that were written: the flush by which a client leaves is none
+  pub requests_front : (asked others : List Asked) (leaves : Bool) (gs left : List Given) (later : List Pkt) → HaveValues asked
+      → packets_of gs ++ later ≡ written_all says_agent says_format s.offer.format asked ++ farewell leaves → AreRequests (IsRequest s) gs others left
+      → (more : List Asked) × (asked ≡ others ++ more) × All (HasValues s.offer.format) others
+  requests_front asked [] leaves gs left later values e h = (asked, refl, All-nil (HasValues s.offer.format))
+  requests_front [] (r ∷ rs) leaves gs left later values e (front, more, whole, (kept, a, has), behind) =
+      absurd (no_request leaves a.front more a.last later
+      (ap (λ (l : List Given). packets_of l ++ later) (sym (whole_then s.offer s.limit front more gs r kept a whole)) ∙ e)
+      (lines_have_no_flush s.offer s.limit [] a.front a.lines a.taken)
+      (λ none. no_lines s.offer s.limit a.front a.lines a.command none a.taken a.once))
+  requests_front (q ∷ qs) (r ∷ rs) leaves gs left later values e (front, more, whole, (kept, a, has), behind) =
+      let format = s.offer.format in
+      let lines = lines_written says_agent says_format format q in
+      let others = written_all says_agent says_format format qs in
+      let tail = wherever later in
+      let all : packets_of (gs ++ tail) ≡ lines ++ (others ++ farewell leaves) =
+      join_packets gs tail ∙ ap (λ (l : List Pkt). packets_of gs ++ l) (wherever_are later) ∙ e ∙ append_assoc lines others (farewell leaves) in
+      let (first, in_format, back) = first_read q r kept front (more ++ tail) (gs ++ tail) (others ++ farewell leaves)
+      (All-head (λ (q : Asked). (format : Format) × HasValues format q) q qs values)
+      (ap (λ (l : List Given). l ++ tail) whole ∙ append_assoc front more tail) all a in
+      let onward : packets_of more ++ later ≡ others ++ farewell leaves =
+      ap (λ (l : List Pkt). packets_of more ++ l) (sym (wherever_are later)) ∙ sym (join_packets more tail) ∙ back in
+      let (after, split, values_after) = requests_front qs rs leaves more left later
+      (All-tail (λ (q : Asked). (format : Format) × HasValues format q) q qs values) onward behind in (
+        after,
+        ap (λ (l : List Asked). q ∷ l) split ∙ ap (λ (x : Asked). x ∷ (rs ++ after)) (sym first),
+        All-cons (HasValues format) r rs (subst (HasValues format) (sym first) in_format) values_after,
+      )

@@ -1,2 +1,3 @@
 pub mod ToldAnswers
 pub mod Plays
+pub mod BothEnds

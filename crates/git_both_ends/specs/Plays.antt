@@ -39,29 +39,25 @@ pub record Talk : Type 0 where
   pub said : List ℕ
   pub given : List ℕ
 
--- a repository that answers as this one does can be left with more failed reads
-abbrev pub CanFail : {R : Type 0} → (R → RepoState) → RepoState → Type 0
-CanFail {R} state before = (repo : R) × ((state repo).answers ≡ before.answers) × (before.failures < (state repo).failures)
-
--- a pack was lost only where its reads can fail
-abbrev pub IsLostFor : Type 0 → Outcome → Type 0
-IsLostFor Fails outcome = IsPackLost (Some outcome) → Fails
+-- a pack was lost only where more reads of the repository have failed by now than before
+abbrev pub IsLostFor : (before now : ℕ) → Outcome → Type 0
+IsLostFor before now outcome = IsPackLost (Some outcome) → before < now
 
 -- a server goes on with all that was sent to it, or its session ended after a front of that
-pub record IsTalk (Fails : Type 0) (s : Setting) (talk : Talk) : Type 0 where
+pub record IsTalk (now : ℕ) (s : Setting) (talk : Talk) : Type 0 where
   pub used : List ℕ
   pub unused : List ℕ
   pub parts : talk.said ≡ used ++ unused
   pub runs : ((unused ≡ []) × GoesOn s used talk.given)
-      ⊎ ((outcome : Outcome) × (owed : List Pkt) × IsEnding s used false talk.given outcome owed × IsLostFor Fails outcome)
+      ⊎ ((outcome : Outcome) × (owed : List Pkt) × IsEnding s used false talk.given outcome owed × IsLostFor s.failures now outcome)
 
 -- a server gave all that it gives: it waits for more, or its session ended after a front of what was sent to it
-pub record IsDone (Fails : Type 0) (s : Setting) (talk : Talk) : Type 0 where
+pub record IsDone (now : ℕ) (s : Setting) (talk : Talk) : Type 0 where
   pub used : List ℕ
   pub unused : List ℕ
   pub parts : talk.said ≡ used ++ unused
   pub done : ((unused ≡ []) × IsAnswered s used talk.given)
-      ⊎ ((outcome : Outcome) × IsSession s used false talk.given outcome × IsLostFor Fails outcome)
+      ⊎ ((outcome : Outcome) × IsSession s used false talk.given outcome × IsLostFor s.failures now outcome)
 
 -- what the client gets of a server that answers one request alone: all that it gave, and after it a response end
 abbrev pub with_end : Talk → List ℕ
@@ -87,48 +83,48 @@ AreAll Stands t limit state first later =
     Stands (setting_of t limit state true) first × All (Stands (setting_of t limit state false)) later
 
 -- what was sent to the servers, and their sessions, of which the client has received a front
-pub record IsServed (Fails : Type 0) (t : Terms) (limit : ℕ) (state : RepoState) (h : History) : Type 0 where
+pub record IsServed (now : ℕ) (t : Terms) (limit : ℕ) (state : RepoState) (h : History) : Type 0 where
   pub first : Talk
   pub later : List Talk
   pub unheard : List ℕ
   pub served : AreServed t h unheard first later
-  pub sessions : AreAll (IsTalk Fails) t limit state first later
+  pub sessions : AreAll (IsTalk now) t limit state first later
 
 -- a server answered all requests that were sent to it, and after them it received the flush by which the client leaves
-pub record IsAnsweredAndLeft (Fails : Type 0) (s : Setting) (talk : Talk) : Type 0 where
+pub record IsAnsweredAndLeft (now : ℕ) (s : Setting) (talk : Talk) : Type 0 where
   pub questions : List ℕ
   pub parts : talk.said ≡ questions ++ spelled (flush ∷ [])
   pub answered : IsAnswered s questions talk.given
-  pub talks : IsTalk Fails s talk
+  pub talks : IsTalk now s talk
 
 -- each server gave all that its session gives for what it was asked
-abbrev pub AreWholeSessions : (Fails : Type 0) → Ending → Terms → ℕ → RepoState → Talk → List Talk → Type 0
-AreWholeSessions Fails FlushOnly t limit state first later = IsAnsweredAndLeft Fails (setting_of t limit state true) first
-AreWholeSessions Fails ResponseEnd t limit state first later = AreAll (λ s talk. IsAnswered s talk.said talk.given) t limit state first later
+abbrev pub AreWholeSessions : (now : ℕ) → Ending → Terms → ℕ → RepoState → Talk → List Talk → Type 0
+AreWholeSessions now FlushOnly t limit state first later = IsAnsweredAndLeft now (setting_of t limit state true) first
+AreWholeSessions now ResponseEnd t limit state first later = AreAll (λ s talk. IsAnswered s talk.said talk.given) t limit state first later
 
 -- ---- how a play ended
 
 -- a write failed: what was received comes of the servers, to which all was sent that is written of the requests; the last request may
 -- not have reached them yet
-pub record IsBrokenPlay (Fails : Type 0) (t : Terms) (limit : ℕ) (state : RepoState) (h : History) : Type 0 where
+pub record IsBrokenPlay (now : ℕ) (t : Terms) (limit : ℕ) (state : RepoState) (h : History) : Type 0 where
   pub reached : History
   pub same_used : h.used ≡ reached.used
   pub asked : (h.asked ≡ reached.asked) ⊎ ((last : Asked) × (h.asked ≡ reached.asked ++ last ∷ []))
   pub stays : reached.left ≡ false
   pub all_said : HasSaid t reached
-  pub is_served : IsServed Fails t limit state reached
+  pub is_served : IsServed now t limit state reached
 
 module _ {A : Type 0} where
   -- each request was asked, answered and received whole, and all that was given was received
-  pub record IsWholePlay (Fails : Type 0) (t : Terms) (limit : ℕ) (state : RepoState) (rest : List (Request A)) (h : History) : Type 0 where
+  pub record IsWholePlay (now : ℕ) (t : Terms) (limit : ℕ) (state : RepoState) (rest : List (Request A)) (h : History) : Type 0 where
     pub first : Talk
     pub later : List Talk
     pub run : IsWholeRun t rest h
     pub served : AreServed t h [] first later
-    pub sessions : AreWholeSessions Fails t.ending t limit state first later
+    pub sessions : AreWholeSessions now t.ending t limit state first later
 
   -- what was received is refused for its first fault, truncated only where the servers give nothing more; or the next request is
-  pub record IsRefusedPlay (Fails : Type 0) (t : Terms) (limit : ℕ) (state : RepoState) (rest : List (Request A)) (h : History) (fault : Fault) : Type 0 where
+  pub record IsRefusedPlay (now : ℕ) (t : Terms) (limit : ℕ) (state : RepoState) (rest : List (Request A)) (h : History) (fault : Fault) : Type 0 where
     pub first : Talk
     pub later : List Talk
     pub unheard : List ℕ
@@ -137,18 +133,19 @@ module _ {A : Type 0} where
     pub stays : h.left ≡ false
     pub said : HasSaid t h
     pub served : AreServed t h unheard first later
-    pub sessions : AreAll (IsTalk Fails) t limit state first later
-    pub done : ended ≡ true → (unheard ≡ []) × AreAll (IsDone Fails) t limit state first later
+    pub sessions : AreAll (IsTalk now) t limit state first later
+    pub done : ended ≡ true → (unheard ≡ []) × AreAll (IsDone now) t limit state first later
 
-  abbrev pub EndsAs : (Fails : Type 0) → Terms → ℕ → RepoState → Result (Unit {0}) RunFault → List (Request A) → History → Type 0
-  EndsAs Fails t limit state (Ok done) rest h = IsWholePlay Fails t limit state rest h
-  EndsAs Fails t limit state (Err (Refused fault)) rest h = IsRefusedPlay Fails t limit state rest h fault
-  EndsAs Fails t limit state (Err WriteFault) rest h = IsBrokenPlay Fails t limit state h
-  EndsAs Fails t limit state (Err ReadFault) rest h = ⊥
-  EndsAs Fails t limit state (Err ReadLimit) rest h = ⊥
+  abbrev pub EndsAs : (now : ℕ) → Terms → ℕ → RepoState → Result (Unit {0}) RunFault → List (Request A) → History → Type 0
+  EndsAs now t limit state (Ok done) rest h = IsWholePlay now t limit state rest h
+  EndsAs now t limit state (Err (Refused fault)) rest h = IsRefusedPlay now t limit state rest h fault
+  EndsAs now t limit state (Err WriteFault) rest h = IsBrokenPlay now t limit state h
+  EndsAs now t limit state (Err ReadFault) rest h = ⊥
+  EndsAs now t limit state (Err ReadLimit) rest h = ⊥
 
-  -- what a play of these requests, in which a pack is lost only where this is so, gives: the transcript of what was asked and received, and what came of packs
-  pub record Played (Fails : Type 0) (t : Terms) (limit : ℕ) (state : RepoState) (requests : List (Request A)) (result : Result (Unit {0}) RunFault)
+  -- what a play of these requests gives, after which so many reads of the repository have failed: the transcript of what was asked and received, and what
+  -- came of packs
+  pub record Played (now : ℕ) (t : Terms) (limit : ℕ) (state : RepoState) (requests : List (Request A)) (result : Result (Unit {0}) RunFault)
       (read given : List (List ℕ)) : Type 0 where
     pub h : History
     pub rest : List (Request A)
@@ -156,4 +153,4 @@ module _ {A : Type 0} where
     pub told : given ≡ transcript_of h.asked h.events ∷ pack_bytes h.events ∷ []
     pub heard : HasEvents t h.asked h.used h.events
     pub asked : HasAsked t requests rest h
-    pub ends : EndsAs Fails t limit state result rest h
+    pub ends : EndsAs now t limit state result rest h

@@ -2,4 +2,5 @@
 #![tactic(auto)]
 
 pub mod answer_laws;
+pub mod meeting_laws;
 pub mod play_laws;

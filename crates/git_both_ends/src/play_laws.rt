@@ -8,18 +8,17 @@ ghost use Rattle.git_client.specs.Events.{pack_bytes};
 ghost use Rattle.git_client.specs.Parts.{Terms};
 ghost use Rattle.git_client.specs.Transcript.{transcript_of};
 ghost use Rattle.git_server.specs.Repository.{IsSound, Repository, RepoState};
-ghost use Rattle.git_both_ends.specs.Plays.{CanFail, Played};
+ghost use Rattle.git_both_ends.specs.Plays.{Played};
 ghost use Rattle.git_both_ends.specs.ToldAnswers.{CanBeWritten, answered_pack, told_all, told_play};
 
-use git_server::Repo;
 use std::alloc::Allocator;
 
 /// A play that ended well reports what the repository answers to all requests: its transcript is that of the advertisement and of the
 /// answers, however they are cut and whichever packet ends a response, and its packs are those of the answers, one after the other. Of the
 /// requests it asks only what holds of each that is kept: its values are allowed in a request of its format.
-pub fn played_as_told<R: Repo, A: Allocator + Copy>()
-    ensures told { (t : Terms) (limit : ℕ) (state : RepoState) (requests : List (Request A)) (done : Unit {0}) (read given : List (List ℕ))
-        → Played (CanFail R.state state) t limit state requests (Ok done) read given
+pub fn played_as_told<A: Allocator + Copy>()
+    ensures told { (now : ℕ) (t : Terms) (limit : ℕ) (state : RepoState) (requests : List (Request A)) (done : Unit {0}) (read given : List (List ℕ))
+        → Played now t limit state requests (Ok done) read given
         → IsSound state.answers → CanBeWritten state.answers → state.answers.format ≡ t.format
         → All (λ request. HasValues (format_of request) (asked_of request)) requests
         → let asked = map asked_of requests in

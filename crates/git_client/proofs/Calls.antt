@@ -1,5 +1,5 @@
 -- What holds of a client after any calls, one after the other.
-use Rattle.std.proofs.Common.{arith, ◌≡◌, ℕ, ◌+◌, ◌≤◌, List, [], ◌∷◌, ◌++◌, Option, Some, None, length, take, refl, sym, ◌∙◌, ap, subst}
+use Rattle.std.proofs.Common.{arith, ◌≡◌, ◌≢◌, ℕ, ◌+◌, ◌≤◌, true, false, List, [], ◌∷◌, ◌++◌, Option, Some, None, length, take, refl, sym, ◌∙◌, ap, subst}
 use Rattle.std.proofs.Common.{length-append, append-nil}
 use Rattle.std.specs.Prelude.{flat_map}
 use Rattle.std.proofs.lemmas.List.{length-take-le}
@@ -9,10 +9,14 @@ use Rattle.git_msg.specs.Machine.HeldRequest.{kept_of, limit_of as request_limit
 use Rattle.git_msg.specs.declared.requests.Request.{Request}
 use Rattle.git_client.specs.Parts.{Terms}
 use Rattle.git_client.specs.Events.{EventValue}
-use Rattle.git_client.specs.Machine.Client.{History, Converses, nothing_yet, reader_of, stored_in, kept_in, limit_in}
+use Rattle.git_client.specs.Machine.Client.{History, Converses, nothing_yet, can_ask, phase_of, reader_of, stored_in, kept_in, limit_in}
+use Rattle.git_client.specs.Machine.Turns.{fault_in, has_left_in, is_asking, is_ready, left_in, takes_packets}
 use Rattle.git_client.specs.Machine.Calls.{Call, ask, ask_refused, leave, pull, feed, close, Makes, Headline, after_call, history_after, feeds_by, feeds_in}
 use Rattle.git_client.specs.declared.client.Client.{Client}
-use Rattle.git_client.proofs.EventsHeard.{has_events, has_noted, goes_well, is_whole, all_is_said}
+use Rattle.git_client.specs.declared.phase.Phase.{Phase}
+use Rattle.git_client.specs.declared.phase.Phase.TheVariants.{Hearing, Asking}
+use Rattle.git_client.proofs.CanAsk.{can_ask_tells}
+use Rattle.git_client.proofs.EventsHeard.{awaits_more, has_events, has_noted, goes_well, is_whole, all_is_said}
 use Rattle.git_client.proofs.Faults.{first_fault}
 use Rattle.git_client.proofs.OneFault.{one_shown, one_by_name}
 use Rattle.git_client.proofs.Packs.{has_pack}
@@ -27,6 +31,17 @@ pub kept_within : {A : Type 0} (request : Option (Request A)) → ((q : Request 
     → kept_in request ≤ limit_in request
 kept_within None h = omega arith
 kept_within (Some q) h = h q refl
+
+-- where bytes are due no packet is left to be sent
+nothing_left : {A : Type 0} (phase : Phase) (request : Option (Request A)) → takes_packets phase ≡ true → left_in phase request ≡ []
+nothing_left (Hearing due) request waits = refl
+nothing_left phase request waits = absurd (cc)
+
+-- and else some are, where nobody has left or failed, and it is not the client's turn to ask
+owes_some : {A : Type 0} (phase : Phase) (request : Option (Request A)) → (is_asking phase ≡ true → left_in phase request ≢ []) → fault_in phase ≡ None
+    → has_left_in phase ≡ false → is_ready phase ≡ false → takes_packets phase ≡ false → left_in phase request ≢ []
+owes_some (Asking writer) request some sound stays no_turn no_wait = some refl
+owes_some phase request some sound stays no_turn no_wait = absurd (cc)
 
 -- a history to which nothing is added
 nothing_more : (h : History) → record h { used = h.used ++ []; events = h.events ++ [] } ≡ h
@@ -109,6 +124,10 @@ module _ {A : Type 0} where
         given = all_is_said t h last c;
         pack = has_pack t h.asked h.used h.events events;
         whole = is_whole t h last c;
+        turn = can_ask_tells last (can_ask last) refl t h c;
+        due = awaits_more t h last c;
+        waits = λ waits. all_is_said t h last c (nothing_left (phase_of last) last.request waits);
+        owes = λ sound stays no_turn no_wait. owes_some (phase_of last) last.request last.owes sound (sym c.left ∙ stays) no_turn no_wait;
         refused = λ fault is. first_fault t h last fault c is;
         unrefused = goes_well t h last c;
         one_refusal = λ fault other is first. one_shown t h.asked h.used fault other (first_fault t h last fault c is) first;

@@ -33,6 +33,7 @@ pub mod HeardBytes
 pub mod Telling
 pub mod Truncation
 pub mod ResponseRules
+pub mod ConversationRules
 pub mod WaitingLines
 pub mod HearingSteps
 pub mod SayingSteps

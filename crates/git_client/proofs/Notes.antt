@@ -19,7 +19,7 @@ same_given g h packet offset =
     ∙ ap (λ (n : ℕ). let made : Given = record { packet = h.packet; offset = n } in made) offset
 
 -- of the same bytes, packets up to anywhere are the first of those up to where none begins
-first_of_split : (p : ℕ) (bytes : List ℕ) (gs hs : List Given) (x rest : List ℕ) → SpellsAll p bytes gs x → SpellsAll p bytes hs rest → NoneBegins rest
+pub first_of_split : (p : ℕ) (bytes : List ℕ) (gs hs : List Given) (x rest : List ℕ) → SpellsAll p bytes gs x → SpellsAll p bytes hs rest → NoneBegins rest
     → (tail : List Given) × (hs ≡ gs ++ tail)
 first_of_split p bytes [] hs x rest a b none = (hs, refl)
 first_of_split p bytes (g ∷ gs) [] x rest (s, more, parts, at, spells, onward) b none = absurd (none g.packet s more (sym b ∙ parts) spells)

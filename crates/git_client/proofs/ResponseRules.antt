@@ -582,7 +582,7 @@ module _ (format : Format) (ending : Ending) (caps : Caps) where
 
 -- ---- all packets of a response
 
-abbrev packets_in : List Given → List Pkt
+abbrev pub packets_in : List Given → List Pkt
 packets_in gs = map (λ g. g.packet) gs
 
 module _ (t : Terms) (asked : List Asked) where

@@ -106,7 +106,7 @@ module _ {A : Type 0} where
 
 -- where a client asks or has left all before was whole
 module _ (t : Terms) (asked : List Asked) (clean given : List Given) (rest : List ℕ) (end : ℕ) (question : Option Asked) (reader : PacketReader) where
-  asks_in : {A : Type 0} (phase : Phase) (request : Option (Request A)) (line : List ℕ) (ps : List Pkt) → left_in phase request ≡ payload line ∷ ps
+  pub asks_in : {A : Type 0} (phase : Phase) (request : Option (Request A)) (line : List ℕ) (ps : List Pkt) → left_in phase request ≡ payload line ∷ ps
       → StandsIn phase t asked clean given rest end question reader → (given ≡ clean) × IsAsked t asked (nearest clean []) question
   asks_in (Asking writer) request line ps owes h = (h.cut, h.behind)
   asks_in (Hearing due) request line ps owes h = absurd (cc)

@@ -1,9 +1,12 @@
--- Responses as their sections come one after another, by gitprotocol-v2(5): with no place after each packet.
-use Rattle.std.specs.Prelude.{◌≡◌, ◌⊎◌, ℕ, Bool, true, false, List, [], ◌∷◌, ◌++◌, Ok, codes}
+-- Conversations as their messages and the sections of these come one after another, by gitprotocol-v2(5): with no place after each packet.
+use Rattle.std.specs.Prelude.{◌≡◌, ◌⊎◌, ℕ, Bool, true, false, List, [], ◌∷◌, ◌++◌, Ok, Option, codes, map}
 use Rattle.git_names.specs.ObjectName.{ObjectName}
 use Rattle.git_names.specs.declared.object_format.Format.{Format}
 use Rattle.git_pkt.specs.Packets.{Pkt, flush, delim, resp_end, payload, text_of}
+use Rattle.git_pkt.specs.Splits.{Given, Splits}
+use Rattle.git_msg.specs.Advertisement.{is_spoken, noted_of}
 use Rattle.git_msg.specs.Asked.{Asked, ls_refs, fetch, object_info}
+use Rattle.git_msg.specs.Capability.{IsCapability}
 use Rattle.git_msg.specs.ResponseLines.{IsAckLine}
 use Rattle.git_msg.specs.Texts.{IsErrorText}
 use Rattle.git_client.specs.declared.events.Ending.{Ending}
@@ -12,7 +15,8 @@ use Rattle.git_client.specs.declared.sections.Section.{Section}
 use Rattle.git_client.specs.declared.sections.Section.TheVariants.{Acknowledgments, ShallowInfo, WantedRefs, Packfile}
 use Rattle.git_client.specs.Sections.{header_of}
 use Rattle.git_client.specs.Places.{references, shallow_info, wanted_refs, size_line, sizes}
-use Rattle.git_client.specs.Events.{EventValue, SaysLine, ack, band_says, ended, nak, ready}
+use Rattle.git_client.specs.Events.{EventValue, SaysLine, ack, band_says, capability, ended, nak, offered, ready}
+use Rattle.git_client.specs.Parts.{Terms}
 
 -- what a rule states: that packets are such, and give these events
 abbrev pub Rule : Type 1
@@ -27,6 +31,12 @@ First Is rule (p ∷ packets) events =
 -- by one rule or by the other
 abbrev pub Either : Rule → Rule → Rule
 Either one other packets events = one packets events ⊎ other packets events
+
+-- by one rule first, and then by the other
+abbrev pub Then : Rule → Rule → Rule
+Then one other packets events =
+    (front : List Pkt) × (back : List Pkt) × (now : List EventValue) × (later : List EventValue)
+    × (packets ≡ front ++ back) × (events ≡ now ++ later) × one front now × other back later
 
 -- any number of such packets, and then by the rule
 abbrev pub Many : (Pkt → List EventValue → Type 0) → Rule → Rule
@@ -118,3 +128,30 @@ module _ (format : Format) (ending : Ending) where
   IsResponse (ls_refs q) = LsRefsResponse
   IsResponse (fetch q) = FetchResponse q.done
   IsResponse (object_info q) = ObjectInfoResponse
+
+-- the first line of an advertisement, and one of a capability
+abbrev pub IsVersion : Pkt → List EventValue → Type 0
+IsVersion = IsText (λ text events. (text ≡ codes "version 2") × (events ≡ []))
+
+abbrev pub IsCapabilityLine : Pkt → List EventValue → Type 0
+IsCapabilityLine = IsText (λ text events. (key : List ℕ) × (value : Option (List ℕ)) × (events ≡ capability key value ∷ []) × IsCapability text key value)
+
+-- the end of an advertisement
+abbrev pub IsOfferEnd : Rule
+IsOfferEnd packets events = (packets ≡ flush ∷ []) × (events ≡ offered ∷ [])
+
+-- an advertisement of a server that speaks the format: the version, capabilities, and a flush
+abbrev pub IsAdvertisement : Format → Rule
+IsAdvertisement format packets events =
+    (is_spoken (noted_of packets) format ≡ true) × First IsVersion (Many IsCapabilityLine IsOfferEnd) packets events
+
+-- a whole response to each request, in their order
+abbrev pub AreResponses : Terms → List Asked → Rule
+AreResponses t [] packets events = (packets ≡ []) × (events ≡ [])
+AreResponses t (q ∷ asked) packets events = Then (IsResponse t.format t.ending q) (AreResponses t asked) packets events
+
+-- the bytes are the packets of an advertisement and of a whole response to each request, which give these events
+pub record GoesByMessages (t : Terms) (asked : List Asked) (bytes : List ℕ) (events : List EventValue) : Type 0 where
+  pub given : List Given
+  pub splits : Splits 0 bytes given []
+  pub goes : Then (IsAdvertisement t.format) (AreResponses t asked) (map (λ g. g.packet) given) events

@@ -13,7 +13,7 @@ ghost use Rattle.git_msg.specs.declared.requests.Request.{Request};
 ghost use Rattle.git_client.specs.Parts.{Terms, nearest};
 ghost use Rattle.git_client.specs.Events.{EventValue, pack_bytes};
 ghost use Rattle.git_client.specs.Packs.{HasPack};
-ghost use Rattle.git_client.specs.Responses.{IsResponse};
+ghost use Rattle.git_client.specs.Responses.{GoesByMessages, IsResponse};
 ghost use Rattle.git_client.specs.Conversation.{GivesAt, GiveAll, RefusesAt, FirstFault, HasEvents, HasNoted, FirstMalformed, GoesWell, IsConversation};
 ghost use Rattle.git_client.specs.Machine.Client.{Converses, History, bytes_held, limit_of, fault_of, can_ask, left_to_say, said_of, spelled, caps_of};
 ghost use Rattle.git_client.specs.Machine.Client.{bytes_held_by_fields, nothing_yet, reader_of, wants_input};
@@ -103,6 +103,13 @@ pub fn response_goes_by_its_sections()
     ensures { (t : Terms) (earlier : List Asked) (q : Asked) (before : List Pkt) (gs : List Given) (events : List EventValue)
         → AreWhole t earlier before → IsResponse t.format t.ending q (map (λ g. g.packet) gs) events
         ↔ (GiveAll t (earlier ++ q ∷ []) before gs events × AreWhole t (earlier ++ q ∷ []) (nearest gs before)) }
+{}
+
+/// Bytes are a whole conversation by the place of each packet exactly where they are one by its messages: an advertisement, and then a
+/// response to each request by the rule of its sections, one after another. Both give the same events.
+pub fn conversation_goes_by_its_messages()
+    ensures { (t : Terms) (asked : List Asked) (bytes : List ℕ) (events : List EventValue)
+        → IsConversation t asked bytes events ↔ GoesByMessages t asked bytes events }
 {}
 
 /// To ask later takes nothing back: the events of a whole conversation stay when more is asked.

@@ -2,6 +2,10 @@ pub mod Picked
 pub mod FetchMoves
 pub mod AdmissionMoves
 pub mod RepositoryFacts
-pub mod Rising
 pub mod ReferencesMoves
 pub mod SizesMoves
+pub mod HostAnswerMoves
+pub mod HostMoves
+pub mod LentBuffers
+pub mod HostCallMoves
+pub mod HostedAnswers

@@ -20,7 +20,7 @@ use Rattle.git_host.specs.ReferencesPlaces.{StandsAtReferences, after_entry, com
 use Rattle.git_host.specs.declared.references_answer.ReferencesPlace.{ReferencesPlace}
 use Rattle.git_host.specs.declared.references_answer.ReferencesPlace.TheVariants.{First, Entries, AfterUnborn, Whole}
 use Rattle.git_host.proofs.Picked.{length_more, map_more}
-use Rattle.git_host.proofs.Rising.{last_is, last_rises, rising_more}
+use Rattle.git_server.proofs.Rising.{last_is, last_rises, rising_more}
 
 filter_by : {X : Type 0} (y : X) (all kept last : List X) → all ≡ kept ++ last → (b : Bool)
     → (if b then y ∷ all else all) ≡ (if b then y ∷ kept else kept) ++ last

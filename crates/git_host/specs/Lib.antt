@@ -1,6 +1,13 @@
 pub mod Admissions
+pub mod AdmittedAnswers
 pub mod FetchFacts
 pub mod FetchPlaces
 pub mod ReferencesPlaces
 pub mod SizesPlaces
 pub mod RepositoryFacts
+pub mod HostSessions
+pub mod HostAnswers
+pub mod HostServer
+pub mod HostLookups
+pub mod HostCalls
+pub mod HostedRepository

@@ -10,6 +10,7 @@
 ghost use Rattle.std.specs.Prelude.{◌≡◌, ◌+◌, ◌<◌, length};
 ghost use Rattle.git_host.specs.Admissions.{reference_step, want_step};
 
+use crate::fetch_answer::FetchAnswer;
 use git_msg::Fetch;
 use git_names::{Format, Oid};
 use git_pkt::Kind;
@@ -52,6 +53,7 @@ pub struct Admission<A: Allocator + Copy> {
 impl<A: Allocator + Copy> Admission<A> {
     ghost use Rattle.git_host.specs.Admissions.{IsAdmitted, ReportsWant, ReportsWantRef, RepresentsAdmission};
     ghost use Rattle.git_host.specs.Admissions.{asked_of, format_of, nothing_reported, step_of, wanted_by, AdmissionFacts};
+    ghost use Rattle.git_host.specs.AdmittedAnswers.{Becomes};
 
     /// The admission of this request, whose object names have this format. It keeps the objects of wanted references in memory from
     /// `alloc`.
@@ -118,6 +120,17 @@ impl<A: Allocator + Copy> Admission<A> {
                 Ok(WantRefReported::Taken)
             }
             Err(_) => Err(AllocError),
+        }
+    }
+
+    /// The answer to the request, if the store has all that it asks for: its wanted references point to the objects that were reported.
+    /// Else the admission goes on as it was.
+    pub fn into_answer(self) -> Result<FetchAnswer<A>, Admission<A>>
+        ensures { Becomes self result }
+    {
+        match self.step {
+            AdmissionStep::Admitted => Ok(FetchAnswer::begin(self.request, self.wanted)),
+            _ => Err(self),
         }
     }
 }

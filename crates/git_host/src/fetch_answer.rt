@@ -106,6 +106,14 @@ impl<A: Allocator + Copy> FetchAnswer<A> {
         ensures asked { asked_of result ≡ request.asked }
         ensures represents { Represents (no_facts wanted.items) [] result }
     {
+        Self::begin(request, wanted)
+    }
+
+    // The same, where the caller knows how many objects there are by what was reported.
+    pub(crate) fn begin(request: Fetch<A>, wanted: Vec<Oid, A>) -> FetchAnswer<A>
+        ensures asked { asked_of result ≡ request.asked }
+        ensures represents { length wanted.items ≡ length request.asked.want_refs → Represents (no_facts wanted.items) [] result }
+    {
         let place = first_place(&request);
         FetchAnswer {
             request,

@@ -1,20 +1,18 @@
 //! The answer to one `ls-refs`, gitprotocol-v2(5), over a store that is asked: its references are reported one after another, in the
 //! order of their names, and the line of each that the request asks for is given at once. None is kept but the last.
 
-ghost use Rattle.std.specs.Prelude.{◌≡◌, ◌↔◌, ℕ, List, Some, None, true, codes, if◌then◌else◌};
-ghost use Rattle.std.specs.Option.{option_copied};
+ghost use Rattle.std.specs.Prelude.{◌≡◌};
 ghost use Rattle.git_names.specs.RefName.{IsRefName};
 ghost use Rattle.git_msg.specs.Prefixes.{IsOrdered, is_shown};
-ghost use Rattle.git_msg.specs.References.{IsWritable, reference_of, shown_reference};
-ghost use Rattle.git_server.specs.Answers.{asks_for_unborn as asks, reference_packet, shown_line, unborn_packet};
+ghost use Rattle.git_server.specs.Answers.{reference_packet, unborn_packet};
 ghost use Rattle.git_server.specs.Repository.{HasOneFormat};
 ghost use Rattle.git_host.specs.ReferencesPlaces.{after_entry, comes_after};
 ghost use Rattle.git_host.specs.FetchPlaces.{Holds};
 
-use git_msg::{Listing, LsRefs, Reference, is_word, put_reference};
-use git_names::{Format, Oid};
+use git_msg::{Listing, LsRefs, is_word, put_reference};
+use git_names::Format;
 use git_pkt::{Hold, Packet, put};
-use git_server::RefEntry;
+use git_server::{RefEntry, asks_for_unborn, entry_line, unborn_line};
 use std::alloc::Allocator;
 
 /// How far the answer has come.
@@ -56,6 +54,8 @@ pub struct ReferencesAnswer<A: Allocator + Copy> {
 }
 
 impl<A: Allocator + Copy> ReferencesAnswer<A> {
+    ghost use Rattle.git_msg.specs.Asked.{ls_refs};
+    ghost use Rattle.git_host.specs.HostLookups.{references_asked};
     ghost use Rattle.git_host.specs.ReferencesPlaces.{Ends, Reports, ReportsUnborn, Starts, format_of, last_reported, refuses_head};
 
     /// The answer to this request, of which nothing was reported.
@@ -71,6 +71,13 @@ impl<A: Allocator + Copy> ReferencesAnswer<A> {
             last: None,
             place: ReferencesPlace::First,
         }
+    }
+
+    /// The request that is answered, with its prefixes in their order.
+    pub fn listing(&self) -> &Listing<A>
+        ensures { ls_refs result.now.asked ≡ references_asked self.now }
+    {
+        &self.listing
     }
 
     /// `HEAD` is unborn, and points to this name: reported before any reference, or not at all.
@@ -168,33 +175,13 @@ fn shows<A: Allocator + Copy>(listing: &Listing<A>, entry: &RefEntry) -> bool
     listing.shows_at(listing.split(name), name)
 }
 
-fn asks_for_unborn<A: Allocator + Copy>(listing: &Listing<A>) -> bool
-    requires { IsOrdered listing.now.asked.ref_prefixes }
-    ensures { result ≡ asks listing.now.asked }
-{
-    listing.unborn() && listing.symrefs() && listing.shows_at(listing.split(b"HEAD"), b"HEAD")
-}
-
 // Makes the hold the line of an unborn `HEAD`.
 #[tactic(auto, using(crate::proofs::FetchMoves::line_held))]
 fn put_unborn(hold: &mut Hold, target: &[u8])
     requires { IsRefName target.now }
     ensures { Holds hold.new.items (unborn_packet target.now) }
 {
-    put_reference(hold, unborn(target));
-}
-
-fn unborn(target: &[u8]) -> Reference<'_>
-    requires { IsRefName target.now }
-    ensures shown { shown_reference result ≡ reference_of None (codes "HEAD") (Some target.now) None }
-    ensures writable { IsWritable (shown_reference result) }
-{
-    Reference {
-        id: None,
-        name: b"HEAD",
-        target: Some(target),
-        peeled: None,
-    }
+    put_reference(hold, unborn_line(target));
 }
 
 // Makes the hold the line of a reference.
@@ -203,38 +190,5 @@ fn put_entry<A: Allocator + Copy>(hold: &mut Hold, entry: &RefEntry, listing: &L
     requires { HasOneFormat entry.now }
     ensures { Holds hold.new.items (reference_packet listing.now.asked.symrefs listing.now.asked.peel entry.now) }
 {
-    put_reference(hold, shown(entry, listing));
-}
-
-// What the request asks for of a reference.
-fn shown<'a, A: Allocator + Copy>(entry: &'a RefEntry, listing: &Listing<A>) -> Reference<'a>
-    requires { HasOneFormat entry.now }
-    ensures shown { shown_reference result ≡ shown_line listing.now.asked.symrefs listing.now.asked.peel entry.now }
-    ensures writable { IsWritable (shown_reference result) }
-{
-    Reference {
-        id: Some(entry.id()),
-        name: entry.name(),
-        target: shown_target(entry, listing.symrefs()),
-        peeled: shown_peeled(entry, listing.peel()),
-    }
-}
-
-fn shown_target(entry: &RefEntry, symrefs: bool) -> Option<&[u8]>
-    ensures value { option_copied result ≡ (if symrefs then entry.now.target else None) }
-    ensures name { (name : List ℕ) → option_copied result ≡ Some name → IsRefName name }
-{
-    if !symrefs {
-        return None;
-    }
-    entry.target()
-}
-
-fn shown_peeled(entry: &RefEntry, peel: bool) -> Option<Oid>
-    ensures { result ≡ (if peel then entry.now.peeled else None) }
-{
-    if !peel {
-        return None;
-    }
-    entry.peeled()
+    put_reference(hold, entry_line(entry, listing));
 }

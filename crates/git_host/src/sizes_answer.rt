@@ -52,6 +52,13 @@ impl<A: Allocator + Copy> SizesAnswer<A> {
         }
     }
 
+    /// The request that is answered.
+    pub fn request(&self) -> &ObjectInfo<A>
+        ensures { result.now.asked ≡ sizes_asked self.now }
+    {
+        &self.request
+    }
+
     /// Gives the next packet, or what is to be done in its place.
     pub fn next(&mut self, hold: &mut Hold) -> SizesStep
         ensures { StepsSizes self.old result hold.new.items self.new }

@@ -63,7 +63,7 @@ impl<A: Allocator + Copy> Fetch<A> {
     }
 
     /// Whether the request has the flag; one of another command it has not.
-    pub(crate) fn has(&self, flag: Flag) -> bool
+    pub fn has(&self, flag: Flag) -> bool
         ensures { result ≡ has_flag flag (fetch self.now.asked) }
     {
         flag.command() == Command::Fetch && self.flags.has(flag)

@@ -2,6 +2,7 @@
 ghost use Rattle.std.specs.Prelude.{◌≡◌, false, slice_get};
 ghost use Rattle.std.specs.Option.{option_copied};
 
+use crate::flags::Flag;
 use crate::ls_refs::LsRefs;
 use std::alloc::Allocator;
 use std::marker::Model;
@@ -29,6 +30,7 @@ impl<A: Allocator + Copy> Model for Listing<A> {
 }
 
 impl<A: Allocator + Copy> Listing<A> {
+    ghost use Rattle.git_msg.specs.Asked.{has_flag, ls_refs};
     ghost use Rattle.git_msg.specs.Prefixes.{IsOrdered, OrdersPrefixes, SplitsAt, is_shown};
 
     /// The request, its prefixes in the order in which they came.
@@ -52,6 +54,13 @@ impl<A: Allocator + Copy> Listing<A> {
         }
         self.request.put_in_order();
         self.is_ordered = true;
+    }
+
+    /// Whether the request has the flag; one of another command it has not.
+    pub fn has(&self, flag: Flag) -> bool
+        ensures { result ≡ has_flag flag (ls_refs self.now.asked) }
+    {
+        self.request.has(flag)
     }
 
     /// Whether symbolic references are to be shown with what they point to.

@@ -41,7 +41,7 @@ impl<A: Allocator + Copy> LsRefs<A> {
     ghost use Rattle.git_msg.specs.Prefixes.{IsOrdered, OrdersPrefixes, SplitsAt, is_shown};
 
     /// Whether the request has the flag; one of another command it has not.
-    pub(crate) fn has(&self, flag: Flag) -> bool
+    pub fn has(&self, flag: Flag) -> bool
         ensures { result ≡ has_flag flag (ls_refs self.now.asked) }
     {
         flag.command() == Command::LsRefs && self.flags.has(flag)

@@ -46,7 +46,7 @@ impl<A: Allocator + Copy> ObjectInfo<A> {
     ghost use Rattle.git_msg.specs.Kept.{IsNew, IsUnkept, IsWithin, KeepsArgument, kept_as};
 
     /// Whether the request has the flag; one of another command it has not.
-    pub(crate) fn has(&self, flag: Flag) -> bool
+    pub fn has(&self, flag: Flag) -> bool
         ensures { result ≡ has_flag flag (object_info self.now.asked) }
     {
         flag.command() == Command::ObjectInfo && self.flags.has(flag)

@@ -167,6 +167,14 @@ impl<A: Allocator + Copy> RequestStream<A> {
         Some(self.packets.lend())
     }
 
+    /// The buffer of one packet: after a packet its bytes as they came, and after it was lent what was written.
+    pub fn hold(&self) -> &Hold
+        ensures value { result.now.items ≡ hold_of self.now }
+        ensures fits { length result.now.items ≤ 65520 }
+    {
+        self.packets.hold()
+    }
+
     /// Uses bytes up to the end of a packet, or all of them. A packet after which more is wanted has been paid for by its own bytes.
     fn step(&mut self, piece: &[u8], steps: &mut Steps) -> ReadRequest<A>
         requires waits { wants_input self.old ≡ true }

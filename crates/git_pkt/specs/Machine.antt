@@ -9,6 +9,7 @@ pub mod BandReader
 pub mod BandCalls
 pub mod PassedOut
 pub mod LentHold
+pub mod Calls
 pub mod Told
 pub mod Sends
 pub mod Stops

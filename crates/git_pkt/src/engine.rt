@@ -2,9 +2,11 @@
 ghost use Rattle.std.specs.Prelude.{◌≡◌, ◌+◌, ◌==◌, min, ◌||◌, IfErr, is_err, length};
 ghost use Rattle.std.specs.Io.{ReadsAtMost};
 ghost use Rattle.std.specs.Io.KnownBytes.{Keeps, ReadConsumes};
+ghost use Rattle.git_pkt.specs.Machine.Calls.{Flushes, Receives, SendsWhole};
 ghost use Rattle.git_pkt.specs.Machine.Sends.{Sends};
 ghost use Rattle.git_pkt.specs.Machine.Told.{inner_of, reads_of, has_failed, has_ended, has_wasted, gave_nothing, ReadsNothing};
 
+use crate::calls::{ReadCalls, WriteCalls};
 use crate::fault::RunFault;
 use crate::told::Told;
 use std::io::{Read, Write};
@@ -12,9 +14,10 @@ use std::io::{Read, Write};
 /// Reads once, into the piece's front, and answers how many bytes came: 0 at the input's end.
 ///
 /// The fault is `ReadFault`, exactly where the read fails.
-pub fn receive<R: Read>(reader: &mut Told<R>, piece: &mut [u8]) -> Result<usize, RunFault>
+pub fn receive<R: ReadCalls>(reader: &mut Told<R>, piece: &mut [u8]) -> Result<usize, RunFault>
     ensures bound { ReadsAtMost result piece.new }
     ensures bytes { ReadConsumes (R.remaining (inner_of reader.old)) (R.remaining (inner_of reader.new)) result piece.new }
+    ensures call { Receives R.is_read (inner_of reader.old) piece.old result piece.new (inner_of reader.new) }
     ensures fault { IfErr result (λ fault. fault ≡ RunFault.ReadFault) }
 
     ensures counted { reads_of reader.new ≡ min (reads_of reader.old + 1) u64.MAX }
@@ -28,8 +31,9 @@ pub fn receive<R: Read>(reader: &mut Told<R>, piece: &mut [u8]) -> Result<usize,
 /// Writes all the bytes.
 ///
 /// The fault is `WriteFault`, exactly where the writing fails; a front of the bytes was written then.
-pub fn send<W: Write>(writer: &mut Told<W>, bytes: &[u8]) -> Result<(), RunFault>
-    ensures { Sends W.contents writer.old bytes.now result writer.new }
+pub fn send<W: WriteCalls>(writer: &mut Told<W>, bytes: &[u8]) -> Result<(), RunFault>
+    ensures sends { Sends W.contents writer.old bytes.now result writer.new }
+    ensures calls { SendsWhole W.is_write (inner_of writer.old) bytes.now result (inner_of writer.new) }
 {
     writer.write_all(bytes).map_err(|_| RunFault::WriteFault)
 }
@@ -37,8 +41,9 @@ pub fn send<W: Write>(writer: &mut Told<W>, bytes: &[u8]) -> Result<(), RunFault
 /// Flushes the writer.
 ///
 /// The fault is `WriteFault`, exactly where the flush fails.
-pub fn flush<W: Write>(writer: &mut Told<W>) -> Result<(), RunFault>
+pub fn flush<W: WriteCalls>(writer: &mut Told<W>) -> Result<(), RunFault>
     ensures bytes { Keeps (W.contents (inner_of writer.old)) (W.contents (inner_of writer.new)) }
+    ensures call { Flushes W.is_flush (inner_of writer.old) result (inner_of writer.new) }
     ensures fault { IfErr result (λ fault. fault ≡ RunFault.WriteFault) }
 
     ensures failed { has_failed writer.new ≡ (has_failed writer.old || is_err result) }

@@ -2,6 +2,7 @@
 #![tactic(auto)]
 
 mod band;
+mod calls;
 mod digits;
 mod engine;
 mod escape;
@@ -17,6 +18,7 @@ mod stops;
 mod told;
 
 pub use band::{BAND_HEAD, Band, close_band, open_band, put_band, split_band};
+pub use calls::{ReadCalls, WriteCalls};
 pub use engine::{flush, receive, send};
 pub use escape::{escape_into, is_plain};
 pub use fault::{Fault, Kind, RunFault};

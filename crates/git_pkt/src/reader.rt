@@ -126,6 +126,7 @@ impl PacketReader {
     pub fn new() -> Self
         ensures reads { Reads result 0 [] [] [] }
         ensures sound { fault_of result ≡ None }
+        ensures empty { held_of result ≡ [] }
         ensures gathers { passes_of result ≡ false }
         ensures passes { MayPass result }
     {
@@ -137,6 +138,7 @@ impl PacketReader {
         requires { offset ≤ last_position }
         ensures reads { Reads result offset [] [] [] }
         ensures sound { fault_of result ≡ None }
+        ensures empty { held_of result ≡ [] }
         ensures gathers { passes_of result ≡ false }
         ensures passes { MayPass result }
     {
@@ -222,6 +224,7 @@ impl PacketReader {
     /// the stream is refused as truncated, at the end of its last whole packet.
     pub fn close(&mut self) -> Result<(), Fault>
         ensures carries { ReadsOn self.old [] [] self.new }
+        ensures held { held_of self.new ≡ held_of self.old }
         ensures gathers { passes_of self.new ≡ false }
         ensures passes { MayPass self.new }
         ensures between { OnOk result ((self.new ≡ self.old) × (fault_of self.old ≡ None) × (is_open self.old ≡ false)) }

@@ -3,8 +3,10 @@ ghost use Rattle.std.specs.Prelude.{◌≡◌, ◌≢◌, IfErr};
 ghost use Rattle.std.specs.Io.{ReadsAtMost};
 ghost use Rattle.std.specs.Io.KnownBytes.{ReadConsumes};
 ghost use Rattle.std.specs.IoError.{error_kind};
+ghost use Rattle.git_pkt.specs.Machine.Calls.{ReadsUninterrupted};
 ghost use Rattle.git_pkt.specs.Machine.Retries.{inner_of};
 
+use crate::calls::ReadCalls;
 use std::io;
 use std::io::{ErrorKind, Read};
 
@@ -24,17 +26,18 @@ impl<R> Retries<R> {
     }
 }
 
-impl<R: Read> Read for Retries<R> {
+impl<R: ReadCalls> Read for Retries<R> {
     ghost remaining = { λ retries. R.remaining (inner_of retries) };
 
     fn read(&mut self, buf: &mut [u8]) -> io::Result<usize>
         ensures bound { ReadsAtMost result buf.new }
         ensures bytes { ReadConsumes (R.remaining (inner_of self.old)) (R.remaining (inner_of self.new)) result buf.new }
 
+        ensures calls { ReadsUninterrupted R.is_read (inner_of self.old) buf.old result buf.new (inner_of self.new) }
         ensures retried { IfErr result (λ error. error_kind error ≢ ErrorKind.Interrupted) }
     {
         for _ in 0..u64::MAX {
-            match self.inner.read(buf) {
+            match self.inner.call_read(buf) {
                 Ok(count) => return Ok(count),
                 Err(error) => {
                     if error.kind() != ErrorKind::Interrupted {

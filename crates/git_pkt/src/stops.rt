@@ -1,8 +1,9 @@
 //! Readers and writers that stop at a call, for tests of what runs over them.
-ghost use Rattle.std.specs.Prelude.{◌≡◌, ◌-◌, IsErr};
+ghost use Rattle.std.specs.Prelude.{◌≡◌, ◌-◌, ◌<◌, IsErr};
 ghost use Rattle.std.specs.Io.{ReadsAtMost, WritesAtMost};
 ghost use Rattle.std.specs.Io.KnownBytes.{Keeps, ReadConsumes, WriteAppends};
 
+use crate::calls::{ReadCalls, WriteCalls};
 use std::io;
 use std::io::{ErrorKind, Read, Write};
 
@@ -40,7 +41,7 @@ impl<T> Stops<T> {
     }
 }
 
-impl<R: Read> Read for Stops<R> {
+impl<R: ReadCalls> Read for Stops<R> {
     ghost use Rattle.git_pkt.specs.Machine.Stops.{calls_left, inner_of};
 
     ghost remaining = { λ stops. R.remaining (inner_of stops) };
@@ -49,6 +50,7 @@ impl<R: Read> Read for Stops<R> {
         ensures bound { ReadsAtMost result buf.new }
         ensures bytes { ReadConsumes (R.remaining (inner_of self.old)) (R.remaining (inner_of self.new)) result buf.new }
 
+        ensures passes { 0 < calls_left self.old → R.is_read (inner_of self.old) buf.old result buf.new (inner_of self.new) }
         ensures stopped { calls_left self.old ≡ 0 → IsErr result × (self.new ≡ self.old) }
         ensures counted { calls_left self.new ≡ calls_left self.old - 1 }
     {
@@ -56,11 +58,11 @@ impl<R: Read> Read for Stops<R> {
             return Err(io::Error::from(ErrorKind::ConnectionReset));
         }
         self.calls_left -= 1;
-        self.inner.read(buf)
+        self.inner.call_read(buf)
     }
 }
 
-impl<W: Write> Write for Stops<W> {
+impl<W: WriteCalls> Write for Stops<W> {
     ghost use Rattle.git_pkt.specs.Machine.Stops.{calls_left, inner_of};
 
     ghost contents = { λ stops. W.contents (inner_of stops) };
@@ -69,6 +71,7 @@ impl<W: Write> Write for Stops<W> {
         ensures bound { WritesAtMost result buf.now }
         ensures bytes { WriteAppends (W.contents (inner_of self.old)) (W.contents (inner_of self.new)) result buf.now }
 
+        ensures passes { 0 < calls_left self.old → W.is_write (inner_of self.old) buf.now result (inner_of self.new) }
         ensures stopped { calls_left self.old ≡ 0 → IsErr result × (self.new ≡ self.old) }
         ensures counted { calls_left self.new ≡ calls_left self.old - 1 }
     {
@@ -76,12 +79,13 @@ impl<W: Write> Write for Stops<W> {
             return Err(io::Error::from(ErrorKind::BrokenPipe));
         }
         self.calls_left -= 1;
-        self.inner.write(buf)
+        self.inner.call_write(buf)
     }
 
     fn flush(&mut self) -> io::Result<()>
         ensures bytes { Keeps (W.contents (inner_of self.old)) (W.contents (inner_of self.new)) }
 
+        ensures passes { 0 < calls_left self.old → W.is_flush (inner_of self.old) result (inner_of self.new) }
         ensures stopped { calls_left self.old ≡ 0 → IsErr result × (self.new ≡ self.old) }
         ensures counted { calls_left self.new ≡ calls_left self.old - 1 }
     {
@@ -89,6 +93,6 @@ impl<W: Write> Write for Stops<W> {
             return Err(io::Error::from(ErrorKind::BrokenPipe));
         }
         self.calls_left -= 1;
-        self.inner.flush()
+        self.inner.call_flush()
     }
 }

@@ -3,8 +3,10 @@ ghost use Rattle.std.specs.Prelude.{◌≡◌, ◌+◌, ◌==◌, min, ◌||◌,
 ghost use Rattle.std.specs.Io.{ReadsAtMost, WritesAtMost};
 ghost use Rattle.std.specs.Io.KnownBytes.{Appends, Keeps, ReadConsumes, WriteAppends};
 ghost use Rattle.git_pkt.specs.Machine.Told.{inner_of, reads_of, has_failed, has_ended, has_wasted, gave_nothing, IsNew, ReadsNothing};
+ghost use Rattle.git_pkt.specs.Machine.Calls.{WritesWhole};
 ghost use Rattle.git_pkt.specs.Streams.{AppendsFront};
 
+use crate::calls::{ReadCalls, WriteCalls};
 use std::io;
 use std::io::{ErrorKind, Read, Write};
 
@@ -63,12 +65,13 @@ impl<T> Told<T> {
     }
 }
 
-impl<R: Read> Read for Told<R> {
+impl<R: ReadCalls> Read for Told<R> {
     ghost remaining = { λ told. R.remaining (inner_of told) };
 
     fn read(&mut self, buf: &mut [u8]) -> io::Result<usize>
         ensures bound { ReadsAtMost result buf.new }
         ensures bytes { ReadConsumes (R.remaining (inner_of self.old)) (R.remaining (inner_of self.new)) result buf.new }
+        ensures call { R.is_read (inner_of self.old) buf.old result buf.new (inner_of self.new) }
 
         ensures counted { reads_of self.new ≡ min (reads_of self.old + 1) u64.MAX }
         ensures failed { has_failed self.new ≡ (has_failed self.old || is_err result) }
@@ -77,7 +80,7 @@ impl<R: Read> Read for Told<R> {
     {
         self.has_wasted |= self.has_ended || buf.is_empty();
         self.reads = self.reads.saturating_add(1);
-        match self.inner.read(buf) {
+        match self.inner.call_read(buf) {
             Ok(count) => {
                 if count == 0 && !buf.is_empty() {
                     self.has_ended = true;
@@ -92,28 +95,30 @@ impl<R: Read> Read for Told<R> {
     }
 }
 
-impl<W: Write> Write for Told<W> {
+impl<W: WriteCalls> Write for Told<W> {
     ghost contents = { λ told. W.contents (inner_of told) };
 
     fn write(&mut self, buf: &[u8]) -> io::Result<usize>
         ensures bound { WritesAtMost result buf.now }
         ensures bytes { WriteAppends (W.contents (inner_of self.old)) (W.contents (inner_of self.new)) result buf.now }
+        ensures call { W.is_write (inner_of self.old) buf.now result (inner_of self.new) }
 
         ensures failed { has_failed self.new ≡ (has_failed self.old || is_err result) }
         ensures reads { ReadsNothing self.old self.new }
     {
-        let written = self.inner.write(buf);
+        let written = self.inner.call_write(buf);
         self.has_failed |= written.is_err();
         written
     }
 
     fn flush(&mut self) -> io::Result<()>
         ensures bytes { Keeps (W.contents (inner_of self.old)) (W.contents (inner_of self.new)) }
+        ensures call { W.is_flush (inner_of self.old) result (inner_of self.new) }
 
         ensures failed { has_failed self.new ≡ (has_failed self.old || is_err result) }
         ensures reads { ReadsNothing self.old self.new }
     {
-        let flushed = self.inner.flush();
+        let flushed = self.inner.call_flush();
         self.has_failed |= flushed.is_err();
         flushed
     }
@@ -123,6 +128,7 @@ impl<W: Write> Write for Told<W> {
     fn write_all(&mut self, buf: &[u8]) -> io::Result<()>
         ensures bytes { OnOk result (Appends (W.contents (inner_of self.old)) (W.contents (inner_of self.new)) buf.now) }
         ensures front { OnErr result (AppendsFront (W.contents (inner_of self.old)) (W.contents (inner_of self.new)) buf.now) }
+        ensures calls { WritesWhole W.is_write (inner_of self.old) buf.now result (inner_of self.new) }
 
         ensures failed { has_failed self.new ≡ (has_failed self.old || is_err result) }
         ensures reads { ReadsNothing self.old self.new }
@@ -134,16 +140,17 @@ impl<W: Write> Write for Told<W> {
 }
 
 // Unlike that of the trait's own `write_all`, its contract covers what was written where it fails.
-fn write_whole<W: Write>(writer: &mut W, bytes: &[u8]) -> io::Result<()>
+fn write_whole<W: WriteCalls>(writer: &mut W, bytes: &[u8]) -> io::Result<()>
     ensures ok { OnOk result (Appends (W.contents writer.old) (W.contents writer.new) bytes.now) }
     ensures err { OnErr result (AppendsFront (W.contents writer.old) (W.contents writer.new) bytes.now) }
+    ensures calls { WritesWhole W.is_write writer.old bytes.now result writer.new }
 {
     let mut rest = bytes;
     for _ in 0..u64::MAX {
         if rest.is_empty() {
             return Ok(());
         }
-        match writer.write(rest) {
+        match writer.call_write(rest) {
             Ok(0) => {
                 let message = "failed to write whole buffer";
                 return Err(io::Error::new(ErrorKind::WriteZero, message));

@@ -16,7 +16,7 @@ use Rattle.git_repository.specs.RepositoryText.{MayStand, NamesRise, counts_in, 
 use Rattle.git_repository.specs.RepositoryText.{count_in, name_in, object_in}
 use Rattle.git_repository.specs.Drafts.{ComesLast, ComesLastObject, Holds, IsFit, MayFollow, head_names, names_of, with_said}
 use Rattle.git_repository.proofs.LastNames.{head_comes_alone, no_refs_there}
-use Rattle.git_repository.proofs.Rising.{last_rises, rising_more}
+use Rattle.git_server.proofs.Rising.{last_rises, rising_more}
 
 -- what holds of a part of what lines contain, with one more: what held, or what holds with what that line contains of it
 module _ {X : Type 0} (P : List X → Type 0) (Q : X → Type 0) (part : Said → Option X) (said : List Said) (next : Said) where

@@ -1,5 +1,4 @@
 pub mod Saying
-pub mod Rising
 pub mod Drafting
 pub mod TextPieces
 pub mod Reading

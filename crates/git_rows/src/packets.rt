@@ -33,6 +33,8 @@ pub fn longest_packet_then_too_long()
     ensures refused { RestFault 65520 (codes "fff1") (fault_at TooLong 65520) }
     ensures shown_by_the_fourth_digit { ShowsAtEnd (codes "fff1") }
     ensures longest_not_refused { ¬ IsRefused 0 (codes "fff0") TooLong 0 }
+    ensures not_a_longer_one { (bytes : List ℕ) → length bytes ≡ 65517
+        → ¬ Splits 0 (codes "fff1" ++ bytes) (at 0 (payload bytes) ∷ []) [] }
 {}
 
 /// A packet of three bytes, which would lack a digit of its own length.

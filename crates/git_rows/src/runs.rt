@@ -1,17 +1,21 @@
 //! Runs: the bytes of their streams, and what `show`, `check` and `play` result in.
 
-ghost use Rattle.std.specs.Prelude.{◌++◌, ◌∷◌, [], Err, None, Ok, Some, codes, false, true};
+ghost use Rattle.std.specs.Prelude.{ℕ, ◌≡◌, ◌++◌, ◌∷◌, [], Err, List, None, Ok, Some, codes, false, true};
 ghost use Rattle.git2show_lib.specs.Machine.CheckedStreams.{Checked};
 ghost use Rattle.git2show_lib.specs.Machine.ShownStream.{Shows};
 ghost use Rattle.git_both_ends.specs.Plays.{Played};
+ghost use Rattle.git_msg.specs.Asked.{ls_refs};
+ghost use Rattle.git_msg.specs.Machine.HeldRequest.{asked_of};
+ghost use Rattle.git_msg.specs.declared.requests.Request.{Request};
 ghost use Rattle.git_pkt.specs.Streams.{AreRead, AreWritten, IsTimely, flow};
 ghost use Rattle.git_pkt.specs.declared.fault.Kind.TheVariants.{BadLength, StreamTooLong, Truncated};
 ghost use Rattle.git_pkt.specs.declared.fault.RunFault.TheVariants.{ReadFault, Refused};
-ghost use Rattle.git_rows.specs.Worked.{fault_at};
+ghost use Rattle.git_rows.specs.Worked.{asked_with, fault_at};
 ghost use Rattle.git_rows.specs.WorkedConversations.{offer_bytes, terms};
-ghost use Rattle.git_rows.specs.WorkedRuns.{offer_transcript, repo_state, standing};
+ghost use Rattle.git_rows.specs.WorkedRuns.{bare_state, offer_transcript, repo_state, standing};
 
 use git_both_ends::answer_laws::heard_offer;
+use git_both_ends::play_laws::played_as_told;
 use std::alloc::Allocator;
 
 /// What streams held before and after a run.
@@ -48,10 +52,23 @@ pub fn streams_checked<A: Allocator + Copy>()
 
 /// A play without requests: the client receives the advertisement, and leaves.
 pub fn nothing_played<A: Allocator + Copy>()
-    ensures whole { Played {A = A} ⊥ terms 0 repo_state [] (Ok tt) [] (offer_transcript ∷ [] ∷ []) }
-    ensures not_without_a_pack_writer { ¬ Played {A = A} ⊥ terms 0 repo_state [] (Ok tt) [] (offer_transcript ∷ []) }
-    ensures not_read_of_a_stream { ¬ Played {A = A} ⊥ terms 0 repo_state [] (Ok tt) (offer_transcript ∷ []) (offer_transcript ∷ [] ∷ []) }
-    ensures no_read_fails { ¬ Played {A = A} ⊥ terms 0 repo_state [] (Err ReadFault) [] ([] ∷ [] ∷ []) }
+    ensures whole { Played {A = A} 0 terms 0 repo_state [] (Ok tt) [] (offer_transcript ∷ [] ∷ []) }
+    ensures not_without_a_pack_writer { ¬ Played {A = A} 0 terms 0 repo_state [] (Ok tt) [] (offer_transcript ∷ []) }
+    ensures not_read_of_a_stream { ¬ Played {A = A} 0 terms 0 repo_state [] (Ok tt) (offer_transcript ∷ []) (offer_transcript ∷ [] ∷ []) }
+    ensures no_read_fails { ¬ Played {A = A} 0 terms 0 repo_state [] (Err ReadFault) [] ([] ∷ [] ∷ []) }
 {
     heard_offer();
+}
+
+/// Plays of no request and of one for references, of a repository that has nothing, which ended well: just this was written.
+pub fn plays_that_ended_well<A: Allocator + Copy>()
+    ensures nothing_asked { (given : List (List ℕ)) → Played {A = A} 0 terms 0 bare_state [] (Ok tt) [] given → given ≡ offer_transcript ∷ [] ∷ [] }
+    ensures references_asked { (request : Request A) (given : List (List ℕ)) → asked_of request ≡ ls_refs (asked_with false false [])
+        → Played {A = A} 0 terms 0 bare_state (request ∷ []) (Ok tt) [] given
+        → given ≡ (offer_transcript ++ codes "request ls-refs\nend 0 0\n") ∷ [] ∷ [] }
+    ensures not_unanswered { (request : Request A) → asked_of request ≡ ls_refs (asked_with false false [])
+        → ¬ Played {A = A} 0 terms 0 bare_state (request ∷ []) (Ok tt) [] (offer_transcript ∷ [] ∷ []) }
+    ensures not_with_a_pack { ¬ Played {A = A} 0 terms 0 bare_state [] (Ok tt) [] (offer_transcript ∷ codes "PACK" ∷ []) }
+{
+    played_as_told::<A>();
 }

@@ -16,8 +16,10 @@ use Rattle.git_server.specs.Machine.ServerCalls.{given_by}
 use Rattle.git_server.specs.declared.outcome.Outcome.{Outcome}
 use Rattle.git_server.specs.declared.outcome.Outcome.TheVariants.{Refused}
 use Rattle.git_server.specs.declared.server.Server.{Server}
+use Rattle.git_server.proofs.Going.{no_outcome}
+use Rattle.git_server.proofs.OneSession.{waits_behind_all}
 use Rattle.git_server.proofs.OneOutcome.{clean_so_far, one_end}
-use Rattle.git_server.proofs.SessionLaws.{ending, every_moment, going_on, its_end}
+use Rattle.git_server.proofs.SessionLaws.{all_answered, ending, every_moment, going_on, its_end}
 
 -- whether the input ended, where it had or not before the calls
 ended : Bool → List Call → Bool
@@ -115,6 +117,10 @@ module _ {R A : Type 0} (state : R → RepoState) where
         steps = omega (arith, paid.within, no_credit);
         running = every_moment state last s used over given r;
         goes_on = going_on state last s used over given r;
+        waits = (
+          λ wants. (no_outcome last.phase wants, all_answered state last s used over given r wants),
+          λ all. waits_behind_all state last s used over given r all.0 all.1,
+        );
         ends = ending state last s used over given r;
         session = λ outcome some none. its_end state last s used over given r outcome some none;
         refused = refused_first s used over given last r;

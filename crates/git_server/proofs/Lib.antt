@@ -39,4 +39,5 @@ pub mod OneOutput
 pub mod AtRest
 pub mod Calls
 pub mod Listed
+pub mod Rising
 pub mod UnbornHead

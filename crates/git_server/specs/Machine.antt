@@ -10,6 +10,9 @@ pub mod PackParts
 pub mod FullParts
 pub mod Phases
 pub mod LatePacks
+pub mod Growths
+pub mod PackSources
+pub mod LateReads
 pub mod LateRepo
 pub mod Server
 pub mod ServerCalls

@@ -1,13 +1,13 @@
 //! A repository that is a few lists, whose packs are read once one is needed.
 
 ghost use Rattle.std.specs.Prelude.{◌≡◌, ◌-◌, ◌<◌, IfOk, IfSome, IsErr, None, OnErr, OnOk, Some, false, length, min, true};
-ghost use Rattle.git_server.specs.Machine.LateRepo.{AreReadFrom, AreReadOf, IsReadFrom, SettlesPacks, has_packs, late_lists, late_state, unread_in};
-ghost use Rattle.git_server.specs.Repository.{bytes_of};
 ghost use Rattle.git_server.specs.Lists.{pack_for};
+ghost use Rattle.git_server.specs.Machine.LateReads.{are_lost, have_failure};
 ghost use Rattle.git_server.specs.Packs.{IsPackPart};
 
 use crate::entry::RefEntry;
 use crate::list_repo::ListRepo;
+use crate::pack_sources::PackSources;
 use crate::repo::{PackFault, Repo};
 use git_msg::{Boundary, Fetch};
 use git_names::{Format, Oid, Steps};
@@ -18,12 +18,12 @@ use std::mem;
 /// The packs of a repository that are read late.
 #[derive(Drop)]
 enum LatePacks<P> {
-    /// None was read: the pack of each request, and that of each request that has a filter, where that is another.
-    Unread(P, Option<P>),
+    /// None was read.
+    Unread(PackSources<P>),
     /// The lists have them.
     Read,
     /// A read of one of them failed, or memory for it ran out.
-    Lost,
+    Lost(PackSources<P>),
 }
 
 /// A repository that is a few lists, whose packs are read whole once one is needed, by [`crate::Server::read_packs`].
@@ -31,13 +31,14 @@ enum LatePacks<P> {
 /// [`Repo::pack_read`] fails before that, and if they could not be read.
 #[derive(Drop)]
 pub struct LateRepo<P> {
-    alloc: Global,
     lists: ListRepo,
     packs: LatePacks<P>,
     failed: Steps,
+    ghost caused: { are_lost packs ≡ true → have_failure packs ≡ true },
 }
 
 impl<P: Read + Drop> LateRepo<P> {
+    ghost use Rattle.git_server.specs.Machine.LateRepo.{AreReadOf, SettlesPacks, has_packs, late_lists, late_state, pack_failed, unread_in};
     ghost use Rattle.git_server.specs.Machine.ListRepo.{lists_of, state_of};
 
     /// The repository with these lists and, in place of their packs, those that these readers will give: `pack` for each request, but
@@ -46,35 +47,35 @@ impl<P: Read + Drop> LateRepo<P> {
         ensures state { late_state result ≡ state_of lists }
         ensures lists { late_lists result ≡ lists_of lists }
         ensures unread { unread_in result ≡ Some (pack, filtered) }
+        ensures unfailed { pack_failed result ≡ false }
     {
         LateRepo {
-            alloc,
             lists,
-            packs: LatePacks::Unread(pack, filtered),
+            packs: LatePacks::Unread(PackSources::new(alloc, pack, filtered)),
             failed: Steps::new(),
         }
     }
 
-    /// Reads the packs, unless that was tried before.
+    /// Reads the packs, unless that was tried before. They are lost only where a read of one fails, or memory refuses to keep what was read.
     pub(crate) fn read_packs(&mut self)
         ensures settles { SettlesPacks (late_state self.old) (late_state self.new) }
         ensures read { IfSome (unread_in self.old) (λ packs. (has_packs self.new ≡ true → AreReadOf P.remaining packs (late_lists self.new))) }
+        ensures lost { has_packs self.new ≡ false → pack_failed self.new ≡ true }
         ensures tried { unread_in self.new ≡ None }
         ensures again { unread_in self.old ≡ None → self.new ≡ self.old }
     {
-        match mem::replace(&mut self.packs, LatePacks::Lost) {
-            LatePacks::Unread(pack, filtered) => {
-                if let Ok((pack, filtered)) = read_both(self.alloc, pack, filtered) {
-                    self.lists.set_packs(pack, filtered);
-                    self.packs = LatePacks::Read;
-                }
-            }
+        match mem::replace(&mut self.packs, LatePacks::Read) {
+            LatePacks::Unread(mut sources) => match sources.read() {
+                Ok((pack, filtered)) => self.lists.set_packs(pack, filtered),
+                Err(PackFault) => self.packs = LatePacks::Lost(sources),
+            },
             tried => self.packs = tried,
         }
     }
 }
 
 impl<P: Read + Drop> Repo for LateRepo<P> {
+    ghost use Rattle.git_server.specs.Machine.LateRepo.{has_packs, late_lists, late_state};
     ghost use Rattle.git_server.specs.Machine.ListRepo.{is_short, is_sound};
 
     ghost state = { late_state };
@@ -137,37 +138,10 @@ impl<P: Read + Drop> Repo for LateRepo<P> {
     {
         match self.packs {
             LatePacks::Read => Ok(self.lists.read_pack(request, offset, out)),
-            LatePacks::Unread(_, _) | LatePacks::Lost => {
+            LatePacks::Unread(_) | LatePacks::Lost(_) => {
                 self.failed.tick(1);
                 Err(PackFault)
             }
         }
-    }
-}
-
-// Reads both packs, where there are two.
-fn read_both<P: Read + Drop>(
-    alloc: Global,
-    pack: P,
-    filtered: Option<P>,
-) -> Result<(Vec<u8>, Option<Vec<u8>>), PackFault>
-    ensures { IfOk result (λ read. AreReadFrom P.remaining (pack, filtered) read.0.items (bytes_of read.1)) }
-{
-    let pack = read_whole(alloc, pack)?;
-    let filtered = match filtered {
-        Some(source) => Some(read_whole(alloc, source)?),
-        None => None,
-    };
-    Ok((pack, filtered))
-}
-
-// Reads all that is left of a source.
-fn read_whole<P: Read + Drop>(alloc: Global, mut source: P) -> Result<Vec<u8>, PackFault>
-    ensures { IfOk result (λ read. IsReadFrom (P.remaining source) read.items) }
-{
-    let mut read = Vec::new(alloc);
-    match source.read_to_end(&mut read) {
-        Ok(_) => Ok(read),
-        Err(_) => Err(PackFault),
     }
 }

@@ -1,23 +1,21 @@
 //! The answer to `ls-refs`, a packet at a time. Both the request's prefixes and the references are searched by halves.
 
-ghost use Rattle.std.specs.Prelude.{◌≡◌, ◌<◌, ◌≤◌, ℕ, List, [], ◌∷◌, Some, None, IfSome, MatchOption, true, false, if◌then◌else◌};
-ghost use Rattle.std.specs.Prelude.{codes, drop, length, slice_index_or};
-ghost use Rattle.std.specs.Option.{option_copied};
+ghost use Rattle.std.specs.Prelude.{◌≡◌, ◌<◌, ◌≤◌, ℕ, [], ◌∷◌, IfSome, MatchOption, true, false};
+ghost use Rattle.std.specs.Prelude.{drop, length, slice_index_or};
 ghost use Rattle.git_names.specs.RefName.{IsRefName};
 ghost use Rattle.git_pkt.specs.Machine.PacketReader.{is_open};
 ghost use Rattle.git_msg.specs.Prefixes.{IsOrdered, SplitsAt};
-ghost use Rattle.git_msg.specs.References.{IsWritable, reference_of, shown_reference};
 ghost use Rattle.git_server.specs.Machine.AnsweredRequest.{AnswersOne};
-ghost use Rattle.git_server.specs.Answers.{asks_for_unborn as asks, is_shown, reference_packet, shown_line, shown_refs, unborn_packet, unborn_packets};
+ghost use Rattle.git_server.specs.Answers.{is_shown, reference_packet, shown_refs, unborn_packet, unborn_packets};
 ghost use Rattle.git_server.specs.NextShown.{NextShown};
 ghost use Rattle.git_server.specs.Machine.WrittenPackets.{Writes};
 ghost use Rattle.git_server.specs.Repository.{Entry, HasOneFormat, IsRising, comes_before};
 
 use crate::entry::RefEntry;
+use crate::entry_lines::{asks_for_unborn, entry_line, unborn_line};
 use crate::packets::write_packet;
 use crate::repo::Repo;
-use git_msg::{Listing, Reference, put_reference};
-use git_names::Oid;
+use git_msg::{Listing, put_reference};
 use git_pkt::{Packet, PacketReader};
 use std::alloc::Allocator;
 
@@ -94,13 +92,6 @@ fn shown_unborn<'a, R: Repo, A: Allocator + Copy>(
     repo.unborn_head()
 }
 
-fn asks_for_unborn<A: Allocator + Copy>(listing: &Listing<A>) -> bool
-    requires { IsOrdered listing.now.asked.ref_prefixes }
-    ensures { result ≡ asks listing.now.asked }
-{
-    listing.unborn() && listing.symrefs() && listing.shows_at(listing.split(b"HEAD"), b"HEAD")
-}
-
 // Makes the hold the line of an unborn `HEAD`.
 #[tactic(auto, using(crate::proofs::WrittenHolds::line_written))]
 fn write_unborn(reader: &mut PacketReader, target: &[u8])
@@ -108,21 +99,8 @@ fn write_unborn(reader: &mut PacketReader, target: &[u8])
     requires name { IsRefName target.now }
     ensures { Writes reader.old (unborn_packet target.now) reader.new }
 {
-    put_reference(reader.lend(), unborn(target));
+    put_reference(reader.lend(), unborn_line(target));
     let _ = reader.hold();
-}
-
-fn unborn(target: &[u8]) -> Reference<'_>
-    requires { IsRefName target.now }
-    ensures shown { shown_reference result ≡ reference_of None (codes "HEAD") (Some target.now) None }
-    ensures writable { IsWritable (shown_reference result) }
-{
-    Reference {
-        id: None,
-        name: b"HEAD",
-        target: Some(target),
-        peeled: None,
-    }
 }
 
 // Makes the hold the line of a reference.
@@ -136,41 +114,8 @@ fn write_entry<A: Allocator + Copy>(
     requires format { HasOneFormat entry.now }
     ensures { Writes reader.old (reference_packet listing.now.asked.symrefs listing.now.asked.peel entry.now) reader.new }
 {
-    put_reference(reader.lend(), shown(entry, listing));
+    put_reference(reader.lend(), entry_line(entry, listing));
     let _ = reader.hold();
-}
-
-// What the request asks for of a reference.
-fn shown<'a, A: Allocator + Copy>(entry: &'a RefEntry, listing: &Listing<A>) -> Reference<'a>
-    requires { HasOneFormat entry.now }
-    ensures shown { shown_reference result ≡ shown_line listing.now.asked.symrefs listing.now.asked.peel entry.now }
-    ensures writable { IsWritable (shown_reference result) }
-{
-    Reference {
-        id: Some(entry.id()),
-        name: entry.name(),
-        target: shown_target(entry, listing.symrefs()),
-        peeled: shown_peeled(entry, listing.peel()),
-    }
-}
-
-fn shown_target(entry: &RefEntry, symrefs: bool) -> Option<&[u8]>
-    ensures value { option_copied result ≡ (if symrefs then entry.now.target else None) }
-    ensures name { (name : List ℕ) → option_copied result ≡ Some name → IsRefName name }
-{
-    if !symrefs {
-        return None;
-    }
-    entry.target()
-}
-
-fn shown_peeled(entry: &RefEntry, peel: bool) -> Option<Oid>
-    ensures { result ≡ (if peel then entry.now.peeled else None) }
-{
-    if !peel {
-        return None;
-    }
-    entry.peeled()
 }
 
 /// The place of the first reference, at `from` or after it, that the request asks for.

@@ -330,19 +330,21 @@ impl<P: Read + Drop, A: Allocator + Copy> Server<LateRepo<P>, A> {
     ghost use Rattle.std.specs.Prelude.{ℕ, Bool, List, IfSome};
     ghost use Rattle.git_server.specs.Sessions.{Setting};
     ghost use Rattle.git_server.specs.Machine.LatePacks.{setting_with};
-    ghost use Rattle.git_server.specs.Machine.LateRepo.{AreReadOf, SettlesPacks, has_packs, late_lists, late_state, unread_in};
+    ghost use Rattle.git_server.specs.Machine.LateRepo.{AreReadOf, SettlesPacks, has_packs, late_lists, late_state, pack_failed, unread_in};
     ghost use Rattle.git_server.specs.Machine.Server.{Running, outcome_of, repo_of, wants_input};
     ghost use Rattle.git_server.specs.Machine.ServerCalls.{RunsUnread};
 
     /// Reads the packs, unless that was tried before. Call it as soon as [`Server::wants_pack`] is true, before a packet of that answer
-    /// is pulled: up to there the server gives what it would give with the packs at hand. If a read fails, or memory runs out, the server
-    /// sends `PackSource` in place of the pack.
+    /// is pulled: up to there the server gives what it would give with the packs at hand. If a read fails, or memory refuses to keep what
+    /// was read, the packs are lost, and the server sends `PackSource` in place of one. An interrupted read is made again.
     pub fn read_packs(&mut self)
         ensures runs { (s : Setting) (used : List ℕ) (over : Bool) (given : List ℕ) → RunsUnread late_state s used over given self.old
             → Running late_state (setting_with (late_state (repo_of self.new)).answers.pack s) used over given self.new }
         ensures settles { SettlesPacks (late_state (repo_of self.old)) (late_state (repo_of self.new)) }
         ensures read { IfSome (unread_in (repo_of self.old)) (λ packs. (has_packs (repo_of self.new) ≡ true
             → AreReadOf P.remaining packs (late_lists (repo_of self.new)))) }
+        ensures lost { has_packs (repo_of self.new) ≡ false → pack_failed (repo_of self.new) ≡ true }
+        ensures tried { unread_in (repo_of self.new) ≡ None }
         ensures again { unread_in (repo_of self.old) ≡ None → repo_of self.new ≡ repo_of self.old }
         ensures wants { wants_input self.new ≡ wants_input self.old }
         ensures outcome { outcome_of self.new ≡ outcome_of self.old }

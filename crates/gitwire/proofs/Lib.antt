@@ -3,5 +3,7 @@ pub mod Determined
 pub mod FilledRooms
 pub mod GivenNames
 pub mod Handing
+pub mod Making
+pub mod Reporting
 pub mod ShownLengths
 pub mod ShownPlaces

@@ -8,6 +8,8 @@ use Rattle.gitwire.specs.declared.answer.What.{What}
 use Rattle.gitwire.specs.declared.answer.What.TheVariants.{Done, More, Failed, NoHandle, RoomTooSmall, NotNow, OutOfMemory, BadValue, Nothing}
 use Rattle.gitwire.specs.declared.answer.What.TheVariants.{Payload, Flush, Delim, ResponseEnd, Request, Stop, Packet, NeedInput, EndedByFlush}
 use Rattle.gitwire.specs.declared.answer.What.TheVariants.{EndedByClose, CanAsk, Finished, Event}
+use Rattle.gitwire.specs.declared.answer.What.TheVariants.{Asked, NeedWant, NeedWantRef, NeedHave, NeedReady, NeedBoundary, NeedPack, NeedReference, NeedSize}
+use Rattle.gitwire.specs.declared.answer.What.TheVariants.{OutOfOrder}
 
 -- the number by which C knows it
 abbrev pub what_number : What → ℕ
@@ -45,6 +47,16 @@ what_number (Event EventKind.Info) = 30
 what_number (Event EventKind.Pack) = 31
 what_number (Event EventKind.Progress) = 32
 what_number (Event EventKind.Ended) = 33
+what_number Asked = 34
+what_number NeedWant = 35
+what_number NeedWantRef = 36
+what_number NeedHave = 37
+what_number NeedReady = 38
+what_number NeedBoundary = 39
+what_number NeedPack = 40
+what_number NeedReference = 41
+what_number NeedSize = 42
+what_number OutOfOrder = 43
 
 -- what is reported of a piece where nothing else is: more is to come, or none was due
 abbrev pub more_of : Bool → What

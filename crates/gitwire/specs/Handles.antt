@@ -7,9 +7,10 @@ use Rattle.git_msg.specs.declared.requests.Request.{Request}
 use Rattle.git_msg.specs.declared.streams.RequestStream.{RequestStream}
 use Rattle.git_server.specs.declared.server.Server.{Server}
 use Rattle.git_server.specs.declared.shared_repo.SharedRepo.{SharedRepo}
+use Rattle.git_host.specs.declared.host_server.HostServer.{HostServer}
 use Rattle.git_client.specs.declared.client.Client.{Client}
 use Rattle.gitwire.specs.declared.gatherer.Gatherer.{Gatherer}
-use Rattle.gitwire.specs.Machines.{machine_as, gatherer_of, request_reader_of, request_of, repository_of, server_of, client_of, buffer_of}
+use Rattle.gitwire.specs.Machines.{machine_as, gatherer_of, request_reader_of, request_of, repository_of, server_of, client_of, buffer_of, host_of}
 use Rattle.gitwire.specs.declared.machine.PacketBuffer.{PacketBuffer}
 use Rattle.gitwire.specs.declared.handles.GitwirePacketReader.{GitwirePacketReader}
 use Rattle.gitwire.specs.declared.handles.GitwireRequestReader.{GitwireRequestReader}
@@ -18,6 +19,7 @@ use Rattle.gitwire.specs.declared.handles.GitwireRepository.{GitwireRepository}
 use Rattle.gitwire.specs.declared.handles.GitwireServer.{GitwireServer}
 use Rattle.gitwire.specs.declared.handles.GitwireClient.{GitwireClient}
 use Rattle.gitwire.specs.declared.handles.GitwireWriter.{GitwireWriter}
+use Rattle.gitwire.specs.declared.handles.GitwireHost.{GitwireHost}
 
 -- the packet reader of a handle, which gathers
 abbrev pub gatherer_in : GitwirePacketReader → Option Gatherer
@@ -46,6 +48,10 @@ server_in handle = machine_as server_of handle.handle.held.machine
 -- the client of a handle
 abbrev pub client_in : GitwireClient → Option (Client Global)
 client_in handle = machine_as client_of handle.handle.held.machine
+
+-- the host's server of a handle
+abbrev pub host_in : GitwireHost → Option (HostServer Global)
+host_in handle = machine_as host_of handle.handle.held.machine
 
 -- the packet buffer of a handle
 abbrev pub buffer_in : GitwireWriter → Option PacketBuffer

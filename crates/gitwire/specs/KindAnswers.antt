@@ -41,6 +41,16 @@ what_name (What.Event EventKind.Info) = codes "Info"
 what_name (What.Event EventKind.Pack) = codes "Pack"
 what_name (What.Event EventKind.Progress) = codes "Progress"
 what_name (What.Event EventKind.Ended) = codes "Ended"
+what_name What.Asked = codes "Asked"
+what_name What.NeedWant = codes "NeedWant"
+what_name What.NeedWantRef = codes "NeedWantRef"
+what_name What.NeedHave = codes "NeedHave"
+what_name What.NeedReady = codes "NeedReady"
+what_name What.NeedBoundary = codes "NeedBoundary"
+what_name What.NeedPack = codes "NeedPack"
+what_name What.NeedReference = codes "NeedReference"
+what_name What.NeedSize = codes "NeedSize"
+what_name What.OutOfOrder = codes "OutOfOrder"
 
 -- what has the number, or nothing has it
 abbrev pub IsWhatOf : ℕ → Option What → Type 0

@@ -6,6 +6,7 @@ pub mod EventAnswers
 pub mod FaultAnswers
 pub mod Handles
 pub mod Held
+pub mod HostAnswers
 pub mod KindAnswers
 pub mod Machines
 pub mod Numbers

@@ -5,6 +5,7 @@ use Rattle.git_msg.specs.declared.requests.Request.{Request}
 use Rattle.git_msg.specs.declared.streams.RequestStream.{RequestStream}
 use Rattle.git_server.specs.declared.server.Server.{Server}
 use Rattle.git_server.specs.declared.shared_repo.SharedRepo.{SharedRepo}
+use Rattle.git_host.specs.declared.host_server.HostServer.{HostServer}
 use Rattle.git_client.specs.declared.client.Client.{Client}
 use Rattle.gitwire.specs.declared.gatherer.Gatherer.{Gatherer}
 use Rattle.gitwire.specs.declared.machine.Machine.{Machine}
@@ -39,6 +40,11 @@ server_of other = None
 abbrev pub client_of : Machine → Option (Client Global)
 client_of (Machine.Client client) = Some client.value
 client_of other = None
+
+-- the host's server that a machine is
+abbrev pub host_of : Machine → Option (HostServer Global)
+host_of (Machine.Host host) = Some host.value
+host_of other = None
 
 -- the packet buffer that a machine is
 abbrev pub buffer_of : Machine → Option PacketBuffer

@@ -68,6 +68,26 @@ pub enum What {
     Finished,
     /// An event of a client.
     Event(EventKind),
+    /// A whole request came, which is to be accepted or refused.
+    Asked,
+    /// Whether the store has a wanted object.
+    NeedWant,
+    /// The object of a wanted reference.
+    NeedWantRef,
+    /// Whether the store has an object of the client.
+    NeedHave,
+    /// Whether the store is ready to send a pack.
+    NeedReady,
+    /// The next line of the shallow boundary, or its end.
+    NeedBoundary,
+    /// Bytes of the pack or of progress, or the end of the pack.
+    NeedPack,
+    /// The next reference, or the end.
+    NeedReference,
+    /// The size of an object.
+    NeedSize,
+    /// A reference does not come after the one that was reported before it. Nothing changed.
+    OutOfOrder,
 }
 
 impl What {
@@ -83,7 +103,7 @@ impl What {
         }
     }
 
-    /// The number by which C knows it, from 0 to 33.
+    /// The number by which C knows it, from 0 to 43.
     pub fn number(self) -> u8
         ensures { result ≡ what_number self }
     {
@@ -122,6 +142,16 @@ impl What {
             What::Event(EventKind::Pack) => 31,
             What::Event(EventKind::Progress) => 32,
             What::Event(EventKind::Ended) => 33,
+            What::Asked => 34,
+            What::NeedWant => 35,
+            What::NeedWantRef => 36,
+            What::NeedHave => 37,
+            What::NeedReady => 38,
+            What::NeedBoundary => 39,
+            What::NeedPack => 40,
+            What::NeedReference => 41,
+            What::NeedSize => 42,
+            What::OutOfOrder => 43,
         }
     }
 }

@@ -2,13 +2,14 @@
 
 ghost use Rattle.std.specs.Prelude.{◌≡◌, Option, Some, None, MatchOption, true};
 ghost use Rattle.gitwire.specs.Calls.{IsMade};
-ghost use Rattle.gitwire.specs.Machines.{is_none_or, gatherer_of, request_reader_of, request_of, repository_of, server_of, client_of, buffer_of};
+ghost use Rattle.gitwire.specs.Machines.{is_none_or, gatherer_of, request_reader_of, request_of, repository_of, server_of, client_of, buffer_of, host_of};
 
 use crate::answer::What;
 use crate::gatherer::Gatherer;
 use crate::held::{Handle, Shell};
 use crate::machine::{Machine, PacketBuffer};
 use git_client::Client;
+use git_host::HostServer;
 use git_msg::{Request, RequestStream};
 use git_server::{Server, SharedRepo};
 use std::alloc::Global;
@@ -300,5 +301,41 @@ impl Holds for GitwireWriter {
         ensures { buffer_in self.new ≡ Some taken.inner.value }
     {
         self.handle = taken.shell.shut(Machine::Writer(taken.inner));
+    }
+}
+
+/// A host's server, or none.
+#[repr(C)]
+#[derive(Drop)]
+pub struct GitwireHost {
+    handle: Handle,
+    ghost kind: { is_none_or host_of handle.held.machine ≡ true },
+}
+
+impl Holds for GitwireHost {
+    ghost use Rattle.gitwire.specs.Handles.{host_in};
+
+    type Inner = HostServer<Global>;
+
+    ghost has = { host_in };
+
+    fn none(alloc: Global) -> Self {
+        GitwireHost {
+            handle: Handle::none(alloc),
+        }
+    }
+
+    fn take(&mut self, alloc: Global) -> Option<Taken<Self::Inner>> {
+        let (machine, shell) = replace(self, Self::none(alloc)).handle.open()?;
+        match machine {
+            Machine::Host(inner) => Some(Taken { inner, shell }),
+            _ => unreachable!(),
+        }
+    }
+
+    fn put(&mut self, taken: Taken<Self::Inner>)
+        ensures { host_in self.new ≡ Some taken.inner.value }
+    {
+        self.handle = taken.shell.shut(Machine::Host(taken.inner));
     }
 }

@@ -58,6 +58,16 @@ fn what_of(number: u8) -> Option<What>
         31 => Some(What::Event(EventKind::Pack)),
         32 => Some(What::Event(EventKind::Progress)),
         33 => Some(What::Event(EventKind::Ended)),
+        34 => Some(What::Asked),
+        35 => Some(What::NeedWant),
+        36 => Some(What::NeedWantRef),
+        37 => Some(What::NeedHave),
+        38 => Some(What::NeedReady),
+        39 => Some(What::NeedBoundary),
+        40 => Some(What::NeedPack),
+        41 => Some(What::NeedReference),
+        42 => Some(What::NeedSize),
+        43 => Some(What::OutOfOrder),
         _ => None,
     }
 }
@@ -100,5 +110,15 @@ fn name_of(what: What) -> &'static str
         What::Event(EventKind::Pack) => "Pack",
         What::Event(EventKind::Progress) => "Progress",
         What::Event(EventKind::Ended) => "Ended",
+        What::Asked => "Asked",
+        What::NeedWant => "NeedWant",
+        What::NeedWantRef => "NeedWantRef",
+        What::NeedHave => "NeedHave",
+        What::NeedReady => "NeedReady",
+        What::NeedBoundary => "NeedBoundary",
+        What::NeedPack => "NeedPack",
+        What::NeedReference => "NeedReference",
+        What::NeedSize => "NeedSize",
+        What::OutOfOrder => "OutOfOrder",
     }
 }

@@ -10,6 +10,10 @@ mod faults;
 mod gatherer;
 mod handles;
 mod held;
+mod host;
+mod host_reports;
+mod host_request;
+mod host_texts;
 mod kinds;
 pub mod laws;
 mod line_writers;
@@ -33,8 +37,8 @@ pub use answer::{GitwireAnswer, What};
 pub use client::GitwireCaps;
 pub use event::GitwireEvent;
 pub use handles::{
-    GitwireClient, GitwirePacketReader, GitwireRepository, GitwireRequest, GitwireRequestReader,
-    GitwireServer, GitwireWriter,
+    GitwireClient, GitwireHost, GitwirePacketReader, GitwireRepository, GitwireRequest,
+    GitwireRequestReader, GitwireServer, GitwireWriter,
 };
 pub use offer::GitwireOffer;
 pub use threads::handles_are_send;

@@ -210,7 +210,7 @@ fn make_info(
     Ok(())
 }
 
-fn boundary_of(shallow: bool, id: Oid) -> Boundary
+pub(crate) fn boundary_of(shallow: bool, id: Oid) -> Boundary
     ensures { result ≡ boundary_of shallow id }
 {
     if shallow {
@@ -231,7 +231,7 @@ fn read_id(number: u8, digits: &[u8]) -> Result<Oid, Unwritten>
 }
 
 /// A reference name, or none where there is no text.
-fn read_target(text: &[u8]) -> Result<Option<&[u8]>, NameFault>
+pub(crate) fn read_target(text: &[u8]) -> Result<Option<&[u8]>, NameFault>
     ensures { MatchResult result (λ target. (option_copied target ≡ given text.now) × (text.now ≢ [] → IsRefName text.now))
         (λ fault. (fault ≡ NameFault.BadRefName) × (text.now ≢ []) × ¬ IsRefName text.now) }
 {
@@ -243,7 +243,7 @@ fn read_target(text: &[u8]) -> Result<Option<&[u8]>, NameFault>
 }
 
 /// An object name, or none where there are no digits.
-fn read_given_id(format: Format, digits: &[u8]) -> Result<Option<Oid>, NameFault>
+pub(crate) fn read_given_id(format: Format, digits: &[u8]) -> Result<Option<Oid>, NameFault>
     ensures { MatchResult result (IsMaybeObjectName format (given digits.now))
         (λ fault. (fault ≡ NameFault.BadObjectName) × (digits.now ≢ []) × IsNoObjectName format digits.now) }
 {

@@ -2,6 +2,7 @@
 
 use crate::gatherer::Gatherer;
 use git_client::Client;
+use git_host::HostServer;
 use git_msg::{Request, RequestStream};
 use git_pkt::Hold;
 use git_server::{Server, SharedRepo};
@@ -17,6 +18,7 @@ pub(crate) enum Machine {
     Server(Box<Server<SharedRepo, Global>, Global>),
     Client(Box<Client<Global>, Global>),
     Writer(Box<PacketBuffer, Global>),
+    Host(Box<HostServer<Global>, Global>),
     /// None of them, while a call has it.
     Empty,
 }

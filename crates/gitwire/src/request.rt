@@ -160,7 +160,7 @@ pub extern "C" fn gitwire_request_format(
     answer
 }
 
-fn tell_number(number: u64) -> GitwireAnswer
+pub(crate) fn tell_number(number: u64) -> GitwireAnswer
     ensures { result ≡ telling_number number }
 {
     GitwireAnswer::of_packet(0, number, 0, What::Done)

@@ -38,7 +38,7 @@ pub(crate) fn put_item(
     }
 }
 
-fn put_text_if_any(text: Option<&[u8]>, room: &mut [u8]) -> GitwireAnswer
+pub(crate) fn put_text_if_any(text: Option<&[u8]>, room: &mut [u8]) -> GitwireAnswer
     ensures { PutsItem (option_copied text.entry) room.old result room.new }
 {
     match text {
@@ -47,7 +47,7 @@ fn put_text_if_any(text: Option<&[u8]>, room: &mut [u8]) -> GitwireAnswer
     }
 }
 
-fn put_name_if_any(id: Option<&Oid>, room: &mut [u8]) -> GitwireAnswer
+pub(crate) fn put_name_if_any(id: Option<&Oid>, room: &mut [u8]) -> GitwireAnswer
     ensures { PutsItem (option_map hex_of (option_copied id.entry)) room.old result room.new }
 {
     let Some(id) = id else {

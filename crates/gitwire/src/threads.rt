@@ -1,8 +1,8 @@
 //! That what C holds may go from one thread to another.
 
 use crate::handles::{
-    GitwireClient, GitwirePacketReader, GitwireRepository, GitwireRequest, GitwireRequestReader,
-    GitwireServer, GitwireWriter,
+    GitwireClient, GitwireHost, GitwirePacketReader, GitwireRepository, GitwireRequest,
+    GitwireRequestReader, GitwireServer, GitwireWriter,
 };
 use crate::machine::Machine;
 
@@ -18,4 +18,5 @@ pub fn handles_are_send() {
     is_sent::<GitwireServer>();
     is_sent::<GitwireClient>();
     is_sent::<GitwireWriter>();
+    is_sent::<GitwireHost>();
 }

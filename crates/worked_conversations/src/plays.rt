@@ -54,7 +54,7 @@ fn played(
             return Ok(Run::new(alloc, out.taken, ending, None));
         }
     };
-    let ended = play(
+    let (_, ended) = play(
         alloc,
         repo,
         requests,

@@ -3,68 +3,83 @@ use Rattle.std.specs.Prelude.{◌≡◌, ◌⊎◌, ℕ, ◌<◌, Bool, true, fa
 use Rattle.std.specs.Io.KnownBytes.{Consumes}
 use Rattle.git_pkt.specs.Splits.{Given}
 use Rattle.git_pkt.specs.Faults.{IsOpen}
-use Rattle.git_pkt.specs.Streams.{Flow, IsTimely}
+use Rattle.git_pkt.specs.Streams.{Flow, flow, IsTimely}
 use Rattle.git_pkt.specs.declared.fault.Fault.{Fault}
+use Rattle.git_pkt.specs.declared.fault.RunFault.{RunFault}
 use Rattle.git_pkt.specs.declared.fault.Kind.TheVariants.{UnexpectedPacket}
 use Rattle.git_msg.specs.Asked.{Asked}
 use Rattle.git_msg.specs.Machine.HeldRequest.{asked_of, format_of}
 use Rattle.git_msg.specs.Requests.{IsStop}
-use Rattle.git_msg.specs.Machine.RequestStreams.{HasRead, AreAsked, IsRefusedAs, limit_of, offer_of, wants_input}
+use Rattle.git_msg.specs.Machine.RequestStreams.{IsRefusedAs}
 use Rattle.git_msg.specs.Machine.StreamStages.{AreBegun}
 use Rattle.git_msg.specs.declared.requests.Request.{Request}
-use Rattle.git_msg.specs.declared.streams.RequestStream.{RequestStream}
-use Rattle.git_client.specs.Machine.RunSteps.{window_of}
+use Rattle.git_client.specs.Machine.RunSteps.{HearsTo, HearsWhole, window_of}
+use Rattle.git_client.specs.declared.client.Client.{Client}
 use Rattle.git_client.specs.declared.hearing.Window.{Window}
+use Rattle.git2show_lib.specs.Machine.JudgedRequests.{HasRead, AreAskedBy, IsReady, advertised_by, limit_of, offer_of}
+use Rattle.git2show_lib.specs.Machine.Noting.{HasNotedLines}
+use Rattle.git2show_lib.specs.declared.judged_requests.JudgedRequests.{JudgedRequests}
+use Rattle.git2show_lib.specs.declared.noting.Noting.{Noting}
 use Rattle.git2show_lib.specs.declared.checking.CheckFault.{CheckFault}
 use Rattle.git2show_lib.specs.declared.checking.CheckFault.TheVariants.{Requests, Responses, ReadFault, ReadLimit}
 
+-- where the bytes of the pack and of the progress go: nowhere
+abbrev pub nowhere : Flow
+nowhere = flow None None
+
 module _ {A : Type 0} where
+  -- how the advertisement was received: where it is whole, it was noted whole
+  abbrev pub HearsNoting : Result Window RunFault → Bool → Client A → Client A → Noting A → List ℕ → Flow → Flow → Type 0
+  HearsNoting (Ok window) ended old new notes piece reader out =
+      (heard : HearsWhole window old new [] piece reader out nowhere nowhere) × HasNotedLines heard.hears.used notes
+  HearsNoting (Err fault) ended old new notes piece reader out = HearsTo (Err fault) ended old new [] piece reader out nowhere nowhere
+
   -- of the bytes that waited and those that came, all but the last were used, and they ask this
-  pub record ReadsOn (old new : RequestStream A) (asked : List Asked) (waiting unused : List ℕ) (reader : Flow) : Type 0 where
+  pub record ReadsOn (old new : JudgedRequests A) (asked : List Asked) (waiting unused : List ℕ) (reader : Flow) : Type 0 where
     pub came : List ℕ
     pub used : List ℕ
     pub read : Consumes reader.before reader.after came
     pub parts : waiting ++ came ≡ used ++ unused
     pub reads : (before : List ℕ) (known : List Asked) → HasRead before known old → HasRead (before ++ used) (known ++ asked) new
-    pub offer : offer_of new ≡ offer_of old
+    pub advertised : advertised_by new ≡ advertised_by old
     pub limit : limit_of new ≡ limit_of old
 
   -- what the bytes used so far ask, whatever they are, with what comes after the last whole request
-  abbrev pub Asking : RequestStream A → (List ℕ → List Given → List ℕ → Type 0) → Type 0
+  abbrev pub Asking : JudgedRequests A → (List ℕ → List Given → List ℕ → Type 0) → Type 0
   Asking s Stands =
       (before : List ℕ) (known : List Asked) → HasRead before known s
-      → (left : List Given) × (rest : List ℕ) × AreAsked (offer_of s) (limit_of s) before known left rest × Stands before left rest
+      → (left : List Given) × (rest : List ℕ) × AreAskedBy (advertised_by s) (limit_of s) before known left rest × Stands before left rest
 
   -- a request was read whole, and nothing after it
-  pub record ReadsRequest (ended : Bool) (old new : RequestStream A) (request : Request A) (waiting unused : List ℕ) (reader : Flow) : Type 0 where
+  pub record ReadsRequest (ended : Bool) (old new : JudgedRequests A) (request : Request A) (waiting unused : List ℕ) (reader : Flow) : Type 0 where
     pub reads : ReadsOn old new (asked_of request ∷ []) waiting unused reader
-    pub onward : wants_input new ≡ true
+    pub onward : IsReady new
     pub can_come : ended ≡ false
     pub format : format_of request ≡ (offer_of new).format
     pub some : 0 < length reads.used
     pub alone : Asking new (λ used left rest. (left ≡ []) × (rest ≡ []))
 
   -- no further request comes: a flush comes instead of one, or the input ended after a whole one
-  pub record ReadsNoMore (ended : Bool) (old new : RequestStream A) (waiting : List ℕ) (reader : Flow) : Type 0 where
+  pub record ReadsNoMore (ended : Bool) (old new : JudgedRequests A) (waiting : List ℕ) (reader : Flow) : Type 0 where
     pub unused : List ℕ
     pub reads : ReadsOn old new [] waiting unused reader
     pub over : Asking new (λ used left rest. (rest ≡ []) × (IsStop left ⊎ ((left ≡ []) × (unused ≡ []) × (ended ≡ true))))
 
   -- all bytes were read, and more can come
-  pub record ReadsAll (ended : Bool) (old new : RequestStream A) (waiting : List ℕ) (reader : Flow) : Type 0 where
+  pub record ReadsAll (ended : Bool) (old new : JudgedRequests A) (waiting : List ℕ) (reader : Flow) : Type 0 where
     pub reads : ReadsOn old new [] waiting [] reader
     pub begun : Asking new (λ used left rest. AreBegun (offer_of new) (limit_of new) left × IsOpen rest)
     pub can_come : ended ≡ false
 
   -- what comes instead of a request is refused
-  pub record ReadsFault (fault : Fault) (ended : Bool) (old new : RequestStream A) (waiting : List ℕ) (reader : Flow) : Type 0 where
+  pub record ReadsFault (fault : Fault) (ended : Bool) (old new : JudgedRequests A) (waiting : List ℕ) (reader : Flow) : Type 0 where
     pub unused : List ℕ
     pub reads : ReadsOn old new [] waiting unused reader
     pub refused : Asking new (λ used left rest. IsRefusedAs (offer_of new) (limit_of new) left rest (length used) fault)
     pub timely : IsTimely fault.kind ended unused
 
   -- how the next request was read
-  abbrev pub ReadsTo : Result (Option (Request A)) CheckFault → Bool → RequestStream A → RequestStream A → List ℕ → Window → List ℕ → Flow → Type 0
+  abbrev pub ReadsTo : Result (Option (Request A)) CheckFault → Bool → JudgedRequests A → JudgedRequests A → List ℕ → Window → List ℕ → Flow → Type 0
   ReadsTo (Ok (Some request)) ended old new waiting window piece reader =
       ReadsRequest ended old new request waiting (window_of window piece) reader
   ReadsTo (Ok None) ended old new waiting window piece reader = ReadsNoMore ended old new waiting reader

@@ -11,7 +11,7 @@ use Rattle.git_msg.specs.Advertisement.{noted_offer, offers_command}
 use Rattle.git_msg.specs.Asked.{Asked, command_asked}
 use Rattle.git_msg.specs.Machine.HeldRequest.{asked_of, format_of}
 use Rattle.git_msg.specs.Requests.{IsStop}
-use Rattle.git_msg.specs.Machine.RequestStreams.{AreAsked, IsRefusedAs}
+use Rattle.git_msg.specs.Machine.RequestStreams.{IsRefusedAs}
 use Rattle.git_msg.specs.Machine.StreamStages.{AreBegun}
 use Rattle.git_msg.specs.declared.offers.Caps.{Caps}
 use Rattle.git_msg.specs.declared.offers.Offer.{Offer}
@@ -22,7 +22,10 @@ use Rattle.git_client.specs.Events.{EventValue, turns_of}
 use Rattle.git_client.specs.Parts.{Terms}
 use Rattle.git_client.specs.Machine.Runs.{IsMalformed, IsRefusedRequest}
 use Rattle.git_client.specs.Transcript.{transcript_of}
+use Rattle.git2show_lib.specs.Others.{Advertised, HasLines}
 use Rattle.git2show_lib.specs.Machine.CheckFaults.{Standing}
+use Rattle.git2show_lib.specs.Machine.JudgedRequests.{AreAskedBy}
+use Rattle.git2show_lib.specs.Machine.Noting.{IsLost}
 use Rattle.git2show_lib.specs.declared.checking.CheckFault.{CheckFault}
 use Rattle.git2show_lib.specs.declared.checking.CheckFault.TheVariants.{Requests, Responses, ReadFault, WriteFault, ReadLimit}
 
@@ -43,8 +46,8 @@ pub record Found : Type 0 where
   pub left : List Given
   pub rest : List ℕ
 
--- a whole advertisement is at the head of the bytes, and this is offered by it
-pub record IsOffered (t : Terms) (bytes : List ℕ) (offer : Offer) : Type 0 where
+-- a whole advertisement is at the head of the bytes, and this is offered by it, and advertised beside what is known
+pub record IsOffered (t : Terms) (bytes : List ℕ) (by : Advertised) : Type 0 where
   pub advertised : List ℕ
   pub more : List ℕ
   pub events : List EventValue
@@ -52,7 +55,8 @@ pub record IsOffered (t : Terms) (bytes : List ℕ) (offer : Offer) : Type 0 whe
   pub cut : bytes ≡ advertised ++ more
   pub whole : IsConversation t [] advertised events
   pub noted : HasNoted t [] advertised caps
-  pub offers : offer ≡ noted_offer caps t.format
+  pub offers : by.offer ≡ noted_offer caps t.format
+  pub lines : HasLines advertised by.text
 
 -- nothing was read of the requests
 pub record AreUnread (found : Found) : Type 0 where
@@ -106,6 +110,13 @@ pub record IsBadQuestion (A : Type 0) (t : Terms) (offer : Offer) (h : History) 
   pub no_rest : found.rest ≡ []
   pub refused : IsRefusedRequest t (request ∷ []) h fault
 
+-- the advertisement is whole, and a line of it was not kept: for the limit, or for want of memory
+pub record IsUnnoted (t : Terms) (h : History) (found : Found) (fault : Fault) : Type 0 where
+  pub answered : AreAnswered t h found
+  pub none_asked : h.asked ≡ []
+  pub why : IsLost fault.kind
+  pub at : fault.offset ≡ length h.used
+
 -- more of the responses was read than was asked for
 pub record IsLeftOver (t : Terms) (requests : Standing) (unused : List ℕ) (h : History) (found : Found) (fault : Fault) : Type 0 where
   pub answered : AreAnswered t h found
@@ -145,7 +156,8 @@ abbrev pub EndsAs : (A : Type 0) → Terms → Offer → ℕ → Result (Unit {0
 EndsAs A t offer limit (Ok done) requests responses unused h found = IsWhole t requests responses unused h found
 EndsAs A t offer limit (Err (Requests fault)) requests responses unused h found = IsBadRequest t offer limit requests responses h found fault
 EndsAs A t offer limit (Err (Responses fault)) requests responses unused h found =
-    IsBadResponse t responses unused h found fault ⊎ (IsBadQuestion A t offer h found fault ⊎ IsLeftOver t requests unused h found fault)
+    IsBadResponse t responses unused h found fault
+    ⊎ (IsUnnoted t h found fault ⊎ (IsBadQuestion A t offer h found fault ⊎ IsLeftOver t requests unused h found fault))
 EndsAs A t offer limit (Err ReadFault) requests responses unused h found =
     IsCutOff t offer limit (requests.failed ≡ true) (responses.failed ≡ true) requests responses unused h found
 EndsAs A t offer limit (Err WriteFault) requests responses unused h found = AreAllAsked h found
@@ -153,19 +165,20 @@ EndsAs A t offer limit (Err ReadLimit) requests responses unused h found =
     IsCutOff t offer limit (Unit {0}) (responses.ended ≡ false) requests responses unused h found
 
 -- what a check has to do with the bytes of its streams: the requests are read against what the advertisement offers, and not before
--- it is whole; each that counts as asked has a command that is advertised, and there are no more of them than one for the advertisement
--- and one for each whole response; what is given is the transcript of what was asked and received
+-- it is whole; what is advertised beside what is known is taken as it comes; each that counts as asked has a command that is advertised,
+-- and there are no more of them than one for the advertisement and one for each whole response; what is given is the transcript of what
+-- was asked and received
 pub record Checked (A : Type 0) (t : Terms) (limit : ℕ) (result : Result (Unit {0}) CheckFault) (requests responses : Standing)
     (read given : List (List ℕ)) : Type 0 where
   pub h : History
   pub unused : List ℕ
   pub found : Found
-  pub offer : Offer
+  pub by : Advertised
   pub were_read : read ≡ (found.used ++ found.unused) ∷ (h.used ++ unused) ∷ []
   pub told : given ≡ transcript_of h.asked h.events ∷ []
   pub heard : HasEvents t h.asked h.used h.events
   pub may_be : (caps : Caps) → HasNoted t h.asked h.used caps → All (λ q. offers_command caps (command_asked q) ≡ true) h.asked
   pub in_turn : length h.asked ≤ turns_of h.events
-  pub offered : IsOffered t h.used offer ⊎ AreUnread found
-  pub asks : AreAsked offer limit found.used found.asked found.left found.rest
-  pub ends : EndsAs A t offer limit result requests responses unused h found
+  pub offered : IsOffered t h.used by ⊎ AreUnread found
+  pub asks : AreAskedBy by limit found.used found.asked found.left found.rest
+  pub ends : EndsAs A t by.offer limit result requests responses unused h found

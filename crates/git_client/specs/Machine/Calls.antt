@@ -1,5 +1,5 @@
 -- Calls of a client, one after the other, and what is promised after any of them.
-use Rattle.std.specs.Prelude.{◌≡◌, ◌≢◌, ℕ, ◌+◌, ◌*◌, ◌≤◌, Bool, true, false, List, [], ◌∷◌, ◌++◌, length, take, sum_by, Some, None}
+use Rattle.std.specs.Prelude.{◌≡◌, ◌≢◌, ◌↔◌, ℕ, suc, ◌+◌, ◌*◌, ◌≤◌, Bool, true, false, List, [], ◌∷◌, ◌++◌, length, take, sum_by, Some, None}
 use Rattle.git_pkt.specs.Machine.Credit.{Pays, credit_of}
 use Rattle.git_pkt.specs.Machine.PacketReader.{bytes_held as held_in_packet}
 use Rattle.git_pkt.specs.Splits.{Given, Splits}
@@ -8,9 +8,9 @@ use Rattle.git_pkt.specs.declared.fault.Kind.TheVariants.{Truncated, StreamTooLo
 use Rattle.git_msg.specs.Machine.HeldRequest.{asked_of}
 use Rattle.git_msg.specs.declared.requests.Request.{Request}
 use Rattle.git_client.specs.Parts.{Terms}
-use Rattle.git_client.specs.Events.{pack_bytes}
+use Rattle.git_client.specs.Events.{pack_bytes, turns_of}
 use Rattle.git_client.specs.Packs.{HasPack}
-use Rattle.git_client.specs.Conversation.{HasEvents, HasNoted, FirstMalformed, GoesWell, IsConversation}
+use Rattle.git_client.specs.Conversation.{HasEvents, HasNoted, FirstMalformed, GoesOn, GoesWell, IsConversation}
 use Rattle.git_client.specs.Machine.Client.{History, Converses, HearsOn, Asks, RefusesToAsk, Leaves, Pulls, Feeds, given_by, events_of}
 use Rattle.git_client.specs.Machine.Client.{bytes_held, stored_in, kept_by, limit_of, reader_of, request_of, caps_of, fault_of, can_ask, wants_input}
 use Rattle.git_client.specs.Machine.Client.{left_to_say, said_of, spelled}
@@ -104,6 +104,13 @@ module _ {A : Type 0} where
     pub pack : HasPack t h.asked h.used (pack_bytes h.events)
     -- where the client can ask, each response is whole
     pub whole : can_ask client ≡ true → IsConversation t h.asked h.used h.events
+    -- it can ask exactly where it has not failed or left, and has received the advertisement and a whole response to each request
+    pub turn : (can_ask client ≡ true) ↔ ((fault_of client ≡ None) × (h.left ≡ false) × (turns_of h.events ≡ suc (length h.asked)))
+    -- it waits for input only where more is due after the bytes used, and all that is written of the requests was given
+    pub due : wants_input client ≡ true → GoesOn t h.asked h.used h.events
+    pub waits : wants_input client ≡ true → h.given ≡ spelled (said_of t.format (caps_of client) h.asked h.left)
+    -- where it neither can ask nor waits for input, it has a packet to give, unless it has failed or left
+    pub owes : fault_of client ≡ None → h.left ≡ false → can_ask client ≡ false → wants_input client ≡ false → left_to_say client ≢ []
     -- a client that has refused did so at the first malformed packet, and one that has not received none
     pub refused : (fault : Fault) → fault_of client ≡ Some fault → FirstMalformed t h.asked h.used fault
     pub unrefused : fault_of client ≡ None → GoesWell t h.asked h.used h.events

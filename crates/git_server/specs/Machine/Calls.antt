@@ -1,12 +1,12 @@
 -- Calls of a server, one after the other, and what is promised after any of them.
-use Rattle.std.specs.Prelude.{◌≡◌, ◌≢◌, ℕ, ◌+◌, ◌*◌, ◌≤◌, Bool, true, false, List, [], ◌∷◌, length, take, flat_map, sum_by, Some, None}
+use Rattle.std.specs.Prelude.{◌≡◌, ◌≢◌, ◌↔◌, ℕ, ◌+◌, ◌*◌, ◌≤◌, Bool, true, false, List, [], ◌∷◌, length, take, flat_map, sum_by, Some, None}
 use Rattle.git_pkt.specs.Machine.Credit.{Pays, credit_of}
 use Rattle.git_pkt.specs.Packets.{Pkt}
 use Rattle.git_pkt.specs.Machine.PacketReader.{bytes_held as held_in_packet}
 use Rattle.git_pkt.specs.declared.fault.Fault.{Fault}
 use Rattle.git_pkt.specs.declared.fault.Kind.TheVariants.{StreamTooLong}
 use Rattle.git_server.specs.Repository.{RepoState}
-use Rattle.git_server.specs.Sessions.{FirstMalformed, GoesOn, IsEnding, IsOfTheBytes, IsRunning, IsSession, Setting}
+use Rattle.git_server.specs.Sessions.{FirstMalformed, GoesOn, IsAnswered, IsEnding, IsOfTheBytes, IsRunning, IsSession, Setting}
 use Rattle.git_server.specs.Machine.Server.{bytes_held, kept_by, outcome_of, reader_of, stored_by, wants_input}
 use Rattle.git_server.specs.Machine.ServerCalls.{Closes, Goes, OwesNow, Pulls, given_by}
 use Rattle.git_server.specs.declared.outcome.Outcome.{Outcome}
@@ -91,6 +91,8 @@ module _ {R A : Type 0} (state : R → RepoState) where
     pub running : IsRunning s (used_in calls) (closes calls) (given_in calls)
     -- without an outcome the session goes on: the input has not ended, nothing is refused and nobody has left
     pub goes_on : outcome_of server ≡ None → (closes calls ≡ false) × GoesOn s (used_in calls) (given_in calls)
+    -- it waits for input exactly where the session goes on, and the advertisement and the answer to each whole request were given whole
+    pub waits : (wants_input server ≡ true) ↔ ((outcome_of server ≡ None) × IsAnswered s (used_in calls) (given_in calls))
     -- with one it ended so
     pub ends : (outcome : Outcome) → outcome_of server ≡ Some outcome
         → (owed : List Pkt) × IsEnding s (used_in calls) (closes calls) (given_in calls) outcome owed

@@ -1,10 +1,12 @@
-use Rattle.std.proofs.Common.{rules, arith, ap, ◌∙◌}
+use Rattle.std.proofs.Common.{rules, arith, ap, ◌∙◌, []}
 use Rattle.std.proofs.lemmas.Bool.{or_parts}
 use Rattle.std.proofs.lemmas.Result.{err_from_is_err_and}
 use Rattle.git_msg.specs.Advertisement.{noted_offer}
 use Rattle.git_msg.specs.declared.offers.Caps.{Caps}
 use Rattle.git_client.specs.Machine.Client.{caps_of}
-use Rattle.git2show_lib.proofs.CheckRuns.{advertisement_due, advertised, response_due, response_heard, comes_nearer}
+use Rattle.git2show_lib.specs.Others.{Advertised}
+use Rattle.git2show_lib.proofs.CheckRuns.{advertisement_due, advertised, lines_noted, not_noted}
+use Rattle.git2show_lib.proofs.CheckRuns.{nothing_run, why_lost, response_due, response_heard, comes_nearer}
 use Rattle.git2show_lib.proofs.CheckRuns.{hearing_stopped, asking_stopped, reading_stopped, seen_the_end}
 use Rattle.git2show_lib.proofs.checking.check.Goals as goal
 
@@ -12,22 +14,34 @@ pub returns-in_err-left-clause-checked : goal.returns-in_err-left-clause-checked
 returns-in_err-left-clause-checked g c =
     let met = err_from_is_err_and c.from_residual.result c.from_residual.ensures.1 in
     rw (met.1, met.2)
-    (hearing_stopped _ _ _ c.args.requests.now c.hear.new.reader _ _ _
-    (advertisement_due c.new-client.result (noted_offer (caps_of c.new-client.result) c.args.format) _ _ _ c.new-client.ensures.waits
-    c.new-client.ensures.converses) c.new-client.ensures.waits c.in_err-left.field-0.0 c.hear.new.piece c.args.turns _ _ _
+    (hearing_stopped _ _ _ c.args.requests.now c.hear_advertisement.new.reader _ _ _
+    (advertisement_due c.new-client.result (record { offer = noted_offer (caps_of c.new-client.result) c.args.format; text = [] }) _ _ _
+    c.new-client.ensures.waits c.new-client.ensures.converses) c.new-client.ensures.waits c.in_err-left.field-0.0
+      c.hear_advertisement.new.piece c.args.turns _ _ _
     c.in_err-left.ensures.heard c.in_err-left.ensures.told c.in_err-left.ensures.fault)
+
+pub returns-in-Err-clause-checked : goal.returns-in-Err-clause-checked
+returns-in-Err-clause-checked g c =
+    let (heard, noted) = c.in_ok-left.ensures.heard in
+    not_noted _ _ _ c.args.requests.now c.hear_advertisement.new.reader c.hear_advertisement.new.client _ _ _
+    (advertisement_due c.new-client.result (record { offer = noted_offer (caps_of c.new-client.result) c.args.format; text = [] }) _ _ _
+    c.new-client.ensures.waits c.new-client.ensures.converses) c.new-client.ensures.waits heard (why_lost noted c.in-Err.ensures.why)
+    c.position.ensures.value
 
 pub loop-asking-init : goal.loop-asking-init
 loop-asking-init g c =
-    let heard = c.in_ok-left.ensures.heard in
+    let (heard, noted) = c.in_ok-left.ensures.heard in
+    let (none, same) = c.in-Ok.ensures.text in
     record {
       checking =
           advertised
-          (advertisement_due c.new-client.result (noted_offer (caps_of c.new-client.result) c.args.format) _ _ _ c.new-client.ensures.waits
-          c.new-client.ensures.converses) c.new-client.ensures.waits heard c.new-asking.ensures.reads
-          (c.new-asking.ensures.offer ∙ c.offer.ensures ∙ ap (λ (caps : Caps). noted_offer caps c.args.format) c.caps.ensures.value)
+          (nothing_run c.new-client.result _ _ c.new-client.ensures.waits c.new-client.ensures.converses) c.new-client.ensures.waits heard
+          c.new-asking.ensures.reads
+          (ap (λ (by : Advertised). by.offer) c.new-asking.ensures.advertised ∙ c.offer-offer.ensures
+          ∙ ap (λ (caps : Caps). noted_offer caps c.args.format) c.caps.ensures.value)
+          (lines_noted noted (none, ap (λ (by : Advertised). by.text) c.new-asking.ensures.advertised ∙ same))
           c.new-asking.ensures.limit;
-      wants = c.new-asking.ensures.waits;
+      ready = c.new-asking.ensures.ready;
       room = search rules;
       ordered = search rules;
       within = search rules;
@@ -67,9 +81,9 @@ returns-in_err-left-2-clause-checked g c =
     let step = rw c.in-Some.is at c.in_ok-request.ensures.asked in
     let met = err_from_is_err_and c.from_residual-in_err-left-2.result c.from_residual-in_err-left-2.ensures.1 in
     rw (met.1, met.2)
-    (hearing_stopped _ _ _ c.next_request.new.reader c.hear-in-Some.new.reader _ _ _
+    (hearing_stopped _ _ _ c.next_request.new.reader c.hear.new.reader _ _ _
     (response_due at.invariant.checking step c.in_ok-ask_next.ensures.asked.0) c.in_ok-ask_next.ensures.asked.1 c.in_err-left-2.field-0.0
-    c.hear-in-Some.new.piece _ _ _ _ c.in_err-left-2.ensures.heard c.in_err-left-2.ensures.told c.in_err-left-2.ensures.fault)
+    c.hear.new.piece _ _ _ _ c.in_err-left-2.ensures.heard c.in_err-left-2.ensures.told c.in_err-left-2.ensures.fault)
 
 pub loop-asking-smaller : goal.loop-asking-smaller
 loop-asking-smaller g c =
@@ -84,7 +98,7 @@ loop-asking-preserved g c =
     record {
       checking =
           response_heard at.invariant.checking step c.in_ok-ask_next.ensures.asked.0 c.in_ok-ask_next.ensures.asked.1 heard;
-      wants = step.onward;
+      ready = step.onward;
       room = omega (arith, at.invariant.room, c.in_ok-request.ensures.room);
       ordered = c.in_ok-request.ensures.ordered;
       within = c.in_ok-request.ensures.within;
@@ -106,5 +120,5 @@ returns-clause-checked g c =
     let at = c.loop-asking in
     let step = rw c.in_default.is at c.in_ok-request.ensures.asked in
     seen_the_end _ _ _ c.next_request.new.reader c.see_the_end.new.reader c.next_request.new.stream _ at.invariant.checking step
-    c.see_the_end.result c.position.result _ _ _ _ c.position.ensures.value c.see_the_end.ensures.seen c.see_the_end.ensures.told
+    c.see_the_end.result c.position-2.result _ _ _ _ c.position-2.ensures.value c.see_the_end.ensures.seen c.see_the_end.ensures.told
     c.see_the_end.ensures.fault

@@ -1,8 +1,8 @@
-use Rattle.std.proofs.Common.{◌≡◌, ◌+◌, ◌-◌, ◌≤◌, ◌<◌, length, true, false}
+use Rattle.std.proofs.Common.{◌≡◌, ◌+◌, ◌-◌, ◌≤◌, ◌<◌, length, false}
 use Rattle.git_pkt.specs.Faults.{last_position}
 use Rattle.git_pkt.specs.Streams.{flow}
 use Rattle.git_pkt.specs.Machine.Told.{inner_of, reads_of, has_failed, has_ended, has_wasted}
-use Rattle.git_msg.specs.Machine.RequestStreams.{bytes_used, wants_input}
+use Rattle.git2show_lib.specs.Machine.JudgedRequests.{IsReady, bytes_used}
 use Rattle.git_msg.specs.declared.limits.TheConstants.Limits.{USUAL}
 use Rattle.git_client.specs.Parts.{terms_of}
 use Rattle.git_client.specs.Machine.RunSteps.{window_of}
@@ -17,7 +17,7 @@ invariant-loop-asking g l = record {
       (flow (g.Q.Read.remaining (inner_of l.fn.requests)) (g.Q.Read.remaining (inner_of l.requests)))
       (flow (g.R.Read.remaining (inner_of l.fn.responses)) (g.R.Read.remaining (inner_of l.responses)))
       (flow (g.O.Write.contents (inner_of l.fn.out)) (g.O.Write.contents (inner_of l.out)));
-  wants : wants_input l.asking ≡ true;
+  ready : IsReady l.asking;
   room : 0 < length l.piece;
   ordered : l.waiting.start ≤ l.waiting.end;
   within : l.waiting.end ≤ length l.piece;

@@ -1,51 +1,48 @@
 use Rattle.std.proofs.Common.{rules, refl, sym}
 use Rattle.std.proofs.lemmas.Bool.{or_parts}
-use Rattle.std.proofs.lemmas.Result.{err_from_is_err_and}
 use Rattle.git_client.proofs.AskedInTurn.{next_is, none_more, one_more}
 use Rattle.git2show_lib.proofs.PlayOne.{advertised_alone, answered_alone, one_end, one_stopped}
 use Rattle.git2show_lib.proofs.PlayRuns.{advertising_stopped}
 use Rattle.git2show_lib.proofs.playing.play_one.Goals as goal
 
-pub returns-in_err-hear_message-clause-played : goal.returns-in_err-hear_message-clause-played
-returns-in_err-hear_message-clause-played g c =
-    let met = err_from_is_err_and c.from_residual.result c.from_residual.ensures.1 in
-    rw (met.1, met.2)
+pub returns-in-Err-clause-played : goal.returns-in-Err-clause-played
+returns-in-Err-clause-played g c =
+    rw (c.into_repo.ensures)
     (advertising_stopped _ _ _ _ c.new-client.ensures.waits (rw c.format.ensures at c.new-client.ensures.converses)
-    c.new_server-server.ensures.begins c.in_err-hear_message.ensures.heard)
+    c.new_server-server.ensures.begins c.in-Err.ensures.heard)
 
 pub loop-request-init : goal.loop-request-init
 loop-request-init g c = record {
   plays = advertised_alone c.new-client.ensures.waits (rw c.format.ensures at c.new-client.ensures.converses)
-      c.new_server-server.ensures.begins c.in_ok-hear_message.ensures.heard;
+      c.new_server-server.ensures.begins c.in_default.ensures.heard;
   left_to_ask = sym c.into_iter-request-iterator.ensures.into_iter_gives.0;
   counted = search rules;
   cut = c.requires.cut;
-  sound_out = (or_parts _ _ c.in_ok-hear_message.ensures.told.1).0;
-  sound_pack = (or_parts _ _ c.in_ok-hear_message.ensures.told.1).1;
+  sound_out = (or_parts _ _ c.in_default.ensures.told.1).0;
+  sound_pack = (or_parts _ _ c.in_default.ensures.told.1).1;
 }
 
-pub returns-in_err-answer_request-clause-played : goal.returns-in_err-answer_request-clause-played
-returns-in_err-answer_request-clause-played g c =
+pub returns-in-Err-answer_request-clause-played : goal.returns-in-Err-answer_request-clause-played
+returns-in-Err-answer_request-clause-played g c =
     let at = c.loop-request in
-    let met = err_from_is_err_and c.from_residual-in_err-answer_request.result c.from_residual-in_err-answer_request.ensures.1 in
-    rw (met.1, met.2)
+    rw (c.into_repo-in-Err-answer_request.ensures)
     (one_stopped at.invariant.plays refl _ _ c.in-Some.request _
-    (next_is _ at.yielded _ _ c.in-Some.request at.invariant.left_to_ask c.in-Some.ensures.steps.0) c.in_err-answer_request.ensures.answered)
+    (next_is _ at.yielded _ _ c.in-Some.request at.invariant.left_to_ask c.in-Some.ensures.steps.0) c.in-Err-answer_request.ensures.answered)
 
 pub loop-request-preserved : goal.loop-request-preserved
 loop-request-preserved g c =
     let at = c.loop-request in
     record {
-      plays = answered_alone at.invariant.plays refl c.in-Some.request c.in_ok-answer_request.ensures.answered;
+      plays = answered_alone at.invariant.plays refl c.in-Some.request c.in_default-answer_request.ensures.answered;
       left_to_ask = one_more _ at.yielded _ _ c.in-Some.request at.invariant.left_to_ask c.in-Some.ensures.steps.0;
       counted = search rules;
       cut = at.invariant.cut;
-      sound_out = (or_parts _ _ c.in_ok-answer_request.ensures.told.1).0;
-      sound_pack = (or_parts _ _ c.in_ok-answer_request.ensures.told.1).1;
+      sound_out = (or_parts _ _ c.in_default-answer_request.ensures.told.1).0;
+      sound_pack = (or_parts _ _ c.in_default-answer_request.ensures.told.1).1;
     }
 
 pub returns-clause-played : goal.returns-clause-played
 returns-clause-played g c =
     let at = c.loop-request in
-    one_end at.invariant.plays refl (none_more _ at.yielded _ at.invariant.left_to_ask (search rules)) c.leave.ensures
-    c.tell_all.ensures.told
+    rw (c.into_repo-2.ensures)
+    (one_end at.invariant.plays refl (none_more _ at.yielded _ at.invariant.left_to_ask (search rules)) c.leave.ensures c.tell_all.ensures.told)

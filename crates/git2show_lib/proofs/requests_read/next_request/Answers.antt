@@ -12,7 +12,7 @@ loop-request-init g c = record {
   room = refl;
   ordered = c.requires.ordered;
   within = c.requires.within;
-  wants = c.requires.waits;
+  ready = c.requires.ready;
   reads = c.requires.turns;
   sound_reader = c.requires.sound_reader;
   open_ended = c.requires.open_ended;
@@ -33,27 +33,27 @@ returns-in-Stop-clause-asked g c = fed_stop c.loop-request.invariant.so_far c.fe
 
 pub returns-in-Failed-clause-asked : goal.returns-in-Failed-clause-asked
 returns-in-Failed-clause-asked g c =
-    fed_fault c.loop-request.invariant.so_far c.feed-read.result c.in-Failed.is c.feed-read.ensures.feeds c.loop-request.invariant.wants
+    fed_fault c.loop-request.invariant.so_far c.feed-read.result c.in-Failed.is c.feed-read.ensures.feeds
 
 pub returns-then-reads-turns-clause-asked : goal.returns-then-reads-turns-clause-asked
 returns-then-reads-turns-clause-asked g c =
     let was = c.loop-request.invariant in
-    let (wants, so_far) = fed_more was.so_far c.feed-read.result c.in-More.is c.feed-read.ensures.feeds was.wants in
-    read_all so_far wants was.open_ended
+    let (ready, so_far) = fed_more was.so_far c.feed-read.result c.in-More.is c.feed-read.ensures.feeds in
+    read_all so_far ready was.open_ended
 
 pub returns-in_err-end-clause-asked : goal.returns-in_err-end-clause-asked
 returns-in_err-end-clause-asked g c =
     let was = c.loop-request.invariant in
-    let (wants, so_far) = fed_more was.so_far c.feed-read.result c.in-More.is c.feed-read.ensures.feeds was.wants in
+    let (ready, so_far) = fed_more was.so_far c.feed-read.result c.in-More.is c.feed-read.ensures.feeds in
     let kept : Keeps (g.R.Read.remaining (inner_of c.loop-request.reader)) (g.R.Read.remaining (inner_of c.receive.new.reader)) = search rules in
     let can_come : has_ended c.receive.new.reader ≡ false = search rules in
     let named : c.in_err-end.field-0.0 ≡ ReadFault = search rules in
-    read_fault c.from_residual.result c.in_err-end.field-0.0 _ _ _ _ _ _ _ c.from_residual.ensures.1 named (read_all (came_not so_far kept) wants can_come)
+    read_fault c.from_residual.result c.in_err-end.field-0.0 _ _ _ _ _ _ _ c.from_residual.ensures.1 named (read_all (came_not so_far kept) ready can_come)
 
 pub returns-in-Ok-clause-asked : goal.returns-in-Ok-clause-asked
 returns-in-Ok-clause-asked g c =
     let was = c.loop-request.invariant in
-    let (wants, so_far) = fed_more was.so_far c.feed-read.result c.in-More.is c.feed-read.ensures.feeds was.wants in
+    let (ready, so_far) = fed_more was.so_far c.feed-read.result c.in-More.is c.feed-read.ensures.feeds in
     let read : Consumes (g.R.Read.remaining (inner_of c.loop-request.reader)) (g.R.Read.remaining (inner_of c.receive.new.reader))
     (take c.in_ok-end.end c.receive.new.piece) = search rules in
     let at_end : has_ended c.receive.new.reader ≡ true = search rules in
@@ -62,7 +62,7 @@ returns-in-Ok-clause-asked g c =
 pub returns-in-Err-clause-asked : goal.returns-in-Err-clause-asked
 returns-in-Err-clause-asked g c =
     let was = c.loop-request.invariant in
-    let (wants, so_far) = fed_more was.so_far c.feed-read.result c.in-More.is c.feed-read.ensures.feeds was.wants in
+    let (ready, so_far) = fed_more was.so_far c.feed-read.result c.in-More.is c.feed-read.ensures.feeds in
     let read : Consumes (g.R.Read.remaining (inner_of c.loop-request.reader)) (g.R.Read.remaining (inner_of c.receive.new.reader))
     (take c.in_ok-end.end c.receive.new.piece) = search rules in
     let at_end : has_ended c.receive.new.reader ≡ true = search rules in
@@ -71,14 +71,14 @@ returns-in-Err-clause-asked g c =
 pub loop-request-preserved : goal.loop-request-preserved
 loop-request-preserved g c =
     let was = c.loop-request.invariant in
-    let (wants, so_far) = fed_more was.so_far c.feed-read.result c.in-More.is c.feed-read.ensures.feeds was.wants in
+    let (ready, so_far) = fed_more was.so_far c.feed-read.result c.in-More.is c.feed-read.ensures.feeds in
     let read : Consumes (g.R.Read.remaining (inner_of c.loop-request.reader)) (g.R.Read.remaining (inner_of c.receive.new.reader))
     (take c.in_ok-end.end c.receive.new.piece) = search rules in
     record {
       room = search rules;
       ordered = search rules;
       within = search rules;
-      wants = wants;
+      ready = ready;
       reads = search rules;
       sound_reader = search rules;
       open_ended = search rules;

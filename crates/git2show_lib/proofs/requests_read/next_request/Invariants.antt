@@ -1,9 +1,9 @@
-use Rattle.std.proofs.Common.{◌≡◌, ◌≤◌, ◌-◌, length, true, false, []}
+use Rattle.std.proofs.Common.{◌≡◌, ◌≤◌, ◌-◌, length, false, []}
 use Rattle.git_pkt.specs.Machine.Told.{inner_of, reads_of, has_failed, has_ended, has_wasted}
 use Rattle.git_pkt.specs.Streams.{flow}
-use Rattle.git_msg.specs.Machine.RequestStreams.{wants_input}
 use Rattle.git_client.specs.Machine.RunSteps.{window_of}
 use Rattle.git2show_lib.specs.Machine.CheckSteps.{ReadsOn}
+use Rattle.git2show_lib.specs.Machine.JudgedRequests.{IsReady}
 use Rattle.git2show_lib.proofs.requests_read.next_request.Given as goal
 
 -- nothing has failed or ended, and bytes are wanted on; of those that came all but the window's were used, and brought nothing whole
@@ -12,7 +12,7 @@ invariant-loop-request g l = record {
   room : length l.piece ≡ length l.fn.piece;
   ordered : l.waiting.start ≤ l.waiting.end;
   within : l.waiting.end ≤ length l.piece;
-  wants : wants_input l.stream ≡ true;
+  ready : IsReady l.stream;
   reads : reads_of l.reader ≤ l.turns;
   sound_reader : has_failed l.reader ≡ false;
   open_ended : has_ended l.reader ≡ false;

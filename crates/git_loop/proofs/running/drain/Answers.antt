@@ -31,4 +31,4 @@ returns-in_err-send-in-Packet-clause-front g c =
     let gives = c.in-Packet.ensures.packet refl in
     on_err_at _ _ _ c.from_residual.ensures.1
     (writes_more g.met.M.Machine.reaches_further true _ _ _ [] [] _ c.packets.invariant.writes
-    (rw (sym (c.packet.ensures gives.bytes gives.lent)) c.in_err-send-in-Packet.ensures.err) gives.reaches)
+    (rw (sym (c.packet.ensures gives.bytes gives.lent)) c.in_err-send-in-Packet.ensures.sends.err) gives.reaches)

@@ -34,3 +34,6 @@ returns-clause-shown_by_the_fourth_digit c = shows_by (codes "fff1") refl
 pub returns-clause-longest_not_refused : goal.returns-clause-longest_not_refused
 unfolding digit_value digits_value
 returns-clause-longest_not_refused c = λ h. let more = h.1 in omega arith
+
+pub returns-clause-not_a_longer_one : goal.returns-clause-not_a_longer_one
+returns-clause-not_a_longer_one c = λ bytes long h. let fits = h.spelled.4.fits in omega (arith, long, fits)

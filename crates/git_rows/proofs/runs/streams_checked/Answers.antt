@@ -14,16 +14,18 @@ use Rattle.git_client.specs.Events.{offered}
 use Rattle.git_names.specs.declared.object_format.Format.TheVariants.{Sha1}
 use Rattle.git_pkt.specs.Packets.{flush}
 use Rattle.git_client.proofs.EventsHeard.{later_questions}
+use Rattle.git2show_lib.specs.Others.{first_place, is_other_line, is_own_key, judged_in, line_kept}
 use Rattle.git_rows.specs.WorkedConversations.{offer_bytes, terms}
 use Rattle.git_rows.proofs.ReceivedPackets.{flushes_are, offer_packets, offer_splits, offer_then, whole_offer}
 use Rattle.git_rows.proofs.runs.streams_checked.Goals as goal
 
 pub returns-clause-whole : goal.returns-clause-whole
+unfolding line_kept is_other_line is_own_key
 returns-clause-whole g c = record {
   h = record { asked = []; left = false; used = offer_bytes; events = offered ∷ []; given = [] };
   unused = [];
   found = record { used = []; unused = []; asked = []; left = []; rest = [] };
-  offer = noted_offer (noted_of (flush ∷ text_line (codes "version 2") ∷ [])) Sha1;
+  by = record { offer = noted_offer (noted_of (flush ∷ text_line (codes "version 2") ∷ [])) Sha1; text = [] };
   were_read = refl;
   told = refl;
   heard = later_questions terms [] [] offer_bytes (offered ∷ []) whole_offer;
@@ -51,6 +53,7 @@ returns-clause-whole g c = record {
       refl,
     );
     offers = refl;
+    lines = record { given = offer_packets; rest = []; splits = offer_splits; text_is = refl };
   });
   asks = record { packets = []; splits = record { spelled = refl; ends = none_begins_nothing }; requests = refl };
   ends = record { answered = record { asked = refl; whole = whole_offer }; over = (refl, inr (refl, refl, refl)); nothing_left = refl; ended = refl };
@@ -74,8 +77,9 @@ returns-clause-not_while_requests_may_come g c = λ h.
     let used = nothing_used h.found.used h.found.unused (first_of_two [] offer_bytes _ _ h.were_read).0 in
     let splits = subst (λ (bytes : List ℕ). Splits 0 bytes h.asks.packets h.found.rest) used h.asks.splits in
     let packets = (one_split 0 [] h.asks.packets [] h.found.rest [] splits.spelled refl splits.ends none_begins_nothing).packets in
-    let end = left_at_the_end (IsOne h.offer 0) h.asks.packets h.found.asked h.found.left h.asks.requests in
-    none_stops h.found.left end.0 _ (sym packets ∙ end.1) h.ends.over.1
+    let judged = judged_in h.by.text first_place h.asks.packets in
+    let end = left_at_the_end (IsOne h.by.offer 0) judged h.found.asked h.found.left h.asks.requests in
+    none_stops h.found.left end.0 _ (sym (ap (judged_in h.by.text first_place) packets) ∙ end.1) h.ends.over.1
 
 pub returns-clause-not_without_an_advertisement : goal.returns-clause-not_without_an_advertisement
 returns-clause-not_without_an_advertisement g c = λ h.

@@ -40,4 +40,4 @@ pub returns-in_err-send-in-Packet-clause-front : goal.returns-in_err-send-in-Pac
 returns-in_err-send-in-Packet-clause-front g c =
     on_err_at _ _ _ c.from_residual.ensures.1
     (all_in_part g.R.Repo.state true _ _ _ _ (writes_packet g.R.Repo.state _ _ _ _ _ _ true _ c.in-Packet.bytes c.loop-bytes.invariant.writes
-    c.pull.follows.holds-at-none c.in-Packet.is c.in_err-send-in-Packet.ensures.err))
+    c.pull.follows.holds-at-none c.in-Packet.is c.in_err-send-in-Packet.ensures.sends.err))

@@ -1,4 +1,4 @@
-use Rattle.std.proofs.Common.{arith, ap, ◌≡◌, ◌<◌, ◌≤◌, ◌+◌, ◌*◌, ℕ, [], List, subst, take, drop, length, ◌-◌, length-drop}
+use Rattle.std.proofs.Common.{arith, ap, ◌≡◌, ◌<◌, [], List, subst, take, drop, length, ◌-◌, length-drop}
 use Rattle.git_pkt.proofs.Credits.{paid_on}
 use Rattle.git_pkt.proofs.Pieces.{left_of}
 use Rattle.git_client.specs.Events.{EventValue}

@@ -5,4 +5,4 @@ pub returns-in_err-drain : goal.returns-in_err-drain
 returns-in_err-drain g c = puts_unsent c.args.bytes.now c.in_err-drain.ensures.sends c.from_residual.ensures.1
 
 pub returns : goal.returns
-returns g c = puts_sent c.in_ok-drain.ensures.sends c.send.ensures c.in_ok-drain.ensures.empty
+returns g c = puts_sent c.in_ok-drain.ensures.sends c.send.ensures.sends c.in_ok-drain.ensures.empty

@@ -7,7 +7,7 @@ use Rattle.git_repository.specs.Machine.DraftLists.{drafted}
 use Rattle.git_repository.specs.Drafts.{ComesLast, head_names, names_of}
 use Rattle.git_repository.proofs.Drafting.{pushed}
 use Rattle.git_repository.proofs.LastNames.{after_those_of_refs, still_unborn}
-use Rattle.git_repository.proofs.Rising.{rising_more}
+use Rattle.git_server.proofs.Rising.{rising_more}
 use Rattle.git_repository.proofs.drafts.Draft.keep_reference.Goals as goal
 use Rattle.git_repository.proofs.drafts.Draft.keep_reference.Goals.{in-Ok-push, in-Err}
 

@@ -1,0 +1,50 @@
+use Rattle.std.proofs.Common.{arith, ◌++◌, ◌+◌, ◌∙◌, ap, subst, take, length, length-drop, append-nil, List}
+use Rattle.git_pkt.proofs.Pieces.{left_of}
+use Rattle.git_msg.specs.Asked.{Asked}
+use Rattle.git_msg.specs.declared.streams.ReadGot.TheVariants.{More}
+use Rattle.git2show_lib.specs.Machine.JudgedRequests.{HasRead}
+use Rattle.git2show_lib.proofs.JudgedSteps.{leaves_further, reads_further, shows_further, steps_with}
+use Rattle.git2show_lib.proofs.judged_requests.JudgedRequests.feed.Goals as goal
+
+pub loop-used-preserved : goal.loop-used-preserved
+loop-used-preserved g c =
+    let old = c.args.self.now in
+    let mid = c.loop-used.self in
+    let new = c.step-step.new.self in
+    let done = c.loop-used.used in
+    let piece = c.args.piece.now in
+    let read = c.step-step.result in
+    let was = c.loop-used.invariant in
+    let steps = steps_with mid new _ read More c.in-More.is c.step-step.ensures.steps in
+    record {
+      within = omega (arith, c.step-step.ensures.used, ap length (left_of piece done was.within), length-drop done piece);
+      reads = λ used asked h.
+          subst (λ (qs : List Asked). HasRead (used ++ take (done + read.used) piece) qs new) (append-nil asked)
+          (reads_further old mid new piece done was.within read.used More steps was.reads used asked h);
+      ready = steps.leaves.1;
+      offer = steps.offer ∙ was.offer;
+      text = steps.text ∙ was.text;
+      limit = steps.limit ∙ was.limit;
+    }
+
+pub returns-in_default : goal.returns-in_default
+returns-in_default g c =
+    let old = c.args.self.now in
+    let mid = c.loop-used.self in
+    let new = c.step-step.new.self in
+    let done = c.loop-used.used in
+    let piece = c.args.piece.now in
+    let read = c.step-step.result in
+    let was = c.loop-used.invariant in
+    let steps = c.step-step.ensures.steps in
+    record {
+      used = omega (arith, c.step-step.ensures.used, ap length (left_of piece done was.within), length-drop done piece);
+      feeds = record {
+        reads = reads_further old mid new piece done was.within read.used read.got steps was.reads;
+        leaves = leaves_further new piece done read.used read.got c.in_default.not-More steps.leaves;
+        news = λ fault is. shows_further old mid new piece done was.within read.used read.got steps fault is;
+        offer = steps.offer ∙ was.offer;
+        text = steps.text ∙ was.text;
+        limit = steps.limit ∙ was.limit;
+      };
+    }

@@ -1,0 +1,163 @@
+-- What a request of another client may have since its server advertised it, beside what this project knows: keys of capability lines, and
+-- words of the values of `fetch` and `ls-refs`.
+use Rattle.std.specs.Prelude.{◌≡◌, ℕ, ◌==◌, Bool, true, false, not, ◌&&◌, ◌||◌, Option, Some, None, List, [], ◌∷◌, ◌++◌, length, codes, if◌then◌else◌}
+use Rattle.std.specs.List.{before_first, list_any, list_all}
+use Rattle.std.specs.Str.{bytes_eq}
+use Rattle.git_pkt.specs.Packets.{Pkt, flush, delim, resp_end, payload, text_of}
+use Rattle.git_pkt.specs.Splits.{Given, Splits}
+use Rattle.git_msg.specs.Advertisement.{key_of, value_of}
+use Rattle.git_msg.specs.Arguments.{name_of}
+use Rattle.git_msg.specs.Capability.{is_key_byte, is_value_byte}
+use Rattle.git_msg.specs.Texts.{parts_of, spaced_words}
+use Rattle.git_msg.specs.declared.arguments.Command.{Command}
+use Rattle.git_msg.specs.declared.arguments.Command.TheVariants.{LsRefs, Fetch}
+use Rattle.git_msg.specs.declared.offers.Offer.{Offer}
+use Rattle.git2show_lib.specs.declared.others.Place.{Place}
+
+-- ---- what is known
+
+-- a key that is known, of an advertisement or of a request; the first line of an advertisement, which is none, counts as one
+unfoldable pub is_own_key : List ℕ → Bool
+is_own_key key =
+    (length key == 0) || bytes_eq key (codes "version 2") || bytes_eq key (codes "agent") || bytes_eq key (codes "command")
+    || bytes_eq key (codes "fetch") || bytes_eq key (codes "ls-refs") || bytes_eq key (codes "object-format")
+    || bytes_eq key (codes "object-info") || bytes_eq key (codes "server-option")
+
+-- a feature of `fetch` or of `ls-refs`
+unfoldable pub is_feature : List ℕ → Bool
+is_feature word =
+    (length word == 0) || bytes_eq word (codes "filter") || bytes_eq word (codes "ref-in-want") || bytes_eq word (codes "shallow")
+    || bytes_eq word (codes "unborn") || bytes_eq word (codes "wait-for-done")
+
+-- what an argument of theirs begins with that says which objects are wanted
+unfoldable pub is_word_of_objects : List ℕ → Bool
+is_word_of_objects word =
+    bytes_eq word (codes "deepen") || bytes_eq word (codes "deepen-not") || bytes_eq word (codes "deepen-relative")
+    || bytes_eq word (codes "deepen-since") || bytes_eq word (codes "done") || bytes_eq word (codes "have")
+    || bytes_eq word (codes "want") || bytes_eq word (codes "want-ref")
+
+-- or how the answer is to be
+unfoldable pub is_word_of_answers : List ℕ → Bool
+is_word_of_answers word =
+    bytes_eq word (codes "include-tag") || bytes_eq word (codes "no-progress") || bytes_eq word (codes "ofs-delta")
+    || bytes_eq word (codes "peel") || bytes_eq word (codes "ref-prefix") || bytes_eq word (codes "symrefs")
+    || bytes_eq word (codes "thin-pack")
+
+-- a feature, or what an argument of theirs begins with
+unfoldable pub is_own_word : List ℕ → Bool
+is_own_word word = is_feature word || is_word_of_objects word || is_word_of_answers word
+
+-- ---- what is advertised beside it
+
+-- the word is this one, or without one it is not known
+unfoldable pub word_passes : Option (List ℕ) → List ℕ → Bool
+word_passes (Some wanted) word = bytes_eq word wanted
+word_passes None word = not (is_own_word word)
+
+unfoldable pub has_word : Option (List ℕ) → List ℕ → Bool
+has_word wanted value = list_any (word_passes wanted) (spaced_words value)
+
+-- the line of an advertisement has something that is not known: its key, or a word of its value where that has words
+unfoldable pub is_other_line : List ℕ → Bool
+is_other_line line =
+    if bytes_eq (key_of line) (codes "fetch") || bytes_eq (key_of line) (codes "ls-refs") then has_word None (value_of line)
+    else not (is_own_key (key_of line))
+
+-- of an advertisement the lines that have something which is not known, each with an LF after it
+unfoldable pub line_kept : Pkt → List ℕ
+line_kept (payload bytes) = if is_other_line (text_of bytes) then text_of bytes ++ 10 ∷ [] else []
+line_kept packet = []
+
+abbrev pub lines_kept : List Given → List ℕ
+lines_kept [] = []
+lines_kept (g ∷ gs) = line_kept g.packet ++ lines_kept gs
+
+-- these are such lines of the bytes
+pub record HasLines (bytes text : List ℕ) : Type 0 where
+  pub given : List Given
+  pub rest : List ℕ
+  pub splits : Splits 0 bytes given rest
+  pub text_is : text ≡ lines_kept given
+
+-- the line has this key, or of this command this word in its value
+unfoldable pub line_has : Option Command → List ℕ → List ℕ → Bool
+line_has None word line = bytes_eq (key_of line) word
+line_has (Some command) word line = bytes_eq (key_of line) (name_of command) && has_word (Some word) (value_of line)
+
+-- some line of the text has it
+unfoldable pub is_advertised : List ℕ → Option Command → List ℕ → Bool
+is_advertised text command word = list_any (line_has command word) (parts_of 10 text)
+
+-- ---- what a request has of it
+
+unfoldable pub is_allowed_key : List ℕ → Bool
+is_allowed_key key = list_all is_key_byte key
+
+unfoldable pub is_allowed_value : List ℕ → Bool
+is_allowed_value value = list_all is_value_byte value
+
+-- the capability line is not known, and has a key that was advertised
+unfoldable pub is_other_capability : List ℕ → List ℕ → Bool
+is_other_capability text line =
+    is_allowed_key (key_of line) && is_allowed_value (value_of line) && not (is_own_key (key_of line))
+    && is_advertised text None (key_of line)
+
+-- the argument begins with a word that is not known, and was advertised of the request's command
+unfoldable pub is_other_argument : List ℕ → Option Command → List ℕ → Bool
+is_other_argument text (Some command) line =
+    not (is_own_word (before_first (λ c. c == 32) line)) && is_advertised text (Some command) (before_first (λ c. c == 32) line)
+is_other_argument text None line = false
+
+-- the command that a value names, if it has words of its own in an advertisement
+unfoldable pub command_named : List ℕ → Option Command
+command_named value =
+    if bytes_eq value (codes "fetch") then Some Fetch else if bytes_eq value (codes "ls-refs") then Some LsRefs else None
+
+-- the command of a request after a capability line
+unfoldable pub command_at_line : Option Command → List ℕ → Option Command
+command_at_line before line = if bytes_eq (key_of line) (codes "command") then command_named (value_of line) else before
+
+-- that of a request's first packet
+abbrev pub first_place : Place
+first_place = record { arguments = false; command = None }
+
+unfoldable pub place_at_line : Place → List ℕ → Place
+place_at_line place line =
+    if place.arguments then place else record { arguments = false; command = command_at_line place.command line }
+
+-- where the packet is that comes after this one
+abbrev pub place_next : Place → Pkt → Place
+place_next place flush = first_place
+place_next place delim = record { arguments = true; command = place.command }
+place_next place resp_end = place
+place_next place (payload bytes) = place_at_line place (text_of bytes)
+
+-- where the packet is that comes after these
+abbrev pub place_after : Place → List Given → Place
+place_after place [] = place
+place_after place (g ∷ gs) = place_after (place_next place g.packet) gs
+
+unfoldable pub judged_line : List ℕ → Place → List ℕ → Option Pkt
+judged_line text place bytes =
+    if place.arguments then (if is_other_argument text place.command (text_of bytes) then None else Some (payload bytes))
+    else (if is_other_capability text (text_of bytes) then Some (payload (codes "agent")) else Some (payload bytes))
+
+-- the packet that a request's packet is read as: what was advertised and is not known is a capability line as `agent`, which changes
+-- nothing, and an argument as none; any other is read as it is
+abbrev pub judged_packet : List ℕ → Place → Pkt → Option Pkt
+judged_packet text place (payload bytes) = judged_line text place bytes
+judged_packet text place packet = Some packet
+
+abbrev pub given_as : Option Pkt → ℕ → List Given
+given_as None offset = []
+given_as (Some packet) offset = record { packet = packet; offset = offset } ∷ []
+
+-- the packets that packets of requests are read as
+abbrev pub judged_in : List ℕ → Place → List Given → List Given
+judged_in text place [] = []
+judged_in text place (g ∷ gs) = given_as (judged_packet text place g.packet) g.offset ++ judged_in text (place_next place g.packet) gs
+
+-- what a server advertised: what is offered by it, and its lines that have something which is not known
+pub record Advertised : Type 0 where
+  pub offer : Offer
+  pub text : List ℕ

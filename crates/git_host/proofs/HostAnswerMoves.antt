@@ -1,0 +1,397 @@
+-- The answer to the request at hand, from one report to the next.
+use Rattle.std.proofs.Common.{arith, ◌<◌, length, ◌≡◌, ℕ, Bool, true, false, List, [], ◌∷◌, ◌++◌, map, Option, Some, None, Result, Ok, refl, sym, ap, ◌∙◌}
+use Rattle.std.proofs.Common.{subst, append-nil}
+use Rattle.std.proofs.lemmas.List.{length-take}
+use Rattle.std.proofs.lemmas.Grind.{common_steps}
+use Rattle.std.proofs.lemmas.List.{length-take}
+use Rattle.git_names.specs.ObjectName.{ObjectName}
+use Rattle.git_names.specs.NameBytes.{name_bytes}
+use Rattle.git_names.specs.declared.reference.RefName.{RefName}
+use Rattle.git_names.specs.NameBytes.{name_bytes}
+use Rattle.git_names.specs.declared.reference.RefName.{RefName}
+use Rattle.git_names.specs.declared.object_format.Format.{Format}
+use Rattle.git_pkt.specs.Packets.{Pkt, longest_payload}
+use Rattle.git_msg.specs.Asked.{FetchAsked, ObjectInfoAsked, fetch, ls_refs, object_info}
+use Rattle.git_server.specs.Packs.{Manner, whole, broken}
+use Rattle.git_server.specs.Repository.{Entry}
+use Rattle.git_host.specs.Admissions.{AdmissionFacts, IsAdmitted, Reports as AdmissionReports, ReportsWant, ReportsWantRef}
+use Rattle.git_host.specs.Admissions.{with_found, with_want}
+use Rattle.git_host.specs.AdmittedAnswers.{Becomes, BecomesAnswer}
+use Rattle.git_host.specs.FetchFacts.{FetchFacts, IsFetchAnswerOf, no_facts}
+use Rattle.git_host.specs.FetchPlaces.{EndsBoundary, Represents, ReportsAlone, ReportsAndGives, Steps, WhereAsked, asked_of as fetch_of, is_asked, is_boundary}
+use Rattle.git_host.specs.FetchPlaces.{step_of as fetch_step, with_pack, with_progress}
+use Rattle.git_host.specs.ReferencesPlaces.{ReferencesFacts, Reports, ReportsHidden, ReportsOn, ReportsUnborn}
+use Rattle.git_host.specs.ReferencesPlaces.{with_ref, with_unborn}
+use Rattle.git_host.specs.SizesPlaces.{GivesSize, IsAsking, IsSizesAnswerOf, RepresentsSizes, StepsSizes}
+use Rattle.git_host.specs.HostSessions.{Facts, IsAnswerBy, of_fetch, of_references, of_sizes}
+use Rattle.git_host.specs.HostAnswers.{EndsAs, GivesOn, GoesOn, IsAnswering, IsAskedFor, IsGiven, ReportsBy, StepsAnswer, ended_as}
+use Rattle.git_host.specs.HostAnswers.{of_fetch_step, of_sizes_step, on_fetch, on_references, on_sizes, on_want_refs, on_wants, found_ids, part_of, part_of}
+use Rattle.git_host.specs.HostAnswers.{packet_where, reported_as, taken_where, with_report}
+use Rattle.git_host.specs.declared.admission.Admission.{Admission as AdmissionMachine}
+use Rattle.git_host.specs.declared.admission.WantRefReported.{WantRefReported}
+use Rattle.git_host.specs.declared.admission.WantRefReported.TheVariants.{Taken as RefTaken}
+use Rattle.git_host.specs.declared.fetch_answer.BoundaryEnd.{BoundaryEnd}
+use Rattle.git_host.specs.declared.fetch_answer.BoundaryEnd.TheVariants.{NotAsked as EndNotAsked, Absent, Packet as DelimGiven}
+use Rattle.git_host.specs.declared.fetch_answer.FetchAnswer.{FetchAnswer}
+use Rattle.git_host.specs.declared.fetch_answer.Step.{Step}
+use Rattle.git_host.specs.declared.fetch_answer.Step.TheVariants.{AskHave, AskReady, AskBoundary, AskPack}
+use Rattle.git_host.specs.declared.fetch_answer.Step.TheVariants.{Packet as FetchPacket, Whole as FetchWhole, Broken as FetchBroken}
+use Rattle.git_host.specs.declared.references_answer.ReferencesAnswer.{ReferencesAnswer}
+use Rattle.git_host.specs.declared.references_answer.Reported.{Reported}
+use Rattle.git_host.specs.declared.references_answer.Reported.TheVariants.{Packet as ReferencePacket, Hidden as ReferenceHidden, Unsorted as ReferenceUnsorted}
+use Rattle.git_host.specs.declared.references_answer.Reported.TheVariants.{MixedFormats as ReferenceMixed, HeadTwice as ReferenceTwice}
+use Rattle.git_host.specs.declared.references_answer.Reported.TheVariants.{NotAsked as ReferenceNotAsked}
+use Rattle.git_host.specs.declared.sizes_answer.SizesAnswer.{SizesAnswer}
+use Rattle.git_host.specs.declared.sizes_answer.SizesStep.{SizesStep}
+use Rattle.git_host.specs.declared.sizes_answer.SizesStep.TheVariants.{AskSize, Packet as SizesPacket, Whole as SizesWhole}
+use Rattle.git_host.specs.declared.host_answer.HostAnswer.{HostAnswer}
+use Rattle.git_host.specs.declared.host_answer.HostAnswer.TheVariants.{Admission, Fetch, References, Sizes}
+use Rattle.git_host.specs.declared.host_answer.AnswerStep.{AnswerStep}
+use Rattle.git_host.specs.declared.report.HostReported.{HostReported}
+use Rattle.git_host.specs.declared.report.HostReported.TheVariants.{Taken}
+use Rattle.git_host.specs.declared.report.Report.{Report}
+use Rattle.git_host.specs.declared.report.Report.TheVariants.{Want, WantRef, BoundaryEnd as EndsIt, Reference, Unborn}
+
+found_more : (found : List (Option ObjectName)) (id : ObjectName) → found_ids (found ++ Some id ∷ []) ≡ found_ids found ++ id ∷ []
+found_more [] id = refl
+found_more (Some x ∷ found) id = ap (λ (l : List ObjectName). x ∷ l) (found_more found id)
+found_more (None ∷ found) id = found_more found id
+
+found_less : (found : List (Option ObjectName)) → found_ids (found ++ None ∷ []) ≡ found_ids found
+found_less [] = refl
+found_less (Some x ∷ found) = ap (λ (l : List ObjectName). x ∷ l) (found_less found)
+found_less (None ∷ found) = found_less found
+
+all_found : (ids : List ObjectName) → found_ids (map Some ids) ≡ ids
+all_found [] = refl
+all_found (id ∷ ids) = ap (λ (l : List ObjectName). id ∷ l) (all_found ids)
+
+fetch_by : (manner : Manner) (format : Format) (q : FetchAsked) (a : AdmissionFacts) (t : FetchFacts) (packets : List Pkt) → IsAdmitted format q a t.wanted
+    → IsFetchAnswerOf manner q t packets → IsAnswerBy manner format (fetch q) (of_fetch a t) packets
+fetch_by whole format q a t packets admitted is = (admitted, is)
+fetch_by broken format q a t packets admitted is = (admitted, is)
+
+-- no bytes of a pack, and none of a progress, change nothing
+no_pack : (bytes : List ℕ) → bytes ≡ [] → (f : Facts) → on_fetch (with_pack (part_of bytes)) f ≡ f
+no_pack bytes none (of_fetch a t) = ap (λ (l : List ℕ). of_fetch a (record t { pack = l })) (ap (λ (b : List ℕ). t.pack ++ part_of b) none ∙ append-nil t.pack)
+no_pack bytes none (of_references t) = refl
+no_pack bytes none (of_sizes sizes) = refl
+
+no_progress : (bytes : List ℕ) → bytes ≡ [] → (f : Facts) → on_fetch (with_progress (part_of bytes)) f ≡ f
+no_progress bytes none (of_fetch a t) =
+    ap (λ (l : List ℕ). of_fetch a (record t { progress = l })) (ap (λ (b : List ℕ). t.progress ++ part_of b) none ∙ append-nil t.progress)
+no_progress bytes none (of_references t) = refl
+no_progress bytes none (of_sizes sizes) = refl
+
+pub part_some : (bytes : List ℕ) → 0 < length bytes → 0 < length (part_of bytes)
+part_some bytes some = grind (arith, common_steps)
+
+pub part_fits : (bytes : List ℕ) → length (part_of bytes) < longest_payload
+part_fits bytes = omega (arith, length-take 65515 bytes)
+
+same_fetch : (f : Facts) → on_fetch (λ t. t) f ≡ f
+same_fetch (of_fetch a t) = refl
+same_fetch (of_references t) = refl
+same_fetch (of_sizes sizes) = refl
+
+module _ {A : Type 0} where
+  pub no_pack_goes : (old : HostAnswer A) (bytes : List ℕ) → bytes ≡ [] → GoesOn (on_fetch (with_pack (part_of bytes))) old old
+  no_pack_goes old bytes none format q f front h = subst (λ (x : Facts). IsAnswering format old q x front) (sym (no_pack bytes none f)) h
+
+  pub no_progress_goes : (old : HostAnswer A) (bytes : List ℕ) → bytes ≡ [] → GoesOn (on_fetch (with_progress (part_of bytes))) old old
+  no_progress_goes old bytes none format q f front h = subst (λ (x : Facts). IsAnswering format old q x front) (sym (no_progress bytes none f)) h
+
+  -- what no fact tells apart
+  pub gives_same : (old new : HostAnswer A) (bytes : List ℕ) → GivesOn (on_fetch (λ t. t)) old bytes new → GivesOn (λ f. f) old bytes new
+  gives_same old new bytes gives format q f front h =
+      let (packet, held, is) = gives format q f front h in
+      (packet, held, subst (λ (x : Facts). IsAnswering format new q x (front ++ packet ∷ [])) (same_fetch f) is)
+
+  pub goes_same : (old new : HostAnswer A) → GoesOn (on_fetch (λ t. t)) old new → GoesOn (λ f. f) old new
+  goes_same old new goes format q f front h = subst (λ (x : Facts). IsAnswering format new q x front) (same_fetch f) (goes format q f front h)
+
+  -- ---- a fetch
+  module _ (a b : FetchAnswer A) where
+    pub fetch_gives : (with : FetchFacts → FetchFacts) (bytes : List ℕ) → ((t : FetchFacts) → (with t).wanted ≡ t.wanted) → ReportsAndGives with a bytes b
+        → GivesOn (on_fetch with) (Fetch a) bytes (Fetch b)
+    fetch_gives with bytes keeps gives format (fetch q) (of_fetch x t) front h =
+        let g = gives t front h.represents in (
+          g.packet,
+          g.held.spelled,
+          record {
+            asked = g.same ∙ h.asked;
+            admitted = subst (λ (ids : List ObjectName). IsAdmitted format q x ids) (sym (keeps t)) h.admitted;
+            represents = g.holds;
+          },
+        )
+    fetch_gives with bytes keeps gives format (fetch q) (of_references t) front h = absurd h
+    fetch_gives with bytes keeps gives format (fetch q) (of_sizes t) front h = absurd h
+    fetch_gives with bytes keeps gives format (ls_refs q) f front h = absurd h
+    fetch_gives with bytes keeps gives format (object_info q) f front h = absurd h
+
+    pub fetch_goes : (with : FetchFacts → FetchFacts) → ((t : FetchFacts) → (with t).wanted ≡ t.wanted) → ReportsAlone with a b
+        → GoesOn (on_fetch with) (Fetch a) (Fetch b)
+    fetch_goes with keeps goes format (fetch q) (of_fetch x t) front h =
+        let (same, holds) = goes t front h.represents in
+        record {
+          asked = same ∙ h.asked;
+          admitted = subst (λ (ids : List ObjectName). IsAdmitted format q x ids) (sym (keeps t)) h.admitted;
+          represents = holds;
+        }
+    fetch_goes with keeps goes format (fetch q) (of_references t) front h = absurd h
+    fetch_goes with keeps goes format (fetch q) (of_sizes t) front h = absurd h
+    fetch_goes with keeps goes format (ls_refs q) f front h = absurd h
+    fetch_goes with keeps goes format (object_info q) f front h = absurd h
+
+    -- nothing changed
+    fetch_same : b ≡ a → GoesOn (λ f. f) (Fetch a) (Fetch b)
+    fetch_same same format q f front h = subst (λ (x : FetchAnswer A). IsAnswering format (Fetch x) q f front) (sym same) h
+
+    packet_by : (report : Report) (with : FetchFacts → FetchFacts) (bytes : List ℕ) (asked : Bool) → (IsAskedFor report (Fetch a) → asked ≡ true)
+        → (ReportsAndGives with a bytes b → GivesOn (with_report report) (Fetch a) bytes (Fetch b)) → (asked ≡ true → EndsAs report (Fetch b))
+        → WhereAsked asked (ReportsAndGives with a bytes b) a b → ReportsBy report (Fetch a) (packet_where asked) bytes (Fetch b)
+    packet_by report with bytes true asks gives ends done = (gives done, ends refl)
+    packet_by report with bytes false asks gives ends same = (fetch_same same, λ is_wanted. absurd (let is = asks is_wanted in cc))
+
+    taken_by : (report : Report) (with : FetchFacts → FetchFacts) (bytes : List ℕ) (asked : Bool) → (IsAskedFor report (Fetch a) → asked ≡ true)
+        → (ReportsAlone with a b → GoesOn (with_report report) (Fetch a) (Fetch b)) → WhereAsked asked (ReportsAlone with a b) a b
+        → ReportsBy report (Fetch a) (taken_where asked) bytes (Fetch b)
+    taken_by report with bytes true asks goes done = goes done
+    taken_by report with bytes false asks goes same = (fetch_same same, λ is_wanted. absurd (let is = asks is_wanted in cc))
+
+    -- a report for which a packet is given, if it was asked for
+    pub fetch_packet : (old : HostAnswer A) (report : Report) (with : FetchFacts → FetchFacts) (r : HostReported) (bytes : List ℕ) (asked : Bool)
+        → old ≡ Fetch a → r ≡ packet_where asked → (IsAskedFor report (Fetch a) → asked ≡ true)
+        → (ReportsAndGives with a bytes b → GivesOn (with_report report) (Fetch a) bytes (Fetch b)) → (asked ≡ true → EndsAs report (Fetch b))
+        → WhereAsked asked (ReportsAndGives with a bytes b) a b → ReportsBy report old r bytes (Fetch b)
+    fetch_packet old report with r bytes asked was is asks gives ends done =
+        subst (λ (o : HostAnswer A). ReportsBy report o r bytes (Fetch b)) (sym was)
+        (subst (λ (x : HostReported). ReportsBy report (Fetch a) x bytes (Fetch b)) (sym is) (packet_by report with bytes asked asks gives ends done))
+
+    -- and one for which none is given
+    pub fetch_taken : (old : HostAnswer A) (report : Report) (with : FetchFacts → FetchFacts) (r : HostReported) (bytes : List ℕ) (asked : Bool)
+        → old ≡ Fetch a → r ≡ taken_where asked → (IsAskedFor report (Fetch a) → asked ≡ true)
+        → (ReportsAlone with a b → GoesOn (with_report report) (Fetch a) (Fetch b)) → WhereAsked asked (ReportsAlone with a b) a b
+        → ReportsBy report old r bytes (Fetch b)
+    fetch_taken old report with r bytes asked was is asks goes done =
+        subst (λ (o : HostAnswer A). ReportsBy report o r bytes (Fetch b)) (sym was)
+        (subst (λ (x : HostReported). ReportsBy report (Fetch a) x bytes (Fetch b)) (sym is) (taken_by report with bytes asked asks goes done))
+
+    boundary_ends : (end : BoundaryEnd) (bytes : List ℕ) → is_asked end ≡ is_boundary (fetch_step a) → EndsBoundary end a bytes b
+        → ReportsBy EndsIt (Fetch a) (ended_as end) bytes (Fetch b)
+    boundary_ends EndNotAsked bytes is same = (fetch_same same, λ is_wanted. absurd (cc))
+    boundary_ends Absent bytes is goes = goes_same (Fetch a) (Fetch b) (fetch_goes (λ t. t) (λ t. refl) goes)
+    boundary_ends DelimGiven bytes is gives = (gives_same (Fetch a) (Fetch b) bytes (fetch_gives (λ t. t) bytes (λ t. refl) gives), tt)
+
+    pub fetch_boundary : (old : HostAnswer A) (end : BoundaryEnd) (r : HostReported) (bytes : List ℕ) → old ≡ Fetch a → r ≡ ended_as end
+        → is_asked end ≡ is_boundary (fetch_step a) → EndsBoundary end a bytes b → ReportsBy EndsIt old r bytes (Fetch b)
+    fetch_boundary old end r bytes was is asked done =
+        subst (λ (o : HostAnswer A). ReportsBy EndsIt o r bytes (Fetch b)) (sym was)
+        (subst (λ (x : HostReported). ReportsBy EndsIt (Fetch a) x bytes (Fetch b)) (sym is) (boundary_ends end bytes asked done))
+
+    fetch_given : (manner : Manner) → ((t : FetchFacts) (given : List Pkt) → Represents t given a → IsFetchAnswerOf manner (fetch_of a) t given)
+        → IsGiven manner (Fetch a)
+    fetch_given manner given format (fetch q) (of_fetch x t) front h =
+        fetch_by manner format q x t front h.admitted
+        (subst (λ (asked : FetchAsked). IsFetchAnswerOf manner asked t front) h.asked (given t front h.represents))
+    fetch_given manner given format (fetch q) (of_references t) front h = absurd h
+    fetch_given manner given format (fetch q) (of_sizes t) front h = absurd h
+    fetch_given manner given format (ls_refs q) f front h = absurd h
+    fetch_given manner given format (object_info q) f front h = absurd h
+
+    -- the next step of a fetch
+    pub fetch_steps : (step : Step) (bytes : List ℕ) → step ≡ fetch_step a → Steps a step bytes b
+        → StepsAnswer (Fetch a) (of_fetch_step step) bytes (Fetch b)
+    fetch_steps FetchPacket bytes is gives = gives_same (Fetch a) (Fetch b) bytes (fetch_gives (λ t. t) bytes (λ t. refl) gives)
+    fetch_steps FetchWhole bytes is steps = fetch_given whole steps.1
+    fetch_steps FetchBroken bytes is steps = fetch_given broken steps.1
+    fetch_steps (AskHave at) bytes is same = (fetch_same same, ap fetch_step same ∙ sym is)
+    fetch_steps AskReady bytes is same = (fetch_same same, ap fetch_step same ∙ sym is)
+    fetch_steps AskBoundary bytes is same = (fetch_same same, ap fetch_step same ∙ sym is)
+    fetch_steps AskPack bytes is same = (fetch_same same, ap fetch_step same ∙ sym is)
+
+    pub fetch_stepped : (old : HostAnswer A) (step : Step) (r : AnswerStep) (bytes : List ℕ) → old ≡ Fetch a → r ≡ of_fetch_step step → step ≡ fetch_step a
+        → Steps a step bytes b → StepsAnswer old r bytes (Fetch b)
+    fetch_stepped old step r bytes was is is_wanted steps =
+        subst (λ (o : HostAnswer A). StepsAnswer o r bytes (Fetch b)) (sym was)
+        (subst (λ (x : AnswerStep). StepsAnswer (Fetch a) x bytes (Fetch b)) (sym is) (fetch_steps step bytes is_wanted steps))
+
+  -- ---- references
+  module _ (a b : ReferencesAnswer A) where
+    references_give : (with : ReferencesFacts → ReferencesFacts) (bytes : List ℕ) → b.format ≡ a.format → ReportsOn with a bytes b
+        → GivesOn (on_references with) (References a) bytes (References b)
+    references_give with bytes same gives format (ls_refs q) (of_references t) front h =
+        let (packet, held, holds) = gives q t front h.1 in
+        (packet, held.spelled, (same ∙ h.0, holds))
+    references_give with bytes same gives format (ls_refs q) (of_fetch x t) front h = absurd h
+    references_give with bytes same gives format (ls_refs q) (of_sizes t) front h = absurd h
+    references_give with bytes same gives format (fetch q) f front h = absurd h
+    references_give with bytes same gives format (object_info q) f front h = absurd h
+
+    references_go : (with : ReferencesFacts → ReferencesFacts) → b.format ≡ a.format → ReportsHidden with a b
+        → GoesOn (on_references with) (References a) (References b)
+    references_go with same goes format (ls_refs q) (of_references t) front h = (same ∙ h.0, goes q t front h.1)
+    references_go with same goes format (ls_refs q) (of_fetch x t) front h = absurd h
+    references_go with same goes format (ls_refs q) (of_sizes t) front h = absurd h
+    references_go with same goes format (fetch q) f front h = absurd h
+    references_go with same goes format (object_info q) f front h = absurd h
+
+    references_same : b ≡ a → GoesOn (λ f. f) (References a) (References b)
+    references_same same format q f front h = subst (λ (x : ReferencesAnswer A). IsAnswering format (References x) q f front) (sym same) h
+
+    reference_by : (entry : Entry) (reported : Reported) (bytes : List ℕ) → Reports entry a reported bytes b
+        → ReportsBy (Reference entry) (References a) (reported_as reported) bytes (References b)
+    reference_by entry ReferencePacket bytes done = (references_give (with_ref entry) bytes done.0 done.1, tt)
+    reference_by entry ReferenceHidden bytes done = references_go (with_ref entry) done.0 done.1
+    reference_by entry ReferenceNotAsked bytes done = (references_same done.0, λ is_wanted. is_wanted done.1)
+    reference_by entry ReferenceUnsorted bytes done = (references_same done.0, done.1)
+    reference_by entry ReferenceMixed bytes done = (references_same done.0, done.1)
+    reference_by entry ReferenceTwice bytes done = (references_same done.0, done.1)
+
+    pub reference_reported : (old : HostAnswer A) (entry : Entry) (reported : Reported) (r : HostReported) (bytes : List ℕ) → old ≡ References a
+        → r ≡ reported_as reported → Reports entry a reported bytes b → ReportsBy (Reference entry) old r bytes (References b)
+    reference_reported old entry reported r bytes was is done =
+        subst (λ (o : HostAnswer A). ReportsBy (Reference entry) o r bytes (References b)) (sym was)
+        (subst (λ (x : HostReported). ReportsBy (Reference entry) (References a) x bytes (References b)) (sym is) (reference_by entry reported bytes done))
+
+    unborn_by : (target : RefName) (reported : Reported) (bytes : List ℕ) → ReportsUnborn (name_bytes target) a reported bytes b
+        → ReportsBy (Unborn target) (References a) (reported_as reported) bytes (References b)
+    unborn_by target ReferencePacket bytes done = (references_give (with_unborn (name_bytes target)) bytes done.0 done.1, tt)
+    unborn_by target ReferenceHidden bytes done = references_go (with_unborn (name_bytes target)) done.0 done.1
+    unborn_by target ReferenceNotAsked bytes done = (references_same done.0, λ is_wanted. is_wanted done.1)
+    unborn_by target ReferenceUnsorted bytes done = absurd done
+    unborn_by target ReferenceMixed bytes done = absurd done
+    unborn_by target ReferenceTwice bytes done = absurd done
+
+    pub unborn_reported : (old : HostAnswer A) (target : RefName) (reported : Reported) (r : HostReported) (bytes : List ℕ) → old ≡ References a
+        → r ≡ reported_as reported → ReportsUnborn (name_bytes target) a reported bytes b → ReportsBy (Unborn target) old r bytes (References b)
+    unborn_reported old target reported r bytes was is done =
+        subst (λ (o : HostAnswer A). ReportsBy (Unborn target) o r bytes (References b)) (sym was)
+        (subst (λ (x : HostReported). ReportsBy (Unborn target) (References a) x bytes (References b)) (sym is) (unborn_by target reported bytes done))
+
+  -- ---- sizes
+  module _ (a b : SizesAnswer A) where
+    sizes_give : (with : List (Option ℕ) → List (Option ℕ)) (bytes : List ℕ) → GivesSize with a bytes b
+        → GivesOn (on_sizes with) (Sizes a) bytes (Sizes b)
+    sizes_give with bytes gives format (object_info q) (of_sizes sizes) front h =
+        let (packet, held, holds) = gives.gives sizes front h.1 in
+        (packet, held.spelled, (gives.same ∙ h.0, holds))
+    sizes_give with bytes gives format (object_info q) (of_fetch x t) front h = absurd h
+    sizes_give with bytes gives format (object_info q) (of_references t) front h = absurd h
+    sizes_give with bytes gives format (fetch q) f front h = absurd h
+    sizes_give with bytes gives format (ls_refs q) f front h = absurd h
+
+    sizes_same : b ≡ a → GoesOn (λ f. f) (Sizes a) (Sizes b)
+    sizes_same same format q f front h = subst (λ (x : SizesAnswer A). IsAnswering format (Sizes x) q f front) (sym same) h
+
+    same_sizes : (f : Facts) → on_sizes (λ sizes. sizes) f ≡ f
+    same_sizes (of_fetch x t) = refl
+    same_sizes (of_references t) = refl
+    same_sizes (of_sizes sizes) = refl
+
+    sizes_whole : ((sizes : List (Option ℕ)) (given : List Pkt) → RepresentsSizes sizes given a → IsSizesAnswerOf a.request.asked sizes given)
+        → IsGiven whole (Sizes a)
+    sizes_whole given format (object_info q) (of_sizes sizes) front h =
+        subst (λ (asked : ObjectInfoAsked). IsSizesAnswerOf asked sizes front) h.0 (given sizes front h.1)
+    sizes_whole given format (object_info q) (of_fetch x t) front h = absurd h
+    sizes_whole given format (object_info q) (of_references t) front h = absurd h
+    sizes_whole given format (fetch q) f front h = absurd h
+    sizes_whole given format (ls_refs q) f front h = absurd h
+
+    pub sizes_steps : (step : SizesStep) (bytes : List ℕ) → StepsSizes a step bytes b → StepsAnswer (Sizes a) (of_sizes_step step) bytes (Sizes b)
+    sizes_steps SizesPacket bytes gives =
+        λ format q f front h.
+        let (packet, held, is) = sizes_give (λ sizes. sizes) bytes gives format q f front h in
+        (packet, held, subst (λ (x : Facts). IsAnswering format (Sizes b) q x (front ++ packet ∷ [])) (same_sizes f) is)
+    sizes_steps (AskSize at) bytes done = (sizes_same done.0, subst (λ (x : SizesAnswer A). IsAsking x at) (sym done.0) done.1)
+    sizes_steps SizesWhole bytes done = sizes_whole done.1
+
+    pub sizes_stepped : (old : HostAnswer A) (step : SizesStep) (r : AnswerStep) (bytes : List ℕ) → old ≡ Sizes a → r ≡ of_sizes_step step
+        → StepsSizes a step bytes b → StepsAnswer old r bytes (Sizes b)
+    sizes_stepped old step r bytes was is steps =
+        subst (λ (o : HostAnswer A). StepsAnswer o r bytes (Sizes b)) (sym was)
+        (subst (λ (x : AnswerStep). StepsAnswer (Sizes a) x bytes (Sizes b)) (sym is) (sizes_steps step bytes steps))
+
+  -- ---- an admission
+  module _ (a b : AdmissionMachine A) where
+    unchanged : b ≡ a → GoesOn (λ f. f) (Admission a) (Admission b)
+    unchanged same format q f front h = subst (λ (x : AdmissionMachine A). IsAnswering format (Admission x) q f front) (sym same) h
+
+    want_goes : (has : Bool) → AdmissionReports (with_want has) a b → GoesOn (on_wants has) (Admission a) (Admission b)
+    want_goes has done format (fetch q) (of_fetch x t) front h =
+        record {
+          asked = done.asked ∙ h.asked;
+          format_is = done.format ∙ h.format_is;
+          represents = done.represents x h.represents;
+          facts = h.facts;
+          none = h.none;
+        }
+    want_goes has done format (fetch q) (of_references t) front h = absurd h
+    want_goes has done format (fetch q) (of_sizes t) front h = absurd h
+    want_goes has done format (ls_refs q) f front h = absurd h
+    want_goes has done format (object_info q) f front h = absurd h
+
+    want_ref_goes : (id : Option ObjectName) → AdmissionReports (with_found id) a b → GoesOn (on_want_refs id) (Admission a) (Admission b)
+    want_ref_goes (Some id) done format (fetch q) (of_fetch x t) front h =
+        record {
+          asked = done.asked ∙ h.asked;
+          format_is = done.format ∙ h.format_is;
+          represents = done.represents x h.represents;
+          facts = ap (λ (s : FetchFacts). record s { wanted = s.wanted ++ id ∷ [] }) h.facts ∙ ap no_facts (sym (found_more x.found id));
+          none = h.none;
+        }
+    want_ref_goes None done format (fetch q) (of_fetch x t) front h =
+        record {
+          asked = done.asked ∙ h.asked;
+          format_is = done.format ∙ h.format_is;
+          represents = done.represents x h.represents;
+          facts = h.facts ∙ ap no_facts (sym (found_less x.found));
+          none = h.none;
+        }
+    want_ref_goes id done format (fetch q) (of_references t) front h = absurd h
+    want_ref_goes id done format (fetch q) (of_sizes t) front h = absurd h
+    want_ref_goes id done format (ls_refs q) f front h = absurd h
+    want_ref_goes id done format (object_info q) f front h = absurd h
+
+    want_by : (has asked : Bool) (bytes : List ℕ) → ReportsWant has a asked b
+        → ReportsBy (Want has) (Admission a) (taken_where asked) bytes (Admission b)
+    want_by has true bytes done = want_goes has done.1
+    want_by has false bytes done = (unchanged done.1, λ is_wanted. absurd (let unasked = done.0 in cc))
+
+    pub want_reported : (old : HostAnswer A) (has asked : Bool) (r : HostReported) (bytes : List ℕ) → old ≡ Admission a → r ≡ taken_where asked
+        → ReportsWant has a asked b → ReportsBy (Want has) old r bytes (Admission b)
+    want_reported old has asked r bytes was is done =
+        subst (λ (o : HostAnswer A). ReportsBy (Want has) o r bytes (Admission b)) (sym was)
+        (subst (λ (x : HostReported). ReportsBy (Want has) (Admission a) x bytes (Admission b)) (sym is) (want_by has asked bytes done))
+
+    -- what came of the report of a wanted reference
+    pub ref_taken : {E : Type 0} (old : HostAnswer A) (id : Option ObjectName) (bytes : List ℕ) (r : Result WantRefReported E) → old ≡ Admission a
+        → r ≡ Ok RefTaken → ReportsWantRef id a r b → ReportsBy (WantRef id) old Taken bytes (Admission b)
+    ref_taken {E = E} old id bytes r was is done =
+        let taken : ReportsWantRef {E = E} id a (Ok RefTaken) b = subst (λ (x : Result WantRefReported E). ReportsWantRef id a x b) is done in
+        subst (λ (o : HostAnswer A). ReportsBy (WantRef id) o Taken bytes (Admission b)) (sym was) (want_ref_goes id taken.1)
+
+  -- an admission that is through becomes the answer
+  pub admitted_goes : (a : AdmissionMachine A) (answer : FetchAnswer A) → BecomesAnswer a answer → GoesOn (λ f. f) (Admission a) (Fetch answer)
+  admitted_goes a answer done format (fetch q) (of_fetch x t) front h =
+      let through = done.admitted x h.represents in
+      let ids = a.wanted.items in
+      let is : t ≡ no_facts ids = h.facts ∙ ap no_facts (ap found_ids through.found ∙ all_found ids) in
+      record {
+        asked = done.asked ∙ h.asked;
+        admitted = subst (λ (s : FetchFacts). IsAdmitted format q x s.wanted) (sym is)
+            (subst (λ (m : Format). IsAdmitted m q x ids) h.format_is
+            (subst (λ (r : FetchAsked). IsAdmitted a.format r x ids) h.asked through));
+        represents = subst (λ (s : FetchFacts). Represents s front answer) (sym is)
+            (subst (λ (l : List Pkt). Represents (no_facts ids) l answer) (sym h.none) (done.represents x h.represents));
+      }
+  admitted_goes a answer done format (fetch q) (of_references t) front h = absurd h
+  admitted_goes a answer done format (fetch q) (of_sizes t) front h = absurd h
+  admitted_goes a answer done format (ls_refs q) f front h = absurd h
+  admitted_goes a answer done format (object_info q) f front h = absurd h
+
+  pub admitted_by : (a : AdmissionMachine A) (answer : FetchAnswer A) (r : Result (FetchAnswer A) (AdmissionMachine A)) (old : HostAnswer A)
+      → old ≡ Admission a → r ≡ Ok answer → Becomes a r → GoesOn (λ f. f) old (Fetch answer)
+  admitted_by a answer r old was is done =
+      let through : Becomes a (Ok answer) = subst (λ (x : Result (FetchAnswer A) (AdmissionMachine A)). Becomes a x) is done in
+      subst (λ (o : HostAnswer A). GoesOn (λ f. f) o (Fetch answer)) (sym was) (admitted_goes a answer through.1)

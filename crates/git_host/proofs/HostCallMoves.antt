@@ -1,0 +1,144 @@
+-- A host's server after any calls.
+use Rattle.std.proofs.Common.{arith, ◌≡◌, ℕ, Bool, true, false, List, [], ◌∷◌, ◌++◌, length, take, Some, refl, sym, ap, ◌∙◌, subst}
+use Rattle.std.proofs.Common.{append_assoc, append-nil}
+use Rattle.std.proofs.lemmas.List.{length-take-le}
+use Rattle.git_pkt.specs.Machine.Credit.{ArePaid, MakesAll}
+use Rattle.git_pkt.specs.Splits.{Given}
+use Rattle.git_pkt.proofs.Credits.{all_paid}
+use Rattle.git_pkt.proofs.KnownRest.{sound_rest}
+use Rattle.git_msg.specs.declared.offers.Offer.{Offer}
+use Rattle.git_msg.specs.declared.streams.RequestStream.{RequestStream}
+use Rattle.git_msg.specs.declared.streams.Stage.{Stage}
+use Rattle.git_msg.specs.declared.streams.Stage.TheVariants.{Between, Within, Stopped, Failed}
+use Rattle.git_msg.specs.Machine.RequestStreams.{IsLeftIn, limit_of, offer_of}
+use Rattle.git_msg.specs.Machine.StreamStages.{AreBegun, takes_bytes}
+use Rattle.git_server.specs.declared.outcome.Outcome.{Outcome}
+use Rattle.git_host.specs.HostSessions.{Facts, HostSetting, IsWaiting}
+use Rattle.git_host.specs.HostServer.{Hosts, HostsIn, IsReading, credit_of, outcome_in}
+use Rattle.git_host.specs.HostCalls.{HostCall, HostHeadline, Makes, accept, close, feed, given_by, given_in, feeds_by, next, over_after, over_with}
+use Rattle.git_host.specs.HostCalls.{refuse, report, reported_after, reported_with, used_by, used_in}
+use Rattle.git_host.specs.declared.host_server.HostServer.{HostServer}
+use Rattle.git_host.specs.declared.host_server.Phase.{Phase}
+use Rattle.git_host.specs.declared.host_server.Phase.TheVariants.{Advertising, Reading, Asked as Whole, Answering, Refusing, Ended}
+use Rattle.git_host.specs.declared.report.HostStep.TheVariants.{Packet, NeedInput, Asked as AsksFor, Need as Needs, Ended as HasEnded}
+use Rattle.git_host.proofs.HostMoves.{as_asked, is_reading_now}
+
+module _ {A : Type 0} where
+  -- nothing more used, or nothing more given
+  more_used : (s : HostSetting) (used : List ℕ) (over : Bool) (facts : List Facts) (given : List ℕ) (server : HostServer A)
+      → Hosts s used over facts given server → Hosts s (used ++ []) over facts given server
+  more_used s used over facts given server h = subst (λ (u : List ℕ). Hosts s u over facts given server) (sym (append-nil used)) h
+
+  more_given : (s : HostSetting) (used : List ℕ) (over : Bool) (facts : List Facts) (given bytes : List ℕ) (server : HostServer A) → bytes ≡ []
+      → Hosts s used over facts given server → Hosts s used over facts (given ++ bytes) server
+  more_given s used over facts given bytes server none h =
+      subst (λ (g : List ℕ). Hosts s used over facts g server) (sym (append-nil given) ∙ ap (λ (l : List ℕ). given ++ l) (sym none)) h
+
+  same_given : (s : HostSetting) (used : List ℕ) (over : Bool) (facts : List Facts) (given bytes other : List ℕ) (server : HostServer A) → bytes ≡ other
+      → Hosts s used over facts (given ++ other) server → Hosts s used over facts (given ++ bytes) server
+  same_given s used over facts given bytes other server same h =
+      subst (λ (l : List ℕ). Hosts s used over facts (given ++ l) server) (sym same) h
+
+  -- after one call
+  one_call : (s : HostSetting) (call : HostCall) (before : ℕ) (old : HostServer A) (after : ℕ) (new : HostServer A) → Makes call before old after new
+      → (used : List ℕ) (over : Bool) (facts : List Facts) (given : List ℕ) → Hosts s used over facts given old
+      → Hosts s (used ++ used_by call) (over_with call over) (reported_with call facts) (given ++ given_by call) new
+  one_call s (feed piece count begun) before old after new made used over facts given h =
+      more_given s (used ++ take count piece) over (facts ++ begun) given [] new refl
+      (subst (λ (l : List Facts). Hosts s (used ++ take count piece) over (facts ++ l) given new) (sym made.begun_is) (made.feeds s used over facts given h))
+  one_call s close before old after new made used over facts given h =
+      more_used s used true facts (given ++ []) new (more_given s used true facts given [] new refl (made.0.2 s used over facts given h))
+  one_call s (next Packet bytes) before old after new made used over facts given h =
+      more_used s used over facts (given ++ bytes) new (same_given s used over facts given bytes _ new made.1 (made.0 s used over facts given h))
+  one_call s (next NeedInput bytes) before old after new made used over facts given h =
+      more_used s used over facts (given ++ bytes) new (more_given s used over facts given bytes new made.1 (made.0 s used over facts given h).0)
+  one_call s (next AsksFor bytes) before old after new made used over facts given h =
+      more_used s used over facts (given ++ bytes) new (more_given s used over facts given bytes new made.1 (made.0 s used over facts given h).0)
+  one_call s (next (Needs need) bytes) before old after new made used over facts given h =
+      more_used s used over facts (given ++ bytes) new (more_given s used over facts given bytes new made.1 (made.0 s used over facts given h).0)
+  one_call s (next (HasEnded outcome) bytes) before old after new made used over facts given h =
+      more_used s used over facts (given ++ bytes) new (more_given s used over facts given bytes new made.1 (made.0 s used over facts given h).0)
+  one_call s (report fact what bytes) before old after new made used over facts given h =
+      more_used s used over (reported_with (report fact what bytes) facts) (given ++ bytes) new
+      (same_given s used over (reported_with (report fact what bytes) facts) given bytes _ new made.1 (made.0 s used over facts given h).0)
+  one_call s accept before old after new made used over facts given h =
+      more_used s used over facts (given ++ []) new (more_given s used over facts given [] new refl (made.0.2 s used over facts given h))
+  one_call s (refuse text bytes) before old after new made used over facts given h =
+      more_used s used over facts (given ++ bytes) new (same_given s used over facts given bytes _ new made.1 (made.0.2 s used over facts given h))
+
+  -- after any calls
+  any_calls : (s : HostSetting) (calls : List HostCall) (before : ℕ) (old : HostServer A) (after : ℕ) (new : HostServer A)
+      → MakesAll Makes calls before old after new → (used : List ℕ) (over : Bool) (facts : List Facts) (given : List ℕ) → Hosts s used over facts given old
+      → Hosts s (used ++ used_in calls) (over_after over calls) (reported_after facts calls) (given ++ given_in calls) new
+  any_calls s [] before old after new (counter, same) used over facts given h =
+      subst (λ (x : HostServer A). Hosts s (used ++ []) over facts (given ++ []) x) (sym same)
+      (more_used s used over facts (given ++ []) old (more_given s used over facts given [] old refl h))
+  any_calls s (call ∷ calls) before old after new (middle, between, made, more) used over facts given h =
+      let now = one_call s call before old middle between made used over facts given h in
+      let later = any_calls s calls middle between after new more (used ++ used_by call) (over_with call over) (reported_with call facts)
+      (given ++ given_by call) now in
+      let over_now = over_after (over_with call over) calls in
+      let facts_now = reported_after (reported_with call facts) calls in
+      subst (λ (u : List ℕ). Hosts s u over_now facts_now (given ++ given_in (call ∷ calls)) new) (append_assoc used (used_by call) (used_in calls))
+      (subst (λ (g : List ℕ). Hosts s ((used ++ used_by call) ++ used_in calls) over_now facts_now g new)
+      (append_assoc given (given_by call) (given_in calls)) later)
+
+  -- each call is paid for by the bytes that it used
+  paid_by : (call : HostCall) (before : ℕ) (old : HostServer A) (after : ℕ) (new : HostServer A) → Makes call before old after new
+      → ArePaid (length (used_by call)) (feeds_by call) before after (credit_of old) (credit_of new)
+  paid_by (feed piece count begun) before old after new made =
+      record { rises = made.pays.rises; within = omega (arith, made.pays.within, length-take-le count piece made.within) }
+  paid_by close before old after new made = record { rises = omega (arith, made.1.steps); within = omega (arith, made.1.steps, made.1.credit) }
+  paid_by (next step bytes) before old after new made = record { rises = omega (arith, made.2.steps); within = omega (arith, made.2.steps, made.2.credit) }
+  paid_by (report fact what bytes) before old after new made =
+      record { rises = omega (arith, made.2.steps); within = omega (arith, made.2.steps, made.2.credit) }
+  paid_by accept before old after new made = record { rises = omega (arith, made.1.steps); within = omega (arith, made.1.steps, made.1.credit) }
+  paid_by (refuse text bytes) before old after new made =
+      record { rises = omega (arith, made.2.steps); within = omega (arith, made.2.steps, made.2.credit) }
+
+ended_is : {A : Type 0} (phase : Phase A) (outcome : Outcome) → outcome_in phase ≡ Some outcome → phase ≡ Ended outcome
+ended_is Advertising outcome is = absurd (cc)
+ended_is Reading outcome is = absurd (cc)
+ended_is (Whole request) outcome is = absurd (cc)
+ended_is (Answering answer) outcome is = absurd (cc)
+ended_is (Refusing fault) outcome is = absurd (cc)
+ended_is (Ended other) outcome is = let same : other ≡ outcome = cc in ap Ended same
+
+begun_by : (offer : Offer) (limit : ℕ) (left : List Given) (rest : List ℕ) (end : ℕ) (stage : Stage) → takes_bytes stage ≡ true
+    → IsLeftIn stage offer limit left rest end → AreBegun offer limit left
+begun_by offer limit left rest end Between on is = subst (AreBegun offer limit) (sym is) ([], tt)
+begun_by offer limit left rest end Within on is = is.1
+begun_by offer limit left rest end Stopped on is = absurd (cc)
+begun_by offer limit left rest end (Failed fault) on is = absurd (cc)
+
+waits_so : {A : Type 0} (s : HostSetting) (used : List ℕ) (over : Bool) (facts : List Facts) (given : List ℕ) (stream : RequestStream A)
+    → IsReading s used over facts given stream → IsWaiting s used over facts given
+waits_so s used over facts given stream h =
+    let reads = h.reads.reads in
+    record {
+      asked = h.asked;
+      left = reads.left;
+      rest = reads.rest;
+      goes_on = h.reads.goes_on;
+      are_asked = as_asked stream used h.asked reads s h.reads.offer h.reads.limit;
+      begun = subst (λ (o : Offer). AreBegun o s.limit reads.left) h.reads.offer
+          (subst (λ (n : ℕ). AreBegun (offer_of stream) n reads.left) h.reads.limit
+          (begun_by (offer_of stream) (limit_of stream) reads.left reads.rest (length used) stream.stage h.reads.wants reads.left_is));
+      unrefused = (sound_rest stream.packets 0 used reads.packets reads.rest (reads.onward h.reads.wants).sound reads.reads).1;
+      all = h.all;
+    }
+
+pub after_calls : {A : Type 0} (s : HostSetting) (calls : List HostCall) (before after : ℕ) (first last : HostServer A) → Hosts s [] false [] [] first
+    → credit_of first ≡ 0 → MakesAll Makes calls before first after last → HostHeadline s calls before after last
+after_calls s calls before after first last fresh no_credit made =
+    let h = any_calls s calls before first after last made [] false [] [] fresh in
+    let paid = all_paid Makes credit_of used_by feeds_by paid_by calls before first after last made in
+    record {
+      rises = paid.rises;
+      steps = omega (arith, paid.within, no_credit);
+      ends = λ outcome is. subst (λ (p : Phase _). HostsIn p s (used_in calls) (over_after false calls) (reported_after [] calls) (given_in calls)
+          last.stream last.flush) (ended_is last.phase outcome is) h.stands;
+      waits = λ on. waits_so s (used_in calls) (over_after false calls) (reported_after [] calls) (given_in calls) last.stream
+          (subst (λ (p : Phase _). HostsIn p s (used_in calls) (over_after false calls) (reported_after [] calls) (given_in calls)
+          last.stream last.flush) (is_reading_now last on) h.stands);
+    }

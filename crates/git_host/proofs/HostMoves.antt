@@ -1,0 +1,794 @@
+-- A host's server from one moment to the next.
+use Rattle.std.proofs.Common.{arith, ◌≡◌, ◌≢◌, ℕ, ◌-◌, ◌*◌, ◌≤◌, Bool, true, false, if◌then◌else◌, List, [], ◌∷◌, ◌++◌, length, Option, Some, None, Err}
+use Rattle.std.proofs.Common.{refl, sym, ap, ◌∙◌, subst}
+use Rattle.std.proofs.Common.{append_assoc, append-nil, length-append, inl, inr, take}
+use Rattle.std.specs.Prelude.{OnSome}
+use Rattle.arrayvec.specs.ArrayVec.{ArrayVec}
+use Rattle.git_pkt.specs.Packets.{Pkt, spelling_of}
+use Rattle.git_pkt.specs.Splits.{Given, SpellsAll}
+use Rattle.git_pkt.specs.Machine.ReaderState.{come_in, is_open_in}
+use Rattle.git_pkt.specs.Machine.Credit.{credit_of as packet_credit}
+use Rattle.git_pkt.specs.declared.reader.State.{State}
+use Rattle.git_pkt.specs.declared.reader.State.TheVariants.{Between as NotOpen, Gathering, Passing, Failed as Failing}
+use Rattle.git_msg.specs.Machine.RequestStreams.{credit_of as stream_credit}
+use Rattle.git_host.specs.HostServer.{credit_in, credit_of, first_phase}
+use Rattle.git_pkt.specs.Machine.LentHold.{with_hold, with_hold_by}
+use Rattle.git_pkt.specs.Machine.PacketReader.{Reads, bytes_held, fault_of as packet_fault, held_of, is_open}
+use Rattle.git_pkt.specs.declared.reader.PacketReader.{PacketReader}
+use Rattle.git_pkt.specs.declared.fault.Fault.{Fault}
+use Rattle.git_pkt.specs.declared.fault.Kind.{Kind}
+use Rattle.git_pkt.specs.declared.fault.Kind.TheVariants.{NotOurs, UnknownRef, PackSource, RemoteError}
+use Rattle.git_pkt.proofs.LentHolds.{lent_reads}
+use Rattle.git_pkt.proofs.KnownRest.{some_inside, sound_rest}
+use Rattle.git_msg.specs.declared.requests.Request.{Request}
+use Rattle.git_msg.specs.Asked.{Asked, fetch, ls_refs, object_info}
+use Rattle.git_msg.specs.Machine.HeldRequest.{asked_of}
+use Rattle.git_msg.specs.Machine.RequestReader.{Takes, fault_of as reader_fault, is_waiting, kept_so_far, limit_in, offer_of as offer_in}
+use Rattle.git_msg.specs.Machine.StreamStages.{fault_in, stage_is_between, takes_bytes}
+use Rattle.git_msg.specs.declared.limits.Limits.{Limits}
+use Rattle.git_msg.specs.Machine.RequestStreams.{Closes, EndsWith, Feeds as StreamFeeds, Leaves, asked_by}
+use Rattle.git_msg.specs.declared.streams.ReadGot.{ReadGot}
+use Rattle.git_msg.specs.declared.streams.ReadGot.TheVariants.{More, Request as RequestGot, Stop as StopGot, Failed as FailedGot}
+use Rattle.git_msg.specs.declared.streams.ReadRequest.{ReadRequest}
+use Rattle.git_msg.specs.Machine.RequestStreams.{AreAsked, HasRead, IsAtTheEnd, IsLeftIn, IsLent, IsOne, IsRefusedAs, ReadsOnward, bytes_used, hold_of}
+use Rattle.git_msg.specs.Machine.RequestStreams.{is_within_packet, limit_of, offer_of, wants_input}
+use Rattle.git_msg.specs.WholeRequests.{AreRequests}
+use Rattle.git_msg.specs.declared.reader.RequestReader.{RequestReader}
+use Rattle.git_msg.specs.declared.streams.RequestStream.{RequestStream}
+use Rattle.git_msg.specs.declared.streams.Stage.{Stage}
+use Rattle.git_msg.specs.declared.streams.Stage.TheVariants.{Between, Within, Stopped, Failed}
+use Rattle.git_msg.specs.declared.offers.Offer.{Offer}
+use Rattle.git_msg.proofs.StreamEnds.{all_whole}
+use Rattle.git_server.specs.Packs.{whole, broken}
+use Rattle.git_server.specs.Answers.{advertisement_of, error_packet, refusal_by, spelled}
+use Rattle.git_server.specs.declared.outcome.Outcome.TheVariants.{Flush, Refused}
+use Rattle.git_server.proofs.Sent.{spelled_one}
+use Rattle.git_host.specs.HostSessions.{AllAnswered, AreAnswersBy, AtLast, Facts, HostSetting, IsAnswerBy, IsHosted, IsLacking, IsTailBy, ShowsWhere, StopsBy}
+use Rattle.git_host.specs.HostSessions.{advertised, nothing_for, of_fetch, of_references, of_sizes, refusal_packet}
+use Rattle.git_host.specs.HostServer.{Hosts, HostsIn, IsAdvertising, IsAtRequest, IsReading, IsRefusing, IsUntouched, ReadsOn}
+use Rattle.git_host.specs.HostServer.{EndsHost, IsAccepted, ReportsHost, StopsHost, HasReason, is_asked, begun_in, is_answering, ended_by, reads_on}
+use Rattle.git_host.specs.HostServer.{given_with, is_reading, refused_by, with_last}
+use Rattle.git_host.specs.HostAnswers.{GivesOn, GoesOn, IsAnswering, IsGiven, LacksIt, ReportsBy, with_hidden, with_report, with_reported}
+use Rattle.git_host.specs.declared.host_answer.HostAnswer.{HostAnswer}
+use Rattle.git_host.specs.declared.host_server.HostServer.{HostServer}
+use Rattle.git_host.specs.declared.report.Report.{Report}
+use Rattle.git_host.specs.declared.report.HostReported.{HostReported}
+use Rattle.git_host.specs.declared.report.HostReported.TheVariants.{Packet as WasGiven, Taken, Hidden, NotAsked, MixedFormats, Unsorted, HeadTwice, OutOfMemory}
+use Rattle.git_host.specs.declared.host_server.Phase.{Phase}
+use Rattle.git_host.specs.declared.host_server.Phase.TheVariants.{Advertising, Reading, Asked as Whole, Answering, Refusing, Ended}
+use Rattle.git_names.specs.declared.object_format.Format.{Format}
+
+-- ---- the last request
+
+pub last_on : (with : Facts → Facts) (fs : List Facts) (f : Facts) → with_last with (fs ++ f ∷ []) ≡ fs ++ with f ∷ []
+last_on with [] f = refl
+last_on with (g ∷ []) f = refl
+last_on with (g ∷ h ∷ fs) f = ap (λ (l : List Facts). g ∷ l) (last_on with (h ∷ fs) f)
+
+pub same_last : (fs : List Facts) → with_last (λ f. f) fs ≡ fs
+same_last [] = refl
+same_last (f ∷ []) = refl
+same_last (f ∷ g ∷ fs) = ap (λ (l : List Facts). f ∷ l) (same_last (g ∷ fs))
+
+-- an answer more
+answers_more : (format : Format) (qs : List Asked) (fs : List Facts) (packets : List Pkt) (q : Asked) (f : Facts) (answer : List Pkt)
+    → AreAnswersBy format qs fs packets → IsAnswerBy whole format q f answer → AreAnswersBy format (qs ++ q ∷ []) (fs ++ f ∷ []) (packets ++ answer)
+answers_more format [] [] packets q f answer h is = (answer, [], ap (λ (l : List Pkt). l ++ answer) h ∙ sym (append-nil answer), is, refl)
+answers_more format (p ∷ ps) (u ∷ us) packets q f answer (first, more, cut, one, rest) is =
+    (first, more ++ answer, ap (λ (l : List Pkt). l ++ answer) cut ∙ append_assoc first more answer, one, answers_more format ps us more q f answer rest is)
+answers_more format [] (u ∷ us) packets q f answer h is = absurd h
+answers_more format (p ∷ ps) [] packets q f answer h is = absurd h
+
+module _ (s : HostSetting) (asked : List Asked) (reported : List Facts) (given : List ℕ) where
+  pub last_begun : (q : Asked) (P : Asked → Facts → List Pkt → Type 0) → AllAnswered s asked reported given → P q (nothing_for q) []
+      → AtLast s (asked ++ q ∷ []) (reported ++ nothing_for q ∷ []) given P
+  last_begun q P h is = record {
+    earlier = asked;
+    earlier_reported = reported;
+    q = q;
+    f = nothing_for q;
+    answers = h.answers;
+    front = [];
+    asked_is = refl;
+    reported_is = refl;
+    answered = h.answered;
+    last = is;
+    given_is = h.given_is ∙ ap (λ (l : List Pkt). spelled (advertised s ++ l)) (sym (append-nil h.answers));
+  }
+
+  module _ (P Q : Asked → Facts → List Pkt → Type 0) where
+    pub last_goes : (with : Facts → Facts) → AtLast s asked reported given P → ((q : Asked) (f : Facts) (front : List Pkt) → P q f front → Q q (with f) front)
+        → AtLast s asked (with_last with reported) given Q
+    last_goes with h goes = record {
+      earlier = h.earlier;
+      earlier_reported = h.earlier_reported;
+      q = h.q;
+      f = with h.f;
+      answers = h.answers;
+      front = h.front;
+      asked_is = h.asked_is;
+      reported_is = ap (with_last with) h.reported_is ∙ last_on with h.earlier_reported h.f;
+      answered = h.answered;
+      last = goes h.q h.f h.front h.last;
+      given_is = h.given_is;
+    }
+
+    pub last_gives : (with : Facts → Facts) (bytes : List ℕ) → AtLast s asked reported given P
+        → ((q : Asked) (f : Facts) (front : List Pkt) → P q f front
+        → (packet : Pkt) × (bytes ≡ spelling_of packet) × Q q (with f) (front ++ packet ∷ []))
+        → AtLast s asked (with_last with reported) (given ++ bytes) Q
+    last_gives with bytes h gives =
+        let (packet, held, is) = gives h.q h.f h.front h.last in
+        record {
+          earlier = h.earlier;
+          earlier_reported = h.earlier_reported;
+          q = h.q;
+          f = with h.f;
+          answers = h.answers;
+          front = h.front ++ packet ∷ [];
+          asked_is = h.asked_is;
+          reported_is = ap (with_last with) h.reported_is ∙ last_on with h.earlier_reported h.f;
+          answered = h.answered;
+          last = is;
+          given_is = ap (λ (l : List ℕ). l ++ bytes) h.given_is ∙ ap (λ (b : List ℕ). spelled (advertised s ++ (h.answers ++ h.front)) ++ b) held
+              ∙ sym (spelled_one (advertised s ++ (h.answers ++ h.front)) packet)
+              ∙ ap spelled (append_assoc (advertised s) (h.answers ++ h.front) (packet ∷ [])
+              ∙ ap (λ (l : List Pkt). advertised s ++ l) (append_assoc h.answers h.front (packet ∷ [])));
+        }
+
+    pub last_whole : AtLast s asked reported given P → ((q : Asked) (f : Facts) (front : List Pkt) → P q f front → IsAnswerBy whole s.offer.format q f front)
+        → AllAnswered s asked reported given
+    last_whole h is =
+        let all = answers_more s.offer.format h.earlier h.earlier_reported h.answers h.q h.f h.front h.answered (is h.q h.f h.front h.last) in
+        record {
+          answers = h.answers ++ h.front;
+          answered = subst (λ (qs : List Asked). AreAnswersBy s.offer.format qs reported (h.answers ++ h.front)) (sym h.asked_is)
+              (subst (λ (fs : List Facts). AreAnswersBy s.offer.format (h.earlier ++ h.q ∷ []) fs (h.answers ++ h.front)) (sym h.reported_is) all);
+          given_is = h.given_is;
+        }
+
+-- ---- a stream whose hold was lent
+
+fault_lent : (r : PacketReader) (hold : ArrayVec ℕ) (b : Bool) (e : is_open_in r.state ≡ b) → packet_fault (with_hold_by r hold b e) ≡ packet_fault r
+fault_lent r hold true e = refl
+fault_lent r hold false e = refl
+
+held_lent : (r : PacketReader) (hold : ArrayVec ℕ) (b : Bool) (e : is_open_in r.state ≡ b) → b ≡ false → held_of (with_hold_by r hold b e) ≡ hold.items
+held_lent r hold true e shut = absurd (cc)
+held_lent r hold false e shut = refl
+
+shut_lent : (r : PacketReader) (hold : ArrayVec ℕ) (b : Bool) (e : is_open_in r.state ≡ b) → b ≡ false → is_open (with_hold_by r hold b e) ≡ false
+shut_lent r hold true e shut = absurd (cc)
+shut_lent r hold false e shut = e
+
+module _ {A : Type 0} (old : RequestStream A) (hold : ArrayVec ℕ) (new : RequestStream A) (lent : IsLent old hold new) where
+  pub lent_bytes : hold_of new ≡ hold.items
+  lent_bytes = ap held_of lent.packets ∙ held_lent old.packets hold (is_open_in old.packets.state) refl lent.between
+
+  pub lent_between : is_within_packet new ≡ false
+  lent_between = ap is_open lent.packets ∙ shut_lent old.packets hold (is_open_in old.packets.state) refl lent.between
+
+  lent_onward : (left : List Given) → ReadsOnward left old → ReadsOnward left new
+  lent_onward left h = record {
+    sound = ap packet_fault lent.packets ∙ fault_lent old.packets hold (is_open_in old.packets.state) refl ∙ h.sound;
+    takes = subst (λ (r : RequestReader A). Takes left r) (sym lent.requests) h.takes;
+    open_ended = ap reader_fault lent.requests ∙ h.open_ended;
+    ready = ap is_waiting lent.requests ∙ h.ready;
+  }
+
+  lent_fits : length hold.items ≤ 65520 → bytes_held (with_hold old.packets hold) ≤ 65520
+  lent_fits few = subst (λ (l : List ℕ). length l ≤ 65520) (sym (held_lent old.packets hold (is_open_in old.packets.state) refl lent.between)) few
+
+  pub lent_read : length hold.items ≤ 65520 → (used : List ℕ) (asked : List Asked) → HasRead used asked old → HasRead used asked new
+  lent_read fits used asked h = record {
+    packets = h.packets;
+    left = h.left;
+    rest = h.rest;
+    reads = subst (λ (r : PacketReader). Reads r 0 used h.packets h.rest) (sym lent.packets)
+        (lent_reads old.packets hold (lent_fits fits) lent.between 0 used h.packets h.rest h.reads);
+    requests = subst (λ (r : RequestReader A). AreRequests (IsOne (offer_in r) (limit_in r)) h.packets asked h.left) (sym lent.requests) h.requests;
+    left_is = subst (λ (g : Stage). IsLeftIn g (offer_of new) (limit_of new) h.left h.rest (length used)) (sym lent.stage)
+        (subst (λ (r : RequestReader A). IsLeftIn old.stage (offer_in r) (limit_in r) h.left h.rest (length used)) (sym lent.requests) h.left_is);
+    onward = λ on. lent_onward h.left (h.onward (sym (ap takes_bytes lent.stage) ∙ on));
+    within = subst (λ (r : RequestReader A). kept_so_far r ≤ limit_in r) (sym lent.requests) h.within;
+  }
+
+  pub lent_reads_on : length hold.items ≤ 65520 → (s : HostSetting) (used : List ℕ) (over : Bool) (asked : List Asked) → ReadsOn s used over asked old
+      → ReadsOn s used over asked new
+  lent_reads_on fits s used over asked h = record {
+    reads = lent_read fits used asked h.reads;
+    wants = ap takes_bytes lent.stage ∙ h.wants;
+    offer = ap offer_in lent.requests ∙ h.offer;
+    limit = ap limit_in lent.requests ∙ h.limit;
+    goes_on = h.goes_on;
+  }
+
+  -- at a request
+  module _ (fits : length hold.items ≤ 65520) (s : HostSetting) (used : List ℕ) (over : Bool) (reported : List Facts) (given : List ℕ) (flush : ℕ)
+      (P Q : Asked → Facts → List Pkt → Type 0) (h : IsAtRequest s used over reported given old flush P) where
+    pub request_goes : (with : Facts → Facts) → ((q : Asked) (f : Facts) (front : List Pkt) → P q f front → Q q (with f) front)
+        → IsAtRequest s used over (with_last with reported) given new flush Q
+    request_goes with goes = record {
+      asked = h.asked;
+      reads = lent_reads_on fits s used over h.asked h.reads;
+      between = lent_between;
+      are_asked = h.are_asked;
+      at = h.at;
+      last = last_goes s h.asked reported given P Q with h.last goes;
+    }
+
+    pub request_gives : (with : Facts → Facts) → ((q : Asked) (f : Facts) (front : List Pkt) → P q f front
+        → (packet : Pkt) × (hold.items ≡ spelling_of packet) × Q q (with f) (front ++ packet ∷ []))
+        → IsAtRequest s used over (with_last with reported) (given ++ hold_of new) new flush Q
+    request_gives with gives = record {
+      asked = h.asked;
+      reads = lent_reads_on fits s used over h.asked h.reads;
+      between = lent_between;
+      are_asked = h.are_asked;
+      at = h.at;
+      last = subst (λ (bytes : List ℕ). AtLast s h.asked (with_last with reported) (given ++ bytes) Q) (sym lent_bytes)
+          (last_gives s h.asked reported given P Q with hold.items h.last gives);
+    }
+
+-- ---- what bytes bring
+
+reading_is : {A : Type 0} (phase : Phase A) → is_reading phase ≡ true → phase ≡ Reading
+reading_is Reading is = refl
+reading_is Advertising is = absurd (cc)
+reading_is (Whole request) is = absurd (cc)
+reading_is (Answering answer) is = absurd (cc)
+reading_is (Refusing fault) is = absurd (cc)
+reading_is (Ended outcome) is = absurd (cc)
+
+between_is : (stage : Stage) → stage_is_between stage ≡ true → stage ≡ Between
+between_is Between is = refl
+between_is Within is = absurd (cc)
+between_is Stopped is = absurd (cc)
+between_is (Failed fault) is = absurd (cc)
+
+stopped_is : (stage : Stage) → takes_bytes stage ≡ false → fault_in stage ≡ None → stage ≡ Stopped
+stopped_is Between quiet none = absurd (cc)
+stopped_is Within quiet none = absurd (cc)
+stopped_is Stopped quiet none = refl
+stopped_is (Failed fault) quiet none = absurd (cc)
+
+failed_is : (stage : Stage) (fault : Fault) → fault_in stage ≡ Some fault → stage ≡ Failed fault
+failed_is Between fault is = absurd (cc)
+failed_is Within fault is = absurd (cc)
+failed_is Stopped fault is = absurd (cc)
+failed_is (Failed other) fault is = let same : other ≡ fault = cc in ap Failed same
+
+no_fault : (stage : Stage) → takes_bytes stage ≡ true → fault_in stage ≡ None
+no_fault Between is = refl
+no_fault Within is = refl
+no_fault Stopped is = absurd (cc)
+no_fault (Failed fault) is = absurd (cc)
+
+-- a packet has four bytes at least
+four_bytes : (p : ℕ) (bytes : List ℕ) (gs : List Given) (rest : List ℕ) → gs ≢ [] → SpellsAll p bytes gs rest → 4 ≤ length bytes
+four_bytes p bytes [] rest some h = absurd (some refl)
+four_bytes p bytes (g ∷ gs) rest some (s, more, cut, at, spells, others) =
+    omega (arith, spells.digits.four, ap length cut, length-append s more)
+
+not_none : {X : Type 0} (before front : List X) (x : X) → before ++ (front ++ x ∷ []) ≢ []
+not_none [] [] x is = cc
+not_none [] (y ∷ front) x is = cc
+not_none (y ∷ before) front x is = cc
+
+module _ {A : Type 0} (stream : RequestStream A) (used : List ℕ) (asked : List Asked) (h : HasRead used asked stream) where
+  pub bytes_counted : bytes_used stream ≡ length used
+  bytes_counted = omega (arith, h.reads.position)
+
+  -- a stream that is new, or was read to the end of a request
+  pub all_asked : stage_is_between stream.stage ≡ true → is_within_packet stream ≡ false → AreAsked (offer_of stream) (limit_of stream) used asked [] []
+  all_asked between shut =
+      let stage = between_is stream.stage between in
+      all_whole stream stage (h.onward (ap takes_bytes stage)).sound shut used asked h
+
+  -- what is left of the bytes, and how it ends the session
+  pub as_asked : (s : HostSetting) → offer_of stream ≡ s.offer → limit_of stream ≡ s.limit → AreAsked s.offer s.limit used asked h.left h.rest
+  as_asked s offer limit = record {
+    packets = h.packets;
+    splits = h.reads.splits;
+    requests = subst (λ (o : Offer). AreRequests (IsOne o s.limit) h.packets asked h.left) offer
+        (subst (λ (n : ℕ). AreRequests (IsOne (offer_of stream) n) h.packets asked h.left) limit h.requests);
+  }
+
+  refused_left : (s : HostSetting) (fault : Fault) → fault_in stream.stage ≡ Some fault → offer_of stream ≡ s.offer → limit_of stream ≡ s.limit
+      → IsRefusedAs s.offer s.limit h.left h.rest (length used) fault
+  refused_left s fault is offer limit =
+      subst (λ (o : Offer). IsRefusedAs o s.limit h.left h.rest (length used) fault) offer
+      (subst (λ (n : ℕ). IsRefusedAs (offer_of stream) n h.left h.rest (length used) fault) limit
+      (subst (λ (g : Stage). IsLeftIn g (offer_of stream) (limit_of stream) h.left h.rest (length used)) (failed_is stream.stage fault is) h.left_is))
+
+  module _ (s : HostSetting) (over : Bool) (reported : List Facts) (given : List ℕ) (all : AllAnswered s asked reported given)
+      (offer : offer_of stream ≡ s.offer) (limit : limit_of stream ≡ s.limit) where
+    -- a fault of the bytes
+    pub stops_by : (fault : Fault) → fault_in stream.stage ≡ Some fault → ShowsWhere over fault.kind → StopsBy s used over reported given (Refused fault)
+    stops_by fault is shows = record {
+      asked = asked;
+      left = h.left;
+      rest = h.rest;
+      are_asked = as_asked s offer limit;
+      ends = (shows, refused_left s fault is offer limit);
+      all = all;
+    }
+
+    -- the client left
+    pub left_by_flush : over ≡ false → takes_bytes stream.stage ≡ false → fault_in stream.stage ≡ None → IsHosted s used over reported given Flush
+    left_by_flush goes_on quiet none =
+        let stop = subst (λ (g : Stage). IsLeftIn g (offer_of stream) (limit_of stream) h.left h.rest (length used))
+        (stopped_is stream.stage quiet none) h.left_is in
+        inl (record {
+          before = given;
+          stops = record { asked = asked; left = h.left; rest = h.rest; are_asked = as_asked s offer limit; ends = (goes_on, stop.0, stop.1); all = all };
+          given_is = sym (append-nil given);
+        })
+
+none_left : (p : ℕ) (gs : List Given) (rest : List ℕ) → SpellsAll p [] gs rest → rest ≡ []
+none_left p [] rest h = sym h
+none_left p (g ∷ gs) rest h =
+    let some : g ∷ gs ≢ [] = λ is. cc in
+    absurd (let most = four_bytes p [] (g ∷ gs) rest some h in omega (arith, most))
+
+shut_by : (b : Bool) (r : PacketReader) (gs : List Given) (rest : List ℕ) → is_open r ≡ b → packet_fault r ≡ None → Reads r 0 [] gs rest → is_open r ≡ false
+shut_by true r gs rest is sound h = absurd (some_inside r rest (sound_rest r 0 [] gs rest sound h).0 is (none_left 0 gs rest h.splits.spelled))
+shut_by false r gs rest is sound h = is
+
+-- a stream that has read nothing has no packet open
+pub new_between : {A : Type 0} (stream : RequestStream A) → HasRead [] [] stream → wants_input stream ≡ true → is_within_packet stream ≡ false
+new_between stream h on = shut_by (is_open stream.packets) stream.packets h.packets h.rest refl (h.onward on).sound h.reads
+
+-- a refusal, by the name
+refused_phase : {A : Type 0} (kind : Kind) (fault : Fault) (s : HostSetting) (used : List ℕ) (over : Bool) (reported : List Facts) (given : List ℕ)
+    (stream : RequestStream A) (flush : ℕ) → fault.kind ≡ kind → is_within_packet stream ≡ false → StopsBy s used over reported given (Refused fault)
+    → HostsIn (refused_by kind fault) s used over reported given stream flush
+refused_phase RemoteError fault s used over reported given stream flush is between stops = inl (record {
+  before = given;
+  stops = stops;
+  given_is = sym (append-nil given) ∙ ap (λ (k : Kind). given ++ spelled (refusal_by k fault)) (sym is);
+})
+refused_phase kind fault s used over reported given stream flush is between stops = record {
+  between = between;
+  stops = stops;
+  tail = ap (λ (k : Kind). refusal_by k fault) is;
+}
+
+module _ {A : Type 0} (s : HostSetting) (used : List ℕ) (over : Bool) (reported : List Facts) (given : List ℕ) (stream : RequestStream A) where
+  -- a whole request came
+  pub request_came : (asked : List Asked) (request : Request A) (flush : ℕ) → AllAnswered s asked reported given → over ≡ false
+      → HasRead used (asked ++ asked_of request ∷ []) stream → offer_of stream ≡ s.offer → limit_of stream ≡ s.limit
+      → stage_is_between stream.stage ≡ true → is_within_packet stream ≡ false → flush ≡ bytes_used stream - 4 → IsAtTheEnd used request stream
+      → IsAtRequest s used over (reported ++ nothing_for (asked_of request) ∷ []) given stream flush (IsUntouched (asked_of request))
+  request_came asked request flush all goes_on h offer limit between shut is ends =
+      let q = asked_of request in
+      let long : 4 ≤ length used = four_bytes 0 used (ends.before ++ ends.own) []
+      (subst (λ (own : List Given). ends.before ++ own ≢ []) (sym ends.asks.whole) (not_none ends.before ends.asks.front ends.asks.last))
+      ends.splits.spelled in
+      let counted : bytes_used stream ≡ length used = bytes_counted stream used (asked ++ q ∷ []) h in
+      record {
+        asked = asked ++ q ∷ [];
+        reads = record {
+          reads = h;
+          wants = ap takes_bytes (between_is stream.stage between);
+          offer = offer;
+          limit = limit;
+          goes_on = goes_on;
+        };
+        between = shut;
+        are_asked = subst (λ (o : Offer). AreAsked o s.limit used (asked ++ q ∷ []) [] []) offer
+            (subst (λ (n : ℕ). AreAsked (offer_of stream) n used (asked ++ q ∷ []) [] []) limit (all_asked stream used (asked ++ q ∷ []) h between shut));
+        at = omega (arith, is, counted, long);
+        last = last_begun s asked reported given q (IsUntouched q) all (record { same = refl; nothing = refl; none = refl });
+      }
+
+  -- the advertisement was given
+  pub advertised_now : (old : RequestStream A) (hold : ArrayVec ℕ) → IsLent old hold stream → length hold.items ≤ 65520
+      → hold.items ≡ spelled (advertisement_of s.offer) → IsAdvertising s used over reported given old
+      → IsReading s used over reported (given ++ hold_of stream) stream
+  advertised_now old hold lent fits written h = record {
+    asked = [];
+    reads = lent_reads_on old hold stream lent fits s used over [] h.reads;
+    all = record {
+      answers = [];
+      answered = subst (λ (fs : List Facts). AreAnswersBy s.offer.format [] fs []) (sym h.none_reported) refl;
+      given_is = ap (λ (l : List ℕ). l ++ hold_of stream) h.none_given ∙ lent_bytes old hold stream lent ∙ written
+          ∙ ap spelled (ap (λ (b : Bool). if b then advertisement_of s.offer else []) (sym h.advertises) ∙ sym (append-nil (advertised s)));
+    };
+  }
+
+  -- the error packet of a fault of the input was given
+  pub fault_reported : (old : RequestStream A) (hold : ArrayVec ℕ) (fault : Fault) → IsLent old hold stream → hold.items ≡ spelling_of (error_packet fault)
+      → IsRefusing s used over reported given old fault → IsHosted s used over reported (given ++ hold_of stream) (Refused fault)
+  fault_reported old hold fault lent written h = inl (record {
+    before = given;
+    stops = h.stops;
+    given_is = ap (λ (l : List ℕ). given ++ l) (lent_bytes old hold stream lent ∙ written
+        ∙ sym (append-nil (spelling_of (error_packet fault))) ∙ ap spelled (sym h.tail));
+  })
+
+  module _ (flush : ℕ) (P : Asked → Facts → List Pkt → Type 0) (h : IsAtRequest s used over reported given stream flush P) where
+    -- the answer is whole
+    pub request_whole : ((q : Asked) (f : Facts) (front : List Pkt) → P q f front → IsAnswerBy whole s.offer.format q f front)
+        → IsReading s used over reported given stream
+    request_whole is = record { asked = h.asked; reads = h.reads; all = last_whole s h.asked reported given P P h.last is }
+
+    -- the host refused it
+    pub request_refused : (kind : Kind) → ((q : Asked) (f : Facts) (front : List Pkt) → P q f front
+        → IsTailBy kind s.offer.format (record { kind = kind; offset = flush }) q f front)
+        → IsHosted s used over reported given (ended_by kind flush)
+    request_refused kind is = inr (
+      h.reads.goes_on,
+      record {
+        asked = h.asked;
+        are_asked = h.are_asked;
+        at = h.at;
+        last = subst (λ (fs : List Facts). AtLast s h.asked fs given (IsTailBy kind s.offer.format (record { kind = kind; offset = flush })))
+            (same_last reported) (last_goes s h.asked reported given P (IsTailBy kind s.offer.format (record { kind = kind; offset = flush }))
+            (λ f. f) h.last is);
+      },
+    )
+
+-- the error packet for a request that asks for what the store lacks
+pub lacking_tail : (kind : Kind) (format : Format) (fault : Fault) (q : Asked) (f : Facts) (front : List Pkt) → IsLacking kind q f → front ≡ []
+    → IsTailBy kind format fault q f (front ++ error_packet fault ∷ [])
+lacking_tail NotOurs format fault q f front lacks none = inl (lacks, ap (λ (l : List Pkt). l ++ error_packet fault ∷ []) none)
+lacking_tail UnknownRef format fault q f front lacks none = (lacks, ap (λ (l : List Pkt). l ++ error_packet fault ∷ []) none)
+lacking_tail kind format fault (fetch q) (of_fetch a t) front lacks none = absurd lacks
+lacking_tail kind format fault (fetch q) (of_references t) front lacks none = absurd lacks
+lacking_tail kind format fault (fetch q) (of_sizes t) front lacks none = absurd lacks
+lacking_tail kind format fault (ls_refs q) f front lacks none = absurd lacks
+lacking_tail kind format fault (object_info q) f front lacks none = absurd lacks
+
+-- ---- what a report does
+
+unasked : {A : Type 0} (report : Report) (phase : Phase A) → ((answer : HostAnswer A) → phase ≡ Answering answer → ⊥) → HasReason report phase NotAsked
+unasked report Advertising other = refl
+unasked report Reading other = refl
+unasked report (Whole request) other = refl
+unasked report (Answering answer) other = absurd (other answer refl)
+unasked report (Refusing fault) other = refl
+unasked report (Ended outcome) other = refl
+
+pub not_asked : {A : Type 0} (report : Report) (old : HostServer A) → ((answer : HostAnswer A) → old.phase ≡ Answering answer → ⊥)
+    → ReportsHost report old NotAsked old
+not_asked report old other s used over facts given h = (
+  subst (λ (fs : List Facts). Hosts s used over fs (given ++ []) old) (sym (same_last facts))
+      (subst (λ (bytes : List ℕ). Hosts s used over facts bytes old) (sym (append-nil given)) h),
+  unasked report old.phase other,
+  tt,
+)
+
+module _ {A : Type 0} (s : HostSetting) (used : List ℕ) (over : Bool) (facts : List Facts) (given : List ℕ) (flush : ℕ) (old new : RequestStream A)
+    (hold : ArrayVec ℕ) (lent : IsLent old hold new) (fits : length hold.items ≤ 65520) (a b : HostAnswer A)
+    (h : IsAtRequest s used over facts given old flush (IsAnswering s.offer.format a)) where
+  pub answer_gives : (with : Facts → Facts) → GivesOn with a hold.items b
+      → IsAtRequest s used over (with_last with facts) (given ++ hold_of new) new flush (IsAnswering s.offer.format b)
+  answer_gives with gives = request_gives old hold new lent fits s used over facts given flush (IsAnswering s.offer.format a) (IsAnswering s.offer.format b)
+      h with (gives s.offer.format)
+
+  pub answer_goes : (with : Facts → Facts) → GoesOn with a b
+      → IsAtRequest s used over (with_last with facts) given new flush (IsAnswering s.offer.format b)
+  answer_goes with goes = request_goes old hold new lent fits s used over facts given flush (IsAnswering s.offer.format a) (IsAnswering s.offer.format b)
+      h with (goes s.offer.format)
+
+  goes_to : (with : Facts → Facts) → GoesOn with a b
+      → IsAtRequest s used over (with_last with facts) (given ++ []) new flush (IsAnswering s.offer.format b)
+  goes_to with goes = subst (λ (bytes : List ℕ). IsAtRequest s used over (with_last with facts) bytes new flush (IsAnswering s.offer.format b))
+      (sym (append-nil given)) (answer_goes with goes)
+
+  pub report_done : (report : Report) (r : HostReported) → ReportsBy report a r hold.items b
+      → IsAtRequest s used over (with_last (with_reported r report) facts) (given ++ given_with r new) new flush (IsAnswering s.offer.format b)
+      × HasReason report (Answering a) r × EndsHost report r (Answering b)
+  report_done report WasGiven done = (answer_gives (with_report report) done.0, tt, done.1)
+  report_done report Taken goes = (goes_to (with_report report) goes, tt, tt)
+  report_done report Hidden goes = (goes_to (with_hidden report) goes, tt, tt)
+  report_done report NotAsked done = (goes_to (λ f. f) done.0, done.1, tt)
+  report_done report MixedFormats done = (goes_to (λ f. f) done.0, done.1, tt)
+  report_done report Unsorted done = (goes_to (λ f. f) done.0, done.1, tt)
+  report_done report HeadTwice done = (goes_to (λ f. f) done.0, done.1, tt)
+  report_done report OutOfMemory done = (goes_to (λ f. f) done.0, done.1, tt)
+
+  -- a packet of the answer
+  pub packet_done : GivesOn (λ f. f) a hold.items b
+      → IsAtRequest s used over facts (given ++ hold_of new) new flush (IsAnswering s.offer.format b)
+  packet_done gives = subst (λ (fs : List Facts). IsAtRequest s used over fs (given ++ hold_of new) new flush (IsAnswering s.offer.format b))
+      (same_last facts) (answer_gives (λ f. f) gives)
+
+  -- or something that it needs
+  pub need_done : GoesOn (λ f. f) a b → IsAtRequest s used over facts given new flush (IsAnswering s.offer.format b)
+  need_done goes = subst (λ (fs : List Facts). IsAtRequest s used over fs given new flush (IsAnswering s.offer.format b)) (same_last facts)
+      (answer_goes (λ f. f) goes)
+
+  -- the answer is whole, or broke off, or the store lacks what is asked for
+  same_done : IsAtRequest s used over facts given new flush (IsAnswering s.offer.format a)
+  same_done = subst (λ (fs : List Facts). IsAtRequest s used over fs given new flush (IsAnswering s.offer.format a)) (same_last facts)
+      (request_goes old hold new lent fits s used over facts given flush (IsAnswering s.offer.format a) (IsAnswering s.offer.format a) h (λ f. f)
+      (λ q f front x. x))
+
+  pub whole_done : IsGiven whole a → IsReading s used over facts given new
+  whole_done is = request_whole s used over facts given new flush (IsAnswering s.offer.format a) same_done (is s.offer.format)
+
+  pub broken_done : IsGiven broken a → IsHosted s used over facts given (ended_by PackSource flush)
+  broken_done is = request_refused s used over facts given new flush (IsAnswering s.offer.format a) same_done PackSource
+      (λ q f front x. is s.offer.format q f front x)
+
+  pub lacking_done : (kind : Kind) → LacksIt kind a → hold.items ≡ spelling_of (error_packet (record { kind = kind; offset = flush }))
+      → IsHosted s used over facts (given ++ hold_of new) (ended_by kind flush)
+  lacking_done kind lacks written =
+      let fault : Fault = record { kind = kind; offset = flush } in
+      inr (
+        h.reads.goes_on,
+        record {
+          asked = h.asked;
+          are_asked = h.are_asked;
+          at = h.at;
+          last = subst (λ (bytes : List ℕ). AtLast s h.asked facts (given ++ bytes) (IsTailBy kind s.offer.format fault)) (sym (lent_bytes old hold new lent))
+              (subst (λ (fs : List Facts). AtLast s h.asked fs (given ++ hold.items) (IsTailBy kind s.offer.format fault)) (same_last facts)
+              (last_gives s h.asked facts given (IsAnswering s.offer.format a) (IsTailBy kind s.offer.format fault) (λ f. f) hold.items h.last
+              (λ q f front x. let (lack, none) = lacks s.offer.format q f front x in
+              (error_packet fault, written, lacking_tail kind s.offer.format fault q f front lack none))));
+        },
+      )
+
+-- the host refused the request that came by a text
+pub text_refuses : {A : Type 0} (s : HostSetting) (used : List ℕ) (over : Bool) (facts : List Facts) (given : List ℕ) (flush : ℕ) (old new : RequestStream A)
+    (hold : ArrayVec ℕ) (lent : IsLent old hold new) (request : Request A) (text : List ℕ)
+    → IsAtRequest s used over facts given old flush (IsUntouched (asked_of request)) → hold.items ≡ spelling_of (refusal_packet text)
+    → IsHosted s used over facts (given ++ hold_of new) (ended_by NotOurs flush)
+text_refuses s used over facts given flush old new hold lent request text h written =
+    let fault : Fault = record { kind = NotOurs; offset = flush } in
+    inr (
+      h.reads.goes_on,
+      record {
+        asked = h.asked;
+        are_asked = h.are_asked;
+        at = h.at;
+        last = subst (λ (bytes : List ℕ). AtLast s h.asked facts (given ++ bytes) (IsTailBy NotOurs s.offer.format fault)) (sym (lent_bytes old hold new lent))
+            (subst (λ (fs : List Facts). AtLast s h.asked fs (given ++ hold.items) (IsTailBy NotOurs s.offer.format fault)) (same_last facts)
+            (last_gives s h.asked facts given (IsUntouched (asked_of request)) (IsTailBy NotOurs s.offer.format fault) (λ f. f) hold.items h.last
+            (λ q f front x. (
+              refusal_packet text,
+              written,
+              inr (text, x.nothing, ap (λ (l : List Pkt). l ++ refusal_packet text ∷ []) x.none),
+            ))));
+      },
+    )
+
+touched : {A : Type 0} (format : Format) (request : Request A) (answer : HostAnswer A) (q : Asked) (f : Facts) (front : List Pkt)
+    → IsUntouched (asked_of request) q f front
+    → IsAnswering format answer (asked_of request) (nothing_for (asked_of request)) [] → IsAnswering format answer q f front
+touched format request answer q f front h begins =
+    subst (λ (x : Asked). IsAnswering format answer x f front) h.same
+    (subst (λ (x : Facts). IsAnswering format answer (asked_of request) x front) (ap nothing_for h.same ∙ sym h.nothing)
+    (subst (λ (x : List Pkt). IsAnswering format answer (asked_of request) (nothing_for (asked_of request)) x) (sym h.none) begins))
+
+-- the request that came is answered from now on
+pub accepts : {A : Type 0} (s : HostSetting) (used : List ℕ) (over : Bool) (facts : List Facts) (given : List ℕ) (flush : ℕ) (stream : RequestStream A)
+    (request : Request A) (answer : HostAnswer A) → IsAnswering s.offer.format answer (asked_of request) (nothing_for (asked_of request)) []
+    → IsAtRequest s used over facts given stream flush (IsUntouched (asked_of request))
+    → IsAtRequest s used over facts given stream flush (IsAnswering s.offer.format answer)
+accepts s used over facts given flush stream request answer begins h = record {
+  asked = h.asked;
+  reads = h.reads;
+  between = h.between;
+  are_asked = h.are_asked;
+  at = h.at;
+  last = subst (λ (fs : List Facts). AtLast s h.asked fs given (IsAnswering s.offer.format answer)) (same_last facts)
+      (last_goes s h.asked facts given (IsUntouched (asked_of request)) (IsAnswering s.offer.format answer) (λ f. f) h.last
+      (λ q f front x. touched s.offer.format request answer q f front x begins));
+}
+
+-- ---- what bytes bring to a server that reads
+module _ {A : Type 0} (s : HostSetting) (so_far : List ℕ) (over : Bool) (reported : List Facts) (given : List ℕ) (old new : RequestStream A) (piece : List ℕ)
+    (read : ReadRequest A) (feeds : StreamFeeds old piece read new) (h : IsReading s so_far over reported given old) where
+  reads_now : HasRead (so_far ++ take read.used piece) (h.asked ++ asked_by read.got) new
+  reads_now = feeds.reads so_far h.asked h.reads.reads
+
+  same_asked : asked_by read.got ≡ [] → HasRead (so_far ++ take read.used piece) h.asked new
+  same_asked none = subst (λ (qs : List Asked). HasRead (so_far ++ take read.used piece) qs new) (ap (λ (l : List Asked). h.asked ++ l) none
+      ∙ append-nil h.asked)
+      reads_now
+
+  none_begun : AllAnswered s h.asked (reported ++ []) given
+  none_begun = subst (λ (fs : List Facts). AllAnswered s h.asked fs given) (sym (append-nil reported)) h.all
+
+  pub brought_more : read.got ≡ More → IsReading s (so_far ++ take read.used piece) over (reported ++ []) given new
+  brought_more is = record {
+    asked = h.asked;
+    reads = record {
+      reads = same_asked (ap asked_by is);
+      wants = (subst (λ (got : ReadGot A). Leaves got read.used piece old new) is feeds.leaves h.reads.wants).1;
+      offer = feeds.offer ∙ h.reads.offer;
+      limit = feeds.limit ∙ h.reads.limit;
+      goes_on = h.reads.goes_on;
+    };
+    all = none_begun;
+  }
+
+  pub brought_request : (request : Request A) (flush : ℕ) → read.got ≡ RequestGot request → flush ≡ bytes_used new - 4
+      → IsAtRequest s (so_far ++ take read.used piece) over (reported ++ nothing_for (asked_of request) ∷ []) given new flush (IsUntouched (asked_of request))
+  brought_request request flush is at =
+      let leaves = subst (λ (got : ReadGot A). Leaves got read.used piece old new) is feeds.leaves in
+      request_came s (so_far ++ take read.used piece) over reported given new h.asked request flush h.all h.reads.goes_on
+      (subst (λ (got : ReadGot A). HasRead (so_far ++ take read.used piece) (h.asked ++ asked_by got) new) is reads_now)
+      (feeds.offer ∙ h.reads.offer) (feeds.limit ∙ h.reads.limit) leaves.1 leaves.2 at
+      (subst (λ (got : ReadGot A). EndsWith got (so_far ++ take read.used piece) new) is (feeds.counts so_far h.asked h.reads.reads))
+
+  pub brought_stop : read.got ≡ StopGot → IsHosted s (so_far ++ take read.used piece) over (reported ++ []) given Flush
+  brought_stop is =
+      let leaves = subst (λ (got : ReadGot A). Leaves got read.used piece old new) is feeds.leaves in
+      left_by_flush new (so_far ++ take read.used piece) h.asked (same_asked (ap asked_by is)) s over (reported ++ []) given none_begun
+      (feeds.offer ∙ h.reads.offer) (feeds.limit ∙ h.reads.limit) h.reads.goes_on leaves.1 leaves.2
+
+  pub brought_fault : (fault : Fault) → read.got ≡ FailedGot fault → StopsBy s (so_far ++ take read.used piece) over (reported ++ []) given (Refused fault)
+  brought_fault fault is =
+      let leaves = subst (λ (got : ReadGot A). Leaves got read.used piece old new) is feeds.leaves in
+      let shown = feeds.news fault (no_fault old.stage h.reads.wants) is in
+      stops_by new (so_far ++ take read.used piece) h.asked (same_asked (ap asked_by is)) s over (reported ++ []) given none_begun
+      (feeds.offer ∙ h.reads.offer) (feeds.limit ∙ h.reads.limit) fault leaves
+      (subst (λ (b : Bool). ShowsWhere b fault.kind) (sym h.reads.goes_on) shown.not_the_end)
+
+pub is_reading_now : {A : Type 0} (server : HostServer A) → reads_on server ≡ true → server.phase ≡ Reading
+is_reading_now server is = reading_is server.phase is
+
+-- no request began
+none_came : (A : Type 0) (kind : Kind) (fault : Fault) → begun_in {A = A} Reading (refused_by kind fault) ≡ []
+none_came A RemoteError fault = refl
+none_came A kind fault = refl
+
+refused_quiet : (A : Type 0) (kind : Kind) (fault : Fault) → is_reading {A = A} (refused_by kind fault) ≡ false
+refused_quiet A RemoteError fault = refl
+refused_quiet A kind fault = refl
+
+asked_is : {A : Type 0} (phase : Phase A) → is_asked phase ≡ true → (request : Request A) × (phase ≡ Whole request)
+asked_is Advertising is = absurd (cc)
+asked_is Reading is = absurd (cc)
+asked_is (Whole request) is = (request, refl)
+asked_is (Answering answer) is = absurd (cc)
+asked_is (Refusing fault) is = absurd (cc)
+asked_is (Ended outcome) is = absurd (cc)
+
+pub on_some : {X : Type 0} (o : Option X) (x : X) (P : Type 0) → o ≡ Some x → OnSome o P → P
+on_some None x P is h = absurd (cc)
+on_some (Some y) x P is h = h
+
+pub answering_no : {A : Type 0} (phase : Phase A) → is_answering phase ≡ true → ((answer : HostAnswer A) → phase ≡ Answering answer → ⊥) → ⊥
+answering_no Advertising is other = cc
+answering_no Reading is other = cc
+answering_no (Whole request) is other = cc
+answering_no (Answering answer) is other = other answer refl
+answering_no (Refusing fault) is other = cc
+answering_no (Ended outcome) is other = cc
+
+-- ---- a server whose input is refused
+module _ {A : Type 0} (mid new : HostServer A) (fault : Fault) (stopped : StopsHost fault mid new) where
+  pub quiet_now : reads_on new ≡ false
+  quiet_now = ap is_reading stopped.phase ∙ refused_quiet A fault.kind fault
+
+  pub stopped_hosts : (s : HostSetting) (used : List ℕ) (over : Bool) (reported : List Facts) (given : List ℕ) → mid.offer ≡ s.offer → mid.limits.args ≡ s.limit
+      → StopsBy s used over reported given (Refused fault) → Hosts s used over reported given new
+  stopped_hosts s used over reported given offer limit stops = record {
+    offer = stopped.offer ∙ offer;
+    limit = ap (λ (l : Limits). l.args) stopped.limits ∙ limit;
+    stands = subst (λ (p : Phase A). HostsIn p s used over reported given new.stream new.flush) (sym stopped.phase)
+        (refused_phase fault.kind fault s used over reported given new.stream new.flush refl (new_between new.stream stopped.anew stopped.wants) stops);
+  }
+
+  pub none_now : (old : HostServer A) (reported : List Facts) → old.phase ≡ Reading → reported ++ begun_in old.phase new.phase ≡ reported ++ []
+  none_now old reported reading = ap (λ (l : List Facts). reported ++ l)
+      (ap (λ (p : Phase A). begun_in p new.phase) reading ∙ ap (begun_in Reading) stopped.phase ∙ none_came A fault.kind fault)
+
+-- the input ended inside a request
+pub cut_off : {A : Type 0} (s : HostSetting) (used : List ℕ) (over : Bool) (reported : List Facts) (given : List ℕ) (old new : RequestStream A) (fault : Fault)
+    → IsReading s used over reported given old → Closes (Err fault) old new → StopsBy s used true reported given (Refused fault)
+cut_off s used over reported given old new fault h closes =
+    stops_by new used h.asked (closes.4 used h.asked h.reads.reads) s true reported given h.all (closes.2 ∙ h.reads.offer) (closes.3 ∙ h.reads.limit) fault
+    closes.1 closes.0
+
+-- a request that is accepted
+accepted_by : {A : Type 0} (phase new : Phase A) (format : Format) → is_asked phase ≡ true → IsAccepted format phase new → is_asked new ≡ false
+accepted_by (Whole request) (Answering answer) format is begins = refl
+accepted_by (Whole request) Advertising format is begins = absurd begins
+accepted_by (Whole request) Reading format is begins = absurd begins
+accepted_by (Whole request) (Whole other) format is begins = absurd begins
+accepted_by (Whole request) (Refusing fault) format is begins = absurd begins
+accepted_by (Whole request) (Ended outcome) format is begins = absurd begins
+accepted_by Advertising new format is begins = absurd (cc)
+accepted_by Reading new format is begins = absurd (cc)
+accepted_by (Answering answer) new format is begins = absurd (cc)
+accepted_by (Refusing fault) new format is begins = absurd (cc)
+accepted_by (Ended outcome) new format is begins = absurd (cc)
+
+accepted_in : {A : Type 0} (phase new : Phase A) (s : HostSetting) (used : List ℕ) (over : Bool) (facts : List Facts) (given : List ℕ)
+    (stream : RequestStream A)
+    (flush : ℕ) → is_asked phase ≡ true → IsAccepted s.offer.format phase new → HostsIn phase s used over facts given stream flush
+    → HostsIn new s used over facts given stream flush
+accepted_in (Whole request) (Answering answer) s used over facts given stream flush is begins h =
+    accepts s used over facts given flush stream request answer begins h
+accepted_in (Whole request) Advertising s used over facts given stream flush is begins h = absurd begins
+accepted_in (Whole request) Reading s used over facts given stream flush is begins h = absurd begins
+accepted_in (Whole request) (Whole other) s used over facts given stream flush is begins h = absurd begins
+accepted_in (Whole request) (Refusing fault) s used over facts given stream flush is begins h = absurd begins
+accepted_in (Whole request) (Ended outcome) s used over facts given stream flush is begins h = absurd begins
+accepted_in Advertising new s used over facts given stream flush is begins h = absurd (cc)
+accepted_in Reading new s used over facts given stream flush is begins h = absurd (cc)
+accepted_in (Answering answer) new s used over facts given stream flush is begins h = absurd (cc)
+accepted_in (Refusing fault) new s used over facts given stream flush is begins h = absurd (cc)
+accepted_in (Ended outcome) new s used over facts given stream flush is begins h = absurd (cc)
+
+pub accepted_hosts : {A : Type 0} (old : HostServer A) (replaced new : Phase A) → replaced ≡ old.phase → is_asked old.phase ≡ true
+    → IsAccepted old.offer.format replaced new
+    → (is_asked new ≡ false) × ((s : HostSetting) (used : List ℕ) (over : Bool) (facts : List Facts) (given : List ℕ) → Hosts s used over facts given old
+    → HostsIn new s used over facts given old.stream old.flush)
+accepted_hosts old replaced new same is begins =
+    let from = subst (λ (p : Phase _). IsAccepted old.offer.format p new) same begins in (
+      accepted_by old.phase new old.offer.format is from,
+      λ s used over facts given h.
+          accepted_in old.phase new s used over facts given old.stream old.flush is
+          (subst (λ (o : Offer). IsAccepted o.format old.phase new) h.offer from) h.stands,
+    )
+
+-- a request that the host refuses by a text
+pub refuses_hosts : {A : Type 0} (s : HostSetting) (used : List ℕ) (over : Bool) (facts : List Facts) (given : List ℕ) (old : HostServer A)
+    (new : RequestStream A) (hold : ArrayVec ℕ) (lent : IsLent old.stream hold new) (text : List ℕ) → is_asked old.phase ≡ true
+    → hold.items ≡ spelling_of (refusal_packet text) → Hosts s used over facts given old
+    → IsHosted s used over facts (given ++ hold_of new) (ended_by NotOurs old.flush)
+refuses_hosts s used over facts given old new hold lent text is written h =
+    let (request, phase) = asked_is old.phase is in
+    text_refuses s used over facts given old.flush old.stream new hold lent request text
+    (subst (λ (p : Phase _). HostsIn p s used over facts given old.stream old.flush) phase h.stands) written
+
+-- ---- what the bytes of an open packet leave for its steps
+
+credit_lent : (r : PacketReader) (hold : ArrayVec ℕ) (b : Bool) (e : is_open_in r.state ≡ b) → packet_credit (with_hold_by r hold b e) ≡ packet_credit r
+credit_lent r hold true e = refl
+credit_lent r hold false e = refl
+
+pub lent_credit : {A : Type 0} (old : RequestStream A) (hold : ArrayVec ℕ) (new : RequestStream A) → IsLent old hold new
+    → stream_credit new ≡ stream_credit old
+lent_credit old hold new lent = ap packet_credit lent.packets ∙ credit_lent old.packets hold (is_open_in old.packets.state) refl
+
+credit_most : {A : Type 0} (phase : Phase A) (stream : RequestStream A) → credit_in phase stream ≤ stream_credit stream
+credit_most Advertising stream = omega arith
+credit_most Reading stream = omega arith
+credit_most (Whole request) stream = omega arith
+credit_most (Answering answer) stream = omega arith
+credit_most (Refusing fault) stream = omega arith
+credit_most (Ended outcome) stream = omega arith
+
+pub credit_falls : {A : Type 0} (phase : Phase A) (old : HostServer A) (new : RequestStream A) → credit_of old ≡ stream_credit old.stream
+    → stream_credit new ≡ stream_credit old.stream → credit_in phase new ≤ credit_of old
+credit_falls phase old new all same = omega (arith, all, same, credit_most phase new)
+
+pub answering_credit : {A : Type 0} (old : HostServer A) (answer : HostAnswer A) → old.phase ≡ Answering answer → credit_of old ≡ stream_credit old.stream
+answering_credit old answer is = ap (λ (p : Phase _). credit_in p old.stream) is
+
+pub advertising_credit : {A : Type 0} (old : HostServer A) → old.phase ≡ Advertising → credit_of old ≡ stream_credit old.stream
+advertising_credit old is = ap (λ (p : Phase _). credit_in p old.stream) is
+
+pub asked_credit : {A : Type 0} (old : HostServer A) → is_asked old.phase ≡ true → credit_of old ≡ stream_credit old.stream
+asked_credit old is =
+    let (request, phase) = asked_is old.phase is in
+    ap (λ (p : Phase _). credit_in p old.stream) phase
+
+refused_credit : (A : Type 0) (kind : Kind) (fault : Fault) (stream : RequestStream A) → credit_in (refused_by kind fault) stream ≡ 0
+refused_credit A RemoteError fault stream = refl
+refused_credit A kind fault stream = refl
+
+pub stopped_credit : {A : Type 0} (mid new : HostServer A) (fault : Fault) → StopsHost fault mid new → credit_of new ≡ 0
+stopped_credit {A = A} mid new fault stopped = ap (λ (p : Phase A). credit_in p new.stream) stopped.phase ∙ refused_credit A fault.kind fault new.stream
+
+none_open : (state : State) (field : ℕ) → is_open_in state ≡ false → come_in state field ≡ 0
+none_open NotOpen field shut = refl
+none_open (Gathering count) field shut = absurd (cc)
+none_open (Passing left) field shut = absurd (cc)
+none_open (Failing fault) field shut = refl
+
+no_credit : {A : Type 0} (stream : RequestStream A) → is_within_packet stream ≡ false → stream_credit stream ≡ 0
+no_credit stream shut = ap (λ (n : ℕ). 56 * n) (none_open stream.packets.state stream.packets.field shut)
+
+pub first_credit : {A : Type 0} (advertise : Bool) (stream : RequestStream A) → HasRead [] [] stream → wants_input stream ≡ true
+    → credit_in (first_phase {A = A} advertise) stream ≡ 0
+first_credit true stream reads wants = no_credit stream (new_between stream reads wants)
+first_credit false stream reads wants = no_credit stream (new_between stream reads wants)

@@ -1,0 +1,124 @@
+use Rattle.std.proofs.Common.{arith, ◌≤◌, ◌++◌, length, refl, subst, sym}
+use Rattle.git_msg.specs.Machine.RequestStreams.{hold_of}
+use Rattle.git_server.specs.declared.outcome.Outcome.{Outcome}
+use Rattle.git_host.specs.HostSessions.{IsHosted}
+use Rattle.git_host.specs.HostAnswers.{StepsAnswer}
+use Rattle.git_host.specs.HostServer.{HostsIn}
+use Rattle.git_host.specs.declared.host_answer.AnswerStep.{AnswerStep}
+use Rattle.git_host.specs.declared.host_server.Phase.{Phase}
+use Rattle.git_host.specs.declared.host_server.Phase.TheVariants.{Answering, Reading}
+use Rattle.git_host.proofs.HostMoves.{answering_no, broken_done, lacking_done, need_done, on_some, packet_done, whole_done, answering_credit, credit_falls}
+use Rattle.git_host.proofs.HostMoves.{lent_credit}
+use Rattle.git_host.proofs.host_server.HostServer.answer.Goals as goal
+
+pub returns-in_default-clause-steps : goal.returns-in_default-clause-steps
+returns-in_default-clause-steps g c = absurd (answering_no c.args.self.now.phase c.requires c.in_default.not-Answering)
+
+pub returns-in-Packet-clause-steps : goal.returns-in-Packet-clause-steps
+returns-in-Packet-clause-steps g c s used over reported given h =
+    let old = c.args.self.now in
+    let w = c.next-step.new.hold in
+    let lent = on_some c.lend.result c.in-Some.hold _ c.in-Some.is (c.lend.follows.holds w) in
+    let few : length w.items ≤ 65520 = omega (arith, c.len.ensures.value, c.len.ensures.fits) in
+    let stands = subst (λ (p : Phase g.row.A.Denot). HostsIn p s used over reported given old.stream old.flush) c.in-Answering.is h.stands in
+    let steps = subst (λ (x : AnswerStep). StepsAnswer c.in-Answering.answer x c.next-step.new.hold.items c.next-step.new.self) c.in-Packet.is
+    c.next-step.ensures in
+    record {
+      offer = h.offer;
+      limit = h.limit;
+      stands = packet_done s used over reported given old.flush old.stream
+          (c.lend.follows.lender w) w lent few c.in-Answering.answer c.next-step.new.self stands steps;
+    }
+
+pub returns-in-Need-clause-steps : goal.returns-in-Need-clause-steps
+returns-in-Need-clause-steps g c s used over reported given h =
+    let old = c.args.self.now in
+    let w = c.next-step.new.hold in
+    let lent = on_some c.lend.result c.in-Some.hold _ c.in-Some.is (c.lend.follows.holds w) in
+    let few : length w.items ≤ 65520 = omega (arith, c.len.ensures.value, c.len.ensures.fits) in
+    let stands = subst (λ (p : Phase g.row.A.Denot). HostsIn p s used over reported given old.stream old.flush) c.in-Answering.is h.stands in
+    let steps = subst (λ (x : AnswerStep). StepsAnswer c.in-Answering.answer x c.next-step.new.hold.items c.next-step.new.self) c.in-Need.is
+    c.next-step.ensures in (
+      record {
+        offer = h.offer;
+        limit = h.limit;
+        stands = need_done s used over reported given old.flush old.stream
+            (c.lend.follows.lender w) w lent few c.in-Answering.answer c.next-step.new.self stands steps.0;
+      },
+      steps.1,
+    )
+
+pub returns-in-Whole-clause-steps : goal.returns-in-Whole-clause-steps
+returns-in-Whole-clause-steps g c s used over reported given h =
+    let old = c.args.self.now in
+    let w = c.next-step.new.hold in
+    let lent = on_some c.lend.result c.in-Some.hold _ c.in-Some.is (c.lend.follows.holds w) in
+    let few : length w.items ≤ 65520 = omega (arith, c.len.ensures.value, c.len.ensures.fits) in
+    let stands = subst (λ (p : Phase g.row.A.Denot). HostsIn p s used over reported given old.stream old.flush) c.in-Answering.is h.stands in
+    let steps = subst (λ (x : AnswerStep). StepsAnswer c.in-Answering.answer x c.next-step.new.hold.items c.next-step.new.self) c.in-Whole.is
+    c.next-step.ensures in (
+      record {
+        offer = h.offer;
+        limit = h.limit;
+        stands = whole_done s used over reported given old.flush old.stream
+            (c.lend.follows.lender w) w lent few c.in-Answering.answer c.next-step.new.self stands steps;
+      },
+      tt,
+    )
+
+pub returns-in-Broken-clause-steps : goal.returns-in-Broken-clause-steps
+returns-in-Broken-clause-steps g c s used over reported given h =
+    let old = c.args.self.now in
+    let w = c.next-step.new.hold in
+    let lent = on_some c.lend.result c.in-Some.hold _ c.in-Some.is (c.lend.follows.holds w) in
+    let few : length w.items ≤ 65520 = omega (arith, c.len.ensures.value, c.len.ensures.fits) in
+    let stands = subst (λ (p : Phase g.row.A.Denot). HostsIn p s used over reported given old.stream old.flush) c.in-Answering.is h.stands in
+    let steps = subst (λ (x : AnswerStep). StepsAnswer c.in-Answering.answer x c.next-step.new.hold.items c.next-step.new.self) c.in-Broken.is
+    c.next-step.ensures in (
+      record {
+        offer = h.offer;
+        limit = h.limit;
+        stands = subst (λ (o : Outcome). IsHosted s used over reported given o) (sym c.ended_by-outcome.ensures)
+            (broken_done s used over reported given old.flush old.stream
+            (c.lend.follows.lender w) w lent few c.in-Answering.answer c.next-step.new.self stands steps);
+      },
+      refl,
+    )
+
+pub returns-in-Refused-clause-steps : goal.returns-in-Refused-clause-steps
+returns-in-Refused-clause-steps g c s used over reported given h =
+    let old = c.args.self.now in
+    let w = c.put_error.new.hold in
+    let lent = on_some c.lend.result c.in-Some.hold _ c.in-Some.is (c.lend.follows.holds w) in
+    let few : length w.items ≤ 65520 = omega (arith, c.len-in-Refused.ensures.value, c.len-in-Refused.ensures.fits) in
+    let stands = subst (λ (p : Phase g.row.A.Denot). HostsIn p s used over reported given old.stream old.flush) c.in-Answering.is h.stands in
+    let steps = subst (λ (x : AnswerStep). StepsAnswer c.in-Answering.answer x c.next-step.new.hold.items c.next-step.new.self) c.in-Refused.is
+    c.next-step.ensures in
+    record {
+      offer = h.offer;
+      limit = h.limit;
+      stands = subst (λ (o : Outcome). IsHosted s used over reported (given ++ hold_of (c.lend.follows.lender w)) o) (sym c.ended_by.ensures)
+          (lacking_done s used over reported given old.flush old.stream
+          (c.lend.follows.lender w) w lent few c.in-Answering.answer c.next-step.new.self stands c.in-Refused.kind steps c.put_error.ensures);
+    }
+
+pub returns-in-Packet-clause-credit : goal.returns-in-Packet-clause-credit
+returns-in-Packet-clause-credit g c =
+    let w = c.next-step.new.hold in
+    let lent = on_some c.lend.result c.in-Some.hold _ c.in-Some.is (c.lend.follows.holds w) in
+    credit_falls (Answering c.next-step.new.self) c.args.self.now (c.lend.follows.lender w)
+    (answering_credit c.args.self.now c.in-Answering.answer c.in-Answering.is) (lent_credit c.args.self.now.stream w (c.lend.follows.lender w) lent)
+
+pub returns-in-Need-clause-credit : goal.returns-in-Need-clause-credit
+returns-in-Need-clause-credit g c =
+    let w = c.next-step.new.hold in
+    let lent = on_some c.lend.result c.in-Some.hold _ c.in-Some.is (c.lend.follows.holds w) in
+    credit_falls (Answering c.next-step.new.self) c.args.self.now (c.lend.follows.lender w)
+    (answering_credit c.args.self.now c.in-Answering.answer c.in-Answering.is) (lent_credit c.args.self.now.stream w (c.lend.follows.lender w) lent)
+
+pub returns-in-Whole-clause-credit : goal.returns-in-Whole-clause-credit
+returns-in-Whole-clause-credit g c =
+    let w = c.next-step.new.hold in
+    let lent = on_some c.lend.result c.in-Some.hold _ c.in-Some.is (c.lend.follows.holds w) in
+    credit_falls Reading c.args.self.now (c.lend.follows.lender w) (answering_credit c.args.self.now c.in-Answering.answer c.in-Answering.is)
+    (lent_credit c.args.self.now.stream w (c.lend.follows.lender w) lent)

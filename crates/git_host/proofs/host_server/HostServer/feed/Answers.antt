@@ -1,0 +1,72 @@
+use Rattle.std.proofs.Common.{arith, List, [], ◌++◌, subst, sym, take, ◌∙◌}
+use Rattle.git_msg.specs.declared.requests.Request.{Request}
+use Rattle.git_server.specs.declared.outcome.Outcome.TheVariants.{Flush}
+use Rattle.git_host.specs.HostSessions.{Facts}
+use Rattle.git_host.specs.HostServer.{Hosts, HostsIn, begun_in}
+use Rattle.git_host.specs.declared.host_server.Phase.{Phase}
+use Rattle.git_host.specs.declared.host_server.Phase.TheVariants.{Asked as Whole, Ended}
+use Rattle.git_host.proofs.HostMoves.{brought_fault, brought_more, brought_request, brought_stop, is_reading_now, none_now, stopped_hosts}
+use Rattle.git_host.proofs.host_server.HostServer.feed.Goals as goal
+
+pub returns-in-More-clause-feeds : goal.returns-in-More-clause-feeds
+returns-in-More-clause-feeds g c s so_far over reported given h =
+    let old = c.args.self.now in
+    let reading = is_reading_now old (sym c.wants_input.ensures ∙ c.if-not-wants_input.false) in
+    let stands = subst (λ (p : Phase g.row.A.Denot). HostsIn p s so_far over reported given old.stream old.flush) reading h.stands in
+    let used = so_far ++ take c.feed-read.result.used c.args.piece.now in
+    subst (λ (p : Phase g.row.A.Denot). Hosts s used over (reported ++ begun_in p p) given
+    (record { alloc = old.alloc; offer = old.offer; limits = old.limits; stream = c.feed-read.new.self; flush = old.flush; phase = p }))
+    (sym reading) (record {
+      offer = h.offer;
+      limit = h.limit;
+      stands = brought_more s so_far over reported given old.stream c.feed-read.new.self
+          c.args.piece.now c.feed-read.result c.feed-read.ensures.feeds stands c.in-More.is;
+    })
+
+pub returns-in-Request-clause-feeds : goal.returns-in-Request-clause-feeds
+returns-in-Request-clause-feeds g c s so_far over reported given h =
+    let old = c.args.self.now in
+    let reading = is_reading_now old (sym c.wants_input.ensures ∙ c.if-not-wants_input.false) in
+    let stands = subst (λ (p : Phase g.row.A.Denot). HostsIn p s so_far over reported given old.stream old.flush) reading h.stands in
+    let used = so_far ++ take c.feed-read.result.used c.args.piece.now in
+    let flush = c.saturating_sub-self.result in
+    let request = c.in-Request.request in
+    subst (λ (r : Request g.row.A.Denot). Hosts s used over (reported ++ begun_in old.phase (Whole r)) given
+    (record { alloc = old.alloc; offer = old.offer; limits = old.limits; stream = c.feed-read.new.self; flush = flush; phase = Whole r }))
+    (sym c.in-Request.request-is)
+    (subst (λ (p : Phase g.row.A.Denot). Hosts s used over (reported ++ begun_in p (Whole request)) given
+    (record { alloc = old.alloc; offer = old.offer; limits = old.limits; stream = c.feed-read.new.self; flush = flush; phase = Whole request })) (sym reading)
+    (record {
+      offer = h.offer;
+      limit = h.limit;
+      stands = brought_request s so_far over reported given old.stream c.feed-read.new.self c.args.piece.now c.feed-read.result
+          c.feed-read.ensures.feeds stands request flush c.in-Request.is
+          (omega (arith, c.saturating_sub-self.ensures, c.position.ensures));
+    }))
+
+pub returns-in-Stop-clause-feeds : goal.returns-in-Stop-clause-feeds
+returns-in-Stop-clause-feeds g c s so_far over reported given h =
+    let old = c.args.self.now in
+    let reading = is_reading_now old (sym c.wants_input.ensures ∙ c.if-not-wants_input.false) in
+    let stands = subst (λ (p : Phase g.row.A.Denot). HostsIn p s so_far over reported given old.stream old.flush) reading h.stands in
+    let used = so_far ++ take c.feed-read.result.used c.args.piece.now in
+    subst (λ (p : Phase g.row.A.Denot). Hosts s used over (reported ++ begun_in p (Ended Flush)) given
+    (record { alloc = old.alloc; offer = old.offer; limits = old.limits; stream = c.feed-read.new.self; flush = old.flush; phase = Ended Flush })) (sym reading)
+    (record {
+      offer = h.offer;
+      limit = h.limit;
+      stands = brought_stop s so_far over reported given old.stream c.feed-read.new.self c.args.piece.now
+          c.feed-read.result c.feed-read.ensures.feeds stands c.in-Stop.is;
+    })
+
+pub returns-in-Failed-clause-feeds : goal.returns-in-Failed-clause-feeds
+returns-in-Failed-clause-feeds g c s so_far over reported given h =
+    let old = c.args.self.now in
+    let reading = is_reading_now old (sym c.wants_input.ensures ∙ c.if-not-wants_input.false) in
+    let stands = subst (λ (p : Phase g.row.A.Denot). HostsIn p s so_far over reported given old.stream old.flush) reading h.stands in
+    let used = so_far ++ take c.feed-read.result.used c.args.piece.now in
+    let fault = c.in-Failed.fault in
+    subst (λ (fs : List Facts). Hosts s used over fs given c.stop.new.self) (sym (none_now _ c.stop.new.self fault c.stop.ensures old reported reading))
+    (stopped_hosts _ c.stop.new.self fault c.stop.ensures s used over (reported ++ []) given h.offer h.limit
+    (brought_fault s so_far over reported given old.stream c.feed-read.new.self c.args.piece.now c.feed-read.result c.feed-read.ensures.feeds stands
+    fault c.in-Failed.is))

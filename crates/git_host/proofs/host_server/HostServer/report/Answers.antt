@@ -1,0 +1,30 @@
+use Rattle.std.proofs.Common.{arith, sym, subst}
+use Rattle.git_host.specs.HostServer.{HostsIn, HasReason}
+use Rattle.git_host.specs.declared.host_server.Phase.{Phase}
+use Rattle.git_host.specs.declared.host_server.Phase.TheVariants.{Answering}
+use Rattle.git_host.proofs.HostMoves.{not_asked, on_some, report_done, answering_credit, credit_falls, lent_credit}
+use Rattle.git_host.proofs.host_server.HostServer.report.Goals as goal
+
+pub returns-in_default-clause-reports : goal.returns-in_default-clause-reports
+returns-in_default-clause-reports g c = not_asked c.args.report c.args.self.now c.in_default.not-Answering
+
+pub returns-clause-reports : goal.returns-clause-reports
+returns-clause-reports g c s used over facts given h =
+    let old = c.args.self.now in
+    let w = c.report-reported.new.hold in
+    let lent = on_some c.lend.result c.in-Some.hold _ c.in-Some.is (c.lend.follows.holds w) in
+    let stands = subst (λ (p : Phase g.row.A.Denot). HostsIn p s used over facts given old.stream old.flush) c.in-Answering.is h.stands in
+    let (is, why, ends) = report_done s used over facts given old.flush old.stream (c.lend.follows.lender w) w lent
+    (omega (arith, c.len.ensures.value, c.len.ensures.fits)) c.in-Answering.answer c.report-reported.new.self stands c.args.report c.report-reported.result
+    c.report-reported.ensures in (
+      record { offer = h.offer; limit = h.limit; stands = is },
+      subst (λ (p : Phase g.row.A.Denot). HasReason c.args.report p c.report-reported.result) (sym c.in-Answering.is) why,
+      ends,
+    )
+
+pub returns-clause-credit : goal.returns-clause-credit
+returns-clause-credit g c =
+    let w = c.report-reported.new.hold in
+    let lent = on_some c.lend.result c.in-Some.hold _ c.in-Some.is (c.lend.follows.holds w) in
+    credit_falls (Answering c.report-reported.new.self) c.args.self.now (c.lend.follows.lender w)
+    (answering_credit c.args.self.now c.in-Answering.answer c.in-Answering.is) (lent_credit c.args.self.now.stream w (c.lend.follows.lender w) lent)

@@ -1,0 +1,265 @@
+-- What a host's server represents: the bytes used, whether the input has ended, what was reported for each request, and the bytes given.
+use Rattle.std.specs.Prelude.{◌≡◌, ℕ, ◌+◌, ◌≤◌, Bool, true, false, List, [], ◌∷◌, ◌++◌, length, Option, Some, None}
+use Rattle.git_names.specs.declared.object_format.Format.{Format}
+use Rattle.git_pkt.specs.Packets.{Pkt, spelling_of}
+use Rattle.git_pkt.specs.declared.fault.Fault.{Fault}
+use Rattle.git_pkt.specs.declared.fault.Kind.{Kind}
+use Rattle.git_pkt.specs.declared.fault.Kind.TheVariants.{NotOurs, RemoteError}
+use Rattle.git_msg.specs.declared.offers.Offer.{Offer}
+use Rattle.git_msg.specs.declared.streams.RequestStream.{RequestStream}
+use Rattle.git_msg.specs.Asked.{Asked}
+use Rattle.git_msg.specs.Machine.HeldRequest.{asked_of}
+use Rattle.git_msg.specs.Machine.RequestStreams.{AreAsked, HasRead, hold_of, is_within_packet, limit_of, offer_of, wants_input}
+use Rattle.git_msg.specs.Machine.RequestStreams.{IsLent, IsUnlent, credit_of as stream_credit}
+use Rattle.arrayvec.specs.ArrayVec.{ArrayVec}
+use Rattle.git_server.specs.Answers.{error_packet}
+use Rattle.git_server.specs.declared.outcome.Outcome.{Outcome}
+use Rattle.git_server.specs.declared.outcome.Outcome.TheVariants.{Refused}
+use Rattle.git_host.specs.HostSessions.{AllAnswered, AtLast, Facts, HostSetting, IsHosted, StopsBy, nothing_for, refusal_packet, tail_of}
+use Rattle.git_host.specs.HostAnswers.{EndsAs, IsAnswering, IsNeeded, IsReason, with_reported}
+use Rattle.git_host.specs.declared.host_server.Phase.{Phase}
+use Rattle.git_host.specs.declared.host_server.Phase.TheVariants.{Advertising, Reading, Asked as Whole, Answering, Refusing, Ended}
+use Rattle.git_host.specs.declared.host_server.HostServer.{HostServer}
+use Rattle.git_host.specs.declared.report.HostReported.{HostReported}
+use Rattle.git_host.specs.declared.report.HostReported.TheVariants.{Packet as WasGiven, Taken, Hidden, NotAsked}
+use Rattle.git_host.specs.declared.report.HostStep.{HostStep}
+use Rattle.git_host.specs.declared.report.HostStep.TheVariants.{Packet as GivesPacket, NeedInput, Asked as AsksFor, Need as Needs, Ended as HasEnded}
+use Rattle.git_host.specs.declared.report.Report.{Report}
+
+-- the setting of a session
+abbrev pub setting_of : Offer → ℕ → Bool → HostSetting
+setting_of offer limit advertise = record { offer = offer; limit = limit; advertise = advertise }
+
+-- the outcome where the host refused the request whose flush is at this offset
+abbrev pub ended_by : Kind → ℕ → Outcome
+ended_by kind flush = Refused (record { kind = kind; offset = flush })
+
+-- of the last request
+abbrev pub with_last : (Facts → Facts) → List Facts → List Facts
+with_last with [] = []
+with_last with (f ∷ []) = with f ∷ []
+with_last with (f ∷ g ∷ fs) = f ∷ with_last with (g ∷ fs)
+
+-- a request that has come, for which nothing was reported or given
+pub record IsUntouched (asked : Asked) (q : Asked) (f : Facts) (front : List Pkt) : Type 0 where
+  pub same : asked ≡ q
+  pub nothing : f ≡ nothing_for q
+  pub none : front ≡ []
+
+module _ {A : Type 0} where
+  -- the stream has read these bytes, which ask for this, and reads on
+  pub record ReadsOn (s : HostSetting) (used : List ℕ) (over : Bool) (asked : List Asked) (stream : RequestStream A) : Type 0 where
+    pub reads : HasRead used asked stream
+    pub wants : wants_input stream ≡ true
+    pub offer : offer_of stream ≡ s.offer
+    pub limit : limit_of stream ≡ s.limit
+    pub goes_on : over ≡ false
+
+  -- the advertisement is to be given
+  pub record IsAdvertising (s : HostSetting) (used : List ℕ) (over : Bool) (reported : List Facts) (given : List ℕ) (stream : RequestStream A) : Type 0 where
+    pub reads : ReadsOn s used over [] stream
+    pub between : is_within_packet stream ≡ false
+    pub advertises : s.advertise ≡ true
+    pub none_reported : reported ≡ []
+    pub none_given : given ≡ []
+
+  -- all was given
+  pub record IsReading (s : HostSetting) (used : List ℕ) (over : Bool) (reported : List Facts) (given : List ℕ) (stream : RequestStream A) : Type 0 where
+    pub asked : List Asked
+    pub reads : ReadsOn s used over asked stream
+    pub all : AllAnswered s asked reported given
+
+  -- a whole request came, the last, whose flush is at this offset, and P holds of it, of what was reported for it and of what was given for it
+  pub record IsAtRequest (s : HostSetting) (used : List ℕ) (over : Bool) (reported : List Facts) (given : List ℕ) (stream : RequestStream A) (flush : ℕ)
+      (P : Asked → Facts → List Pkt → Type 0) : Type 0 where
+    pub asked : List Asked
+    pub reads : ReadsOn s used over asked stream
+    pub between : is_within_packet stream ≡ false
+    pub are_asked : AreAsked s.offer s.limit used asked [] []
+    pub at : flush + 4 ≡ length used
+    pub last : AtLast s asked reported given P
+
+  -- the input is refused, and the error packet is to be given
+  pub record IsRefusing (s : HostSetting) (used : List ℕ) (over : Bool) (reported : List Facts) (given : List ℕ) (stream : RequestStream A)
+      (fault : Fault) : Type 0 where
+    pub between : is_within_packet stream ≡ false
+    pub stops : StopsBy s used over reported given (Refused fault)
+    pub tail : tail_of (Refused fault) ≡ error_packet fault ∷ []
+
+  -- by the phase
+  abbrev pub HostsIn : Phase A → HostSetting → List ℕ → Bool → List Facts → List ℕ → RequestStream A → ℕ → Type 0
+  HostsIn Advertising s used over reported given stream flush = IsAdvertising s used over reported given stream
+  HostsIn Reading s used over reported given stream flush = IsReading s used over reported given stream
+  HostsIn (Whole request) s used over reported given stream flush = IsAtRequest s used over reported given stream flush (IsUntouched (asked_of request))
+  HostsIn (Answering answer) s used over reported given stream flush =
+      IsAtRequest s used over reported given stream flush (IsAnswering s.offer.format answer)
+  HostsIn (Refusing fault) s used over reported given stream flush = IsRefusing s used over reported given stream fault
+  HostsIn (Ended outcome) s used over reported given stream flush = IsHosted s used over reported given outcome
+
+  -- the server has used these bytes, with which the input has ended or not, this was reported for their requests, and those bytes were given
+  pub record Hosts (s : HostSetting) (used : List ℕ) (over : Bool) (reported : List Facts) (given : List ℕ) (server : HostServer A) : Type 0 where
+    pub offer : server.offer ≡ s.offer
+    pub limit : server.limits.args ≡ s.limit
+    pub stands : HostsIn server.phase s used over reported given server.stream server.flush
+
+  -- the bytes of the packet that was given last
+  abbrev pub bytes_of : HostServer A → List ℕ
+  bytes_of server = hold_of server.stream
+
+  abbrev pub is_reading : Phase A → Bool
+  is_reading Reading = true
+  is_reading phase = false
+
+  -- bytes are read on
+  abbrev pub reads_on : HostServer A → Bool
+  reads_on server = is_reading server.phase
+
+  -- how the session ended, if it has
+  abbrev pub outcome_in : Phase A → Option Outcome
+  outcome_in (Ended outcome) = Some outcome
+  outcome_in phase = None
+
+  abbrev pub outcome_of : HostServer A → Option Outcome
+  outcome_of server = outcome_in server.phase
+
+  -- what the bytes of an open packet leave for the steps of its end; once the input is refused, nothing
+  abbrev pub credit_in : Phase A → RequestStream A → ℕ
+  credit_in (Refusing fault) stream = 0
+  credit_in (Ended outcome) stream = 0
+  credit_in phase stream = stream_credit stream
+
+  abbrev pub credit_of : HostServer A → ℕ
+  credit_of server = credit_in server.phase server.stream
+
+  -- the session may end so by what the last call did: whatever stood before, this stands now
+  abbrev pub Becomes : HostServer A → (List Facts → List Facts) → List ℕ → HostServer A → Type 0
+  Becomes old with more new = (s : HostSetting) (used : List ℕ) (over : Bool) (reported : List Facts) (given : List ℕ) → Hosts s used over reported given old
+      → Hosts s used over (with reported) (given ++ more) new
+
+  -- nothing that counts has changed
+  abbrev pub Stays : HostServer A → HostServer A → Type 0
+  Stays old new = (s : HostSetting) (used : List ℕ) (over : Bool) (reported : List Facts) (given : List ℕ) → Hosts s used over reported given old
+      → Hosts s used over reported given new
+
+  -- for a request that came, nothing was reported
+  abbrev pub begun_in : Phase A → Phase A → List Facts
+  begun_in Reading (Whole request) = nothing_for (asked_of request) ∷ []
+  begun_in old new = []
+
+  -- what `feed` does
+  abbrev pub FeedsHost : List ℕ → HostServer A → HostServer A → Type 0
+  FeedsHost more old new = (s : HostSetting) (used : List ℕ) (over : Bool) (reported : List Facts) (given : List ℕ) → Hosts s used over reported given old
+      → Hosts s (used ++ more) over (reported ++ begun_in old.phase new.phase) given new
+
+  -- the phase in which a fault of the input is reported to the client, but for an error packet of the client's
+  abbrev pub refused_by : Kind → Fault → Phase A
+  refused_by RemoteError fault = Ended (Refused fault)
+  refused_by kind fault = Refusing fault
+
+  -- the input is refused: what was read is dropped
+  pub record StopsHost (fault : Fault) (old new : HostServer A) : Type 0 where
+    pub offer : new.offer ≡ old.offer
+    pub limits : new.limits ≡ old.limits
+    pub phase : new.phase ≡ refused_by fault.kind fault
+    pub anew : HasRead [] [] new.stream
+    pub wants : wants_input new.stream ≡ true
+
+  -- what `close` does
+  abbrev pub ClosesHost : HostServer A → Bool → HostServer A → Type 0
+  ClosesHost old true new = (reads_on old ≡ true) × (reads_on new ≡ false)
+      × ((s : HostSetting) (used : List ℕ) (over : Bool) (reported : List Facts) (given : List ℕ) → Hosts s used over reported given old
+      → Hosts s used true reported given new)
+  ClosesHost old false new = (new ≡ old)
+      × ((s : HostSetting) (used : List ℕ) (over : Bool) (reported : List Facts) (given : List ℕ) → Hosts s used over reported given old → reads_on old ≡ false)
+
+  -- the server waits for this
+  abbrev pub WaitsFor : HostStep → Phase A → Type 0
+  WaitsFor NeedInput Reading = Unit {0}
+  WaitsFor AsksFor (Whole request) = Unit {0}
+  WaitsFor (Needs need) (Answering answer) = IsNeeded need answer
+  WaitsFor (HasEnded outcome) (Ended same) = outcome ≡ same
+  WaitsFor step phase = ⊥
+
+  -- what `next` does: it gives a packet, or says what the server waits for
+  abbrev pub StepsHost : HostServer A → HostStep → HostServer A → Type 0
+  StepsHost old GivesPacket new = (s : HostSetting) (used : List ℕ) (over : Bool) (reported : List Facts) (given : List ℕ)
+      → Hosts s used over reported given old
+      → Hosts s used over reported (given ++ bytes_of new) new
+  StepsHost old step new = (s : HostSetting) (used : List ℕ) (over : Bool) (reported : List Facts) (given : List ℕ) → Hosts s used over reported given old
+      → Hosts s used over reported given new × WaitsFor step new.phase
+
+  -- but for its stream the server is what it was
+  pub record HasSameRest (old new : HostServer A) : Type 0 where
+    pub offer : new.offer ≡ old.offer
+    pub limits : new.limits ≡ old.limits
+    pub flush : new.flush ≡ old.flush
+    pub phase : new.phase ≡ old.phase
+
+  -- the buffer was lent, and has these bytes after that
+  pub record IsLentBy (old : HostServer A) (hold : ArrayVec ℕ) (new : HostServer A) : Type 0 where
+    pub stream : IsLent old.stream hold new.stream
+    pub rest : HasSameRest old new
+
+  -- it was not lent, and nothing changed
+  pub record IsUnlentBy (old new : HostServer A) : Type 0 where
+    pub stream : IsUnlent old.stream new.stream
+    pub rest : HasSameRest old new
+
+  -- the bytes that a report gave
+  abbrev pub given_with : HostReported → RequestStream A → List ℕ
+  given_with WasGiven stream = hold_of stream
+  given_with reported stream = []
+
+  -- why a report changed nothing, if it did so
+  abbrev pub HasReason : Report → Phase A → HostReported → Type 0
+  HasReason report phase WasGiven = Unit {0}
+  HasReason report phase Taken = Unit {0}
+  HasReason report phase Hidden = Unit {0}
+  HasReason report (Answering answer) reported = IsReason report answer reported
+  HasReason report phase reported = reported ≡ NotAsked
+
+  -- what the end of a pack leads to, or its loss
+  abbrev pub EndsHost : Report → HostReported → Phase A → Type 0
+  EndsHost report WasGiven (Answering answer) = EndsAs report answer
+  EndsHost report reported phase = Unit {0}
+
+  -- what a report does, by what came of it
+  abbrev pub ReportsHost : Report → HostServer A → HostReported → HostServer A → Type 0
+  ReportsHost report old reported new = (s : HostSetting) (used : List ℕ) (over : Bool) (facts : List Facts) (given : List ℕ)
+      → Hosts s used over facts given old
+      → Hosts s used over (with_last (with_reported reported report) facts) (given ++ given_with reported new.stream) new
+      × HasReason report old.phase reported × EndsHost report reported new.phase
+
+  -- a request is answered
+  abbrev pub is_answering : Phase A → Bool
+  is_answering (Answering answer) = true
+  is_answering phase = false
+
+  -- a request waits to be accepted or refused
+  abbrev pub is_asked : Phase A → Bool
+  is_asked (Whole request) = true
+  is_asked phase = false
+
+  -- the request is answered from now on; any other phase stays
+  abbrev pub IsAccepted : Format → Phase A → Phase A → Type 0
+  IsAccepted format (Whole request) (Answering answer) = IsAnswering format answer (asked_of request) (nothing_for (asked_of request)) []
+  IsAccepted format (Whole request) new = ⊥
+  IsAccepted format old new = new ≡ old
+
+  -- where a session begins
+  abbrev pub first_phase : Bool → Phase A
+  first_phase true = Advertising
+  first_phase false = Reading
+
+  -- what it is to accept a request
+  abbrev pub AcceptsHost : HostServer A → Bool → HostServer A → Type 0
+  AcceptsHost old true new = (is_asked old.phase ≡ true) × (is_asked new.phase ≡ false) × Stays old new
+  AcceptsHost old false new = (is_asked old.phase ≡ false) × (new ≡ old)
+
+  -- what it is to refuse one by a text: the session is over
+  abbrev pub RefusesHost : List ℕ → HostServer A → Bool → HostServer A → Type 0
+  RefusesHost text old true new = (new.phase ≡ Ended (ended_by NotOurs old.flush)) × (bytes_of new ≡ spelling_of (refusal_packet text))
+      × ((s : HostSetting) (used : List ℕ) (over : Bool) (reported : List Facts) (given : List ℕ) → Hosts s used over reported given old
+      → Hosts s used over reported (given ++ bytes_of new) new)
+  RefusesHost text old false new = Stays old new × ((s : HostSetting) (used : List ℕ) (over : Bool) (reported : List Facts) (given : List ℕ)
+      → Hosts s used over reported given old → length text ≤ 65511 → is_asked old.phase ≡ false)

@@ -1,0 +1,343 @@
+//! The answer to the request at hand, of whichever command: it is asked for what it needs, one thing after another.
+
+ghost use Rattle.std.specs.Prelude.{◌≡◌, [], true, false};
+ghost use Rattle.git_msg.specs.Machine.HeldRequest.{asked_of};
+ghost use Rattle.git_host.specs.HostAnswers.{GoesOn, IsThrough, ended_as, is_admission, of_fetch_step, of_sizes_step, part_of, reported_as};
+ghost use Rattle.git_host.specs.HostSessions.{nothing_for};
+
+use crate::admission::{Admission, AdmissionStep, WantRefReported};
+use crate::fetch_answer::{BoundaryEnd, FetchAnswer, Step};
+use crate::references_answer::{ReferencesAnswer, Reported};
+use crate::report::{HostReported, LONGEST_PART, Need, Report, packet_where, taken_where};
+use crate::sizes_answer::{SizesAnswer, SizesStep};
+use git_msg::{Boundary, Request};
+use git_names::{Format, Oid, RefName};
+use git_pkt::{Hold, Kind};
+use git_server::RefEntry;
+use std::alloc::Allocator;
+use std::mem;
+
+/// The answer to the request at hand.
+#[derive(Drop)]
+pub(crate) enum HostAnswer<A: Allocator + Copy> {
+    // A fetch, of which it is not known yet that the store has what it asks for.
+    Admission(Admission<A>),
+    Fetch(FetchAnswer<A>),
+    References(ReferencesAnswer<A>),
+    Sizes(SizesAnswer<A>),
+    // All was given.
+    Whole,
+}
+
+/// What is to be done next for an answer.
+#[derive(Clone, Copy, Debug)]
+pub(crate) enum AnswerStep {
+    Packet,
+    Need(Need),
+    Whole,
+    // The pack could not be had.
+    Broken,
+    // The store lacks what the request asks for, which is refused by this name.
+    Refused(Kind),
+}
+
+impl<A: Allocator + Copy> HostAnswer<A> {
+    ghost use Rattle.git_host.specs.HostAnswers.{IsAnswering, ReportsBy, StepsAnswer};
+
+    /// The answer to this request, of which nothing was reported or given.
+    pub(crate) fn new(alloc: A, request: Request<A>, format: Format) -> HostAnswer<A>
+        ensures { IsAnswering format result (asked_of request) (nothing_for (asked_of request)) [] }
+    {
+        match request {
+            Request::LsRefs(request) => {
+                HostAnswer::References(ReferencesAnswer::new(request, format))
+            }
+            Request::Fetch(request) => {
+                HostAnswer::Admission(Admission::new(alloc, request, format))
+            }
+            Request::ObjectInfo(request) => HostAnswer::Sizes(SizesAnswer::new(request)),
+        }
+    }
+
+    /// Gives the next packet, or what is to be done in its place.
+    pub(crate) fn next(&mut self, hold: &mut Hold) -> AnswerStep
+        ensures { StepsAnswer self.old result hold.new.items self.new }
+    {
+        let HostAnswer::Admission(admission) = self else {
+            return self.go_on(hold);
+        };
+        match admission.step() {
+            AdmissionStep::AskWant(at) => AnswerStep::Need(Need::Want(at)),
+            AdmissionStep::AskWantRef(at) => AnswerStep::Need(Need::WantRef(at)),
+            AdmissionStep::Refused(kind) => AnswerStep::Refused(kind),
+            AdmissionStep::Admitted => {
+                self.settle();
+                self.go_on(hold)
+            }
+        }
+    }
+
+    // The same of any answer but an admission.
+    fn go_on(&mut self, hold: &mut Hold) -> AnswerStep
+        requires { is_admission self.old ≡ false }
+        ensures { StepsAnswer self.old result hold.new.items self.new }
+    {
+        match self {
+            HostAnswer::Admission(_) => unreachable!(),
+            HostAnswer::Fetch(answer) => of_fetch(answer.next(hold)),
+            HostAnswer::References(_) => AnswerStep::Need(Need::Reference),
+            HostAnswer::Sizes(answer) => of_sizes(answer.next(hold)),
+            HostAnswer::Whole => AnswerStep::Whole,
+        }
+    }
+
+    // An admission that is through becomes the answer.
+    fn settle(&mut self)
+        requires { IsThrough self.old }
+        ensures same { GoesOn (λ f. f) self.old self.new }
+        ensures settled { is_admission self.new ≡ false }
+    {
+        let answer = mem::replace(self, HostAnswer::Whole);
+        *self = settled(answer);
+    }
+
+    /// Takes what the host reports, and gives its packet, if it has one.
+    pub(crate) fn report(&mut self, report: Report<'_>, hold: &mut Hold) -> HostReported
+        ensures { ReportsBy report.entry self.old result hold.new.items self.new }
+    {
+        match report {
+            Report::Want(has) => self.want(has, hold),
+            Report::WantRef(id) => self.want_ref(id, hold),
+            Report::Have(has) => self.have(has, hold),
+            Report::Ready(ready) => self.ready(ready, hold),
+            Report::Boundary(line) => self.boundary(line, hold),
+            Report::BoundaryEnd => self.boundary_end(hold),
+            Report::Pack(bytes) => self.pack(bytes, hold),
+            Report::Progress(bytes) => self.progress(bytes, hold),
+            Report::PackEnd => self.pack_end(hold),
+            Report::PackFailed => self.pack_failed(hold),
+            Report::Reference(entry) => self.reference(entry, hold),
+            Report::Unborn(target) => self.unborn(target, hold),
+            Report::ReferencesEnd => self.references_end(hold),
+            Report::Size(size) => self.size(size, hold),
+        }
+    }
+
+    fn want(&mut self, has: bool, hold: &mut Hold) -> HostReported
+        ensures { ReportsBy (Report.Want has) self.old result hold.new.items self.new }
+    {
+        let HostAnswer::Admission(admission) = self else {
+            return HostReported::NotAsked;
+        };
+        taken_where(admission.want(has))
+    }
+
+    fn want_ref(&mut self, id: Option<Oid>, hold: &mut Hold) -> HostReported
+        ensures { ReportsBy (Report.WantRef id) self.old result hold.new.items self.new }
+    {
+        let HostAnswer::Admission(admission) = self else {
+            return HostReported::NotAsked;
+        };
+        match admission.want_ref(id) {
+            Ok(WantRefReported::Taken) => HostReported::Taken,
+            Ok(WantRefReported::MixedFormats) => HostReported::MixedFormats,
+            Ok(WantRefReported::NotAsked) => HostReported::NotAsked,
+            Err(_) => HostReported::OutOfMemory,
+        }
+    }
+
+    fn have(&mut self, has: bool, hold: &mut Hold) -> HostReported
+        ensures { ReportsBy (Report.Have has) self.old result hold.new.items self.new }
+    {
+        let HostAnswer::Fetch(answer) = self else {
+            return HostReported::NotAsked;
+        };
+        if has {
+            return packet_where(answer.common(hold));
+        }
+        taken_where(answer.not_common())
+    }
+
+    fn ready(&mut self, ready: bool, hold: &mut Hold) -> HostReported
+        ensures { ReportsBy (Report.Ready ready) self.old result hold.new.items self.new }
+    {
+        let HostAnswer::Fetch(answer) = self else {
+            return HostReported::NotAsked;
+        };
+        if ready {
+            return packet_where(answer.ready(hold));
+        }
+        packet_where(answer.not_ready(hold))
+    }
+
+    fn boundary(&mut self, line: Boundary, hold: &mut Hold) -> HostReported
+        ensures { ReportsBy (Report.Boundary line) self.old result hold.new.items self.new }
+    {
+        let HostAnswer::Fetch(answer) = self else {
+            return HostReported::NotAsked;
+        };
+        packet_where(answer.boundary(line, hold))
+    }
+
+    fn boundary_end(&mut self, hold: &mut Hold) -> HostReported
+        ensures { ReportsBy Report.BoundaryEnd self.old result hold.new.items self.new }
+    {
+        let HostAnswer::Fetch(answer) = self else {
+            return HostReported::NotAsked;
+        };
+        ended_as(answer.boundary_end(hold))
+    }
+
+    fn pack(&mut self, bytes: &[u8], hold: &mut Hold) -> HostReported
+        ensures { ReportsBy (Report.Pack bytes.entry) self.old result hold.new.items self.new }
+    {
+        if bytes.is_empty() {
+            return HostReported::Taken;
+        }
+        let HostAnswer::Fetch(answer) = self else {
+            return HostReported::NotAsked;
+        };
+        packet_where(answer.pack(first_part(bytes), hold))
+    }
+
+    fn progress(&mut self, bytes: &[u8], hold: &mut Hold) -> HostReported
+        ensures { ReportsBy (Report.Progress bytes.entry) self.old result hold.new.items self.new }
+    {
+        if bytes.is_empty() {
+            return HostReported::Taken;
+        }
+        let HostAnswer::Fetch(answer) = self else {
+            return HostReported::NotAsked;
+        };
+        if answer.request().no_progress() {
+            return HostReported::Hidden;
+        }
+        packet_where(answer.progress(first_part(bytes), hold))
+    }
+
+    fn pack_end(&mut self, hold: &mut Hold) -> HostReported
+        ensures { ReportsBy Report.PackEnd self.old result hold.new.items self.new }
+    {
+        let HostAnswer::Fetch(answer) = self else {
+            return HostReported::NotAsked;
+        };
+        packet_where(answer.pack_end(hold))
+    }
+
+    fn pack_failed(&mut self, hold: &mut Hold) -> HostReported
+        ensures { ReportsBy Report.PackFailed self.old result hold.new.items self.new }
+    {
+        let HostAnswer::Fetch(answer) = self else {
+            return HostReported::NotAsked;
+        };
+        packet_where(answer.pack_failed(hold))
+    }
+
+    fn reference(&mut self, entry: RefEntry, hold: &mut Hold) -> HostReported
+        ensures { ReportsBy (Report.Reference entry) self.old result hold.new.items self.new }
+    {
+        let HostAnswer::References(answer) = self else {
+            return HostReported::NotAsked;
+        };
+        reported_as(answer.reference(entry, hold))
+    }
+
+    fn unborn(&mut self, target: RefName<'_>, hold: &mut Hold) -> HostReported
+        ensures { ReportsBy (Report.Unborn target.entry) self.old result hold.new.items self.new }
+    {
+        let HostAnswer::References(answer) = self else {
+            return HostReported::NotAsked;
+        };
+        reported_as(answer.unborn(target.as_bytes(), hold))
+    }
+
+    fn references_end(&mut self, hold: &mut Hold) -> HostReported
+        ensures { ReportsBy Report.ReferencesEnd self.old result hold.new.items self.new }
+    {
+        let HostAnswer::References(answer) = self else {
+            return HostReported::NotAsked;
+        };
+        if !answer.end(hold) {
+            return HostReported::NotAsked;
+        }
+        *self = HostAnswer::Whole;
+        HostReported::Packet
+    }
+
+    fn size(&mut self, size: Option<u64>, hold: &mut Hold) -> HostReported
+        ensures { ReportsBy (Report.Size size) self.old result hold.new.items self.new }
+    {
+        let HostAnswer::Sizes(answer) = self else {
+            return HostReported::NotAsked;
+        };
+        packet_where(answer.size(size, hold))
+    }
+}
+
+// The answer, if an admission is through; any other as it was.
+fn settled<A: Allocator + Copy>(answer: HostAnswer<A>) -> HostAnswer<A>
+    ensures same { GoesOn (λ f. f) answer result }
+    ensures settled { IsThrough answer → is_admission result ≡ false }
+{
+    match answer {
+        HostAnswer::Admission(admission) => match admission.into_answer() {
+            Ok(answer) => HostAnswer::Fetch(answer),
+            Err(admission) => HostAnswer::Admission(admission),
+        },
+        answer => answer,
+    }
+}
+
+fn of_fetch(step: Step) -> AnswerStep
+    ensures { result ≡ of_fetch_step step }
+{
+    match step {
+        Step::Packet => AnswerStep::Packet,
+        Step::AskHave(at) => AnswerStep::Need(Need::Have(at)),
+        Step::AskReady => AnswerStep::Need(Need::Ready),
+        Step::AskBoundary => AnswerStep::Need(Need::Boundary),
+        Step::AskPack => AnswerStep::Need(Need::Pack),
+        Step::Whole => AnswerStep::Whole,
+        Step::Broken => AnswerStep::Broken,
+    }
+}
+
+fn of_sizes(step: SizesStep) -> AnswerStep
+    ensures { result ≡ of_sizes_step step }
+{
+    match step {
+        SizesStep::Packet => AnswerStep::Packet,
+        SizesStep::AskSize(at) => AnswerStep::Need(Need::Size(at)),
+        SizesStep::Whole => AnswerStep::Whole,
+    }
+}
+
+fn ended_as(end: BoundaryEnd) -> HostReported
+    ensures { result ≡ ended_as end }
+{
+    match end {
+        BoundaryEnd::NotAsked => HostReported::NotAsked,
+        BoundaryEnd::Absent => HostReported::Taken,
+        BoundaryEnd::Packet => HostReported::Packet,
+    }
+}
+
+fn reported_as(reported: Reported) -> HostReported
+    ensures { result ≡ reported_as reported }
+{
+    match reported {
+        Reported::Packet => HostReported::Packet,
+        Reported::Hidden => HostReported::Hidden,
+        Reported::Unsorted => HostReported::Unsorted,
+        Reported::MixedFormats => HostReported::MixedFormats,
+        Reported::HeadTwice => HostReported::HeadTwice,
+        Reported::NotAsked => HostReported::NotAsked,
+    }
+}
+
+// As many of the bytes as one packet has room for.
+fn first_part(bytes: &[u8]) -> &[u8]
+    ensures { result.now ≡ part_of bytes.now }
+{
+    &bytes[..LONGEST_PART.min(bytes.len())]
+}

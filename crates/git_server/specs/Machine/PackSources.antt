@@ -1,0 +1,39 @@
+-- What a clause sees of a `PackSources`.
+use Rattle.std.specs.Prelude.{◌≡◌, ◌||◌, ℕ, Bool, false, Option, Some, None, IfSome, List}
+use Rattle.std.specs.Option.{option_map}
+use Rattle.git_pkt.specs.Machine.Told.{has_failed, inner_of as in_told}
+use Rattle.git_pkt.specs.Machine.Retries.{inner_of as in_retries}
+use Rattle.git_pkt.specs.declared.retries.Retries.{Retries}
+use Rattle.git_pkt.specs.declared.told.Told.{Told}
+use Rattle.git_server.specs.Machine.Growths.{has_refused}
+use Rattle.git_server.specs.declared.pack_sources.PackSources.{PackSources}
+
+-- what was read are all bytes that its reader had, where these are known
+abbrev pub IsReadFrom : Option (List ℕ) → List ℕ → Type 0
+IsReadFrom remaining read = IfSome remaining (λ bytes. read ≡ bytes)
+
+module _ {P : Type 0} where
+  abbrev pub reader_of : Told (Retries P) → P
+  reader_of told = in_retries (in_told told)
+
+  -- the reader of the pack, and that of the filtered one
+  abbrev pub readers_of : PackSources P → P × Option P
+  readers_of sources = (reader_of sources.pack, option_map reader_of sources.filtered)
+
+  abbrev pub has_failed_filtered : Option (Told (Retries P)) → Bool
+  has_failed_filtered None = false
+  has_failed_filtered (Some told) = has_failed told
+
+  -- a read of one of the packs failed, other than by an interruption, or memory refused to keep what was read
+  abbrev pub has_failure : PackSources P → Bool
+  has_failure sources = has_failed sources.pack || has_failed_filtered sources.filtered || has_refused sources.growths
+
+  -- the one pack was read from the one reader, and the other from the other, where there is one
+  abbrev pub IsFilteredReadFrom : (P → Option (List ℕ)) → Option P → Option (List ℕ) → Type 0
+  IsFilteredReadFrom remaining None read = read ≡ None
+  IsFilteredReadFrom remaining (Some reader) None = ⊥
+  IsFilteredReadFrom remaining (Some reader) (Some read) = IsReadFrom (remaining reader) read
+
+  pub record AreReadFrom (remaining : P → Option (List ℕ)) (readers : P × Option P) (pack : List ℕ) (filtered : Option (List ℕ)) : Type 0 where
+    pub by_pack : IsReadFrom (remaining readers.0) pack
+    pub by_filtered : IsFilteredReadFrom remaining readers.1 filtered

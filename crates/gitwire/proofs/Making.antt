@@ -1,0 +1,11 @@
+-- What a call that makes something reports, by whether there was memory for it.
+use Rattle.std.proofs.Common.{◌≡◌, ◌∙◌, ℕ, Option, Some, None, refl, ap, inl, inr}
+use Rattle.gitwire.specs.Calls.{IsMade}
+use Rattle.gitwire.specs.RequestAnswers.{HasOrNone}
+use Rattle.gitwire.specs.Answers.{what_number}
+use Rattle.gitwire.specs.declared.answer.What.{What}
+
+pub made : {X : Type 0} (answer : What) (number : ℕ) (boxed value : X) (new : Option X)
+    → number ≡ what_number answer → boxed ≡ value → IsMade answer boxed new → HasOrNone number value new
+made answer number boxed value None by same memory = inr (by ∙ ap what_number memory, refl)
+made answer number boxed value (Some _) by same (done, is) = inl (by ∙ ap what_number done, ap Some (is ∙ same))

@@ -1,0 +1,14 @@
+-- What is reported of texts of C, where the room is large enough.
+use Rattle.std.proofs.Common.{arith, ◌≤◌, ℕ, List, length}
+use Rattle.std.specs.Global.{Global}
+use Rattle.git_host.specs.declared.host_server.HostServer.{HostServer}
+use Rattle.gitwire.specs.HostAnswers.{Meant, ReportsBy, ReportsMeantInRoom}
+use Rattle.gitwire.specs.declared.answer.GitwireAnswer.{GitwireAnswer}
+
+pub reported_in : (Means : Meant → Type 0) (meant : Meant) (old : HostServer Global) (room : List ℕ) (answer : GitwireAnswer) (filled : List ℕ)
+    (new : HostServer Global) → 65520 ≤ length room → Means meant → ReportsBy meant old room answer filled new
+    → ReportsMeantInRoom Means old room answer filled new
+reported_in Means meant old room answer filled new suffices means reports = record {
+  small = λ small. absurd (omega (arith, small, suffices));
+  large = λ large. record { meant = meant; means = means; reports = reports };
+}

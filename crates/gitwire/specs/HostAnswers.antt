@@ -1,0 +1,292 @@
+-- What is reported to C of the calls of a host's server.
+use Rattle.std.specs.Prelude.{◌≡◌, ◌≢◌, ◌⊎◌, ℕ, ◌<◌, ◌≤◌, Bool, true, false, List, [], ◌∷◌, length, take, Option, Some, None, Result, Ok, Err}
+use Rattle.std.specs.Global.{Global}
+use Rattle.git_names.specs.NameBytes.{name_bytes}
+use Rattle.git_names.specs.ObjectName.{ObjectName, IsObjectName, IsNoObjectName}
+use Rattle.git_names.specs.RefName.{IsRefName}
+use Rattle.git_names.specs.declared.object_format.Format.{Format}
+use Rattle.git_names.specs.declared.reference.RefName.{RefName}
+use Rattle.git_pkt.specs.declared.fault.Kind.{Kind}
+use Rattle.git_pkt.specs.declared.fault.Kind.TheVariants.{BadLine, BadObjectName, BadRefName}
+use Rattle.git_msg.specs.Arguments.{most_limit}
+use Rattle.git_msg.specs.Asked.{Asked, command_asked}
+use Rattle.git_msg.specs.Checks.{Check, Refuses}
+use Rattle.git_msg.specs.References.{IsMaybeObjectName}
+use Rattle.git_msg.specs.declared.offers.Offer.{Offer}
+use Rattle.git_server.specs.Repository.{Entry}
+use Rattle.git_server.specs.declared.outcome.Outcome.{Outcome}
+use Rattle.git_server.specs.declared.outcome.Outcome.TheVariants.{Flush, Closed, Refused}
+use Rattle.git_host.specs.HostAnswers.{part_of}
+use Rattle.git_host.specs.HostServer.{AcceptsHost, ClosesHost, FeedsHost, Hosts, RefusesHost, ReportsHost, StepsHost, bytes_of, reads_on, setting_of}
+use Rattle.git_host.specs.HostLookups.{request_of}
+use Rattle.git_host.specs.declared.host_server.HostServer.{HostServer}
+use Rattle.git_host.specs.declared.report.HostReported.{HostReported}
+use Rattle.git_host.specs.declared.report.HostStep.{HostStep}
+use Rattle.git_host.specs.declared.report.Need.{Need}
+use Rattle.git_host.specs.declared.report.Report.{Report}
+use Rattle.gitwire.specs.Answers.{answering, answering_fault, answering_packet, answering_used, more_of, what_number}
+use Rattle.gitwire.specs.Numbers.{command_number}
+use Rattle.gitwire.specs.Offers.{offer_meant}
+use Rattle.gitwire.specs.RequestAnswers.{HasOrNone, PutsFrom, is_set, telling_number, telling_which}
+use Rattle.gitwire.specs.Rooms.{put_before}
+use Rattle.gitwire.specs.WrittenForC.{boundary_of, given, object_name_check, ref_name_check, where_given}
+use Rattle.gitwire.specs.declared.answer.GitwireAnswer.{GitwireAnswer}
+use Rattle.gitwire.specs.declared.answer.What.TheVariants as What
+use Rattle.gitwire.specs.declared.host_texts.Unread.{Unread}
+use Rattle.gitwire.specs.declared.numbers.ItemList.{ItemList}
+use Rattle.gitwire.specs.declared.offer.GitwireOffer.{GitwireOffer}
+
+-- ---- a session begins
+
+-- the offer has no format or a bit that is no feature's, or the limit is more than one may be
+abbrev pub MeanNoHost : GitwireOffer → ℕ → Type 0
+MeanNoHost offer limit = (offer_meant offer ≡ None) ⊎ (most_limit < limit)
+
+-- a host's server at the beginning of a session, of the offer and the limit that are meant
+pub record MeanHost (offer : GitwireOffer) (limit : ℕ) (advertise : Bool) (host : HostServer Global) : Type 0 where
+  pub meant : Offer
+  pub offer_is : offer_meant offer ≡ Some meant
+  pub in_range : limit ≤ most_limit
+  pub begins : Hosts (setting_of meant limit advertise) [] false [] [] host
+
+-- it is made, or nothing changes
+abbrev pub MakesHost : GitwireOffer → ℕ → Bool → Option (HostServer Global) → ℕ → Option (HostServer Global) → Type 0
+MakesHost offer limit advertise old answer new =
+    (MeanNoHost offer limit × (answer ≡ what_number What.BadValue) × (new ≡ old))
+    ⊎ ((host : HostServer Global) × MeanHost offer limit advertise host × HasOrNone answer host new)
+
+-- ---- the client's bytes
+
+-- the server uses bytes of the piece, and it is reported to C how many
+pub record FeedsAnswers (old : HostServer Global) (piece : List ℕ) (answer : GitwireAnswer) (new : HostServer Global) : Type 0 where
+  pub used : ℕ
+  pub answer_is : answer ≡ answering_used used (more_of (reads_on old))
+  pub within : used ≤ length piece
+  pub feeds : FeedsHost (take used piece) old new
+
+-- what is reported to C of a call that does something or changes nothing
+abbrev pub done_where : Bool → ℕ
+done_where true = what_number What.Done
+done_where false = what_number What.NotNow
+
+-- the input ends where the server waits for it
+pub record ClosesAnswers (old : HostServer Global) (answer : ℕ) (new : HostServer Global) : Type 0 where
+  pub closed : Bool
+  pub closes : ClosesHost old closed new
+  pub answer_is : answer ≡ done_where closed
+
+-- ---- what is to be done next
+
+-- what is reported to C of a request that came: its command's number
+abbrev pub asking : Option Asked → GitwireAnswer
+asking (Some asked) = answering_packet 0 (command_number (command_asked asked)) 0 What.Asked
+asking None = answering What.Asked
+
+-- what is reported to C of what is needed: its place in the request, where it has one
+abbrev pub needing : Need → GitwireAnswer
+needing (Need.Want at) = answering_packet 0 at 0 What.NeedWant
+needing (Need.WantRef at) = answering_packet 0 at 0 What.NeedWantRef
+needing (Need.Have at) = answering_packet 0 at 0 What.NeedHave
+needing Need.Ready = answering What.NeedReady
+needing Need.Boundary = answering What.NeedBoundary
+needing Need.Pack = answering What.NeedPack
+needing Need.Reference = answering What.NeedReference
+needing (Need.Size at) = answering_packet 0 at 0 What.NeedSize
+
+abbrev pub ending : Outcome → GitwireAnswer
+ending Flush = answering What.EndedByFlush
+ending Closed = answering What.EndedByClose
+ending (Refused fault) = answering_fault 0 fault
+
+-- what is reported to C of a step, where this request is at hand, and these are the bytes of the packet that was given last
+abbrev pub stepping : HostStep → Option Asked → List ℕ → GitwireAnswer
+stepping HostStep.Packet asked bytes = answering_packet 0 0 (length bytes) What.Packet
+stepping HostStep.NeedInput asked bytes = answering What.NeedInput
+stepping HostStep.Asked asked bytes = asking asked
+stepping (HostStep.Need need) asked bytes = needing need
+stepping (HostStep.Ended outcome) asked bytes = ending outcome
+
+-- the room: a packet is at its front
+abbrev pub filled_at : HostStep → List ℕ → List ℕ → List ℕ
+filled_at HostStep.Packet bytes room = put_before bytes room
+filled_at step bytes room = room
+
+-- the server gives a packet or returns what to do instead, and that is reported to C
+pub record PullsAnswers (old : HostServer Global) (room : List ℕ) (answer : GitwireAnswer) (filled : List ℕ) (new : HostServer Global) : Type 0 where
+  pub step : HostStep
+  pub steps : StepsHost old step new
+  pub answer_is : answer ≡ stepping step (request_of new) (bytes_of new)
+  pub room_is : filled ≡ filled_at step (bytes_of new) room
+
+-- nothing happens, and the room is reported to be too small
+abbrev pub IsTooSmall : HostServer Global → List ℕ → GitwireAnswer → List ℕ → HostServer Global → Type 0
+IsTooSmall old room answer filled new = (answer ≡ answering What.RoomTooSmall) × (filled ≡ room) × (new ≡ old)
+
+-- nothing happens where the room is too small for the longest packet
+pub record PullsInRoom (old : HostServer Global) (room : List ℕ) (answer : GitwireAnswer) (filled : List ℕ) (new : HostServer Global) : Type 0 where
+  pub small : length room < 65520 → IsTooSmall old room answer filled new
+  pub large : 65520 ≤ length room → PullsAnswers old room answer filled new
+
+-- ---- the request at hand
+
+abbrev pub telling_command : Option Asked → GitwireAnswer
+telling_command None = answering What.Nothing
+telling_command (Some asked) = telling_number (command_number (command_asked asked))
+
+abbrev pub has_flag_at : ℕ → Option Asked → Bool
+has_flag_at number None = false
+has_flag_at number (Some asked) = is_set number asked
+
+abbrev pub telling_given_at : ℕ → Option Asked → GitwireAnswer
+telling_given_at which None = answering What.Nothing
+telling_given_at which (Some asked) = telling_which which asked
+
+-- the text at a place of the list, if there is a request
+abbrev pub PutsAt : Option ItemList → ℕ → Option Asked → List ℕ → GitwireAnswer → List ℕ → Type 0
+PutsAt list i None room answer filled = (answer ≡ answering What.Nothing) × (filled ≡ room)
+PutsAt list i (Some asked) room answer filled = PutsFrom list asked i room answer filled
+
+-- the request is answered, where one is asked about
+pub record AcceptsAnswers (old : HostServer Global) (answer : ℕ) (new : HostServer Global) : Type 0 where
+  pub accepted : Bool
+  pub accepts : AcceptsHost old accepted new
+  pub answer_is : answer ≡ done_where accepted
+
+-- what is reported to C of a refusal, and left in the room
+abbrev pub refusing : Bool → List ℕ → GitwireAnswer
+refusing true bytes = answering_packet 0 0 (length bytes) What.Packet
+refusing false bytes = answering What.NotNow
+
+abbrev pub filled_where : Bool → List ℕ → List ℕ → List ℕ
+filled_where true bytes room = put_before bytes room
+filled_where false bytes room = room
+
+-- the request is refused by a text, where one is asked about
+pub record RefusesAnswers (text : List ℕ) (old : HostServer Global) (room : List ℕ) (answer : GitwireAnswer) (filled : List ℕ)
+    (new : HostServer Global) : Type 0 where
+  pub refused : Bool
+  pub refuses : RefusesHost text old refused new
+  pub answer_is : answer ≡ refusing refused (bytes_of new)
+  pub room_is : filled ≡ filled_where refused (bytes_of new) room
+
+-- a refusal by its name, at offset 0
+abbrev pub refused_as : Kind → GitwireAnswer
+refused_as kind = answering_fault 0 (record { kind = kind; offset = 0 })
+
+-- the same; nothing happens where the room is too small, or the text is longer than that of an error packet may be
+pub record RefusesInRoom (text : List ℕ) (old : HostServer Global) (room : List ℕ) (answer : GitwireAnswer) (filled : List ℕ)
+    (new : HostServer Global) : Type 0 where
+  pub small : length room < 65520 → IsTooSmall old room answer filled new
+  pub too_long : 65520 ≤ length room → 65511 < length text → (answer ≡ refused_as BadLine) × (filled ≡ room) × (new ≡ old)
+  pub large : 65520 ≤ length room → length text ≤ 65511 → RefusesAnswers text old room answer filled new
+
+-- ---- what the host reports
+
+-- the bytes of a pack or of progress that are reported
+abbrev pub bytes_in : Report → List ℕ
+bytes_in (Report.Pack bytes) = bytes.now
+bytes_in (Report.Progress bytes) = bytes.now
+bytes_in report = []
+
+-- what is reported to C of a report of so many bytes, of which one packet takes so many, by what came of it; the packet has so many
+abbrev pub reporting : HostReported → ℕ → ℕ → ℕ → GitwireAnswer
+reporting HostReported.Packet part whole filled = answering_packet part 0 filled What.Packet
+reporting HostReported.Taken part whole filled = answering What.More
+reporting HostReported.Hidden part whole filled = answering_used whole What.More
+reporting HostReported.NotAsked part whole filled = answering What.NotNow
+reporting HostReported.MixedFormats part whole filled = refused_as BadObjectName
+reporting HostReported.Unsorted part whole filled = answering What.OutOfOrder
+reporting HostReported.HeadTwice part whole filled = answering What.OutOfOrder
+reporting HostReported.OutOfMemory part whole filled = answering What.OutOfMemory
+
+abbrev pub filled_by : HostReported → List ℕ → List ℕ → List ℕ
+filled_by HostReported.Packet bytes room = put_before bytes room
+filled_by reported bytes room = room
+
+-- the server takes the report, and its packet is at the front of the room, if it has one
+pub record ReportsAnswers (report : Report) (old : HostServer Global) (room : List ℕ) (answer : GitwireAnswer) (filled : List ℕ)
+    (new : HostServer Global) : Type 0 where
+  pub reported : HostReported
+  pub reports : ReportsHost report old reported new
+  pub answer_is : answer ≡ reporting reported (length (part_of (bytes_in report))) (length (bytes_in report)) (length (bytes_of new))
+  pub room_is : filled ≡ filled_by reported (bytes_of new) room
+
+-- nothing happens where the room is too small for the longest packet
+pub record ReportsInRoom (report : Report) (old : HostServer Global) (room : List ℕ) (answer : GitwireAnswer) (filled : List ℕ)
+    (new : HostServer Global) : Type 0 where
+  pub small : length room < 65520 → IsTooSmall old room answer filled new
+  pub large : 65520 ≤ length room → ReportsAnswers report old room answer filled new
+
+-- ---- reports whose texts C gives
+
+-- what the texts mean: a report, or why there is none
+abbrev pub Meant : Type 0
+Meant = Result Report Unread
+
+abbrev pub unread_as : Unread → GitwireAnswer
+unread_as (Unread.Refused kind) = refused_as kind
+unread_as Unread.OutOfMemory = answering What.OutOfMemory
+
+-- the report that the texts mean is made; or it is reported why there is none, and nothing changes
+abbrev pub ReportsBy : Meant → HostServer Global → List ℕ → GitwireAnswer → List ℕ → HostServer Global → Type 0
+ReportsBy (Ok report) old room answer filled new = ReportsAnswers report old room answer filled new
+ReportsBy (Err why) old room answer filled new = (answer ≡ unread_as why) × (filled ≡ room) × (new ≡ old)
+
+pub record ReportsMeant (Means : Meant → Type 0) (old : HostServer Global) (room : List ℕ) (answer : GitwireAnswer) (filled : List ℕ)
+    (new : HostServer Global) : Type 0 where
+  pub meant : Meant
+  pub means : Means meant
+  pub reports : ReportsBy meant old room answer filled new
+
+-- nothing happens where the room is too small for the longest packet
+pub record ReportsMeantInRoom (Means : Meant → Type 0) (old : HostServer Global) (room : List ℕ) (answer : GitwireAnswer) (filled : List ℕ)
+    (new : HostServer Global) : Type 0 where
+  pub small : length room < 65520 → IsTooSmall old room answer filled new
+  pub large : 65520 ≤ length room → ReportsMeant Means old room answer filled new
+
+-- the digits of a wanted reference's object, in the session's format; none mean that there is no such reference
+abbrev pub MeansWantRef : Format → List ℕ → Meant → Type 0
+MeansWantRef format digits (Ok report) = (id : Option ObjectName) × (report ≡ Report.WantRef id) × IsMaybeObjectName format (given digits) id
+MeansWantRef format digits (Err why) = (why ≡ Unread.Refused BadObjectName) × (digits ≢ []) × IsNoObjectName format digits
+
+-- a line of the shallow boundary
+abbrev pub MeansBoundary : Format → Bool → List ℕ → Meant → Type 0
+MeansBoundary format shallow digits (Ok report) = (id : ObjectName) × (report ≡ Report.Boundary (boundary_of shallow id)) × IsObjectName format digits id
+MeansBoundary format shallow digits (Err why) = (why ≡ Unread.Refused BadObjectName) × IsNoObjectName format digits
+
+-- what an unborn `HEAD` points to
+abbrev pub MeansUnborn : List ℕ → Meant → Type 0
+MeansUnborn text (Ok report) = (target : RefName) × (report ≡ Report.Unborn target) × (name_bytes target ≡ text) × IsRefName text
+MeansUnborn text (Err why) = (why ≡ Unread.Refused BadRefName) × ¬ IsRefName text
+
+-- the reference with these parts
+pub record IsEntryOf (format : Format) (digits name target peeled : List ℕ) (entry : Entry) : Type 0 where
+  pub is_id : IsObjectName format digits entry.id
+  pub name_is : entry.name ≡ name
+  pub is_name : IsRefName name
+  pub target_is : entry.target ≡ given target
+  pub is_target : target ≢ [] → IsRefName target
+  pub is_peeled : IsMaybeObjectName format (given peeled) entry.peeled
+
+-- the checks of its parts, from left to right
+abbrev pub entry_checks : Format → List ℕ → List ℕ → List ℕ → List ℕ → List Check
+entry_checks format digits name target peeled =
+    object_name_check format digits ∷ ref_name_check name ∷ where_given target (ref_name_check target)
+    ∷ where_given peeled (object_name_check format peeled) ∷ []
+
+-- a reference that was read, or why there is none: the first part that is refused, or memory ran out
+abbrev pub IsEntryRead : Format → List ℕ → List ℕ → List ℕ → List ℕ → Result Entry Unread → Type 0
+IsEntryRead format digits name target peeled (Ok entry) = IsEntryOf format digits name target peeled entry
+IsEntryRead format digits name target peeled (Err (Unread.Refused kind)) = Refuses (entry_checks format digits name target peeled) kind
+IsEntryRead format digits name target peeled (Err Unread.OutOfMemory) = Unit {0}
+
+-- a reference, whose parts are checked from left to right
+abbrev pub MeansReference : Format → List ℕ → List ℕ → List ℕ → List ℕ → Meant → Type 0
+MeansReference format digits name target peeled (Ok report) =
+    (entry : Entry) × (report ≡ Report.Reference entry) × IsEntryOf format digits name target peeled entry
+MeansReference format digits name target peeled (Err why) = IsEntryRead format digits name target peeled (Err why)
+
+-- the size of an object, where the store has it
+abbrev pub size_given : Bool → ℕ → Option ℕ
+size_given true size = Some size
+size_given false size = None

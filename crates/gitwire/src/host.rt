@@ -1,0 +1,281 @@
+//! A host's server that C holds: a session over a store of the host's own.
+
+ghost use Rattle.std.specs.Prelude.{◌≡◌, ◌≤◌, MatchOption, None, length};
+ghost use Rattle.git_host.specs.HostLookups.{request_of};
+ghost use Rattle.git_host.specs.HostServer.{bytes_of};
+ghost use Rattle.gitwire.specs.Calls.{HasNone, On};
+ghost use Rattle.gitwire.specs.Handles.{host_in};
+ghost use Rattle.gitwire.specs.Answers.{answering, answering_packet, what_number};
+ghost use Rattle.gitwire.specs.HostAnswers.{AcceptsAnswers, ClosesAnswers, FeedsAnswers, MakesHost, MeanHost, MeanNoHost, PullsInRoom, RefusesInRoom};
+ghost use Rattle.gitwire.specs.HostAnswers.{asking, done_where, ending, filled_at, needing, refused_as, stepping};
+ghost use Rattle.gitwire.specs.Rooms.{put_before};
+
+use crate::answer::{GitwireAnswer, What};
+use crate::handles::{GitwireHost, Holds, fill};
+use crate::numbers::number_of_command;
+use crate::offer::GitwireOffer;
+use crate::request::MOST_LIMIT;
+use crate::rooms::put_bytes;
+use git_host::{HostServer, HostStep, LONGEST_REFUSAL, Need};
+use git_msg::Limits;
+use git_names::Steps;
+use git_pkt::{Fault, Kind, LONGEST_PACKET};
+use git_server::Outcome;
+use std::alloc::Global;
+use std::mem::replace;
+
+/// Makes the handle's server a new one over a store that is asked, which offers this, keeps at most `limit` bytes of a request's arguments,
+/// and gives the advertisement first where `advertise` is set. What the handle had before is freed. `Done`; `BadValue`, and the handle
+/// stays as it was, where the offer has no format or a bit of no feature, or the limit is above 1,073,741,824; or `OutOfMemory`, and
+/// the handle has none.
+#[unsafe(no_mangle)]
+pub extern "C" fn gitwire_host_new(
+    alloc: Global,
+    host: &mut GitwireHost,
+    offer: GitwireOffer,
+    limit: u32,
+    advertise: bool,
+) -> u8
+    ensures { MakesHost offer limit advertise (host_in host.old) result (host_in host.new) }
+{
+    let Some(meant) = host_meant(alloc, offer, limit, advertise) else {
+        return What::BadValue.number();
+    };
+    *host = GitwireHost::none(alloc);
+    let Ok(made) = Box::new(alloc, meant) else {
+        return What::OutOfMemory.number();
+    };
+    fill(host, alloc, made).number()
+}
+
+/// The server that is meant; none where the offer is none or the limit is more than one may be.
+fn host_meant(
+    alloc: Global,
+    offer: GitwireOffer,
+    limit: u32,
+    advertise: bool,
+) -> Option<HostServer<Global>>
+    ensures { MatchOption result (MeanNoHost offer limit) (MeanHost offer limit advertise) }
+{
+    let Some(offer) = offer.meant() else {
+        return None;
+    };
+    if limit > MOST_LIMIT {
+        return None;
+    }
+    Some(HostServer::new(alloc, offer, Limits { args: limit }, advertise))
+}
+
+/// Takes bytes of the input: all of them, or those up to the end of a request, a flush instead of one, or a fault. None is used
+/// while a request is answered, nor after the end: `NotNow`. `More`, and how many were used; or `NoHandle`.
+#[unsafe(no_mangle)]
+pub extern "C" fn gitwire_host_feed(
+    alloc: Global,
+    host: &mut GitwireHost,
+    piece: &[u8],
+) -> GitwireAnswer
+    ensures { On (host_in host.old) (host_in host.new) (λ old new. FeedsAnswers old piece.now result new) (result ≡ answering What.NoHandle) }
+{
+    let Some(mut taken) = host.take(alloc) else {
+        return GitwireAnswer::of(What::NoHandle);
+    };
+    let answer = feed(&mut taken.inner, piece);
+    host.put(taken);
+    answer
+}
+
+fn feed(server: &mut HostServer<Global>, piece: &[u8]) -> GitwireAnswer
+    ensures { FeedsAnswers server.old piece.now result server.new }
+{
+    let due = server.wants_input();
+    let used = server.feed(piece, &mut Steps::new());
+    GitwireAnswer::of_used(used, What::more(due))
+}
+
+/// The input ends here. `Done`; `NotNow` where the server does not wait for bytes, and nothing changed; or `NoHandle`.
+#[unsafe(no_mangle)]
+pub extern "C" fn gitwire_host_close(alloc: Global, host: &mut GitwireHost) -> u8
+    ensures { On (host_in host.old) (host_in host.new) (λ old new. ClosesAnswers old result new) (result ≡ what_number What.NoHandle) }
+{
+    let Some(mut taken) = host.take(alloc) else {
+        return What::NoHandle.number();
+    };
+    let answer = close(&mut taken.inner);
+    host.put(taken);
+    answer
+}
+
+fn close(server: &mut HostServer<Global>) -> u8
+    ensures { ClosesAnswers server.old result server.new }
+{
+    done_where(server.close())
+}
+
+// What is reported of a call that does something or changes nothing.
+fn done_where(done: bool) -> u8
+    ensures { result ≡ done_where done }
+{
+    if done {
+        return What::Done.number();
+    }
+    What::NotNow.number()
+}
+
+/// The next packet to be sent, copied to the front of the room, or what to do in its place. `Packet`, `NeedInput`, `Asked`, `NeedWant` to
+/// `NeedSize`, `EndedByFlush`, `EndedByClose` or `Failed`; `NoHandle`; and `RoomTooSmall` where the room has less than 65,520 bytes.
+#[unsafe(no_mangle)]
+pub extern "C" fn gitwire_host_pull(
+    alloc: Global,
+    host: &mut GitwireHost,
+    room: &mut [u8],
+) -> GitwireAnswer
+    ensures { On (host_in host.old) (host_in host.new) (λ old new. PullsInRoom old room.old result room.new new) (HasNone room.old result room.new) }
+{
+    let Some(mut taken) = host.take(alloc) else {
+        return GitwireAnswer::of(What::NoHandle);
+    };
+    let answer = pull(&mut taken.inner, room);
+    host.put(taken);
+    answer
+}
+
+fn pull(server: &mut HostServer<Global>, room: &mut [u8]) -> GitwireAnswer
+    ensures { PullsInRoom server.old room.old result room.new server.new }
+{
+    if room.len() < LONGEST_PACKET {
+        return GitwireAnswer::of(What::RoomTooSmall);
+    }
+    let step = server.next();
+    show(server, step, room)
+}
+
+// Shows what is to be done next.
+fn show(server: &HostServer<Global>, step: HostStep, room: &mut [u8]) -> GitwireAnswer
+    requires { 65520 ≤ length room.old }
+    ensures answer { result ≡ stepping step (request_of server.now) (bytes_of server.now) }
+    ensures room { room.new ≡ filled_at step (bytes_of server.now) room.old }
+{
+    match step {
+        HostStep::Packet => hand_out(server, 0, room),
+        HostStep::NeedInput => GitwireAnswer::of(What::NeedInput),
+        HostStep::Asked => show_asked(server),
+        HostStep::Need(need) => show_need(need),
+        HostStep::Ended(outcome) => show_end(outcome),
+    }
+}
+
+/// Copies the packet that was given last to the front of the room.
+pub(crate) fn hand_out(server: &HostServer<Global>, used: usize, room: &mut [u8]) -> GitwireAnswer
+    requires { 65520 ≤ length room.old }
+    ensures answer { result ≡ answering_packet used 0 (length (bytes_of server.now)) What.Packet }
+    ensures room { room.new ≡ put_before (bytes_of server.now) room.old }
+{
+    let length = put_bytes(server.last_packet(), room);
+    GitwireAnswer::of_packet(used, 0, length, What::Packet)
+}
+
+fn show_asked(server: &HostServer<Global>) -> GitwireAnswer
+    ensures { result ≡ asking (request_of server.now) }
+{
+    match server.request() {
+        Some(request) => {
+            GitwireAnswer::of_packet(0, number_of_command(request.command()), 0, What::Asked)
+        }
+        None => GitwireAnswer::of(What::Asked),
+    }
+}
+
+fn show_need(need: Need) -> GitwireAnswer
+    ensures { result ≡ needing need }
+{
+    match need {
+        Need::Want(at) => GitwireAnswer::of_packet(0, at as u64, 0, What::NeedWant),
+        Need::WantRef(at) => GitwireAnswer::of_packet(0, at as u64, 0, What::NeedWantRef),
+        Need::Have(at) => GitwireAnswer::of_packet(0, at as u64, 0, What::NeedHave),
+        Need::Ready => GitwireAnswer::of(What::NeedReady),
+        Need::Boundary => GitwireAnswer::of(What::NeedBoundary),
+        Need::Pack => GitwireAnswer::of(What::NeedPack),
+        Need::Reference => GitwireAnswer::of(What::NeedReference),
+        Need::Size(at) => GitwireAnswer::of_packet(0, at as u64, 0, What::NeedSize),
+    }
+}
+
+fn show_end(outcome: Outcome) -> GitwireAnswer
+    ensures { result ≡ ending outcome }
+{
+    match outcome {
+        Outcome::Flush => GitwireAnswer::of(What::EndedByFlush),
+        Outcome::Closed => GitwireAnswer::of(What::EndedByClose),
+        Outcome::Refused(fault) => GitwireAnswer::of_fault(0, fault),
+    }
+}
+
+/// The request that came is answered. `Done`; `NotNow` where none is `Asked`, and nothing changed; or `NoHandle`.
+#[unsafe(no_mangle)]
+pub extern "C" fn gitwire_host_accept(alloc: Global, host: &mut GitwireHost) -> u8
+    ensures { On (host_in host.old) (host_in host.new) (λ old new. AcceptsAnswers old result new) (result ≡ what_number What.NoHandle) }
+{
+    let Some(mut taken) = host.take(alloc) else {
+        return What::NoHandle.number();
+    };
+    let answer = accept(&mut taken.inner);
+    host.put(taken);
+    answer
+}
+
+fn accept(server: &mut HostServer<Global>) -> u8
+    ensures { AcceptsAnswers server.old result server.new }
+{
+    done_where(server.accept())
+}
+
+/// The request that came is refused: `Packet`, an error packet with this text is at the front of the room, and the session is over. `NotNow`
+/// where none is `Asked`; `Failed` by `BadLine` for a text of more than 65,511 bytes; `RoomTooSmall` where the room has less than 65,520
+/// bytes; or `NoHandle`: nothing changed.
+#[unsafe(no_mangle)]
+pub extern "C" fn gitwire_host_refuse(
+    alloc: Global,
+    host: &mut GitwireHost,
+    text: &[u8],
+    room: &mut [u8],
+) -> GitwireAnswer
+    ensures { On (host_in host.old) (host_in host.new) (λ old new. RefusesInRoom text.now old room.old result room.new new)
+        (HasNone room.old result room.new) }
+{
+    let Some(mut taken) = host.take(alloc) else {
+        return GitwireAnswer::of(What::NoHandle);
+    };
+    let answer = refuse(&mut taken.inner, text, room);
+    host.put(taken);
+    answer
+}
+
+fn refuse(server: &mut HostServer<Global>, text: &[u8], room: &mut [u8]) -> GitwireAnswer
+    ensures { RefusesInRoom text.now server.old room.old result room.new server.new }
+{
+    if room.len() < LONGEST_PACKET {
+        return GitwireAnswer::of(What::RoomTooSmall);
+    }
+    if text.len() > LONGEST_REFUSAL {
+        return refused_as(Kind::BadLine);
+    }
+    if !server.refuse(text) {
+        return GitwireAnswer::of(What::NotNow);
+    }
+    hand_out(server, 0, room)
+}
+
+/// A refusal by its name, at offset 0.
+pub(crate) fn refused_as(kind: Kind) -> GitwireAnswer
+    ensures { result ≡ refused_as kind }
+{
+    GitwireAnswer::of_fault(0, Fault { kind, offset: 0 })
+}
+
+/// Frees the server. The handle has none from then on.
+#[unsafe(no_mangle)]
+pub extern "C" fn gitwire_host_clear(alloc: Global, host: &mut GitwireHost)
+    ensures { host_in host.new ≡ None }
+{
+    drop(replace(host, GitwireHost::none(alloc)));
+}

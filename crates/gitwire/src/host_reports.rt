@@ -1,0 +1,403 @@
+//! What a host reports of its store to the server that C holds.
+
+ghost use Rattle.std.specs.Prelude.{◌≡◌, ◌≤◌, length};
+ghost use Rattle.git_host.specs.HostAnswers.{part_of};
+ghost use Rattle.git_host.specs.HostLookups.{format_of};
+ghost use Rattle.git_host.specs.HostServer.{bytes_of};
+ghost use Rattle.git_host.specs.declared.report.Report.{Report as Reported};
+ghost use Rattle.gitwire.specs.Calls.{HasNone, On};
+ghost use Rattle.gitwire.specs.Handles.{host_in};
+ghost use Rattle.gitwire.specs.HostAnswers.{MeansBoundary, MeansReference, MeansUnborn, MeansWantRef, ReportsAnswers, ReportsInRoom};
+ghost use Rattle.gitwire.specs.HostAnswers.{ReportsMeant, ReportsMeantInRoom, bytes_in, filled_by, reporting, size_given};
+
+use crate::answer::{GitwireAnswer, What};
+use crate::handles::{GitwireHost, Holds};
+use crate::host::{hand_out, refused_as};
+use crate::host_texts::read_entry;
+use crate::line_writers::{boundary_of, read_given_id};
+use git_host::{HostReported, HostServer, LONGEST_PART, Report};
+use git_names::{Oid, RefName, Steps};
+use git_pkt::{Kind, LONGEST_PACKET};
+use std::alloc::Global;
+
+/// Whether the store has the wanted object that is asked about: `More`. Where it has not, the error packet is pulled next, and the session
+/// is over.
+#[unsafe(no_mangle)]
+pub extern "C" fn gitwire_host_want(
+    alloc: Global,
+    host: &mut GitwireHost,
+    has: bool,
+    room: &mut [u8],
+) -> GitwireAnswer
+    ensures { On (host_in host.old) (host_in host.new) (λ old new. ReportsInRoom (Reported.Want has) old room.old result room.new new)
+        (HasNone room.old result room.new) }
+{
+    report_in(alloc, host, Report::Want(has), room)
+}
+
+/// The object of the wanted reference that is asked for, by its digits, or by none that there is no such reference: `More`. Where there is
+/// none, the error packet is pulled next, and the session is over. `Failed` by `BadObjectName`, and `OutOfMemory`: nothing changed.
+#[unsafe(no_mangle)]
+pub extern "C" fn gitwire_host_want_ref(
+    alloc: Global,
+    host: &mut GitwireHost,
+    id: &[u8],
+    room: &mut [u8],
+) -> GitwireAnswer
+    ensures { On (host_in host.old) (host_in host.new)
+        (λ old new. ReportsMeantInRoom (MeansWantRef (format_of old) id.now) old room.old result room.new new) (HasNone room.old result room.new) }
+{
+    let Some(mut taken) = host.take(alloc) else {
+        return GitwireAnswer::of(What::NoHandle);
+    };
+    let answer = want_ref(&mut taken.inner, id, room);
+    host.put(taken);
+    answer
+}
+
+/// Whether the store has the object of the client that is asked about: `Packet`, its `ACK`, or `More`.
+#[unsafe(no_mangle)]
+pub extern "C" fn gitwire_host_have(
+    alloc: Global,
+    host: &mut GitwireHost,
+    has: bool,
+    room: &mut [u8],
+) -> GitwireAnswer
+    ensures { On (host_in host.old) (host_in host.new) (λ old new. ReportsInRoom (Reported.Have has) old room.old result room.new new)
+        (HasNone room.old result room.new) }
+{
+    report_in(alloc, host, Report::Have(has), room)
+}
+
+/// Whether the store is ready to send a pack: `Packet`, the line `ready`, or the flush that ends the answer.
+#[unsafe(no_mangle)]
+pub extern "C" fn gitwire_host_ready(
+    alloc: Global,
+    host: &mut GitwireHost,
+    ready: bool,
+    room: &mut [u8],
+) -> GitwireAnswer
+    ensures { On (host_in host.old) (host_in host.new) (λ old new. ReportsInRoom (Reported.Ready ready) old room.old result room.new new)
+        (HasNone room.old result room.new) }
+{
+    report_in(alloc, host, Report::Ready(ready), room)
+}
+
+/// A line of the shallow boundary, `shallow` or else `unshallow`, by the digits of its commit: `Packet`. `Failed` by `BadObjectName`, and
+/// nothing changed.
+#[unsafe(no_mangle)]
+pub extern "C" fn gitwire_host_boundary(
+    alloc: Global,
+    host: &mut GitwireHost,
+    shallow: bool,
+    id: &[u8],
+    room: &mut [u8],
+) -> GitwireAnswer
+    ensures { On (host_in host.old) (host_in host.new)
+        (λ old new. ReportsMeantInRoom (MeansBoundary (format_of old) shallow id.now) old room.old result room.new new)
+        (HasNone room.old result room.new) }
+{
+    let Some(mut taken) = host.take(alloc) else {
+        return GitwireAnswer::of(What::NoHandle);
+    };
+    let answer = boundary(&mut taken.inner, shallow, id, room);
+    host.put(taken);
+    answer
+}
+
+/// The boundary has no more lines: `Packet`, the delimiter of its section, or `More` where it has none at all.
+#[unsafe(no_mangle)]
+pub extern "C" fn gitwire_host_boundary_end(
+    alloc: Global,
+    host: &mut GitwireHost,
+    room: &mut [u8],
+) -> GitwireAnswer
+    ensures { On (host_in host.old) (host_in host.new) (λ old new. ReportsInRoom Reported.BoundaryEnd old room.old result room.new new)
+        (HasNone room.old result room.new) }
+{
+    report_in(alloc, host, Report::BoundaryEnd, room)
+}
+
+/// Bytes of the pack: `Packet`, and `used` of them are in it, 65,515 at most. No bytes at all are `More`.
+#[unsafe(no_mangle)]
+pub extern "C" fn gitwire_host_pack(
+    alloc: Global,
+    host: &mut GitwireHost,
+    bytes: &[u8],
+    room: &mut [u8],
+) -> GitwireAnswer
+    ensures { On (host_in host.old) (host_in host.new) (λ old new. ReportsInRoom (Reported.Pack bytes.entry) old room.old result room.new new)
+        (HasNone room.old result room.new) }
+{
+    report_in(alloc, host, Report::Pack(bytes), room)
+}
+
+/// A text for the client's user: `Packet`, and `used` of its bytes are in it, 65,515 at most. No bytes at all are `More`, and all of them are
+/// used up by `More` where the request has `no-progress`.
+#[unsafe(no_mangle)]
+pub extern "C" fn gitwire_host_progress(
+    alloc: Global,
+    host: &mut GitwireHost,
+    text: &[u8],
+    room: &mut [u8],
+) -> GitwireAnswer
+    ensures { On (host_in host.old) (host_in host.new) (λ old new. ReportsInRoom (Reported.Progress text.entry) old room.old result room.new new)
+        (HasNone room.old result room.new) }
+{
+    report_in(alloc, host, Report::Progress(text), room)
+}
+
+/// The pack has no more bytes: `Packet`, the flush that ends the answer.
+#[unsafe(no_mangle)]
+pub extern "C" fn gitwire_host_pack_end(
+    alloc: Global,
+    host: &mut GitwireHost,
+    room: &mut [u8],
+) -> GitwireAnswer
+    ensures { On (host_in host.old) (host_in host.new) (λ old new. ReportsInRoom Reported.PackEnd old room.old result room.new new)
+        (HasNone room.old result room.new) }
+{
+    report_in(alloc, host, Report::PackEnd, room)
+}
+
+/// A reference, by the digits of its object, its name, the name that it points to, if it is symbolic, and the digits of the object that it
+/// peels to, if it is an annotated tag: `Packet` where the request asks for it, and else `More`. The parts are checked from left to right:
+/// `Failed` by `BadObjectName` or `BadRefName`. `OutOfOrder`, where its name does not come after that of the one reported before it, or it is a
+/// `HEAD` that was reported as unborn; and `OutOfMemory`: nothing changed.
+#[unsafe(no_mangle)]
+pub extern "C" fn gitwire_host_reference(
+    alloc: Global,
+    host: &mut GitwireHost,
+    id: &[u8],
+    name: &[u8],
+    target: &[u8],
+    peeled: &[u8],
+    room: &mut [u8],
+) -> GitwireAnswer
+    ensures { On (host_in host.old) (host_in host.new)
+        (λ old new. ReportsMeantInRoom (MeansReference (format_of old) id.now name.now target.now peeled.now) old room.old result room.new new)
+        (HasNone room.old result room.new) }
+{
+    let Some(mut taken) = host.take(alloc) else {
+        return GitwireAnswer::of(What::NoHandle);
+    };
+    let answer = reference(alloc, &mut taken.inner, id, name, target, peeled, room);
+    host.put(taken);
+    answer
+}
+
+/// `HEAD` is unborn, and points to this name, which is reported before any reference: `Packet` where the request asks for it, and else
+/// `More`. `Failed` by `BadRefName`, and nothing changed.
+#[unsafe(no_mangle)]
+pub extern "C" fn gitwire_host_unborn(
+    alloc: Global,
+    host: &mut GitwireHost,
+    target: &[u8],
+    room: &mut [u8],
+) -> GitwireAnswer
+    ensures { On (host_in host.old) (host_in host.new) (λ old new. ReportsMeantInRoom (MeansUnborn target.now) old room.old result room.new new)
+        (HasNone room.old result room.new) }
+{
+    let Some(mut taken) = host.take(alloc) else {
+        return GitwireAnswer::of(What::NoHandle);
+    };
+    let answer = unborn(&mut taken.inner, target, room);
+    host.put(taken);
+    answer
+}
+
+/// There are no more references: `Packet`, the flush that ends the answer.
+#[unsafe(no_mangle)]
+pub extern "C" fn gitwire_host_references_end(
+    alloc: Global,
+    host: &mut GitwireHost,
+    room: &mut [u8],
+) -> GitwireAnswer
+    ensures { On (host_in host.old) (host_in host.new) (λ old new. ReportsInRoom Reported.ReferencesEnd old room.old result room.new new)
+        (HasNone room.old result room.new) }
+{
+    report_in(alloc, host, Report::ReferencesEnd, room)
+}
+
+/// The size of the object that is asked about, where the store has it: `Packet`.
+#[unsafe(no_mangle)]
+pub extern "C" fn gitwire_host_size(
+    alloc: Global,
+    host: &mut GitwireHost,
+    has_size: bool,
+    size: u64,
+    room: &mut [u8],
+) -> GitwireAnswer
+    ensures { On (host_in host.old) (host_in host.new)
+        (λ old new. ReportsInRoom (Reported.Size (size_given has_size size)) old room.old result room.new new) (HasNone room.old result room.new) }
+{
+    report_in(alloc, host, Report::Size(size_given(has_size, size)), room)
+}
+
+/// The rest of the pack cannot be had: `Packet`, a text on the band of fatal errors, and the session is over.
+#[unsafe(no_mangle)]
+pub extern "C" fn gitwire_host_fail(
+    alloc: Global,
+    host: &mut GitwireHost,
+    room: &mut [u8],
+) -> GitwireAnswer
+    ensures { On (host_in host.old) (host_in host.new) (λ old new. ReportsInRoom Reported.PackFailed old room.old result room.new new)
+        (HasNone room.old result room.new) }
+{
+    report_in(alloc, host, Report::PackFailed, room)
+}
+
+// Takes what the host reports, and copies its packet to the front of the room, if it has one. `Packet`, `More`, `NotNow`, `OutOfOrder`,
+// `OutOfMemory` or `Failed`; `RoomTooSmall` where the room has less than 65,520 bytes; or `NoHandle`.
+fn report_in(
+    alloc: Global,
+    host: &mut GitwireHost,
+    report: Report<'_>,
+    room: &mut [u8],
+) -> GitwireAnswer
+    ensures { On (host_in host.old) (host_in host.new) (λ old new. ReportsInRoom report.entry old room.old result room.new new)
+        (HasNone room.old result room.new) }
+{
+    let Some(mut taken) = host.take(alloc) else {
+        return GitwireAnswer::of(What::NoHandle);
+    };
+    let answer = report_within(&mut taken.inner, report, room);
+    host.put(taken);
+    answer
+}
+
+fn report_within(
+    server: &mut HostServer<Global>,
+    report: Report<'_>,
+    room: &mut [u8],
+) -> GitwireAnswer
+    ensures { ReportsInRoom report.entry server.old room.old result room.new server.new }
+{
+    if room.len() < LONGEST_PACKET {
+        return GitwireAnswer::of(What::RoomTooSmall);
+    }
+    report_to(server, report, room)
+}
+
+// The same, where the room has space for each packet.
+fn report_to(server: &mut HostServer<Global>, report: Report<'_>, room: &mut [u8]) -> GitwireAnswer
+    requires { 65520 ≤ length room.old }
+    ensures { ReportsAnswers report.entry server.old room.old result room.new server.new }
+{
+    let whole = byte_count(&report);
+    let part = part_count(&report);
+    let reported = server.report(report);
+    show(server, reported, part, whole, room)
+}
+
+fn byte_count(report: &Report<'_>) -> usize
+    ensures { result ≡ length (bytes_in report.now) }
+{
+    match report {
+        Report::Pack(bytes) => bytes.len(),
+        Report::Progress(bytes) => bytes.len(),
+        _ => 0,
+    }
+}
+
+// How many of its bytes one packet takes.
+fn part_count(report: &Report<'_>) -> usize
+    ensures { result ≡ length (part_of (bytes_in report.now)) }
+{
+    LONGEST_PART.min(byte_count(report))
+}
+
+// Shows what came of a report of so many bytes, of which one packet takes so many.
+fn show(
+    server: &HostServer<Global>,
+    reported: HostReported,
+    part: usize,
+    whole: usize,
+    room: &mut [u8],
+) -> GitwireAnswer
+    requires { 65520 ≤ length room.old }
+    ensures answer { result ≡ reporting reported part whole (length (bytes_of server.now)) }
+    ensures room { room.new ≡ filled_by reported (bytes_of server.now) room.old }
+{
+    match reported {
+        HostReported::Packet => hand_out(server, part, room),
+        HostReported::Taken => GitwireAnswer::of(What::More),
+        HostReported::Hidden => GitwireAnswer::of_used(whole, What::More),
+        HostReported::NotAsked => GitwireAnswer::of(What::NotNow),
+        HostReported::MixedFormats => refused_as(Kind::BadObjectName),
+        HostReported::Unsorted => GitwireAnswer::of(What::OutOfOrder),
+        HostReported::HeadTwice => GitwireAnswer::of(What::OutOfOrder),
+        HostReported::OutOfMemory => GitwireAnswer::of(What::OutOfMemory),
+    }
+}
+
+fn want_ref(server: &mut HostServer<Global>, id: &[u8], room: &mut [u8]) -> GitwireAnswer
+    ensures { ReportsMeantInRoom (MeansWantRef (format_of server.old) id.now) server.old room.old result room.new server.new }
+{
+    if room.len() < LONGEST_PACKET {
+        return GitwireAnswer::of(What::RoomTooSmall);
+    }
+    match read_given_id(server.format(), id) {
+        Ok(id) => report_to(server, Report::WantRef(id), room),
+        Err(_) => refused_as(Kind::BadObjectName),
+    }
+}
+
+fn boundary(
+    server: &mut HostServer<Global>,
+    shallow: bool,
+    id: &[u8],
+    room: &mut [u8],
+) -> GitwireAnswer
+    ensures { ReportsMeantInRoom (MeansBoundary (format_of server.old) shallow id.now) server.old room.old result room.new server.new }
+{
+    if room.len() < LONGEST_PACKET {
+        return GitwireAnswer::of(What::RoomTooSmall);
+    }
+    match Oid::read(server.format(), id, &mut Steps::new()) {
+        Ok(id) => report_to(server, Report::Boundary(boundary_of(shallow, id)), room),
+        Err(_) => refused_as(Kind::BadObjectName),
+    }
+}
+
+fn unborn(server: &mut HostServer<Global>, target: &[u8], room: &mut [u8]) -> GitwireAnswer
+    ensures { ReportsMeantInRoom (MeansUnborn target.now) server.old room.old result room.new server.new }
+{
+    if room.len() < LONGEST_PACKET {
+        return GitwireAnswer::of(What::RoomTooSmall);
+    }
+    match RefName::read(target, &mut Steps::new()) {
+        Ok(target) => report_to(server, Report::Unborn(target), room),
+        Err(_) => refused_as(Kind::BadRefName),
+    }
+}
+
+fn reference(
+    alloc: Global,
+    server: &mut HostServer<Global>,
+    id: &[u8],
+    name: &[u8],
+    target: &[u8],
+    peeled: &[u8],
+    room: &mut [u8],
+) -> GitwireAnswer
+    ensures { ReportsMeantInRoom (MeansReference (format_of server.old) id.now name.now target.now peeled.now) server.old room.old result
+        room.new server.new }
+{
+    if room.len() < LONGEST_PACKET {
+        return GitwireAnswer::of(What::RoomTooSmall);
+    }
+    match read_entry(alloc, server.format(), id, name, target, peeled) {
+        Ok(entry) => report_to(server, Report::Reference(entry), room),
+        Err(why) => why.answer(),
+    }
+}
+
+fn size_given(has_size: bool, size: u64) -> Option<u64>
+    ensures { result ≡ size_given has_size size }
+{
+    if has_size {
+        return Some(size);
+    }
+    None
+}

@@ -1,0 +1,170 @@
+//! The request at hand of a host's server that C holds.
+
+ghost use Rattle.std.specs.Prelude.{◌≡◌, false, slice_get};
+ghost use Rattle.git_host.specs.HostLookups.{asked_in, request_of};
+ghost use Rattle.gitwire.specs.Answers.{answering};
+ghost use Rattle.gitwire.specs.Calls.{HasNone, Of};
+ghost use Rattle.gitwire.specs.Handles.{host_in};
+ghost use Rattle.gitwire.specs.HostAnswers.{PutsAt, has_flag_at, telling_command, telling_given_at};
+ghost use Rattle.gitwire.specs.Numbers.{item_lists};
+ghost use Rattle.gitwire.specs.RequestAnswers.{PutsFrom, is_set, telling_which};
+
+use crate::answer::{GitwireAnswer, What};
+use crate::handles::{GitwireHost, Holds};
+use crate::numbers::{Given, ItemList, flag_numbered, number_of_command};
+use crate::request::tell_number;
+use crate::request_items::{put_name_if_any, put_text_if_any};
+use git_host::{HostServer, RequestAtHand};
+use std::alloc::Global;
+
+/// The command of the request that is asked about or answered: `Done`, and `offset` is its number; `Nothing` where there is none; or
+/// `NoHandle`.
+#[unsafe(no_mangle)]
+pub extern "C" fn gitwire_host_command(alloc: Global, host: &mut GitwireHost) -> GitwireAnswer
+    ensures { Of (host_in host.old) (host_in host.new) (λ had. result ≡ telling_command (request_of had)) (result ≡ answering What.NoHandle) }
+{
+    let Some(taken) = host.take(alloc) else {
+        return GitwireAnswer::of(What::NoHandle);
+    };
+    let answer = command(&taken.inner);
+    host.put(taken);
+    answer
+}
+
+fn command(server: &HostServer<Global>) -> GitwireAnswer
+    ensures { result ≡ telling_command (request_of server.now) }
+{
+    match server.request() {
+        Some(request) => tell_number(number_of_command(request.command())),
+        None => GitwireAnswer::of(What::Nothing),
+    }
+}
+
+/// Whether the request that is asked about or answered has the flag of this number, from `SYMREFS` to `WAIT_FOR_DONE`. Of another number,
+/// and where there is no request, it is false.
+#[unsafe(no_mangle)]
+pub extern "C" fn gitwire_host_flag(alloc: Global, host: &mut GitwireHost, flag: u8) -> bool
+    ensures { Of (host_in host.old) (host_in host.new) (λ had. result ≡ has_flag_at flag (request_of had)) (result ≡ false) }
+{
+    let Some(taken) = host.take(alloc) else {
+        return false;
+    };
+    let answer = has_flag(&taken.inner, flag);
+    host.put(taken);
+    answer
+}
+
+fn has_flag(server: &HostServer<Global>, number: u8) -> bool
+    ensures { result ≡ has_flag_at number (request_of server.now) }
+{
+    match server.request() {
+        Some(request) => is_set(&request, number),
+        None => false,
+    }
+}
+
+fn is_set(request: &RequestAtHand<'_, Global>, number: u8) -> bool
+    ensures { result ≡ is_set number (asked_in request.now) }
+{
+    match flag_numbered(number) {
+        Some(flag) => request.has(flag),
+        None => false,
+    }
+}
+
+/// A number of the request that is asked about or answered, `DEEPEN` or `DEEPEN_SINCE`: `Done`, and `offset` is the number; `Nothing` where it
+/// was not given, or there is no request; `BadValue`; or `NoHandle`.
+#[unsafe(no_mangle)]
+pub extern "C" fn gitwire_host_number(
+    alloc: Global,
+    host: &mut GitwireHost,
+    which: u8,
+) -> GitwireAnswer
+    ensures { Of (host_in host.old) (host_in host.new) (λ had. result ≡ telling_given_at which (request_of had)) (result ≡ answering What.NoHandle) }
+{
+    let Some(taken) = host.take(alloc) else {
+        return GitwireAnswer::of(What::NoHandle);
+    };
+    let answer = number(&taken.inner, which);
+    host.put(taken);
+    answer
+}
+
+fn number(server: &HostServer<Global>, which: u8) -> GitwireAnswer
+    ensures { result ≡ telling_given_at which (request_of server.now) }
+{
+    match server.request() {
+        Some(request) => given_number(&request, which),
+        None => GitwireAnswer::of(What::Nothing),
+    }
+}
+
+fn given_number(request: &RequestAtHand<'_, Global>, which: u8) -> GitwireAnswer
+    ensures { result ≡ telling_which which (asked_in request.now) }
+{
+    let Some(which) = Given::numbered(which) else {
+        return GitwireAnswer::of(What::BadValue);
+    };
+    let given = match which {
+        Given::Deepen => request.deepen(),
+        Given::DeepenSince => request.deepen_since(),
+    };
+    match given {
+        Some(number) => tell_number(number),
+        None => GitwireAnswer::of(What::Nothing),
+    }
+}
+
+/// Writes the text at a place of a list of the request that is asked about or answered, from `REF_PREFIXES` to `FILTERS`, to the front of
+/// the room, an object name as its digits. `Done`, and `length` is how many bytes it has; `Nothing` past the end of the list, and where there
+/// is no request; `RoomTooSmall`; `BadValue`; or `NoHandle`.
+#[unsafe(no_mangle)]
+pub extern "C" fn gitwire_host_item(
+    alloc: Global,
+    host: &mut GitwireHost,
+    list: u8,
+    index: usize,
+    room: &mut [u8],
+) -> GitwireAnswer
+    ensures { Of (host_in host.old) (host_in host.new) (λ had. PutsAt (slice_get item_lists list) index (request_of had) room.old result room.new)
+        (HasNone room.old result room.new) }
+{
+    let Some(taken) = host.take(alloc) else {
+        return GitwireAnswer::of(What::NoHandle);
+    };
+    let answer = item(&taken.inner, list, index, room);
+    host.put(taken);
+    answer
+}
+
+fn item(server: &HostServer<Global>, list: u8, index: usize, room: &mut [u8]) -> GitwireAnswer
+    ensures { PutsAt (slice_get item_lists list) index (request_of server.now) room.old result room.new }
+{
+    match server.request() {
+        Some(request) => put_item(&request, list, index, room),
+        None => GitwireAnswer::of(What::Nothing),
+    }
+}
+
+fn put_item(
+    request: &RequestAtHand<'_, Global>,
+    list: u8,
+    index: usize,
+    room: &mut [u8],
+) -> GitwireAnswer
+    ensures { PutsFrom (slice_get item_lists list) (asked_in request.now) index room.old result room.new }
+{
+    let Some(list) = ItemList::numbered(list) else {
+        return GitwireAnswer::of(What::BadValue);
+    };
+    match list {
+        ItemList::RefPrefixes => put_text_if_any(request.ref_prefix(index), room),
+        ItemList::Wants => put_name_if_any(request.wants().get(index), room),
+        ItemList::Haves => put_name_if_any(request.haves().get(index), room),
+        ItemList::Shallows => put_name_if_any(request.shallows().get(index), room),
+        ItemList::DeepenNots => put_text_if_any(request.deepen_not(index), room),
+        ItemList::WantRefs => put_text_if_any(request.want_ref(index), room),
+        ItemList::Oids => put_name_if_any(request.oids().get(index), room),
+        ItemList::Filters => put_text_if_any(request.filter(index), room),
+    }
+}

@@ -1,0 +1,170 @@
+/* What the history of a repository decides of a fetch: whether enough is common to make a pack, and the commits at which a shallow clone ends. */
+#include "store.h"
+
+/* What is asked for, looked up in the repository. */
+static struct names wants, common;
+static struct names client_boundary;  /* the commits of it whose parents the client has not */
+
+/* What comes of it: the lines of the boundary. */
+static struct names shallows, unshallows;
+
+static void write_names(FILE *to, const char *before, const struct names *names)
+{
+	for (size_t i = 0; i < names->length; i++)
+		fprintf(to, "%s%s\n", before, names->at[i].digits);
+}
+
+/* Starts `git rev-list` from these commits on, without what the excluded ones lead to: parents come before children, each with all its parents. */
+static void start_walk(struct command *walk, const struct names *from, const struct names *excluded, uint64_t since)
+{
+	char age[40];
+	const char *words[] = { "git", "rev-list", "--parents", "--topo-order", "--reverse", "--stdin", since > 0 ? age : NULL, NULL };
+
+	snprintf(age, sizeof age, "--max-age=%llu", (unsigned long long)since);
+	start(walk, false, words);
+	write_names(walk->input, "", from);
+	write_names(walk->input, "^", excluded);
+	end_input(walk);
+}
+
+/* The commits that are wanted, those of tags too. */
+static void peel_wants(struct names *commits)
+{
+	struct found found;
+
+	for (size_t i = 0; i < wants.length; i++)
+		if (find_peeled(wants.at[i].digits, &found) && strcmp(found.type, "commit") == 0)
+			add_name(commits, found.id);
+}
+
+/* Whether a commit or a parent of it is known. */
+static bool reaches(const struct names *known, const char *commit)
+{
+	struct names parents = { 0 };
+	bool is_so = has_name(known, commit);
+
+	if (!is_so)
+		read_commit(commit, &parents);
+	for (size_t i = 0; i < parents.length; i++)
+		is_so |= has_name(known, parents.at[i].digits);
+	clear_names(&parents);
+	return is_so;
+}
+
+/*
+ * Whether each wanted commit has one among its ancestors, or is one, that the client has by what it says, or a parent of such a
+ * one. No commit older than all of those is looked at, as Git's own server does it. Where history cannot be read it is not known.
+ */
+static bool is_enough_common(void)
+{
+	struct names known = { 0 }, wanted = { 0 }, none = { 0 };
+	uint64_t oldest = UINT64_MAX, date;
+	struct command walk;
+	struct found found;
+	bool is_enough;
+
+	for (size_t i = 0; i < common.length; i++)
+		if (find(common.at[i].digits, &found) && strcmp(found.type, "commit") == 0) {
+			add_name(&known, found.id);
+			date = read_commit(found.id, &known);
+			oldest = date < oldest ? date : oldest;
+		}
+	if (known.length == 0)
+		return false;
+	peel_wants(&wanted);
+	start_walk(&walk, &wanted, &none, oldest);
+	for (char *line; (line = next_line(&walk)) != NULL;) {
+		char *commit = strsep(&line, " ");
+		bool leads_there = false;
+
+		for (char *parent; (parent = strsep(&line, " ")) != NULL;)
+			leads_there |= has_name(&known, parent);
+		if (leads_there)
+			add_name(&known, commit);
+	}
+	is_enough = end(&walk) == 0;
+	for (size_t i = 0; i < wanted.length; i++)
+		is_enough &= reaches(&known, wanted.at[i].digits);
+	clear_names(&known);
+	clear_names(&wanted);
+	return is_enough;
+}
+
+/* The lines of the boundary: the client gets the commits of `within` with their parents, and those of `last` without. */
+static void note_boundary(const struct names *within, const struct names *last)
+{
+	for (size_t i = 0; i < last->length; i++)
+		if (!has_name(&client_boundary, last->at[i].digits))
+			add_name(&shallows, last->at[i].digits);
+	for (size_t i = 0; i < client_boundary.length; i++)
+		if (has_name(within, client_boundary.at[i].digits) && !has_name(last, client_boundary.at[i].digits))
+			add_name(&unshallows, client_boundary.at[i].digits);
+}
+
+/* Cuts the history of the commits in `within` off at this depth, and where `ends` or the repository itself ends. */
+static void cut_at_depth(struct names *within, uint64_t depth, const struct names *ends)
+{
+	struct names last = { 0 };
+	size_t level_end = within->length;
+
+	for (size_t i = 0; i < within->length; i++) {
+		struct name commit = within->at[i];
+
+		if (i == level_end) {
+			depth--;
+			level_end = within->length;
+		}
+		if (depth <= 1 || has_name(&own_boundary, commit.digits) || has_name(ends, commit.digits))
+			add_name(&last, commit.digits);
+		else
+			read_commit(commit.digits, within);
+	}
+	note_boundary(within, &last);
+	clear_names(&last);
+}
+
+/* Those of the client's boundary that a reference leads to which clients may know of, into `commits`. */
+static void find_reachable(struct names *commits)
+{
+	static const char *const all[] = { "git", "rev-list", "--not", "--all", "--not", "--stdin", NULL };
+	static const char *const shown[] = { "git", "rev-list", "--exclude-hidden=uploadpack", "--not", "--all", "--not", "--stdin", NULL };
+	bool hidden = is_set("uploadpack.allowtipsha1inwant", false) || is_set("uploadpack.allowreachablesha1inwant", false)
+		|| is_set("uploadpack.allowanysha1inwant", false);
+	struct names others = { 0 };
+	struct command walk;
+
+	start(&walk, false, hidden ? all : shown);
+	write_names(walk.input, "", &client_boundary);
+	end_input(&walk);
+	for (char *line; (line = next_line(&walk)) != NULL;)
+		if (has_name(&client_boundary, line))
+			add_name(&others, line);
+	if (end(&walk) != 0)
+		fail("git rev-list failed");
+	for (size_t i = 0; i < client_boundary.length; i++)
+		if (!has_name(&others, client_boundary.at[i].digits))
+			add_name(commits, client_boundary.at[i].digits);
+	clear_names(&others);
+}
+
+/* Cuts the history off at what is older than a time (0 for none) or what the excluded commits lead to. */
+static void cut_by_walk(uint64_t since, const struct names *excluded)
+{
+	struct names within = { 0 }, last = { 0 };
+	struct command walk;
+
+	start_walk(&walk, &wants, excluded, since);
+	for (char *line; (line = next_line(&walk)) != NULL;) {
+		char *commit = strsep(&line, " ");
+
+		for (char *parent; (parent = strsep(&line, " ")) != NULL;)
+			if (!has_name(&within, parent))
+				add_name(&last, commit);
+		add_name(&within, commit);
+	}
+	if (end(&walk) != 0 || within.length == 0)
+		fail("no commits selected for shallow requests");
+	note_boundary(&within, &last);
+	clear_names(&within);
+	clear_names(&last);
+}
