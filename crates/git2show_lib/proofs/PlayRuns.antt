@@ -365,13 +365,18 @@ module _ {R A : Type 0} {state : R → RepoState} {t : Terms} {limit : ℕ} {s0 
             asked = inr (asked_of request, refl);
             stays = p.runs.stays;
             all_said = quietly_said t p.h old p.runs.along.stands (quiet_where_ready (phase_of old) p.ready);
-            is_served = record { first = p.rest.first; later = p.rest.later; unheard = []; served = still_served;
-                sessions = p.rest.talks (failed_in state after) };
+            is_served = record {
+              first = p.rest.first;
+              later = p.rest.later;
+              unheard = [];
+              served = still_served;
+              sessions = p.rest.talks (failed_in state after);
+            };
           })
       asking_stopped (Refused fault) new next after split (step, same) =
           let stands = p.runs.along.stands in
           play_ends t (failed_in state after) limit s0 requests (Err (Refused fault)) p.h front (request ∷ later) old split
-              (ran_unasked t p.runs step) (record {
+          (ran_unasked t p.runs step) (record {
             first = p.rest.first;
             later = p.rest.later;
             unheard = [];

@@ -17,7 +17,7 @@ returns-in_err-left-clause-checked g c =
     (hearing_stopped _ _ _ c.args.requests.now c.hear_advertisement.new.reader _ _ _
     (advertisement_due c.new-client.result (record { offer = noted_offer (caps_of c.new-client.result) c.args.format; text = [] }) _ _ _
     c.new-client.ensures.waits c.new-client.ensures.converses) c.new-client.ensures.waits c.in_err-left.field-0.0
-      c.hear_advertisement.new.piece c.args.turns _ _ _
+    c.hear_advertisement.new.piece c.args.turns _ _ _
     c.in_err-left.ensures.heard c.in_err-left.ensures.told c.in_err-left.ensures.fault)
 
 pub returns-in-Err-clause-checked : goal.returns-in-Err-clause-checked
