@@ -19,6 +19,8 @@ pub mod RoundTrip
 pub mod FaultLaws
 pub mod HeldFlags
 pub mod KeptBytes
+pub mod RefusedLists
+pub mod ReaderRuns
 pub mod AddedArguments
 pub mod ArgumentsInOrder
 pub mod ReferenceFaults

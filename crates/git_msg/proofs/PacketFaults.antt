@@ -5,7 +5,7 @@ use Rattle.git_pkt.specs.Packets.{Pkt, flush, delim, resp_end, payload}
 use Rattle.git_pkt.specs.Splits.{Given}
 use Rattle.git_pkt.specs.declared.fault.Fault.{Fault}
 use Rattle.git_pkt.specs.declared.fault.Kind.{Kind}
-use Rattle.git_pkt.specs.declared.fault.Kind.TheVariants.{NotOurs, PackSource, StreamTooLong, TooMuchKept, Truncated}
+use Rattle.git_pkt.specs.declared.fault.Kind.TheVariants.{NotOurs, OutOfMemory, PackSource, StreamTooLong, TooMuchKept, Truncated}
 use Rattle.git_msg.specs.declared.offers.Offer.{Offer}
 use Rattle.git_msg.specs.declared.arguments.Command.{Command}
 use Rattle.git_msg.specs.declared.capability_key.Key.{Key}
@@ -17,22 +17,25 @@ use Rattle.git_msg.specs.Lines.{Line, argument_checks, capability_checks, comman
 use Rattle.git_msg.specs.Lines.{key_checks, part_checks, text_checks, HasFaultIn}
 use Rattle.git_msg.specs.Requests.{IsTold}
 
--- what refuses no packet by itself, but the limit on what is kept, the stream, a repository or the source of a pack
+-- what refuses no packet by itself, but the limit on what is kept, memory, the stream, a repository or the source of a pack
 abbrev pub NotByItself : Kind → Type 0
 NotByItself TooMuchKept = Unit {0}
+NotByItself OutOfMemory = Unit {0}
 NotByItself StreamTooLong = Unit {0}
 NotByItself Truncated = Unit {0}
 NotByItself NotOurs = Unit {0}
 NotByItself PackSource = Unit {0}
 NotByItself _ = ⊥
 
--- what refuses no packet by the limit either
+-- what refuses no packet by the limit either, nor by want of memory
 abbrev pub NotOfPackets : Kind → Type 0
 NotOfPackets TooMuchKept = ⊥
+NotOfPackets OutOfMemory = ⊥
 NotOfPackets kind = NotByItself kind
 
 not_by_itself : (kind : Kind) → NotOfPackets kind → NotByItself kind
 not_by_itself TooMuchKept strange = tt
+not_by_itself OutOfMemory strange = tt
 not_by_itself kind strange = strange
 
 -- the names by which a value is refused are those of packets
@@ -89,19 +92,30 @@ module _ (kind : Kind) (strange : NotByItself kind) where
   quiet_flush true offer lines = ((λ r. quiet kind (end_checks _) (quiet_end _) r.2), tt)
   quiet_flush false offer lines = search (rules, quiet, quiet_end)
 
-within_limit : (cs : List Check) → AllQuiet TooMuchKept cs → (kind : Kind) → Refuses cs kind → kind ≢ TooMuchKept
-within_limit cs all kind refuses is = quiet TooMuchKept cs all (subst (λ (k : Kind). Refuses cs k) is refuses)
+otherwise : (name : Kind) (cs : List Check) → AllQuiet name cs → (kind : Kind) → Refuses cs kind → kind ≢ name
+otherwise name cs all kind refuses is = quiet name cs all (subst (λ (k : Kind). Refuses cs k) is refuses)
 
 -- what judges a packet by itself does not refuse it for the limit
 pub not_for_limit_by_capability : (offer : Offer) (first : Bool) (text : List ℕ) (kind : Kind)
     → Refuses (capability_checks offer first text) kind → kind ≢ TooMuchKept
-not_for_limit_by_capability offer first text = within_limit (capability_checks offer first text) (quiet_capability TooMuchKept tt offer first text)
+not_for_limit_by_capability offer first text = otherwise TooMuchKept (capability_checks offer first text) (quiet_capability TooMuchKept tt offer first text)
 
 pub not_for_limit_by_text : (c : Command) (offer : Offer) (text : List ℕ) (kind : Kind) → Refuses (text_checks c offer text) kind → kind ≢ TooMuchKept
-not_for_limit_by_text c offer text = within_limit (text_checks c offer text) (quiet_text TooMuchKept tt c offer text)
+not_for_limit_by_text c offer text = otherwise TooMuchKept (text_checks c offer text) (quiet_text TooMuchKept tt c offer text)
 
 pub not_for_limit_by_end : (asked : Asked) (kind : Kind) → Refuses (end_checks asked) kind → kind ≢ TooMuchKept
-not_for_limit_by_end asked = within_limit (end_checks asked) (quiet_end TooMuchKept tt asked)
+not_for_limit_by_end asked = otherwise TooMuchKept (end_checks asked) (quiet_end TooMuchKept tt asked)
+
+-- nor for want of memory
+pub not_for_memory_by_capability : (offer : Offer) (first : Bool) (text : List ℕ) (kind : Kind)
+    → Refuses (capability_checks offer first text) kind → kind ≢ OutOfMemory
+not_for_memory_by_capability offer first text = otherwise OutOfMemory (capability_checks offer first text) (quiet_capability OutOfMemory tt offer first text)
+
+pub not_for_memory_by_text : (c : Command) (offer : Offer) (text : List ℕ) (kind : Kind) → Refuses (text_checks c offer text) kind → kind ≢ OutOfMemory
+not_for_memory_by_text c offer text = otherwise OutOfMemory (text_checks c offer text) (quiet_text OutOfMemory tt c offer text)
+
+pub not_for_memory_by_end : (asked : Asked) (kind : Kind) → Refuses (end_checks asked) kind → kind ≢ OutOfMemory
+not_for_memory_by_end asked = otherwise OutOfMemory (end_checks asked) (quiet_end OutOfMemory tt asked)
 
 module _ (kind : Kind) (strange : NotOfPackets kind) where
   itself : NotByItself kind

@@ -19,10 +19,11 @@ use Rattle.git_pkt.proofs.Streams.{one_split}
 use Rattle.git_msg.specs.declared.offers.Offer.{Offer}
 use Rattle.git_msg.specs.Admission.{nothing_barred}
 use Rattle.git_msg.specs.Asked.{Asked}
+use Rattle.git_msg.specs.Memory.{FaultNeedsRefusal}
 use Rattle.git_msg.specs.Requests.{IsTold}
 use Rattle.git_msg.specs.Machine.RequestReader.{Takes, offer_of as offer_in, limit_in, kept_so_far, fault_of as reader_fault, is_waiting}
 use Rattle.git_msg.specs.WholeRequests.{AreRequests}
-use Rattle.git_msg.specs.Machine.StreamStages.{AreBegun, Brings, HasTaken, IsBrought, IsWithin, fault_in, goes_on, stage_brought, takes_bytes, stage_is_between}
+use Rattle.git_msg.specs.Machine.StreamStages.{AreBegun, Brings, GotNeedsRefusal, HasTaken, IsBrought, IsWithin, fault_in, goes_on, stage_brought, takes_bytes, stage_is_between}
 use Rattle.git_msg.specs.Machine.RequestStreams.{EndsWith, HasRead, IsLeftIn, IsOne, Leaves, asked_by, limit_of, offer_of, wants_input}
 use Rattle.git_msg.specs.Machine.RequestStreamSteps.{StepLeaves, Steps}
 use Rattle.git_msg.specs.declared.reader.RequestReader.{RequestReader}
@@ -92,6 +93,14 @@ module _ {A : Type 0} where
   brought_goes_on (Request request) on = refl
   brought_goes_on Stop on = absurd (cc)
   brought_goes_on (Failed fault) on = absurd (cc)
+
+  -- a fault of what was brought needs the refusal that it needed there
+  pub needed_behind : (refuses : ℕ → Type 0) (most : ℕ) (got : ReadGot A) (stage : Stage) → stage ≡ stage_brought got → GotNeedsRefusal refuses most got
+      → FaultNeedsRefusal refuses most (fault_in stage)
+  needed_behind refuses most More stage is h = subst (λ (s : Stage). FaultNeedsRefusal refuses most (fault_in s)) (sym is) tt
+  needed_behind refuses most (Request request) stage is h = subst (λ (s : Stage). FaultNeedsRefusal refuses most (fault_in s)) (sym is) tt
+  needed_behind refuses most Stop stage is h = subst (λ (s : Stage). FaultNeedsRefusal refuses most (fault_in s)) (sym is) tt
+  needed_behind refuses most (Failed fault) stage is h = subst (λ (s : Stage). FaultNeedsRefusal refuses most (fault_in s)) (sym is) h
 
   taken_behind : (old new : RequestReader A) (g : Given) (got : ReadGot A) → Brings nothing_barred old g got new → goes_on got ≡ true → HasTaken old
       → HasTaken new

@@ -8,6 +8,7 @@ pub mod Features
 pub mod Flags
 pub mod Kept
 pub mod Lines
+pub mod Memory
 pub mod Numbers
 pub mod ReferenceParts
 pub mod References

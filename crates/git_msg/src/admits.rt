@@ -1,6 +1,6 @@
 //! What may refuse an argument of a request that is well formed.
 
-ghost use Rattle.std.specs.Prelude.{◌≡◌, Option};
+ghost use Rattle.std.specs.Prelude.{◌≡◌, ◌≢◌, IfSome, Option};
 ghost use Rattle.git_pkt.specs.declared.fault.Kind.{Kind};
 ghost use Rattle.git_msg.specs.Arguments.{Arg, shown};
 ghost use Rattle.git_msg.specs.Admission.{nothing_barred};
@@ -15,7 +15,10 @@ pub trait Admits {
 
     /// By which name it refuses the argument, if it does.
     fn refusal_of(&self, argument: &Argument<'_>) -> Option<Kind>
-        ensures { result ≡ refused_as self.now (shown argument.now) };
+        ensures value { result ≡ refused_as self.now (shown argument.now) }
+
+        // It needs no memory.
+        ensures own { IfSome result (λ kind. kind ≢ Kind.OutOfMemory) };
 }
 
 /// It refuses no argument.

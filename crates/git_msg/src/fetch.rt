@@ -7,6 +7,7 @@ ghost use Rattle.git_msg.specs.Arguments.{shown, written_text};
 use crate::arguments::{Argument, Command};
 use crate::flags::{Flag, FlagSet, PACK_FLAGS};
 use crate::limits::{Budget, Limits};
+use crate::memory::Memory;
 use crate::parts::{Texts, id_at, keep_id, number_at, past_flag};
 use git_names::{Format, Oid};
 use git_pkt::Kind;
@@ -43,10 +44,10 @@ impl<A: Allocator + Copy> Model for Fetch<A> {
 }
 
 impl<A: Allocator + Copy> Fetch<A> {
-    ghost use Rattle.git_msg.specs.Arguments.{deepen_not, filter_spec, have, with_id, with_text, IsValue};
+    ghost use Rattle.git_msg.specs.Arguments.{deepen_not, filter_spec, have, with_id, with_text};
     ghost use Rattle.git_msg.specs.Asked.{HasWants, arguments_in, fetch, has_deepen_conflict, joined, object_arguments, shallows_in, where_asked};
     ghost use Rattle.git_msg.specs.Asked.{has_flag, thin_pack_of, no_progress_of, include_tag_of, ofs_delta_of, wait_for_done_of};
-    ghost use Rattle.git_msg.specs.Kept.{IsNew, IsUnkept, IsWithin, KeepsArgument, kept_as};
+    ghost use Rattle.git_msg.specs.Kept.{IsNew, IsWithin, kept_as};
 
     /// The objects that the client wants to retrieve, in the order of their lines.
     pub fn wants(&self) -> &[Oid]
@@ -299,6 +300,13 @@ impl<A: Allocator + Copy> Fetch<A> {
         }
         None
     }
+}
+
+impl<A: Memory + Copy> Fetch<A> {
+    ghost use Rattle.git_msg.specs.Arguments.{IsValue};
+    ghost use Rattle.git_msg.specs.Asked.{fetch};
+    ghost use Rattle.git_msg.specs.Kept.{IsUnkept, KeepsArgument, kept_as};
+    ghost use Rattle.git_msg.specs.Memory.{NeedsRefusal};
 
     /// Keeps an argument whose line has a text of so many bytes.
     pub(crate) fn keep(&mut self, argument: &Argument<'_>, text_length: usize) -> Result<(), Kind>
@@ -308,6 +316,7 @@ impl<A: Allocator + Copy> Fetch<A> {
         ensures fits { OnOk result (self.old.kept + text_length ≤ self.old.limit) }
         ensures unchanged { OnErr result (self.new ≡ self.old) }
         ensures refused { IfErr result (IsUnkept (kept_as fetch self.old) (shown argument.now) text_length) }
+        ensures memory { IfErr result (NeedsRefusal A.refuses self.old.limit) }
     {
         let mut budget = self.budget;
         budget.charge(text_length)?;

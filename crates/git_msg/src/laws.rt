@@ -41,7 +41,7 @@ ghost use Rattle.git_msg.specs.ResponseLines.{IsInfoFault, IsInfoLine, IsSize, a
 ghost use Rattle.git_msg.specs.WrittenRequest.{lines_written};
 
 use crate::limits::Limits;
-use std::alloc::Allocator;
+use crate::memory::Memory;
 
 // Texts of single lines.
 
@@ -235,7 +235,7 @@ pub fn written_request_reads_back()
 /// An argument that a program adds passes the checks or is refused, never both, and it is refused by one name at most.
 /// Want of memory is reported where it passes.
 #[tactic(auto, using(crate::proofs::Values::added_or_refused, crate::proofs::Values::one_refusal))]
-pub fn add_passes_or_is_refused<A: Allocator + Copy>()
+pub fn add_passes_or_is_refused<A: Memory + Copy>()
     ensures never_both { (request : Request A) (arg : Arg) (kind : Kind)
         → Passes (add_checks request arg) → Refuses (add_checks request arg) kind → ⊥ }
     ensures one { (request : Request A) (arg : Arg) (kind other : Kind)
@@ -250,7 +250,7 @@ pub fn usual_limit()
 /// A request that was empty, and to which these arguments were added one after the other, asks for what the list of
 /// them contains, and has kept as many bytes as the texts of their lines have.
 #[tactic(auto, using(crate::proofs::AddedArguments::added_asked, crate::proofs::AddedArguments::added_kept, crate::proofs::AddedArguments::added_stored))]
-pub fn added_arguments_are_asked_for<A: Allocator + Copy>()
+pub fn added_arguments_are_asked_for<A: Memory + Copy>()
     ensures asked { (command : Command) (format : Format) (limit : ℕ) (args : List Arg) (empty request : Request A)
         → IsEmpty command format limit empty → AddsAll empty args request → asked_of request ≡ asked_by command args }
     ensures kept { (command : Command) (format : Format) (limit : ℕ) (args : List Arg) (empty request : Request A)
@@ -260,14 +260,14 @@ pub fn added_arguments_are_asked_for<A: Allocator + Copy>()
 {}
 
 /// Arguments are added one after the other, where each was added as the contract of `Request::add` ensures.
-pub fn additions_follow_one_another<A: Allocator + Copy>()
+pub fn additions_follow_one_another<A: Memory + Copy>()
     ensures none { (request : Request A) → AddsAll request [] request }
     ensures more { (old next new : Request A) (arg : Arg) (args : List Arg)
         → Keeps old arg (length (written_text arg)) next → AddsAll next args new → AddsAll old (arg ∷ args) new }
 {}
 
 /// What is counted of each part that stores bytes is what its fields have. A field more has to be named here.
-pub fn all_fields_are_counted<A: Allocator + Copy>()
+pub fn all_fields_are_counted<A: Memory + Copy>()
     ensures texts { (texts : Texts A) → texts_stored_by_fields texts ≡ texts_stored texts }
     ensures ls_refs { (request : LsRefsInside A) → ls_refs_stored_by_fields request ≡ ls_refs_stored request }
     ensures fetch { (request : FetchInside A) → fetch_stored_by_fields request ≡ fetch_stored request }
@@ -279,13 +279,13 @@ pub fn all_fields_are_counted<A: Allocator + Copy>()
 {}
 
 /// A reader of requests stores at no time more bytes than it counts, and counts no more than its limit.
-pub fn request_reader_keeps_within_its_limit<A: Allocator + Copy>()
+pub fn request_reader_keeps_within_its_limit<A: Memory + Copy>()
     ensures stored { (reader : RequestReader A) → stored_so_far reader ≤ kept_so_far reader }
     ensures kept { (reader : RequestReader A) → kept_so_far reader ≤ limit_in reader }
 {}
 
 /// A reader of requests from bytes holds at no time more bytes than the longest packet has and its limit together.
-pub fn request_stream_holds_within_its_limit<A: Allocator + Copy>()
+pub fn request_stream_holds_within_its_limit<A: Memory + Copy>()
     ensures { (used : List ℕ) (asked : List Asked) (stream : RequestStream A)
         → HasRead used asked stream → bytes_held stream ≤ 65520 + limit_of stream }
 {}

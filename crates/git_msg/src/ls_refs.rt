@@ -6,6 +6,7 @@ ghost use Rattle.git_msg.specs.Arguments.{shown, written_text};
 use crate::arguments::{Argument, Command};
 use crate::flags::{Flag, FlagSet, LS_REFS_FLAGS};
 use crate::limits::{Budget, Limits};
+use crate::memory::Memory;
 use crate::parts::Texts;
 use git_names::Format;
 use git_pkt::Kind;
@@ -35,9 +36,9 @@ impl<A: Allocator + Copy> Model for LsRefs<A> {
 }
 
 impl<A: Allocator + Copy> LsRefs<A> {
-    ghost use Rattle.git_msg.specs.Arguments.{IsValue, most_text};
+    ghost use Rattle.git_msg.specs.Arguments.{most_text};
     ghost use Rattle.git_msg.specs.Asked.{arguments_in, has_flag, ls_refs};
-    ghost use Rattle.git_msg.specs.Kept.{IsNew, IsUnkept, IsWithin, KeepsArgument, kept_as};
+    ghost use Rattle.git_msg.specs.Kept.{IsNew, IsWithin, kept_as};
     ghost use Rattle.git_msg.specs.Prefixes.{IsOrdered, OrdersPrefixes, SplitsAt, is_shown};
 
     /// Whether the request has the flag; one of another command it has not.
@@ -145,6 +146,13 @@ impl<A: Allocator + Copy> LsRefs<A> {
     {
         self.ref_prefixes.shows_at(split, name)
     }
+}
+
+impl<A: Memory + Copy> LsRefs<A> {
+    ghost use Rattle.git_msg.specs.Arguments.{IsValue};
+    ghost use Rattle.git_msg.specs.Asked.{ls_refs};
+    ghost use Rattle.git_msg.specs.Kept.{IsUnkept, KeepsArgument, kept_as};
+    ghost use Rattle.git_msg.specs.Memory.{NeedsRefusal};
 
     /// Keeps an argument whose line has a text of so many bytes.
     pub(crate) fn keep(&mut self, argument: &Argument<'_>, text_length: usize) -> Result<(), Kind>
@@ -154,6 +162,7 @@ impl<A: Allocator + Copy> LsRefs<A> {
         ensures fits { OnOk result (self.old.kept + text_length ≤ self.old.limit) }
         ensures unchanged { OnErr result (self.new ≡ self.old) }
         ensures refused { IfErr result (IsUnkept (kept_as ls_refs self.old) (shown argument.now) text_length) }
+        ensures memory { IfErr result (NeedsRefusal A.refuses self.old.limit) }
     {
         let mut budget = self.budget;
         budget.charge(text_length)?;

@@ -6,6 +6,7 @@ ghost use Rattle.git_msg.specs.Arguments.{shown, written_text};
 use crate::arguments::{Argument, Command};
 use crate::flags::{Flag, FlagSet, OBJECT_INFO_FLAGS};
 use crate::limits::{Budget, Limits};
+use crate::memory::Memory;
 use crate::parts::keep_id;
 use git_names::{Format, Oid};
 use git_pkt::Kind;
@@ -41,9 +42,8 @@ impl<A: Allocator + Copy> Model for ObjectInfo<A> {
 }
 
 impl<A: Allocator + Copy> ObjectInfo<A> {
-    ghost use Rattle.git_msg.specs.Arguments.{IsValue};
     ghost use Rattle.git_msg.specs.Asked.{arguments_in, has_flag, object_info};
-    ghost use Rattle.git_msg.specs.Kept.{IsNew, IsUnkept, IsWithin, KeepsArgument, kept_as};
+    ghost use Rattle.git_msg.specs.Kept.{IsNew, IsWithin, kept_as};
 
     /// Whether the request has the flag; one of another command it has not.
     pub fn has(&self, flag: Flag) -> bool
@@ -109,6 +109,13 @@ impl<A: Allocator + Copy> ObjectInfo<A> {
             },
         }
     }
+}
+
+impl<A: Memory + Copy> ObjectInfo<A> {
+    ghost use Rattle.git_msg.specs.Arguments.{IsValue};
+    ghost use Rattle.git_msg.specs.Asked.{object_info};
+    ghost use Rattle.git_msg.specs.Kept.{IsUnkept, KeepsArgument, kept_as};
+    ghost use Rattle.git_msg.specs.Memory.{NeedsRefusal};
 
     /// Keeps an argument whose line has a text of so many bytes.
     pub(crate) fn keep(&mut self, argument: &Argument<'_>, text_length: usize) -> Result<(), Kind>
@@ -118,6 +125,7 @@ impl<A: Allocator + Copy> ObjectInfo<A> {
         ensures fits { OnOk result (self.old.kept + text_length ≤ self.old.limit) }
         ensures unchanged { OnErr result (self.new ≡ self.old) }
         ensures refused { IfErr result (IsUnkept (kept_as object_info self.old) (shown argument.now) text_length) }
+        ensures memory { IfErr result (NeedsRefusal A.refuses self.old.limit) }
     {
         let mut budget = self.budget;
         budget.charge(text_length)?;

@@ -10,9 +10,11 @@ ghost use Rattle.std.proofs.Props.{props};
 ghost use Rattle.std.specs.List.{dedup};
 ghost use Rattle.std.specs.Ordering.{is_lt};
 ghost use Rattle.std.specs.List.Sorted.{IsPartitionedBy, IsPartitionPoint, IsPermutation, IsSortedBy};
+ghost use Rattle.git_msg.specs.Memory.{HasRefused};
 ghost use Rattle.git_msg.specs.Machine.TextPools.{IsEnd, text_at};
 ghost use Rattle.git_msg.specs.Prefixes.{IsOrdered, Prunes, ShowAlike, SplitsAt, goes_before, begins, is_shown, text_cmp};
 
+use crate::memory::Memory;
 use git_names::{Format, Oid};
 use git_pkt::Kind;
 use std::alloc::{AllocError, Allocator};
@@ -69,38 +71,6 @@ impl<A: Allocator + Copy> Texts<A> {
         self.ends.len()
     }
 
-    /// Keeps a copy of the text after the others; `OutOfMemory` where there is no memory for it.
-    pub(crate) fn keep(&mut self, text: &[u8]) -> Result<(), Kind>
-        requires short { length text.now < 2 ^ 16 }
-        requires fits { texts_stored self.old + length text.now < 2 ^ 32 }
-        ensures ok { OnOk result (texts_of self.new ≡ texts_of self.old ++ text.now ∷ []) }
-        ensures stored { OnOk result (texts_stored self.new ≡ texts_stored self.old + (length text.now + 6)) }
-        ensures err { OnErr result ((texts_of self.new ≡ texts_of self.old) × (texts_stored self.new ≡ texts_stored self.old)) }
-        ensures kind { IfErr result (λ kind. kind ≡ Kind.OutOfMemory) }
-    {
-        if self.push(text).is_err() {
-            return Err(Kind::OutOfMemory);
-        }
-        Ok(())
-    }
-
-    fn push(&mut self, text: &[u8]) -> Result<(), AllocError>
-        requires short { length text.now < 2 ^ 16 }
-        requires fits { texts_stored self.old + length text.now < 2 ^ 32 }
-        ensures ok { OnOk result (texts_of self.new ≡ texts_of self.old ++ text.now ∷ []) }
-        ensures stored { OnOk result (texts_stored self.new ≡ texts_stored self.old + (length text.now + 6)) }
-        ensures err { OnErr result ((texts_of self.new ≡ texts_of self.old) × (texts_stored self.new ≡ texts_stored self.old)) }
-    {
-        self.ends.reserve(1)?;
-        self.bytes.reserve(text.len() + 2)?;
-        self.bytes.extend_from_slice(text)?;
-        let end = self.bytes.len() as u32;
-        self.bytes.push_reserved((text.len() % 256) as u8);
-        self.bytes.push_reserved((text.len() / 256) as u8);
-        self.ends.push_reserved(end);
-        Ok(())
-    }
-
     /// Puts the texts in their order, and drops those that begin with another: the same names are shown by them.
     pub(crate) fn put_in_order(&mut self)
         ensures ordered { IsOrdered (texts_of self.new) }
@@ -129,6 +99,44 @@ impl<A: Allocator + Copy> Texts<A> {
             return self.len() == 0;
         }
         name.starts_with(text(&self.bytes, self.ends[split - 1]))
+    }
+}
+
+impl<A: Memory + Copy> Texts<A> {
+    ghost use Rattle.git_msg.specs.Machine.HeldTexts.{texts_of, texts_stored};
+
+    /// Keeps a copy of the text after the others; `OutOfMemory` where there is no memory for it.
+    pub(crate) fn keep(&mut self, text: &[u8]) -> Result<(), Kind>
+        requires short { length text.now < 2 ^ 16 }
+        requires fits { texts_stored self.old + length text.now < 2 ^ 32 }
+        ensures ok { OnOk result (texts_of self.new ≡ texts_of self.old ++ text.now ∷ []) }
+        ensures stored { OnOk result (texts_stored self.new ≡ texts_stored self.old + (length text.now + 6)) }
+        ensures err { OnErr result ((texts_of self.new ≡ texts_of self.old) × (texts_stored self.new ≡ texts_stored self.old)) }
+        ensures kind { IfErr result (λ kind. kind ≡ Kind.OutOfMemory) }
+        ensures memory { OnErr result (HasRefused A.refuses (texts_stored self.old + (length text.now + 6))) }
+    {
+        if self.push(text).is_err() {
+            return Err(Kind::OutOfMemory);
+        }
+        Ok(())
+    }
+
+    fn push(&mut self, text: &[u8]) -> Result<(), AllocError>
+        requires short { length text.now < 2 ^ 16 }
+        requires fits { texts_stored self.old + length text.now < 2 ^ 32 }
+        ensures ok { OnOk result (texts_of self.new ≡ texts_of self.old ++ text.now ∷ []) }
+        ensures stored { OnOk result (texts_stored self.new ≡ texts_stored self.old + (length text.now + 6)) }
+        ensures err { OnErr result ((texts_of self.new ≡ texts_of self.old) × (texts_stored self.new ≡ texts_stored self.old)) }
+        ensures memory { OnErr result (HasRefused A.refuses (texts_stored self.old + (length text.now + 6))) }
+    {
+        A::reserve(&mut self.ends, 1)?;
+        A::reserve(&mut self.bytes, text.len() + 2)?;
+        self.bytes.extend_from_slice(text)?;
+        let end = self.bytes.len() as u32;
+        self.bytes.push_reserved((text.len() % 256) as u8);
+        self.bytes.push_reserved((text.len() / 256) as u8);
+        self.ends.push_reserved(end);
+        Ok(())
     }
 }
 
@@ -204,14 +212,16 @@ fn prune<A: Allocator + Copy>(bytes: &[u8], ends: &mut Vec<u32, A>)
 }
 
 /// Keeps an object name after the others; `OutOfMemory` where there is no memory for it.
-pub(crate) fn keep_id<A: Allocator + Copy>(ids: &mut Vec<Oid, A>, id: Oid) -> Result<(), Kind>
+pub(crate) fn keep_id<A: Memory + Copy>(ids: &mut Vec<Oid, A>, id: Oid) -> Result<(), Kind>
     ensures ok { OnOk result (ids.new.items ≡ ids.old.items ++ id ∷ []) }
     ensures err { OnErr result (ids.new.items ≡ ids.old.items) }
     ensures kind { IfErr result (λ kind. kind ≡ Kind.OutOfMemory) }
+    ensures memory { OnErr result (HasRefused A.refuses (33 * (length ids.old.items + 1))) }
 {
-    if ids.push(id).is_err() {
+    if A::reserve(ids, 1).is_err() {
         return Err(Kind::OutOfMemory);
     }
+    ids.push_reserved(id);
     Ok(())
 }
 

@@ -4,6 +4,7 @@ ghost use Rattle.git_msg.specs.Machine.HeldRequest.{IsBounded};
 use crate::arguments::{Argument, Command, put_together};
 use crate::judge::{Noted, judge_capability, read_text};
 use crate::limits::Limits;
+use crate::memory::Memory;
 use crate::offers::Offer;
 use crate::requests::{Request, written_length};
 use git_names::{Format, Steps};
@@ -49,14 +50,13 @@ pub struct RequestReader<A: Allocator + Copy> {
 }
 
 impl<A: Allocator + Copy> RequestReader<A> {
-    ghost use Rattle.std.specs.Prelude.{◌≡◌, ◌+◌, ◌*◌, [], true, false, OnOk, OnErr, IfErr, MatchResult, length};
+    ghost use Rattle.std.specs.Prelude.{◌≡◌, ◌≢◌, ◌+◌, ◌*◌, [], true, false, OnOk, OnErr, IfErr, MatchResult, length};
     ghost use Rattle.git_names.specs.Steps.{TakesAtMost};
     ghost use Rattle.git_pkt.specs.Packets.{body_of, seen};
-    ghost use Rattle.git_msg.specs.Arguments.{HasName, shown};
     ghost use Rattle.git_msg.specs.Checks.{Refuses};
     ghost use Rattle.git_msg.specs.Machine.HeldRequest.{IsEmpty};
     ghost use Rattle.git_msg.specs.Lines.{capability_checks};
-    ghost use Rattle.git_msg.specs.Machine.RequestReader.{Takes, TakesOn, KeepsOn, GivesKeepable, counted_as};
+    ghost use Rattle.git_msg.specs.Machine.RequestReader.{Takes, TakesOn, GivesKeepable};
     ghost use Rattle.git_msg.specs.Machine.RequestReader.{offer_of, limit_in, kept_so_far, fault_of, is_waiting};
     ghost use Rattle.git_msg.specs.Machine.RequestReaderSteps.{Notes, IsDue, IsUndue, StepsOn, is_first, restarted};
 
@@ -93,6 +93,9 @@ impl<A: Allocator + Copy> RequestReader<A> {
         ensures takes { TakesOn self.old (record { packet = seen packet.entry; offset = offset }) result self.new }
         ensures keepable { GivesKeepable (length (body_of (seen packet.entry))) result self.new }
         ensures cost { TakesAtMost (48 * (length (body_of (seen packet.entry)) + 1)) steps.old steps.new }
+
+        // It needs no memory.
+        ensures own { fault_of self.old ≡ None → IfErr result (λ fault. fault.kind ≢ Kind.OutOfMemory) }
     {
         let step = match self.part {
             Part::Failed(fault) => return Err(fault),
@@ -102,42 +105,6 @@ impl<A: Allocator + Copy> RequestReader<A> {
         };
         match step {
             Ok(taken) => Ok(taken),
-            Err(kind) => Err(self.refuse(kind, offset)),
-        }
-    }
-
-    /// Makes the argument that [`RequestReader::take`] gave last a part of the request, whose lines then count the bytes
-    /// that its text had on the wire. The fault names its packet: `TooMuchKept` where the limit has no room for so many
-    /// bytes, or else `OutOfMemory` where no memory is left for its value.
-    pub fn keep(&mut self, argument: Argument<'_>, steps: &mut Steps) -> Result<(), Fault>
-        requires waits { is_waiting self.old ≡ true }
-        requires named { HasName (shown argument) }
-        ensures keeps { KeepsOn self.old (shown argument.entry) result self.new }
-        ensures cost { TakesAtMost (4 * (counted_as (shown argument.entry) self.old + 1)) steps.old steps.new }
-    {
-        let argument = put_together!(argument);
-        self.settle(&argument, steps)
-    }
-
-    fn settle(&mut self, argument: &Argument<'_>, steps: &mut Steps) -> Result<(), Fault>
-        requires waits { is_waiting self.old ≡ true }
-        requires named { HasName (shown argument.now) }
-        ensures keeps { KeepsOn self.old (shown argument.now) result self.new }
-        ensures cost { TakesAtMost (4 * (counted_as (shown argument.now) self.old + 1)) steps.old steps.new }
-    {
-        let Part::Waiting(offset, length) = self.part else {
-            unreachable!()
-        };
-        // Nothing here shows that the argument is the one that waits, and a request counts no text by less than it is
-        // written. For the one that waits this is the length of its text as it came, which is never less.
-        let length = length.max(written_length(argument));
-        // What is pushed has fewer bytes than the text, its end among them, and so has a number that is written.
-        steps.tick(length);
-        match self.request.keep(argument, length) {
-            Ok(()) => {
-                self.part = Part::Arguments;
-                Ok(())
-            }
             Err(kind) => Err(self.refuse(kind, offset)),
         }
     }
@@ -161,6 +128,7 @@ impl<A: Allocator + Copy> RequestReader<A> {
         ensures goes_on { StepsOn self.old (seen packet.entry) offset result self.new }
         ensures keepable { GivesKeepable (length (body_of (seen packet.entry))) result self.new }
         ensures cost { TakesAtMost (48 * (length (body_of (seen packet.entry)) + 1)) steps.old steps.new }
+        ensures own { IfErr result (λ kind. kind ≢ Kind.OutOfMemory) }
     {
         match packet {
             Packet::Payload(payload) => {
@@ -197,6 +165,7 @@ impl<A: Allocator + Copy> RequestReader<A> {
         ensures goes_on { StepsOn self.old (seen packet.entry) offset result self.new }
         ensures keepable { GivesKeepable (length (body_of (seen packet.entry))) result self.new }
         ensures cost { TakesAtMost (48 * (length (body_of (seen packet.entry)) + 1)) steps.old steps.new }
+        ensures own { IfErr result (λ kind. kind ≢ Kind.OutOfMemory) }
     {
         match packet {
             Packet::Payload(payload) => {
@@ -276,5 +245,51 @@ impl<A: Allocator + Copy> RequestReader<A> {
         self.has_format = false;
         let next = self.empty_request(Command::LsRefs);
         mem::replace(&mut self.request, next)
+    }
+}
+
+impl<A: Memory + Copy> RequestReader<A> {
+    ghost use Rattle.std.specs.Prelude.{◌≡◌, ◌+◌, ◌*◌, true, IfErr};
+    ghost use Rattle.git_names.specs.Steps.{TakesAtMost};
+    ghost use Rattle.git_msg.specs.Arguments.{HasName, shown};
+    ghost use Rattle.git_msg.specs.Machine.RequestReader.{KeepsOn, counted_as, is_waiting, limit_in};
+    ghost use Rattle.git_msg.specs.Memory.{NeedsRefusal};
+
+    /// Makes the argument that [`RequestReader::take`] gave last a part of the request, whose lines then count the bytes
+    /// that its text had on the wire. The fault names its packet: `TooMuchKept` where the limit has no room for so many
+    /// bytes, or else `OutOfMemory` where no memory is left for its value.
+    pub fn keep(&mut self, argument: Argument<'_>, steps: &mut Steps) -> Result<(), Fault>
+        requires waits { is_waiting self.old ≡ true }
+        requires named { HasName (shown argument) }
+        ensures keeps { KeepsOn self.old (shown argument.entry) result self.new }
+        ensures cost { TakesAtMost (4 * (counted_as (shown argument.entry) self.old + 1)) steps.old steps.new }
+        ensures memory { IfErr result (λ fault. NeedsRefusal A.refuses (limit_in self.old) fault.kind) }
+    {
+        let argument = put_together!(argument);
+        self.settle(&argument, steps)
+    }
+
+    fn settle(&mut self, argument: &Argument<'_>, steps: &mut Steps) -> Result<(), Fault>
+        requires waits { is_waiting self.old ≡ true }
+        requires named { HasName (shown argument.now) }
+        ensures keeps { KeepsOn self.old (shown argument.now) result self.new }
+        ensures cost { TakesAtMost (4 * (counted_as (shown argument.now) self.old + 1)) steps.old steps.new }
+        ensures memory { IfErr result (λ fault. NeedsRefusal A.refuses (limit_in self.old) fault.kind) }
+    {
+        let Part::Waiting(offset, length) = self.part else {
+            unreachable!()
+        };
+        // Nothing here shows that the argument is the one that waits, and a request counts no text by less than it is
+        // written. For the one that waits this is the length of its text as it came, which is never less.
+        let length = length.max(written_length(argument));
+        // What is pushed has fewer bytes than the text, its end among them, and so has a number that is written.
+        steps.tick(length);
+        match self.request.keep(argument, length) {
+            Ok(()) => {
+                self.part = Part::Arguments;
+                Ok(())
+            }
+            Err(kind) => Err(self.refuse(kind, offset)),
+        }
     }
 }

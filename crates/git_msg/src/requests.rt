@@ -11,6 +11,7 @@ use crate::fetch::Fetch;
 use crate::flags::Flag;
 use crate::limits::Limits;
 use crate::ls_refs::LsRefs;
+use crate::memory::Memory;
 use crate::numbers::decimal_length;
 use crate::object_info::ObjectInfo;
 use crate::offers::Offer;
@@ -37,8 +38,7 @@ impl<A: Allocator + Copy> Request<A> {
     ghost use Rattle.git_msg.specs.Asked.{size_of, oids_of, wait_for_done_of, filters_of};
     ghost use Rattle.git_msg.specs.Checks.{Passes, Refuses};
     ghost use Rattle.git_msg.specs.Lines.{end_checks};
-    ghost use Rattle.git_msg.specs.Machine.HeldRequest.{IsEmpty, asked_of, command_of, format_of, kept_of, limit_of, stored_of, Keeps, add_checks, keep_checks};
-    ghost use Rattle.git_msg.specs.Machine.HeldRequest.{IsRefused};
+    ghost use Rattle.git_msg.specs.Machine.HeldRequest.{IsEmpty, asked_of, command_of, format_of, kept_of, limit_of, stored_of};
 
     /// A request without arguments. Later calls take memory from `alloc`, and only where an argument with a text or an
     /// object name is kept.
@@ -50,33 +50,6 @@ impl<A: Allocator + Copy> Request<A> {
             Command::Fetch => Request::Fetch(Fetch::new(alloc, format, limits)),
             Command::ObjectInfo => Request::ObjectInfo(ObjectInfo::new(alloc, format, limits)),
         }
-    }
-
-    /// Adds an argument after the others. Refused in this order: `UnknownArgument` for an argument of another command, a
-    /// value that is not allowed there (`BadObjectName` for an object name of another format, `BadNumber` for a number out of
-    /// its range, `BadRefName` for a `want-ref` of what is no reference name, `BadLine` for a text of more than 32,000 bytes
-    /// or an empty `deepen-not`), `TooMuchKept` where the texts of all lines, as they are written, would pass the limit, and
-    /// `OutOfMemory`. Then the request stays as it was.
-    pub fn add(&mut self, argument: Argument<'_>) -> Result<(), Kind>
-        ensures added { OnOk result (Keeps self.old (shown argument.entry) (length (written_text (shown argument.entry))) self.new) }
-        ensures passes { OnOk result (Passes (add_checks self.old (shown argument.entry))) }
-        ensures unchanged { OnErr result (self.new ≡ self.old) }
-        ensures refused { IfErr result (IsRefused (add_checks self.old (shown argument.entry)) (shown argument.entry)) }
-    {
-        let argument = put_together!(argument);
-        self.add_lent(&argument)
-    }
-
-    // The same, of an argument that is lent.
-    fn add_lent(&mut self, argument: &Argument<'_>) -> Result<(), Kind>
-        ensures added { OnOk result (Keeps self.old (shown argument.now) (length (written_text (shown argument.now))) self.new) }
-        ensures passes { OnOk result (Passes (add_checks self.old (shown argument.now))) }
-        ensures unchanged { OnErr result (self.new ≡ self.old) }
-        ensures refused { IfErr result (IsRefused (add_checks self.old (shown argument.now)) (shown argument.now)) }
-    {
-        self.check_name(argument)?;
-        let length = written_length(argument);
-        self.keep(argument, length)
     }
 
     /// Judges what the request asks for, at its end: `DeepenConflict` for a fetch that cuts the history off by a depth and
@@ -378,23 +351,6 @@ impl<A: Allocator + Copy> Request<A> {
         }
     }
 
-    /// Keeps an argument whose line has a text of so many bytes.
-    pub(crate) fn keep(&mut self, argument: &Argument<'_>, text_length: usize) -> Result<(), Kind>
-        requires named { HasName (shown argument.now) }
-        requires counted { length (written_text (shown argument.now)) ≤ text_length }
-        ensures kept { OnOk result (Keeps self.old (shown argument.now) text_length self.new) }
-        ensures passes { OnOk result (Passes (keep_checks self.old (shown argument.now) text_length)) }
-        ensures unchanged { OnErr result (self.new ≡ self.old) }
-        ensures refused { IfErr result (IsRefused (keep_checks self.old (shown argument.now) text_length) (shown argument.now)) }
-    {
-        check_value(self.command(), self.format(), argument)?;
-        match self {
-            Request::LsRefs(request) => request.keep(argument, text_length),
-            Request::Fetch(request) => request.keep(argument, text_length),
-            Request::ObjectInfo(request) => request.keep(argument, text_length),
-        }
-    }
-
     // Whether a reference that is asked for by name has a name that it may have.
     fn check_name(&self, argument: &Argument<'_>) -> Result<(), Kind>
         ensures ok { OnOk result (HasName (shown argument.now)) }
@@ -412,6 +368,61 @@ impl<A: Allocator + Copy> Request<A> {
                 }
             }
             _ => Ok(()),
+        }
+    }
+}
+
+impl<A: Memory + Copy> Request<A> {
+    ghost use Rattle.git_msg.specs.Checks.{Passes};
+    ghost use Rattle.git_msg.specs.Machine.HeldRequest.{IsRefused, Keeps, add_checks, keep_checks, limit_of};
+    ghost use Rattle.git_msg.specs.Memory.{NeedsRefusal};
+
+    /// Adds an argument after the others. Refused in this order: `UnknownArgument` for an argument of another command, a
+    /// value that is not allowed there (`BadObjectName` for an object name of another format, `BadNumber` for a number out of
+    /// its range, `BadRefName` for a `want-ref` of what is no reference name, `BadLine` for a text of more than 32,000 bytes
+    /// or an empty `deepen-not`), `TooMuchKept` where the texts of all lines, as they are written, would pass the limit, and
+    /// `OutOfMemory`. Then the request stays as it was.
+    pub fn add(&mut self, argument: Argument<'_>) -> Result<(), Kind>
+        ensures added { OnOk result (Keeps self.old (shown argument.entry) (length (written_text (shown argument.entry))) self.new) }
+        ensures passes { OnOk result (Passes (add_checks self.old (shown argument.entry))) }
+        ensures unchanged { OnErr result (self.new ≡ self.old) }
+        ensures refused { IfErr result (IsRefused (add_checks self.old (shown argument.entry)) (shown argument.entry)) }
+
+        // `OutOfMemory` is reported where memory refused a list, which was to have no more bytes than the limit.
+        ensures memory { IfErr result (NeedsRefusal A.refuses (limit_of self.old)) }
+    {
+        let argument = put_together!(argument);
+        self.add_lent(&argument)
+    }
+
+    // The same, of an argument that is lent.
+    fn add_lent(&mut self, argument: &Argument<'_>) -> Result<(), Kind>
+        ensures added { OnOk result (Keeps self.old (shown argument.now) (length (written_text (shown argument.now))) self.new) }
+        ensures passes { OnOk result (Passes (add_checks self.old (shown argument.now))) }
+        ensures unchanged { OnErr result (self.new ≡ self.old) }
+        ensures refused { IfErr result (IsRefused (add_checks self.old (shown argument.now)) (shown argument.now)) }
+        ensures memory { IfErr result (NeedsRefusal A.refuses (limit_of self.old)) }
+    {
+        self.check_name(argument)?;
+        let length = written_length(argument);
+        self.keep(argument, length)
+    }
+
+    /// Keeps an argument whose line has a text of so many bytes.
+    pub(crate) fn keep(&mut self, argument: &Argument<'_>, text_length: usize) -> Result<(), Kind>
+        requires named { HasName (shown argument.now) }
+        requires counted { length (written_text (shown argument.now)) ≤ text_length }
+        ensures kept { OnOk result (Keeps self.old (shown argument.now) text_length self.new) }
+        ensures passes { OnOk result (Passes (keep_checks self.old (shown argument.now) text_length)) }
+        ensures unchanged { OnErr result (self.new ≡ self.old) }
+        ensures refused { IfErr result (IsRefused (keep_checks self.old (shown argument.now) text_length) (shown argument.now)) }
+        ensures memory { IfErr result (NeedsRefusal A.refuses (limit_of self.old)) }
+    {
+        check_value(self.command(), self.format(), argument)?;
+        match self {
+            Request::LsRefs(request) => request.keep(argument, text_length),
+            Request::Fetch(request) => request.keep(argument, text_length),
+            Request::ObjectInfo(request) => request.keep(argument, text_length),
         }
     }
 }

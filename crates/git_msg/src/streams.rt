@@ -6,10 +6,11 @@ ghost use Rattle.git_pkt.specs.Machine.Credit.{Pays};
 ghost use Rattle.git_pkt.specs.Packets.{body_of, seen};
 ghost use Rattle.git_pkt.specs.Machine.PacketReader.{passes_of, fault_of as packet_fault};
 ghost use Rattle.git_msg.specs.Machine.RequestReader.{fault_of as reader_fault, is_waiting, kept_so_far, limit_in};
-ghost use Rattle.git_msg.specs.Machine.StreamStages.{Brings, HasTaken, IsCovered, stage_brought, takes_bytes};
+ghost use Rattle.git_msg.specs.Machine.StreamStages.{Brings, GotNeedsRefusal, HasTaken, IsCovered, stage_brought, takes_bytes};
 
 use crate::admits::{Admits, AdmitsAll};
 use crate::limits::Limits;
+use crate::memory::Memory;
 use crate::offers::Offer;
 use crate::reader::{RequestReader, Taken};
 use crate::requests::Request;
@@ -72,9 +73,8 @@ impl<A: Allocator + Copy> RequestStream<A> {
     ghost use Rattle.std.specs.Prelude.{◌↔◌, IfNone, IfSome, IsSome, OnSome};
     ghost use Rattle.arrayvec.specs.contracts.array_vec.ArrayVec.{the_row as array_vec_row};
     ghost use Rattle.git_msg.specs.contracts.streams.RequestStream.{the_row};
-    ghost use Rattle.git_msg.specs.Machine.RequestStreams.{HasRead, Feeds, Closes, wants_input, offer_of, limit_of, bytes_used, credit_of};
+    ghost use Rattle.git_msg.specs.Machine.RequestStreams.{HasRead, Closes, wants_input, offer_of, limit_of, bytes_used};
     ghost use Rattle.git_msg.specs.Machine.RequestStreams.{IsLent, IsUnlent, hold_of, is_within_packet};
-    ghost use Rattle.git_msg.specs.Machine.RequestStreamSteps.{Steps as StepsTo};
 
     /// A reader before the first byte. It takes memory from `alloc` when an argument with a text or an object name comes.
     pub fn new(alloc: A, offer: Offer, limits: Limits) -> RequestStream<A>
@@ -95,34 +95,6 @@ impl<A: Allocator + Copy> RequestStream<A> {
         ensures { result ≡ bytes_used self.now }
     {
         self.packets.position()
-    }
-
-    /// Reads on. It returns after a whole request, at a flush instead of one, with the whole piece used, or at the first
-    /// fault. Call it again with the bytes that it did not use.
-    pub fn feed(&mut self, piece: &[u8], steps: &mut Steps) -> ReadRequest<A>
-        ensures used { result.used ≤ length piece.now }
-        ensures feeds { Feeds self.old piece.now result self.new }
-        ensures cost { Pays result.used steps.old steps.new (credit_of self.old) (credit_of self.new) }
-    {
-        if let Stage::Failed(fault) = self.stage {
-            return ReadRequest {
-                used: 0,
-                got: ReadGot::Failed(fault),
-            };
-        }
-        let mut used = 0;
-        while used < piece.len() && self.wants_input() {
-            let step = self.step(&piece[used..], steps);
-            used += step.used;
-            match step.got {
-                ReadGot::More => {}
-                got => return ReadRequest { used, got },
-            }
-        }
-        ReadRequest {
-            used,
-            got: ReadGot::More,
-        }
     }
 
     /// Whether bytes are read on: no fault came, and no flush instead of a request.
@@ -174,6 +146,46 @@ impl<A: Allocator + Copy> RequestStream<A> {
     {
         self.packets.hold()
     }
+}
+
+impl<A: Memory + Copy> RequestStream<A> {
+    ghost use Rattle.std.specs.Prelude.{◌⊎◌, IsSome};
+    ghost use Rattle.git_msg.specs.Machine.RequestStreams.{Feeds, credit_of, fault_of, limit_of, wants_input};
+    ghost use Rattle.git_msg.specs.Machine.RequestStreamSteps.{Steps as StepsTo};
+    ghost use Rattle.git_msg.specs.Memory.{FaultNeedsRefusal};
+
+    /// Reads on. It returns after a whole request, at a flush instead of one, with the whole piece used, or at the first
+    /// fault. Call it again with the bytes that it did not use.
+    pub fn feed(&mut self, piece: &[u8], steps: &mut Steps) -> ReadRequest<A>
+        ensures used { result.used ≤ length piece.now }
+        ensures feeds { Feeds self.old piece.now result self.new }
+        ensures moves { wants_input self.old ≡ true → 0 < length piece.now → 0 < result.used ⊎ IsSome (fault_of self.new) }
+        ensures cost { Pays result.used steps.old steps.new (credit_of self.old) (credit_of self.new) }
+
+        // It comes to `OutOfMemory` only where memory refused a list, which was to have no more bytes than the limit.
+        ensures memory { FaultNeedsRefusal A.refuses (limit_of self.old) (fault_of self.old)
+            → FaultNeedsRefusal A.refuses (limit_of self.old) (fault_of self.new) }
+    {
+        if let Stage::Failed(fault) = self.stage {
+            return ReadRequest {
+                used: 0,
+                got: ReadGot::Failed(fault),
+            };
+        }
+        let mut used = 0;
+        while used < piece.len() && self.wants_input() {
+            let step = self.step(&piece[used..], steps);
+            used += step.used;
+            match step.got {
+                ReadGot::More => {}
+                got => return ReadRequest { used, got },
+            }
+        }
+        ReadRequest {
+            used,
+            got: ReadGot::More,
+        }
+    }
 
     /// Uses bytes up to the end of a packet, or all of them. A packet after which more is wanted has been paid for by its own bytes.
     fn step(&mut self, piece: &[u8], steps: &mut Steps) -> ReadRequest<A>
@@ -181,11 +193,15 @@ impl<A: Allocator + Copy> RequestStream<A> {
         requires some { 0 < length piece.now }
         ensures used { result.used ≤ length piece.now }
         ensures steps { StepsTo self.old piece.now result self.new }
+        ensures moves { 0 < result.used ⊎ IsSome (fault_of self.new) }
+        ensures memory { FaultNeedsRefusal A.refuses (limit_of self.old) (fault_of self.new) }
         ensures cost { Pays result.used steps.old steps.new (credit_of self.old) (credit_of self.new) }
         ensures paid { wants_input self.new ≡ true → result.used < length piece.now
             → steps.new + credit_of self.new ≤ steps.old + credit_of self.old + 64 * result.used }
     {
         steps.tick(1);
+        // The buffer has no more bytes than the longest packet.
+        let _ = self.packets.hold();
         let fed = self.packets.feed(piece, steps);
         let used = fed.used;
         match fed.got {
@@ -211,7 +227,7 @@ impl<A: Allocator + Copy> RequestStream<A> {
 
 /// Takes a packet of a request, and keeps its argument, if it is one that is not refused. A fault is that of the packet, or by which its
 /// argument is refused, at its offset; after it the reader takes no packet more.
-pub fn take_packet<A: Allocator + Copy, B: Admits>(
+pub fn take_packet<A: Memory + Copy, B: Admits>(
     requests: &mut RequestReader<A>,
     admits: &B,
     packet: Packet<'_>,
@@ -223,6 +239,7 @@ pub fn take_packet<A: Allocator + Copy, B: Admits>(
     ensures brings { Brings (B.refused_as admits.now) requests.old (record { packet = seen packet.entry; offset = offset }) result requests.new }
     ensures cost { TakesAtMost (53 * (length (body_of (seen packet.entry)) + 1)) steps.old steps.new }
     ensures covered { IsCovered result }
+    ensures memory { GotNeedsRefusal A.refuses (limit_in requests.old) result }
 {
     match requests.take(packet, offset, steps) {
         Ok(taken) => match taken {

@@ -12,13 +12,14 @@ use Rattle.git_server.specs.Repository.{RepoState}
 use Rattle.git_server.specs.Sessions.{FirstMalformed, IsEnding, IsOfTheBytes, IsRefused, Setting}
 use Rattle.git_server.specs.Machine.Server.{Running, outcome_of, reader_of}
 use Rattle.git_server.specs.Machine.Calls.{Call, feed, pull, close, Headline, Makes, closes, feeds_by, given_in, used_by, used_in}
-use Rattle.git_server.specs.Machine.ServerCalls.{given_by}
+use Rattle.git_server.specs.Machine.ServerCalls.{EndsByRefusal, given_by}
 use Rattle.git_server.specs.declared.outcome.Outcome.{Outcome}
 use Rattle.git_server.specs.declared.outcome.Outcome.TheVariants.{Refused}
 use Rattle.git_server.specs.declared.server.Server.{Server}
 use Rattle.git_server.proofs.Going.{no_outcome}
 use Rattle.git_server.proofs.OneSession.{waits_behind_all}
 use Rattle.git_server.proofs.OneOutcome.{clean_so_far, one_end}
+use Rattle.git_server.proofs.RefusedMemory.{explained_at_first, memory_after_close, memory_after_pull}
 use Rattle.git_server.proofs.SessionLaws.{all_answered, ending, every_moment, going_on, its_end}
 
 -- whether the input ended, where it had or not before the calls
@@ -49,7 +50,7 @@ malformed_by s used over given owed fault of_bytes h (inl refused) =
     record { asked = h.asked; left = h.left; rest = h.rest; stream = h.stream; refused = refused; of_the_bytes = of_bytes }
 malformed_by s used over given owed fault of_bytes h (inr lost) = absurd (of_bytes.by_pack lost.name)
 
-module _ {R A : Type 0} (state : R → RepoState) where
+module _ {R A : Type 0} (state : R → RepoState) (refuses : ℕ → Type 0) where
   regroup : (s : Setting) (a b c : List ℕ) (over : Bool) (d e f : List ℕ) (server : Server R A) → Running state s ((a ++ b) ++ c) over ((d ++ e) ++ f) server
       → Running state s (a ++ (b ++ c)) over (d ++ (e ++ f)) server
   regroup s a b c over d e f server r =
@@ -57,7 +58,7 @@ module _ {R A : Type 0} (state : R → RepoState) where
       (subst (λ (w : List ℕ). Running state s ((a ++ b) ++ c) over w server) (append_assoc d e f) r)
 
   -- the calls go on from what held before them
-  goes_by : (s : Setting) (calls : List Call) (before : ℕ) (old : Server R A) (after : ℕ) (new : Server R A) → MakesAll (Makes state) calls before old after new
+  goes_by : (s : Setting) (calls : List Call) (before : ℕ) (old : Server R A) (after : ℕ) (new : Server R A) → MakesAll (Makes state refuses) calls before old after new
       → (so_far : List ℕ) (over : Bool) (given : List ℕ) → Running state s so_far over given old
       → Running state s (so_far ++ used_in calls) (ended over calls) (given ++ given_in calls) new
   unfolding ended
@@ -73,8 +74,23 @@ module _ {R A : Type 0} (state : R → RepoState) where
   goes_by s (close ∷ calls) before old after new (next, between, made, more) so_far over given r =
       goes_by s calls next between after new more so_far true given (made.0.closes s so_far over given r).0
 
+  -- a session that ends for want of memory was refused a list
+  memory_by : (s : Setting) (calls : List Call) (before : ℕ) (old : Server R A) (after : ℕ) (new : Server R A)
+      → MakesAll (Makes state refuses) calls before old after new → (so_far : List ℕ) (over : Bool) (given : List ℕ) → Running state s so_far over given old
+      → EndsByRefusal refuses s.limit old → EndsByRefusal refuses s.limit new
+  memory_by s [] before old after new (counter, same) so_far over given r ends = subst (EndsByRefusal refuses s.limit) (sym same) ends
+  memory_by s (feed piece used ∷ calls) before old after new (next, between, made, more) so_far over given r ends =
+      memory_by s calls next between after new more (so_far ++ take used piece) over (given ++ []) (made.goes s so_far over given r)
+      (made.memory s so_far over given r ends)
+  memory_by s (pull answer ∷ calls) before old after new (next, between, made, more) so_far over given r ends =
+      memory_by s calls next between after new more (so_far ++ []) over (given ++ given_by answer) (made.0.goes s so_far over given r)
+      (memory_after_pull refuses s.limit (outcome_of old) (outcome_of between) made.0.outcome ends)
+  memory_by s (close ∷ calls) before old after new (next, between, made, more) so_far over given r ends =
+      let (running, closing) = made.0.closes s so_far over given r in
+      memory_by s calls next between after new more so_far true given running (memory_after_close refuses s.limit (outcome_of between) closing)
+
   -- each call is paid
-  paid_by : (call : Call) (before : ℕ) (old : Server R A) (after : ℕ) (new : Server R A) → Makes state call before old after new
+  paid_by : (call : Call) (before : ℕ) (old : Server R A) (after : ℕ) (new : Server R A) → Makes state refuses call before old after new
       → ArePaid (length (used_by call)) (feeds_by call) before after (credit_of (reader_of old)) (credit_of (reader_of new))
   paid_by (feed piece used) before old after new made =
       record { rises = made.pays.rises; within = omega (arith, made.pays.within, length-take-le used piece made.within) }
@@ -100,14 +116,14 @@ module _ {R A : Type 0} (state : R → RepoState) where
 
   -- what is promised after any calls
   pub after_any_calls : (s : Setting) (calls : List Call) (before after : ℕ) (first last : Server R A) → Running state s [] false [] first
-      → credit_of (reader_of first) ≡ 0 → MakesAll (Makes state) calls before first after last → Headline state s calls before after last
+      → credit_of (reader_of first) ≡ 0 → MakesAll (Makes state refuses) calls before first after last → Headline state refuses s calls before after last
   after_any_calls s calls before after first last new no_credit made =
       let used = used_in calls in
       let over = closes calls in
       let given = given_in calls in
       let r : Running state s used over given last =
       subst (λ (b : Bool). Running state s used b given last) (ended_by calls) (goes_by s calls before first after last made [] false [] new) in
-      let paid = all_paid (Makes state) (λ server. credit_of (reader_of server)) used_by feeds_by paid_by calls before first after last made in
+      let paid = all_paid (Makes state refuses) (λ server. credit_of (reader_of server)) used_by feeds_by paid_by calls before first after last made in
       record {
         hold = r.fits;
         stored = omega (arith, r.covered, last.requests.bounded.covered);
@@ -125,5 +141,6 @@ module _ {R A : Type 0} (state : R → RepoState) where
         session = λ outcome some none. its_end state last s used over given r outcome some none;
         refused = refused_first s used over given last r;
         malformed = malformed_ends s used over given last r;
+        memory = memory_by s calls before first after last made [] false [] new (explained_at_first state refuses s first new);
         clean = clean s used over given last r;
       }

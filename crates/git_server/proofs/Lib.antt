@@ -37,6 +37,7 @@ pub mod RunLemmas
 pub mod OneOutcome
 pub mod OneOutput
 pub mod AtRest
+pub mod RefusedMemory
 pub mod Calls
 pub mod Listed
 pub mod Rising

@@ -12,11 +12,12 @@ ghost use Rattle.git_server.specs.declared.outcome.Outcome.{Outcome};
 ghost use Rattle.git_server.specs.declared.outcome.Outcome.TheVariants.{Flush, Closed, Refused};
 ghost use Rattle.git_server.specs.declared.server.Pulled.{Pulled};
 ghost use Rattle.git_server.specs.Machine.Calls.{Call, Headline, Makes, feed, pull, close};
-ghost use Rattle.git_server.specs.Machine.ServerCalls.{Closes, Goes, Pulls};
+ghost use Rattle.git_server.specs.Machine.ServerCalls.{Closes, Goes, KeepsToMemory, Pulls};
 ghost use Rattle.git_server.specs.Machine.Server.{IsPackLost, Running, bytes_held, bytes_held_by_fields, kept_by, outcome_of, reader_of, repo_of, wants_input};
 
 use crate::repo::Repo;
 use crate::server::Server;
+use git_msg::Memory;
 use std::alloc::Allocator;
 
 /// At every moment what a server has used and given is that of a session: without an outcome the session goes on,
@@ -90,25 +91,26 @@ pub fn all_fields_are_counted<R: Repo, A: Allocator + Copy>()
 
 /// What the contract of each method ensures is a call of the headline, and calls follow one another: so the headline is about any that
 /// a program makes.
-pub fn methods_make_calls<R: Repo, A: Allocator + Copy>()
+pub fn methods_make_calls<R: Repo, A: Memory + Copy>()
     ensures fed { (old new : Server R A) (piece : List ℕ) (used before after : ℕ) → used ≤ length piece
         → Goes R.state (take used piece) [] old new → Pays used before after (credit_of (reader_of old)) (credit_of (reader_of new))
-        → Makes R.state (feed piece used) before old after new }
+        → KeepsToMemory R.state A.refuses old new
+        → Makes R.state A.refuses (feed piece used) before old after new }
     ensures pulled { (old new : Server R A) (answer : Pulled) (steps : ℕ) → Pulls R.state old answer new
-        → Makes R.state (pull answer) steps old steps new }
+        → Makes R.state A.refuses (pull answer) steps old steps new }
     ensures closed { (old new : Server R A) (steps : ℕ) → wants_input old ≡ true → Closes R.state old new
-        → credit_of (reader_of new) ≤ credit_of (reader_of old) → Makes R.state close steps old steps new }
-    ensures none { (server : Server R A) (steps : ℕ) → MakesAll (Makes R.state) [] steps server steps server }
+        → credit_of (reader_of new) ≤ credit_of (reader_of old) → Makes R.state A.refuses close steps old steps new }
+    ensures none { (server : Server R A) (steps : ℕ) → MakesAll (Makes R.state A.refuses) [] steps server steps server }
     ensures more { (call : Call) (calls : List Call) (before next after : ℕ) (old between new : Server R A)
-        → Makes R.state call before old next between → MakesAll (Makes R.state) calls next between after new
-        → MakesAll (Makes R.state) (call ∷ calls) before old after new }
+        → Makes R.state A.refuses call before old next between → MakesAll (Makes R.state A.refuses) calls next between after new
+        → MakesAll (Makes R.state A.refuses) (call ∷ calls) before old after new }
 {}
 
 /// However the input is cut, after any calls of a server that was new before them it holds at most 65,520 buffered bytes and its limit
 /// of kept arguments, and has taken at most 64 steps for each byte used and each call of `feed`; its output is in the answer
 /// relation to its whole input, and the first malformed packet is refused at its offset by name.
-pub fn headline<R: Repo, A: Allocator + Copy>(server: &Server<R, A>)
+pub fn headline<R: Repo, A: Memory + Copy>(server: &Server<R, A>)
     ensures { (s : Setting) (calls : List Call) (before after : ℕ) (first : Server R A) → Running R.state s [] false [] first
-        → credit_of (reader_of first) ≡ 0 → MakesAll (Makes R.state) calls before first after server.now
-        → Headline R.state s calls before after server.now }
+        → credit_of (reader_of first) ≡ 0 → MakesAll (Makes R.state A.refuses) calls before first after server.now
+        → Headline R.state A.refuses s calls before after server.now }
 {}

@@ -30,7 +30,7 @@ use crate::late_repo::LateRepo;
 use crate::outcome::Outcome;
 use crate::refusal::write_error;
 use crate::repo::Repo;
-use git_msg::{Limits, Offer, ReadGot, RequestReader, take_packet};
+use git_msg::{Limits, Memory, Offer, ReadGot, RequestReader, take_packet};
 use git_names::Steps;
 use git_pkt::{Fault, Got, Kind, PacketReader, front_packet};
 use std::alloc::Allocator;
@@ -179,27 +179,6 @@ impl<R: Repo, A: Allocator + Copy> Server<R, A> {
         }
     }
 
-    /// Takes bytes of the input, and returns how many were used: all of them, or those up to the end of a request, a flush
-    /// instead of one, or a fault. None is used while a packet waits to be pulled, nor after the end. An empty
-    /// piece changes nothing.
-    pub fn feed(&mut self, piece: &[u8], steps: &mut Steps) -> usize
-        ensures used { result ≤ length piece.now }
-        ensures goes { Goes R.state (take result piece.now) [] self.old self.new }
-        ensures unread { GoesUnread R.state (take result piece.now) [] self.old self.new }
-        ensures whole { IsTrue (wants_input self.new) → result ≡ length piece.now }
-        ensures moves { wants_input self.old ≡ true → 0 < length piece.now → 0 < result ⊎ IsSome (outcome_of self.new) }
-        ensures in_time { StopsInTime R.state self.old result piece.now (outcome_of self.new) }
-        ensures stays { wants_input self.old ≡ false → (result ≡ 0) × (self.new ≡ self.old) }
-        ensures nothing { length piece.now ≡ 0 → (result ≡ 0) × (self.new ≡ self.old) }
-        ensures cost { Pays result steps.old steps.new (credit_of (reader_of self.old)) (credit_of (reader_of self.new)) }
-    {
-        let mut used = 0;
-        while used < piece.len() && self.wants_input() {
-            used += self.step(&piece[used..], steps);
-        }
-        used
-    }
-
     /// The input ends here, where bytes are wanted. Between two requests the session ends well; inside one
     /// it is refused as truncated, at the end of the last whole packet.
     pub fn close(&mut self)
@@ -292,6 +271,37 @@ impl<R: Repo, A: Allocator + Copy> Server<R, A> {
             _ => unreachable!(),
         }
     }
+}
+
+impl<R: Repo, A: Memory + Copy> Server<R, A> {
+    ghost use Rattle.std.specs.Prelude.{◌+◌, ◌*◌, ◌≤◌, ◌<◌, ◌⊎◌, [], length, take, IsSome, IsTrue};
+    ghost use Rattle.git_pkt.specs.Machine.Credit.{Pays, credit_of};
+    ghost use Rattle.git_server.specs.Machine.Server.{outcome_of, reader_of, wants_input};
+    ghost use Rattle.git_server.specs.Machine.ServerCalls.{Goes, GoesUnread, KeepsToMemory, StopsInTime};
+
+    /// Takes bytes of the input, and returns how many were used: all of them, or those up to the end of a request, a flush
+    /// instead of one, or a fault. None is used while a packet waits to be pulled, nor after the end. An empty
+    /// piece changes nothing.
+    pub fn feed(&mut self, piece: &[u8], steps: &mut Steps) -> usize
+        ensures used { result ≤ length piece.now }
+        ensures goes { Goes R.state (take result piece.now) [] self.old self.new }
+        ensures unread { GoesUnread R.state (take result piece.now) [] self.old self.new }
+        ensures whole { IsTrue (wants_input self.new) → result ≡ length piece.now }
+        ensures moves { wants_input self.old ≡ true → 0 < length piece.now → 0 < result ⊎ IsSome (outcome_of self.new) }
+        ensures in_time { StopsInTime R.state self.old result piece.now (outcome_of self.new) }
+        ensures stays { wants_input self.old ≡ false → (result ≡ 0) × (self.new ≡ self.old) }
+
+        // It ends the session for want of memory only where memory refused a list, which was to have no more bytes than the limit.
+        ensures memory { KeepsToMemory R.state A.refuses self.old self.new }
+        ensures nothing { length piece.now ≡ 0 → (result ≡ 0) × (self.new ≡ self.old) }
+        ensures cost { Pays result steps.old steps.new (credit_of (reader_of self.old)) (credit_of (reader_of self.new)) }
+    {
+        let mut used = 0;
+        while used < piece.len() && self.wants_input() {
+            used += self.step(&piece[used..], steps);
+        }
+        used
+    }
 
     // One packet, or all of the piece. A packet after which more is wanted has been paid for by its own bytes.
     fn step(&mut self, piece: &[u8], steps: &mut Steps) -> usize
@@ -306,6 +316,7 @@ impl<R: Repo, A: Allocator + Copy> Server<R, A> {
         ensures paid { wants_input self.new ≡ true → result < length piece.now
             → steps.new + credit_of (reader_of self.new) ≤ steps.old + credit_of (reader_of self.old) + 64 * result }
         ensures in_time { StopsInTime R.state self.old result piece.now (outcome_of self.new) }
+        ensures memory { KeepsToMemory R.state A.refuses self.old self.new }
     {
         steps.tick(1);
         let fed = self.reader.feed(piece, steps);

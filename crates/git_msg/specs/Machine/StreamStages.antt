@@ -8,6 +8,7 @@ use Rattle.git_msg.specs.Admission.{IsToldFor, IsUnbarred}
 use Rattle.git_msg.specs.Arguments.{Arg}
 use Rattle.git_msg.specs.Machine.HeldRequest.{asked_of, format_of, kept_of, limit_of, stored_of}
 use Rattle.git_msg.specs.Lines.{Line}
+use Rattle.git_msg.specs.Memory.{NeedsRefusal}
 use Rattle.git_msg.specs.Requests.{AreLines, Asks, IsStop}
 use Rattle.git_msg.specs.Machine.RequestReader.{Takes, offer_of, limit_in, kept_so_far, fault_of, is_waiting}
 use Rattle.git_msg.specs.declared.reader.RequestReader.{RequestReader}
@@ -61,6 +62,11 @@ module _ {A : Type 0} where
   abbrev pub IsCovered : ReadGot A → Type 0
   IsCovered (Request request) = stored_of request ≤ kept_of request
   IsCovered _ = Unit {0}
+
+  -- a packet is not refused for want of memory, unless a list of at most so many bytes was refused
+  abbrev pub GotNeedsRefusal : (ℕ → Type 0) → ℕ → ReadGot A → Type 0
+  GotNeedsRefusal refuses most (Failed fault) = NeedsRefusal refuses most fault.kind
+  GotNeedsRefusal refuses most got = Unit {0}
 
   -- the reading goes on
   abbrev pub goes_on : ReadGot A → Bool

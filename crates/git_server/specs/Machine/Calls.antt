@@ -8,7 +8,7 @@ use Rattle.git_pkt.specs.declared.fault.Kind.TheVariants.{StreamTooLong}
 use Rattle.git_server.specs.Repository.{RepoState}
 use Rattle.git_server.specs.Sessions.{FirstMalformed, GoesOn, IsAnswered, IsEnding, IsOfTheBytes, IsRunning, IsSession, Setting}
 use Rattle.git_server.specs.Machine.Server.{bytes_held, kept_by, outcome_of, reader_of, stored_by, wants_input}
-use Rattle.git_server.specs.Machine.ServerCalls.{Closes, Goes, OwesNow, Pulls, given_by}
+use Rattle.git_server.specs.Machine.ServerCalls.{Closes, EndsByRefusal, Goes, KeepsToMemory, OwesNow, Pulls, given_by}
 use Rattle.git_server.specs.declared.outcome.Outcome.{Outcome}
 use Rattle.git_server.specs.declared.outcome.Outcome.TheVariants.{Refused}
 use Rattle.git_server.specs.declared.server.Pulled.{Pulled}
@@ -56,12 +56,13 @@ closes [] = false
 closes (close ∷ calls) = true
 closes (call ∷ calls) = closes calls
 
-module _ {R A : Type 0} (state : R → RepoState) where
+module _ {R A : Type 0} (state : R → RepoState) (refuses : ℕ → Type 0) where
   -- what `feed` ensures of this piece, of which it used so many bytes: the counter of steps rose from `before` to `after`
   pub record Feeds (piece : List ℕ) (used before : ℕ) (old : Server R A) (after : ℕ) (new : Server R A) : Type 0 where
     pub within : used ≤ length piece
     pub goes : Goes state (take used piece) [] old new
     pub pays : Pays used before after (credit_of (reader_of old)) (credit_of (reader_of new))
+    pub memory : KeepsToMemory state refuses old new
 
   -- what `close` requires and ensures
   pub record Ends (old new : Server R A) : Type 0 where
@@ -105,5 +106,7 @@ module _ {R A : Type 0} (state : R → RepoState) where
     -- and where there is one the session ends so
     pub malformed : (fault : Fault) (outcome : Outcome) → FirstMalformed s (used_in calls) (closes calls) fault
         → outcome_of server ≡ Some outcome → IsOfTheBytes outcome → outcome ≡ Refused fault
+    -- it ends for want of memory only where a list was refused, which was to have no more bytes than the limit
+    pub memory : EndsByRefusal refuses s.limit server
     -- a session that goes on has none; that the stream is too long shows with the byte after the last that it may have
     pub clean : (fault : Fault) → outcome_of server ≡ None → fault.kind ≢ StreamTooLong → ¬ FirstMalformed s (used_in calls) (closes calls) fault

@@ -6,11 +6,12 @@ use Rattle.git_pkt.specs.Packets.{Pkt, body_of, longest_payload, spelling_of}
 use Rattle.git_pkt.specs.Splits.{Given}
 use Rattle.git_pkt.specs.Machine.PacketReader.{ReadsOn, held_of}
 use Rattle.git_msg.specs.Asked.{FetchAsked}
+use Rattle.git_msg.specs.Memory.{FaultNeedsRefusal}
 use Rattle.git_server.specs.Machine.FullParts.{FillsPhase}
 use Rattle.git_server.specs.Machine.LatePacks.{OwesNoPackIn, setting_with, state_with}
 use Rattle.git_server.specs.Repository.{RepoState}
 use Rattle.git_server.specs.Sessions.{Setting, IsSession}
-use Rattle.git_server.specs.Machine.Phases.{MayBreak, Owes, most_owed}
+use Rattle.git_server.specs.Machine.Phases.{MayBreak, Owes, most_owed, refusal_in}
 use Rattle.git_server.specs.Machine.Server.{IsPackLost, Running, outcome_of, wants_input}
 use Rattle.git_pkt.specs.declared.fault.Fault.{Fault}
 use Rattle.git_pkt.specs.declared.fault.Kind.TheVariants.{StreamTooLong, Truncated}
@@ -41,6 +42,16 @@ abbrev pub IsPulled : Pulled → Pkt → Type 0
 IsPulled pulled packet = given_by pulled ≡ spelling_of packet
 
 module _ {R A : Type 0} where
+  -- the session did not end for want of memory, unless a list of at most as many bytes as the limit has was refused
+  abbrev pub EndsByRefusal : (ℕ → Type 0) → ℕ → Server R A → Type 0
+  EndsByRefusal refuses limit server = FaultNeedsRefusal refuses limit (refusal_in (outcome_of server))
+
+  -- where that held of a session before the call it holds after it
+  abbrev pub KeepsToMemory : (R → RepoState) → (ℕ → Type 0) → Server R A → Server R A → Type 0
+  KeepsToMemory state refuses old new =
+      (s : Setting) (so_far : List ℕ) (over : Bool) (before : List ℕ) → Running state s so_far over before old
+      → EndsByRefusal refuses s.limit old → EndsByRefusal refuses s.limit new
+
   -- the call used and gave these bytes: what held before holds with them
   abbrev pub Goes : (R → RepoState) → List ℕ → List ℕ → Server R A → Server R A → Type 0
   Goes state used given old new =

@@ -1,6 +1,8 @@
-use Rattle.std.proofs.Common.{rules, arith, ap, refl, sym, length-append}
+use Rattle.std.proofs.Common.{rules, arith, ap, refl, sym, length-append, ◌+◌, ◌*◌, length}
 use Rattle.git_msg.specs.Arguments.{shown, stored_in}
 use Rattle.git_msg.specs.Kept.{KeepsArgument}
+use Rattle.std.proofs.lemmas.Result.{err_from_is_err_and}
+use Rattle.git_msg.proofs.RefusedLists.{refused_for}
 use Rattle.git_msg.proofs.KeptBytes.{stays_covered}
 use Rattle.git_msg.proofs.HeldFlags.{object_info_kept, kept_by_object_info}
 use Rattle.git_msg.proofs.object_info.ObjectInfo.keep.Given as given
@@ -32,3 +34,12 @@ invariant_of-self-2 g c =
     let keeps : KeepsArgument (object_info_kept c.self.inside) (shown c.args.argument.now) c.args.text_length
     (object_info_kept (record c.self.inside { oids = c.keep_id.new.ids; budget = c.charge.new.self })) = search (rules, length-append) in
     stays_covered (object_info_kept c.self.inside) _ _ _ c.self.invariant (rw (sym c.self.view_is) at c.requires.value) c.requires.counted keeps
+
+pub returns-in_err-keep_id-in-ObjectId-clause-memory : goal.returns-in_err-keep_id-in-ObjectId-clause-memory
+returns-in_err-keep_id-in-ObjectId-clause-memory g c =
+    let value = rw (sym c.self.view_is) at c.requires.value in
+    let p = err_from_is_err_and c.from_residual-in_err-keep_id-in-ObjectId.result c.from_residual-in_err-keep_id-in-ObjectId.ensures.1 in
+    rw (p.1, p.2, ← c.self.view_is)
+    (λ name. refused_for g.A.Memory.refuses (object_info_kept c.self.inside) (shown c.args.argument.now) c.args.text_length
+    (33 * (length c.self.inside.oids.items + 1)) c.self.invariant value.1 c.requires.counted c.in_ok-charge.ensures.sides
+    (omega (arith, ap stored_in (ap shown c.in-ObjectId.is))) c.in_err-keep_id-in-ObjectId.ensures.memory)

@@ -1,5 +1,6 @@
 use Rattle.std.proofs.Common.{rules}
 use Rattle.std.proofs.lemmas.Result.{err_from_is_err_and}
+use Rattle.git_msg.proofs.PacketFaults.{not_for_memory_by_capability}
 use Rattle.git_msg.proofs.StepFacts.{noted, refused, delimited, flushed, flush_refused}
 use Rattle.git_msg.proofs.reader.RequestReader.take_capability.Goals as goal
 
@@ -29,3 +30,8 @@ returns-in_ok-check_end-in-Flush-clause-goes_on g c = search (rules, flushed)
 
 pub returns-in_err-check_end-in-Flush-clause-goes_on : goal.returns-in_err-check_end-in-Flush-clause-goes_on
 returns-in_err-check_end-in-Flush-clause-goes_on g c = search (rules, err_from_is_err_and, flush_refused)
+
+pub returns-in_err-note-in-Payload-clause-own : goal.returns-in_err-note-in-Payload-clause-own
+returns-in_err-note-in-Payload-clause-own g c =
+    let p = err_from_is_err_and c.from_residual.result c.from_residual.ensures.1 in
+    rw (p.1, p.2) (not_for_memory_by_capability c.args.self.now.offer _ _ c.in_err-note-in-Payload.field-0.0 c.in_err-note-in-Payload.ensures.err)

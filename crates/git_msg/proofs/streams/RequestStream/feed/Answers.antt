@@ -1,12 +1,17 @@
-use Rattle.std.proofs.Common.{◌≡◌, true, false, length, append-nil, length-drop, arith, ap, sym, ◌∙◌, rules}
+use Rattle.std.proofs.Common.{◌≡◌, ◌+◌, ◌<◌, ◌⊎◌, ℕ, inl, inr, subst, true, false, length, append-nil, length-drop, arith, ap, sym, ◌∙◌, rules}
 use Rattle.git_pkt.proofs.Credits.{paid_on}
 use Rattle.git_pkt.proofs.Pieces.{left_of}
-use Rattle.git_msg.specs.Machine.RequestStreams.{wants_input}
+use Rattle.git_msg.specs.Memory.{FaultNeedsRefusal}
+use Rattle.git_msg.specs.Machine.RequestStreams.{fault_of, wants_input}
 use Rattle.git_msg.proofs.StreamSteps.{counts_further, leaves_further, reads_further, shows_further, steps_with}
 use Rattle.git_msg.proofs.streams.RequestStream.feed.Goals as goal
 
 true_not_false : true ≡ false → ⊥
 true_not_false e = cc
+
+more_used : (done used : ℕ) (P : Type 0) → 0 < used ⊎ P → 0 < done + used ⊎ P
+more_used done used P (inl some) = inl (omega arith)
+more_used done used P (inr h) = inr h
 
 pub loop-used-preserved : goal.loop-used-preserved
 loop-used-preserved g c = search (rules, steps_with, left_of, length-drop, append-nil, reads_further, true_not_false)
@@ -33,5 +38,7 @@ returns-in_default-got g c =
         offer = steps.offer ∙ was.offer;
         limit = steps.limit ∙ was.limit;
       };
+      moves = λ loud_at_first some. more_used done read.used _ c.step-step.ensures.moves;
+      memory = λ h. subst (λ (most : ℕ). FaultNeedsRefusal g.A.Memory.refuses most (fault_of new)) was.limit c.step-step.ensures.memory;
       cost = paid_on _ _ _ _ _ _ _ _ (was.paid loud c.loop-used-test.true) was.cost c.step-step.ensures.cost;
     }

@@ -1,7 +1,8 @@
 use Rattle.std.proofs.Common.{length, ◌-◌, ◌+◌, ◌*◌, ◌≡◌, ◌++◌, true, false, ◌≤◌, ◌<◌, ℕ, List, take}
 use Rattle.git_pkt.specs.Machine.Credit.{Pays}
 use Rattle.git_msg.specs.Asked.{Asked}
-use Rattle.git_msg.specs.Machine.RequestStreams.{HasRead, credit_of, offer_of, limit_of, wants_input}
+use Rattle.git_msg.specs.Memory.{FaultNeedsRefusal}
+use Rattle.git_msg.specs.Machine.RequestStreams.{HasRead, credit_of, fault_of, offer_of, limit_of, wants_input}
 use Rattle.git_msg.proofs.streams.RequestStream.feed.Given as goal
 
 -- what was used so far brought nothing whole, and bytes are wanted on if they were
@@ -11,6 +12,8 @@ invariant-loop-used g l = record {
   reads : (used : List ℕ) (asked : List Asked) → HasRead used asked l.fn.self → HasRead (used ++ take l.used l.piece) asked l.self;
   same : wants_input l.self ≡ wants_input l.fn.self;
   nothing : wants_input l.fn.self ≡ false → (l.used ≡ 0) × (l.self ≡ l.fn.self);
+  memory : FaultNeedsRefusal g.A.Memory.refuses (limit_of l.fn.self) (fault_of l.fn.self)
+      → FaultNeedsRefusal g.A.Memory.refuses (limit_of l.fn.self) (fault_of l.self);
   offer : offer_of l.self ≡ offer_of l.fn.self;
   limit : limit_of l.self ≡ limit_of l.fn.self;
   cost : Pays l.used l.fn.steps l.steps (credit_of l.fn.self) (credit_of l.self);

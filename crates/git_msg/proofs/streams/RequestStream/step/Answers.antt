@@ -1,10 +1,14 @@
-use Rattle.std.proofs.Common.{rules, refl, subst, take}
+use Rattle.std.proofs.Common.{rules, refl, subst, take, ◌≤◌}
 use Rattle.git_pkt.specs.Packets.{seen}
 use Rattle.git_pkt.specs.Splits.{Given}
-use Rattle.git_pkt.specs.Machine.PacketReader.{ShownByFeed}
+use Rattle.git_pkt.specs.Machine.PacketReader.{ShownByFeed, bytes_held}
 use Rattle.git_pkt.specs.declared.fault.Fault.{Fault}
+use Rattle.git_msg.specs.Machine.RequestStreams.{limit_of}
+use Rattle.git_msg.specs.Machine.StreamStages.{fault_in}
+use Rattle.git_msg.specs.Memory.{FaultNeedsRefusal}
 use Rattle.git_msg.proofs.StreamSteps.{open_read, feeds_with, packet_counts, packet_leaves, packet_news, packet_read, ready_behind, refused_read}
-use Rattle.git_msg.proofs.StreamSteps.{some_taken_behind, sound_behind, within_behind}
+use Rattle.git_msg.proofs.ReaderRuns.{fault_of_bytes}
+use Rattle.git_msg.proofs.StreamSteps.{needed_behind, reading, some_taken_behind, sound_behind, within_behind}
 use Rattle.git_msg.proofs.streams.RequestStream.step.Goals as goal
 
 pub invariant_of-self-in-Packet : goal.invariant_of-self-in-Packet
@@ -68,3 +72,27 @@ returns-in-Failed-clause-steps g c =
 
 pub returns-in-More-clause-steps : goal.returns-in-More-clause-steps
 returns-in-More-clause-steps g c = search (rules, feeds_with, open_read)
+
+pub returns-in-More-clause-memory : goal.returns-in-More-clause-memory
+returns-in-More-clause-memory g c =
+    reading (λ stage. FaultNeedsRefusal g.A.Memory.refuses (limit_of c.args.self.now) (fault_in stage)) tt tt c.args.self.now.stage c.requires.waits
+
+pub returns-in-Packet-clause-memory : goal.returns-in-Packet-clause-memory
+returns-in-Packet-clause-memory g c =
+    needed_behind g.A.Memory.refuses (limit_of c.args.self.now) c.take_packet-got.result c.stage_after-self.result c.stage_after-self.ensures
+    c.take_packet-got.ensures.memory
+
+pub returns-in-Failed-clause-memory : goal.returns-in-Failed-clause-memory
+returns-in-Failed-clause-memory g c =
+    let old = c.args.self.now in
+    let feeds = feeds_with old.packets c.feed-fed.follows.lender-at-none c.args.piece.now c.feed-fed.result _ c.in-Failed.is c.feed-fed.follows.holds-at-none in
+    let fits : bytes_held old.packets ≤ 65520 = rw c.hold.ensures.value at c.hold.ensures.fits in
+    λ name.
+    absurd (fault_of_bytes old.packets c.feed-fed.follows.lender-at-none _ _ (old.sound c.requires.waits) old.gathers fits feeds.reads
+    c.in-Failed.fault feeds.tells name)
+
+pub returns-in-More-clause-moves : goal.returns-in-More-clause-moves
+returns-in-More-clause-moves g c = search (rules, feeds_with)
+
+pub returns-in-Packet-clause-moves : goal.returns-in-Packet-clause-moves
+returns-in-Packet-clause-moves g c = search (rules, feeds_with)

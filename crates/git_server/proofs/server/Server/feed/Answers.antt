@@ -40,6 +40,10 @@ loop-used-preserved g c =
           (take c.step-used.result (take (length piece - done) (drop done piece))) [] []
           (c.loop-used.invariant.unread packs) (c.step-used.ensures.unread packs));
       moves = λ loud. inr (more_used done c.step-used.result _ c.step-used.ensures.moves);
+      memory =
+          λ s so_far over before r ends.
+          c.step-used.ensures.memory s (so_far ++ take done piece) over (before ++ []) (c.loop-used.invariant.goes s so_far over before r)
+          (c.loop-used.invariant.memory s so_far over before r ends);
       in_time =
           λ s so_far over before r wants fault ended too_long.
           let inner = c.loop-used.invariant.goes s so_far over before r in
@@ -69,6 +73,7 @@ loop-used-init g c = record {
   goes = search rules;
   unread = λ packs. goes_nowhere (state_with packs g.R.Repo.state) c.args.self.now;
   moves = search rules;
+  memory = λ s so_far over before r ends. ends;
   in_time = open_in_time g.R.Repo.state c.args.self.now 0 c.args.piece.now;
   stays = search rules;
   nothing = search rules;

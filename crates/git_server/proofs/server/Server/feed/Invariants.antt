@@ -1,5 +1,5 @@
 use Rattle.std.proofs.Common.{◌⊎◌, IsSome, length, ◌-◌, ◌+◌, ◌*◌, ◌≡◌, true, false, ◌≤◌, ◌<◌, [], take, if◌then◌else◌}
-use Rattle.git_server.specs.Machine.ServerCalls.{Goes, GoesUnread, StopsInTime}
+use Rattle.git_server.specs.Machine.ServerCalls.{Goes, GoesUnread, KeepsToMemory, StopsInTime}
 use Rattle.git_pkt.specs.Machine.Credit.{Pays, credit_of}
 use Rattle.git_server.specs.Machine.Server.{reader_of, wants_input, outcome_of}
 use Rattle.git_server.proofs.server.Server.feed.Given as goal
@@ -11,6 +11,7 @@ invariant-loop-used g l = record {
   goes : Goes g.R.Repo.state (take l.used l.piece) [] l.fn.self l.self;
   unread : GoesUnread g.R.Repo.state (take l.used l.piece) [] l.fn.self l.self;
   moves : wants_input l.fn.self ≡ true → (wants_input l.self ≡ true) ⊎ (0 < l.used ⊎ IsSome (outcome_of l.self));
+  memory : KeepsToMemory g.R.Repo.state g.A.Memory.refuses l.fn.self l.self;
   in_time : StopsInTime g.R.Repo.state l.fn.self l.used l.piece (outcome_of l.self);
   stays : wants_input l.fn.self ≡ false → (l.used ≡ 0) × (l.self ≡ l.fn.self);
   nothing : length l.piece ≡ 0 → (l.used ≡ 0) × (l.self ≡ l.fn.self);
