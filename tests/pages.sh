@@ -21,22 +21,27 @@ case_each_link_of_a_page_leads_to_a_file() {
     done
 }
 
-# sources_named: prints the sources that have a row in the table of ARCHITECTURE, as CRATE/src/FILE. A name without a folder is in that of the one before.
-sources_named() {
-    grep -E '^\| `[a-z0-9_]+/src/' "$top/docs/ARCHITECTURE.md" | cut -d '|' -f 2 | awk -F '`' '{
-        for (i = 2; i <= NF; i += 2) {
-            if ($i ~ "/") { folder = $i; sub("[^/]*$", "", folder); print $i } else print folder $i
-        }
-    }'
+# headings_of PAGE: prints the headings of a page as links name them.
+headings_of() {
+    grep -E '^#+ ' "$1" | sed -E 's/^#+ //' | tr 'A-Z ' 'a-z-' | sed 's/[^a-z0-9_-]//g'
 }
 
-case_each_source_of_a_library_or_the_program_has_its_row() {
-    local crate
-    sources_named | sort > source_rows
-    for crate in git_names git_pkt git_loop git_msg git_server git_host git_client git_repository git_both_ends git2show_lib git_rows git2show gitwire; do
-        (cd "$top/crates" && find "$crate/src" -name '*.rt' ! -name lib.rt)
-    done | sort > there
-    expect_same 'the table of ARCHITECTURE' there source_rows
+case_each_link_to_a_heading_of_a_page_leads_there() {
+    local page link file
+    for page in "$top"/*.md "$top"/docs/*.md "$top"/tests/*.md "$top"/sample/*.md "$top"/crates/*/*.md; do
+        [ -f "$page" ] || continue
+        for link in $(grep -o -E '\]\([^):]*#[^)]+\)' "$page" | sed -E 's/^\]\(//; s/\)$//' || true); do
+            file=${link%%#*}
+            file=${file:+$(dirname "$page")/$file}
+            headings_of "${file:-$page}" | grep -x -F -e "${link#*#}" > grepped || differs "${page#"$top/"} links to $link, which has no such heading"
+        done
+    done
+}
+
+case_each_source_states_what_it_is_about_and_imports_what_it_may() {
+    run "$top/tests/sources.py" --check
+    expect_status 0
+    expect_same 'standard error' /dev/null err
 }
 
 # In a crate with machines the definitions of its protocol stand without them. The laws on both ends, the program and C state only calls.
