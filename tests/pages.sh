@@ -5,10 +5,22 @@ links_of() {
     grep -o -E '\]\([^)#]+[)#]' "$1" | sed -E 's/^\]\(//; s/[)#]$//' | grep -v -E '^[a-z]+:' || true
 }
 
-case_the_tables_of_wrong_bodies_are_made_from_the_edits() {
+case_the_list_of_wrong_bodies_is_that_of_the_edits() {
     run "$top/wrong-bodies/table.py" --check
     expect_status 0
     expect_same 'standard error' /dev/null err
+}
+
+# An edit is named there by three words or more with `-` between them, a test by four or more with `_`.
+case_each_wrong_body_and_test_that_a_page_names_is_there() {
+    local name
+    for name in $(grep -o -E '`[a-zA-Z0-9_]+(-[a-zA-Z0-9_]+){2,}`' "$top/docs/WRONG_BODIES.md" | tr -d '`'); do
+        compgen -G "$top/crates/*/must-fail/$name.edit" > globbed || compgen -G "$top/wrong-bodies/*/$name.edit" > globbed || differs "no edit $name"
+    done
+    cat "$top"/crates/*/src/*.rt "$top"/crates/*/specs/Machine/*.antt "$top"/tests/*.sh > sources
+    for name in $(grep -o -E '`[a-z0-9]+(_[a-z0-9]+){3,}`' "$top/docs/WRONG_BODIES.md" | tr -d '`'); do
+        grep -q -w -F -e "$name" sources || differs "no test $name"
+    done
 }
 
 case_each_link_of_a_page_leads_to_a_file() {
