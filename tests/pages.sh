@@ -1,5 +1,10 @@
 # The pages of this repository beside what they speak of.
 
+# pages: prints the pages of this repository.
+pages() {
+    find "$top" \( -name .git -o -name out \) -prune -o -name '*.md' -print
+}
+
 # links_of PAGE: prints the files that a page links to, as it writes them.
 links_of() {
     grep -o -E '\]\([^)#]+[)#]' "$1" | sed -E 's/^\]\(//; s/[)#]$//' | grep -v -E '^[a-z]+:' || true
@@ -25,8 +30,7 @@ case_each_wrong_body_and_test_that_a_page_names_is_there() {
 
 case_each_link_of_a_page_leads_to_a_file() {
     local page link
-    for page in "$top"/*.md "$top"/docs/*.md "$top"/tests/*.md "$top"/sample/*.md "$top"/crates/*/*.md; do
-        [ -f "$page" ] || continue
+    for page in $(pages); do
         for link in $(links_of "$page"); do
             [ -e "$(dirname "$page")/$link" ] || differs "${page#"$top/"} links to $link, which is not there"
         done
@@ -40,8 +44,7 @@ headings_of() {
 
 case_each_link_to_a_heading_of_a_page_leads_there() {
     local page link file
-    for page in "$top"/*.md "$top"/docs/*.md "$top"/tests/*.md "$top"/sample/*.md "$top"/crates/*/*.md; do
-        [ -f "$page" ] || continue
+    for page in $(pages); do
         for link in $(grep -o -E '\]\([^):]*#[^)]+\)' "$page" | sed -E 's/^\]\(//; s/\)$//' || true); do
             file=${link%%#*}
             file=${file:+$(dirname "$page")/$file}
