@@ -20,21 +20,21 @@ case_the_list_of_wrong_bodies_is_that_of_the_edits() {
 case_each_wrong_body_and_test_that_a_page_names_is_there() {
     local name
     for name in $(grep -o -E '`[a-zA-Z0-9_]+(-[a-zA-Z0-9_]+){2,}`' "$top/docs/WRONG_BODIES.md" | tr -d '`'); do
-        compgen -G "$top/crates/*/must-fail/$name.edit" > globbed || compgen -G "$top/wrong-bodies/*/$name.edit" > globbed || differs "no edit $name"
+        compgen -G "$top/crates/*/must-fail/$name.edit" > page_matches || compgen -G "$top/wrong-bodies/*/$name.edit" > page_matches || differs "no edit $name"
     done
-    cat "$top"/crates/*/src/*.rt "$top"/crates/*/specs/Machine/*.antt "$top"/tests/*.sh > sources
+    cat "$top"/crates/*/src/*.rt "$top"/crates/*/specs/Machine/*.antt "$top"/tests/*.sh > page_sources
     for name in $(grep -o -E '`[a-z0-9]+(_[a-z0-9]+){3,}`' "$top/docs/WRONG_BODIES.md" | tr -d '`'); do
-        grep -q -w -F -e "$name" sources || differs "no test $name"
+        grep -q -w -F -e "$name" page_sources || differs "no test $name"
     done
 }
 
 case_each_link_of_a_page_leads_to_a_file() {
     local page link
-    for page in $(pages); do
+    while read -r page; do
         for link in $(links_of "$page"); do
             [ -e "$(dirname "$page")/$link" ] || differs "${page#"$top/"} links to $link, which is not there"
         done
-    done
+    done < <(pages)
 }
 
 # headings_of PAGE: prints the headings of a page as links name them.
@@ -44,13 +44,13 @@ headings_of() {
 
 case_each_link_to_a_heading_of_a_page_leads_there() {
     local page link file
-    for page in $(pages); do
+    while read -r page; do
         for link in $(grep -o -E '\]\([^):]*#[^)]+\)' "$page" | sed -E 's/^\]\(//; s/\)$//' || true); do
             file=${link%%#*}
             file=${file:+$(dirname "$page")/$file}
-            headings_of "${file:-$page}" | grep -x -F -e "${link#*#}" > grepped || differs "${page#"$top/"} links to $link, which has no such heading"
+            headings_of "${file:-$page}" | grep -x -F -e "${link#*#}" > page_matches || differs "${page#"$top/"} links to $link, which has no such heading"
         done
-    done
+    done < <(pages)
 }
 
 case_each_source_states_what_it_is_about_and_imports_what_it_may() {
