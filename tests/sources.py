@@ -9,7 +9,7 @@ Each crate has its line in crates.txt. What a file is about is stated by its fir
 is about, by those of its lib.rt or main.rt. What a file knows of its own crate is what it imports with `use crate::`, and NEVER has what some
 files may not import.
 """
-import re, sys
+import re, signal, sys
 from pathlib import Path
 
 TOP = Path(__file__).resolve().parent.parent
@@ -171,4 +171,6 @@ def main(words):
 
 
 if __name__ == "__main__":
+    # A reader that has seen enough, as `head`, ends it without a word.
+    signal.signal(signal.SIGPIPE, signal.SIG_DFL)
     main(sys.argv[1:])

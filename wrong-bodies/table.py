@@ -8,7 +8,7 @@ A block of table.txt is a wrong body: its name, what it does, and by crate the n
 in crates/CRATE/must-fail, which the gate tries, or beside this script, which the table marks with a `+`. Either way it fails where an edit
 is not there, and where one of the gate's is in no block.
 """
-import sys
+import signal, sys
 from pathlib import Path
 
 TOP = Path(__file__).resolve().parent.parent
@@ -81,4 +81,6 @@ def main(words):
 
 
 if __name__ == "__main__":
+    # A reader that has seen enough, as `head`, ends it without a word.
+    signal.signal(signal.SIGPIPE, signal.SIG_DFL)
     main(sys.argv[1:])
