@@ -1,42 +1,73 @@
 # The pages of this repository beside what they speak of.
 
+# pages: prints the pages of this repository.
+pages() {
+    find "$top" \( -name .git -o -name out \) -prune -o -name '*.md' -print
+}
+
 # links_of PAGE: prints the files that a page links to, as it writes them.
 links_of() {
     grep -o -E '\]\([^)#]+[)#]' "$1" | sed -E 's/^\]\(//; s/[)#]$//' | grep -v -E '^[a-z]+:' || true
 }
 
-case_the_tables_of_wrong_bodies_are_made_from_the_edits() {
+case_the_list_of_wrong_bodies_is_that_of_the_edits() {
     run "$top/wrong-bodies/table.py" --check
     expect_status 0
     expect_same 'standard error' /dev/null err
 }
 
-case_each_link_of_a_page_leads_to_a_file() {
-    local page link
-    for page in "$top"/*.md "$top"/docs/*.md "$top"/tests/*.md "$top"/sample/*.md "$top"/crates/*/*.md; do
-        [ -f "$page" ] || continue
-        for link in $(links_of "$page"); do
-            [ -e "$(dirname "$page")/$link" ] || differs "${page#"$top/"} links to $link, which is not there"
-        done
+# An edit is named there by three words or more with `-` between them, a test by four or more with `_`.
+case_each_wrong_body_and_test_that_a_page_names_is_there() {
+    local name
+    for name in $(grep -o -E '`[a-zA-Z0-9_]+(-[a-zA-Z0-9_]+){2,}`' "$top/docs/WRONG_BODIES.md" | tr -d '`'); do
+        compgen -G "$top/crates/*/must-fail/$name.edit" > page_matches || compgen -G "$top/wrong-bodies/*/$name.edit" > page_matches || differs "no edit $name"
+    done
+    cat "$top"/crates/*/src/*.rt "$top"/crates/*/specs/Machine/*.antt "$top"/tests/*.sh > page_sources
+    for name in $(grep -o -E '`[a-z0-9]+(_[a-z0-9]+){3,}`' "$top/docs/WRONG_BODIES.md" | tr -d '`'); do
+        grep -q -w -F -e "$name" page_sources || differs "no test $name"
     done
 }
 
-# sources_named: prints the sources that have a row in the table of ARCHITECTURE, as CRATE/src/FILE. A name without a folder is in that of the one before.
-sources_named() {
-    grep -E '^\| `[a-z0-9_]+/src/' "$top/docs/ARCHITECTURE.md" | cut -d '|' -f 2 | awk -F '`' '{
-        for (i = 2; i <= NF; i += 2) {
-            if ($i ~ "/") { folder = $i; sub("[^/]*$", "", folder); print $i } else print folder $i
-        }
-    }'
+# A name there is a word in backticks, as of a function, a clause, a law, a definition or a file of specs/.
+case_each_name_that_the_promises_and_decisions_cite_is_in_the_sources() {
+    (cd "$top" && find crates -name '*.rt' -o -path '*/specs/*.antt') | sed "s|^|$top/|" | tr '\n' '\0' | xargs -0 cat > page_sources
+    cat "$top/include/gitwire.h" "$top/crates.txt" "$top/Makefile" "$top/docs/git2show.1" >> page_sources
+    ls "$top" >> page_sources
+    grep -o -E '[A-Za-z_][A-Za-z0-9_]*' page_sources | sort -u > page_words
+    grep -o -h -E '`[A-Za-z_][A-Za-z0-9_:]*`' "$top/docs/PROMISES.md" "$top/docs/DECISIONS.md" | tr -d '`' | sed 's/.*:://' | sort -u > page_names
+    comm -23 page_names page_words > page_matches
+    expect_same 'the names that no source has' /dev/null page_matches
 }
 
-case_each_source_of_a_library_or_the_program_has_its_row() {
-    local crate
-    sources_named | sort > source_rows
-    for crate in git_names git_pkt git_loop git_msg git_server git_host git_client git_repository git_both_ends git2show_lib git_rows git2show gitwire; do
-        (cd "$top/crates" && find "$crate/src" -name '*.rt' ! -name lib.rt)
-    done | sort > there
-    expect_same 'the table of ARCHITECTURE' there source_rows
+case_each_link_of_a_page_leads_to_a_file() {
+    local page link
+    while read -r page; do
+        for link in $(links_of "$page"); do
+            [ -e "$(dirname "$page")/$link" ] || differs "${page#"$top/"} links to $link, which is not there"
+        done
+    done < <(pages)
+}
+
+# headings_of PAGE: prints the headings of a page as links name them.
+headings_of() {
+    grep -E '^#+ ' "$1" | sed -E 's/^#+ //' | tr 'A-Z ' 'a-z-' | sed 's/[^a-z0-9_-]//g'
+}
+
+case_each_link_to_a_heading_of_a_page_leads_there() {
+    local page link file
+    while read -r page; do
+        for link in $(grep -o -E '\]\([^):]*#[^)]+\)' "$page" | sed -E 's/^\]\(//; s/\)$//' || true); do
+            file=${link%%#*}
+            file=${file:+$(dirname "$page")/$file}
+            headings_of "${file:-$page}" | grep -x -F -e "${link#*#}" > page_matches || differs "${page#"$top/"} links to $link, which has no such heading"
+        done
+    done < <(pages)
+}
+
+case_each_source_states_what_it_is_about_and_imports_what_it_may() {
+    run "$top/tests/sources.py" --check
+    expect_status 0
+    expect_same 'standard error' /dev/null err
 }
 
 # In a crate with machines the definitions of its protocol stand without them. The laws on both ends, the program and C state only calls.

@@ -1,18 +1,17 @@
 #!/usr/bin/env python3
-"""Makes the tables of docs/WRONG_BODIES.md: those that have a name, out of table.txt, and how many edits there are, by crate.
+"""Prints the wrong bodies (mutants) that have a name, out of table.txt, with what refuses each, and how many edits there are, by crate.
 
-    wrong-bodies/table.py           writes them into the page
-    wrong-bodies/table.py --check   fails where the page has others
+    wrong-bodies/table.py           prints both tables
+    wrong-bodies/table.py --check   prints nothing, and fails where the list is not that of the edits
 
 A block of table.txt is a wrong body: its name, what it does, and by crate the names of its edits. Where an edit lies is looked up:
-in crates/CRATE/must-fail, which the gate tries, or beside this script, which the table marks with a `+`. It fails where an edit is
-not there, and where one of the gate's is in no block.
+in crates/CRATE/must-fail, which the gate tries, or beside this script, which the table marks with a `+`. Either way it fails where an edit
+is not there, and where one of the gate's is in no block.
 """
-import sys
+import signal, sys
 from pathlib import Path
 
 TOP = Path(__file__).resolve().parent.parent
-PAGE = TOP / "docs/WRONG_BODIES.md"
 LIST = TOP / "wrong-bodies/table.txt"
 
 
@@ -71,29 +70,17 @@ def counts_table(known):
     yield f"| all | {sum(known.values())} | {len(known) - sum(known.values())} |"
 
 
-def replaced(page, header, rows):
-    """The page with these rows instead of its table that begins with the header."""
-    before, found, after = page.partition(header + "\n")
-    if not found:
-        stop(f"the page has no table {header}")
-    rest = after.split("\n")
-    end = next(at for at, line in enumerate(rest) if not line.startswith("|"))
-    return before + "\n".join(rows) + "\n" + "\n".join(rest[end:])
-
-
 def main(words):
     known = edits()
-    made = page = PAGE.read_text()
-    for rows in [list(names_table(known)), list(counts_table(known))]:
-        made = replaced(made, rows[0], rows)
+    tables = [list(names_table(known)), list(counts_table(known))]
     if words == ["--check"]:
-        if made != page:
-            stop("docs/WRONG_BODIES.md is not what the edits make: run wrong-bodies/table.py")
-    elif words:
+        return
+    if words:
         stop("it takes --check or nothing")
-    else:
-        PAGE.write_text(made)
+    print("\n\n".join("\n".join(rows) for rows in tables))
 
 
 if __name__ == "__main__":
+    # A reader that has seen enough, as `head`, ends it without a word.
+    signal.signal(signal.SIGPIPE, signal.SIG_DFL)
     main(sys.argv[1:])
