@@ -1,8 +1,7 @@
 -- Sessions that end for want of memory.
-use Rattle.std.proofs.Common.{arith, rules, ◌≡◌, ◌≢◌, ℕ, Bool, false, true, List, [], ◌∷◌, ◌++◌, length, Option, Some, None, refl, sym, ◌∙◌, ap, subst, inl, inr}
+use Rattle.std.proofs.Common.{arith, ◌≡◌, ◌≢◌, ℕ, Bool, false, true, List, [], ◌∷◌, ◌++◌, ◌-◌, length, Option, Some, None, refl, sym, ◌∙◌, ap, subst, inl, inr}
 use Rattle.std.proofs.Common.{length-append}
 use Rattle.git_pkt.specs.Faults.{StopsBy}
-use Rattle.git_pkt.specs.Packets.{Pkt}
 use Rattle.git_pkt.specs.Splits.{Given, SpellsAll}
 use Rattle.git_pkt.specs.declared.fault.Fault.{Fault}
 use Rattle.git_pkt.specs.declared.fault.Kind.{Kind}
@@ -13,10 +12,10 @@ use Rattle.git_msg.specs.Machine.StreamStages.{GotNeedsRefusal}
 use Rattle.git_msg.specs.Memory.{FaultNeedsRefusal, NeedsRefusal}
 use Rattle.git_msg.specs.WholeRequests.{AreRequests}
 use Rattle.git_server.specs.Repository.{RepoState}
-use Rattle.git_server.specs.Sessions.{IsEnding, IsRefused, Setting}
+use Rattle.git_server.specs.Sessions.{IsRefused, Setting}
 use Rattle.git_server.specs.Machine.Phases.{outcome_in, phase_after, refusal_in, refused_by}
 use Rattle.git_server.specs.Machine.Server.{Running, outcome_of, wants_input}
-use Rattle.git_server.specs.Machine.ServerCalls.{EndsByRefusal, IsAfterPull, IsClosing, KeepsToMemory, ReadsFor}
+use Rattle.git_server.specs.Machine.ServerCalls.{EndsByRefusal, IsAfterPull, IsClosing}
 use Rattle.git_server.specs.declared.outcome.Outcome.{Outcome}
 use Rattle.git_server.specs.declared.outcome.Outcome.TheVariants.{Closed, Flush, Refused}
 use Rattle.git_server.specs.declared.server.Phase.{Phase}
@@ -24,7 +23,8 @@ use Rattle.git_server.specs.declared.server.Server.{Server}
 use Rattle.git_msg.specs.declared.streams.ReadGot.{ReadGot}
 use Rattle.git_msg.specs.declared.streams.ReadGot.TheVariants.{Failed, More, Request, Stop}
 use Rattle.git_msg.proofs.StreamSteps.{stopped_by}
-use Rattle.git_pkt.specs.Machine.PacketReader.{fault_of}
+use Rattle.git_pkt.specs.Machine.PacketReader.{ReadsOn, fault_of}
+use Rattle.git_pkt.specs.declared.reader.PacketReader.{PacketReader}
 use Rattle.git_server.proofs.Going.{goes_on, no_outcome, refused_outcome_by}
 use Rattle.git_server.proofs.SessionLaws.{ending}
 
@@ -73,22 +73,24 @@ of_bytes : (p : ℕ) (rest : List ℕ) (end : ℕ) (kind : Kind) (offset : ℕ) 
 of_bytes p rest end kind offset stops is =
     let refused = subst (λ (k : Kind). StopsBy p rest end k offset) is stops in absurd refused.0
 
-module _ {R A : Type 0} (state : R → RepoState) (refuses : ℕ → Type 0) (old new : Server R A) (wants : wants_input old ≡ true) where
-  pub memory_after_packet : (offset : ℕ) (got : ReadGot A) → GotNeedsRefusal refuses (limit_in old.requests) got → new.phase ≡ phase_after offset got
-      → KeepsToMemory state refuses old new
+module _ {R A : Type 0} (state : R → RepoState) (refuses : ℕ → Type 0) (old : Server R A) (wants : wants_input old ≡ true) (phase : Phase A) where
+  -- a phase that the session may come to
+  abbrev pub MayFollow : Type 0
+  MayFollow =
+      (s : Setting) (so_far : List ℕ) (over : Bool) (before : List ℕ) → Running state s so_far over before old
+      → EndsByRefusal refuses s.limit old → Explained refuses s.limit (outcome_in phase)
+
+  pub memory_after_packet : (offset : ℕ) (got : ReadGot A) → GotNeedsRefusal refuses (limit_in old.requests) got → phase ≡ phase_after offset got → MayFollow
   memory_after_packet offset got h is s so_far over before r ends =
-      after_packet A refuses s.limit offset new.phase got is (subst (λ (most : ℕ). GotNeedsRefusal refuses most got) r.limit h)
+      after_packet A refuses s.limit offset phase got is (subst (λ (most : ℕ). GotNeedsRefusal refuses most got) r.limit h)
 
-  pub memory_after_open : new.phase ≡ old.phase → KeepsToMemory state refuses old new
-  memory_after_open same s so_far over before r ends = subst (λ (p : Phase A). Explained refuses s.limit (outcome_in p)) (sym same) ends
-
-  pub memory_after_bytes : (u : List ℕ) (fault : Fault) → ReadsFor state old u [] new → fault_of new.reader ≡ Some fault
-      → new.phase ≡ refused_by fault.kind fault → KeepsToMemory state refuses old new
-  memory_after_bytes u fault reads told is s so_far over before r ends =
+  pub memory_after_bytes : (u : List ℕ) (reader : PacketReader) (fault : Fault) → ReadsOn old.reader u [] reader → fault_of reader ≡ Some fault
+      → phase ≡ refused_by fault.kind fault → MayFollow
+  memory_after_bytes u reader fault reads told is s so_far over before r ends =
       let (not_over, h) = goes_on state old s so_far over before (no_outcome old.phase wants) r in
-      let (rest, later) = reads.reads 0 so_far h.packets h.rest h.reads in
-      let stops = stopped_by new.reader (so_far ++ u) (h.packets ++ []) rest fault told later in
-      after_fault A refuses s.limit new.phase fault is (λ name. absurd (of_bytes _ rest _ fault.kind fault.offset stops name))
+      let (rest, later) = reads 0 so_far h.packets h.rest h.reads in
+      let stops = stopped_by reader (so_far ++ u) (h.packets ++ []) rest fault told later in
+      after_fault A refuses s.limit phase fault is (λ name. absurd (of_bytes _ rest _ fault.kind fault.offset stops name))
 
 -- ---- before the first byte
 
@@ -117,7 +119,7 @@ not_by_nothing : (s : Setting) (over : Bool) (left : List Given) (rest : List �
     → IsRefused s over left rest end fault → ⊥
 not_by_nothing s over left rest end fault none is (inl (inl packet)) = some_left packet.front packet.last (sym packet.whole ∙ none)
 not_by_nothing s over left rest end fault none is (inl (inr (inl byte))) =
-    let stops = subst (λ (k : Kind). StopsBy _ rest end k fault.offset) is byte.stops in absurd stops.0
+    let stops = subst (λ (k : Kind). StopsBy (end - length rest) rest end k fault.offset) is byte.stops in absurd stops.0
 not_by_nothing s over left rest end fault none is (inl (inr (inr short))) = not_truncated (sym short.name ∙ is)
 not_by_nothing s over left rest end fault none is (inr lost) = not_pack (sym lost.name ∙ is)
 

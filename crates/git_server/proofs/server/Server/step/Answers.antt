@@ -8,7 +8,7 @@ use Rattle.git_server.specs.Machine.LatePacks.{state_with}
 use Rattle.git_server.proofs.LatePacks.{barred_same}
 use Rattle.git_server.proofs.Going.{goes_open, goes_packet, goes_refused, open_in_time, packet_in_time, fault_in_time}
 use Rattle.git_msg.proofs.StreamSteps.{feeds_with}
-use Rattle.git_server.proofs.RefusedMemory.{memory_after_bytes, memory_after_open, memory_after_packet}
+use Rattle.git_server.proofs.RefusedMemory.{memory_after_bytes, memory_after_packet}
 use Rattle.git_server.proofs.server.Server.step.Goals as goal
 
 pub returns-in-Packet-clause-goes : goal.returns-in-Packet-clause-goes
@@ -79,11 +79,11 @@ returns-in-Failed-clause-in_time g c =
     (λ none. feeds.news c.in-Failed.fault none c.in-Failed.is)
 
 pub returns-in-More-clause-memory : goal.returns-in-More-clause-memory
-returns-in-More-clause-memory g c = memory_after_open g.R.Repo.state g.A.Memory.refuses c.args.self.now _ c.requires.wants refl
+returns-in-More-clause-memory g c = λ s so_far over before r ends. ends
 
 pub returns-in-Packet-clause-memory : goal.returns-in-Packet-clause-memory
 returns-in-Packet-clause-memory g c =
-    memory_after_packet g.R.Repo.state g.A.Memory.refuses c.args.self.now _ c.requires.wants c.in-Packet.offset c.take_packet-brought.result
+    memory_after_packet g.R.Repo.state g.A.Memory.refuses c.args.self.now c.requires.wants c.following.result c.in-Packet.offset c.take_packet-brought.result
     c.take_packet-brought.ensures.memory c.following.ensures
 
 pub returns-in-Failed-clause-memory : goal.returns-in-Failed-clause-memory
@@ -91,5 +91,5 @@ returns-in-Failed-clause-memory g c =
     let old = c.args.self.now in
     let fed = c.feed-fed.result in
     let feeds = feeds_with old.reader c.feed-fed.follows.lender-at-none c.args.piece.now fed _ c.in-Failed.is c.feed-fed.follows.holds-at-none in
-    memory_after_bytes g.R.Repo.state g.A.Memory.refuses old _ c.requires.wants (take fed.used c.args.piece.now) c.in-Failed.fault
-    (record { offer = refl; repo = refl; reads = feeds.reads }) feeds.tells c.refusal.ensures
+    memory_after_bytes g.R.Repo.state g.A.Memory.refuses old c.requires.wants c.refusal.result (take fed.used c.args.piece.now)
+    c.feed-fed.follows.lender-at-none c.in-Failed.fault feeds.reads feeds.tells c.refusal.ensures
