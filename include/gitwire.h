@@ -151,7 +151,8 @@ enum {
 	GITWIRE_NEED_PACK = 40,       /* bytes of the pack or of progress, or the end: gitwire_host_pack, _progress, _pack_end, _fail */
 	GITWIRE_NEED_REFERENCE = 41,  /* the next reference, or the end: gitwire_host_reference, _unborn, _references_end */
 	GITWIRE_NEED_SIZE = 42,       /* the size of the object at a place of LIST_OIDS: gitwire_host_size */
-	GITWIRE_OUT_OF_ORDER = 43     /* a reference does not come after the one that was reported before it; nothing changed */
+	GITWIRE_OUT_OF_ORDER = 43,    /* a reference does not come after the one that was reported before it; nothing changed */
+	GITWIRE_NOT_SHALLOW = 44      /* an `unshallow` line of a commit that the request does not call shallow; nothing changed */
 };
 
 /* Why something was refused: `fault` of what is returned. docs/PROTOCOL.md lists where the offset of each is. */
@@ -497,8 +498,9 @@ GITWIRE_FREES(gitwire_server)
  * its packet was given, and the objects of wanted references, which are 33 bytes each. No call waits for anything: a host may serve many clients in
  * one thread, and report to each when its store has answered.
  *
- * A call that reports changes nothing where it returns NOT_NOW, FAILED, OUT_OF_ORDER, OUT_OF_MEMORY, ROOM_TOO_SMALL or NO_HANDLE. The room of
- * each has GITWIRE_PACKET_ROOM bytes at least. Objects are named by their digits, of either case and of the offer's format: else BadObjectName.
+ * A call that reports changes nothing where it returns NOT_NOW, FAILED, OUT_OF_ORDER, NOT_SHALLOW, OUT_OF_MEMORY, ROOM_TOO_SMALL or NO_HANDLE.
+ * The room of each has GITWIRE_PACKET_ROOM bytes at least. Objects are named by their digits, of either case and of the offer's format: else
+ * BadObjectName.
  */
 
 /* A host's server at the beginning of a session, which gives the advertisement of the offer first where `advertise` is set. BAD_VALUE for a
@@ -555,7 +557,8 @@ GITWIRE_LOOKED_AT
 gitwire_answer gitwire_host_ready(gitwire_host *host, bool ready, uint8_t *room, size_t room_length);
 
 /* A line of the shallow boundary, `shallow` or else `unshallow`: PACKET, its line or, of the first, the header of the section; then that line is
- * to be pulled before anything else is reported. And that there are no more: PACKET, or MORE where there was none. */
+ * to be pulled before anything else is reported. NOT_SHALLOW for an `unshallow` line of a commit that the request does not call shallow. And that
+ * there are no more: PACKET, or MORE where there was none. */
 GITWIRE_LOOKED_AT
 gitwire_answer gitwire_host_boundary(gitwire_host *host, bool shallow, const uint8_t *id, size_t id_length, uint8_t *room, size_t room_length);
 GITWIRE_LOOKED_AT

@@ -162,7 +162,8 @@ static void try_a_pack(void)
 	static uint8_t bytes[65516];
 
 	begin(GITWIRE_FEATURES_ALL);
-	ask(FETCH "0032want " ONE "\n" "0014want-ref refs/a\n" "0032have " ONE "\n" "0032have " TWO "\n" "000ddeepen 1\n" "0000", GITWIRE_FETCH);
+	ask(FETCH "0032want " ONE "\n" "0014want-ref refs/a\n" "0032have " ONE "\n" "0032have " TWO "\n" "000ddeepen 1\n" "0035shallow " TWO "\n" "0000",
+		GITWIRE_FETCH);
 	EXPECT(tells(gitwire_host_number(&host, GITWIRE_NUMBER_DEEPEN), GITWIRE_DONE, 0, 1, 0));
 	EXPECT(wrote(gitwire_host_item(&host, GITWIRE_LIST_WANTS, 0, ROOM), ONE));
 	EXPECT(pulls(GITWIRE_NEED_WANT, 0));
@@ -186,6 +187,7 @@ static void try_a_pack(void)
 	EXPECT(sends(gitwire_host_boundary(&host, true, TEXT(ONE), ROOM), 0, "0011shallow-info\n"));
 	EXPECT(tells(gitwire_host_boundary(&host, false, TEXT(TWO), ROOM), GITWIRE_NOT_NOW, 0, 0, 0));
 	EXPECT(pulls_packet("0035shallow " ONE "\n"));
+	EXPECT(tells(gitwire_host_boundary(&host, false, TEXT(ONE), ROOM), GITWIRE_NOT_SHALLOW, 0, 0, 0));
 	EXPECT(sends(gitwire_host_boundary(&host, false, TEXT(TWO), ROOM), 0, "0037unshallow " TWO "\n"));
 	EXPECT(sends(gitwire_host_boundary_end(&host, ROOM), 0, "0001"));
 	EXPECT(pulls_packet("0010wanted-refs\n") && pulls_packet("0034" TWO " refs/a\n") && pulls_packet("0001") && pulls_packet("000dpackfile\n"));

@@ -171,7 +171,7 @@ static void try_names_of_kinds(void)
 	for (unsigned kind = 0; kind < 256; kind++) {
 		size_t length = gitwire_kind_name((uint8_t)kind, ROOM);
 
-		EXPECT((length > 0) == (kind <= GITWIRE_OUT_OF_ORDER) && length <= GITWIRE_KIND_NAME_ROOM);
+		EXPECT((length > 0) == (kind <= GITWIRE_NOT_SHALLOW) && length <= GITWIRE_KIND_NAME_ROOM);
 	}
 	EXPECT(gitwire_kind_name(GITWIRE_NEED_INPUT, ROOM) == 9 && memcmp(room, "NeedInput", 9) == 0);
 	EXPECT(gitwire_kind_name(GITWIRE_NEED_INPUT, room, 8) == 0);

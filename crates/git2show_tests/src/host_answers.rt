@@ -5,8 +5,8 @@ ghost use Rattle.git_pkt.specs.Packets.{longest_payload};
 use crate::expecting::{expect, expect_bytes};
 use crate::servers::{entry, object};
 use git_host::{
-    Admission, AdmissionStep, BoundaryEnd, FetchAnswer, ReferencesAnswer, Reported, SizesAnswer,
-    SizesStep, Step, WantRefReported,
+    Admission, AdmissionStep, BoundaryEnd, BoundaryReported, FetchAnswer, ProgressReported,
+    ReferencesAnswer, Reported, SizesAnswer, SizesStep, Step, WantRefReported,
 };
 use git_msg::{
     Boundary, Fetch, Limits, LsRefs, ObjectInfo, Offer, ReadGot, Request, RequestStream,
@@ -185,10 +185,14 @@ fn make_report(answer: &mut FetchAnswer<Global>, report: &Report, hold: &mut Hol
         Report::Common => answer.common(hold),
         Report::NotCommon => !answer.not_common(),
         Report::Ready => answer.ready(hold),
-        Report::Boundary(line) => answer.boundary(*line, hold),
+        Report::Boundary(line) => {
+            matches!(answer.boundary(*line, hold), BoundaryReported::Packet)
+        }
         Report::BoundaryEnd => matches!(answer.boundary_end(hold), BoundaryEnd::Packet),
         Report::Pack(bytes) if fits(bytes) => answer.pack(bytes, hold),
-        Report::Progress(bytes) if fits(bytes) => answer.progress(bytes, hold),
+        Report::Progress(bytes) if fits(bytes) => {
+            matches!(answer.progress(bytes, hold), ProgressReported::Packet)
+        }
         Report::Pack(_) | Report::Progress(_) => false,
         Report::PackEnd => answer.pack_end(hold),
     }
@@ -247,7 +251,7 @@ fn answer_to(
 ) -> FetchAnswer<Global> {
     let fetch = fetch_of(rt, packets);
     assert!(rt; wants_names(&fetch, ids.len()));
-    FetchAnswer::new(fetch, ids)
+    FetchAnswer::new(fetch, ids, Format::Sha1)
 }
 
 /// One of three objects is common, the boundary has two lines, and the pack comes in two pieces with progress between them.
@@ -257,7 +261,8 @@ fn a_fetch_that_negotiates_is_given_each_section(rt: HostRuntime) -> Result<(), 
     let mut answer = answer_to(&rt, NEGOTIATION, wanted);
     let shallow = Report::Boundary(Boundary::Shallow(id(&rt, b'a')));
     let unshallow = Report::Boundary(Boundary::Unshallow(id(&rt, b'c')));
-    let reports: [(Report, &[u8]); 11] = [
+    let unknown = Report::Boundary(Boundary::Unshallow(id(&rt, b'a')));
+    let reports: [(Report, &[u8]); 12] = [
         (Report::NotCommon, b""),
         (
             Report::Common,
@@ -269,6 +274,7 @@ fn a_fetch_that_negotiates_is_given_each_section(rt: HostRuntime) -> Result<(), 
             shallow,
             b"0011shallow-info\n0035shallow aaaaaaaaaaaaaaaaaaaaaaaaaaaaaaaaaaaaaaaa\n",
         ),
+        (unknown, b""),
         (
             unshallow,
             b"0037unshallow cccccccccccccccccccccccccccccccccccccccc\n",

@@ -1,21 +1,30 @@
 -- From one place of an answer to the next.
-use Rattle.std.proofs.Common.{arith, ◌≡◌, ℕ, ◌+◌, ◌<◌, ◌≤◌, Bool, true, false, not, ◌&&◌, List, [], ◌∷◌, ◌++◌, length}
+use Rattle.std.proofs.Common.{arith, ◌≡◌, ℕ, ◌+◌, ◌<◌, ◌≤◌, Bool, true, false, not, ◌&&◌, All, List, [], ◌∷◌, ◌++◌, length}
 use Rattle.std.proofs.Common.{map, slice_get, take, unwrap_or, Option, Some, if◌then◌else◌, codes, refl}
 use Rattle.std.proofs.Common.{sym, ap, ◌∙◌, append_assoc, append-nil, length-append, subst, inl, inr}
 use Rattle.std.proofs.lemmas.List.{length-take-le, take_all, take_more}
+use Rattle.std.specs.Ordering.{is_eq}
+use Rattle.std.proofs.lemmas.List.Elements.{All-nil, All-push}
+use Rattle.std.proofs.lemmas.List.Folds.{Any-from_list_any, list_any-from_Any}
 use Rattle.std.proofs.lemmas.Option.{slice_get_cases, slice_get_within, unwrap_or-slice_get}
 use Rattle.git_names.specs.ObjectName.{ObjectName}
+use Rattle.git_names.specs.declared.object_format.Format.{Format}
 use Rattle.git_pkt.specs.Packets.{Pkt, flush, delim, longest_payload, spelling_of}
 use Rattle.git_pkt.specs.Bands.{band_packet}
 use Rattle.git_pkt.specs.declared.band.Band.{Band}
 use Rattle.git_pkt.specs.declared.band.Band.TheVariants.{Pack as OnPack, Progress as OnProgress}
 use Rattle.git_msg.specs.declared.Boundary.{Boundary}
-use Rattle.git_msg.specs.Asked.{FetchAsked, is_empty, only_negotiates}
+use Rattle.git_msg.specs.declared.Boundary.TheVariants.{Shallow as ShallowAt, Unshallow as UnshallowAt}
+use Rattle.git_msg.specs.Asked.{FetchAsked, fetch, is_empty, no_progress_of, only_negotiates}
 use Rattle.git_msg.specs.ResponseLines.{wanted_of, wanted_text}
 use Rattle.git_msg.specs.WrittenRequest.{text_line}
 use Rattle.git_server.specs.Packs.{Manner, whole, packfile_header}
 use Rattle.git_server.specs.FetchAnswers.{ack_packet, boundary_packet, nak_or_acks, negotiates, ready_lines, section, shallow_info}
-use Rattle.git_host.specs.FetchFacts.{FetchFacts, HasPack, IsFetchAnswerWhere, IsFetchAnswerOf, acknowledgments, before_pack, is_ready}
+use Rattle.git_server.specs.Objects.{object_cmp}
+use Rattle.git_server.specs.Repository.{IsUnshallowOf}
+use Rattle.git_server.proofs.NameOrder.{is_same}
+use Rattle.git_host.specs.FetchFacts.{AreSoundFacts, FetchFacts, HasPack, IsSoundLine, may_have}
+use Rattle.git_host.specs.FetchFacts.{IsFetchAnswerWhere, IsFetchAnswerOf, acknowledgments, before_pack, is_ready}
 use Rattle.git_host.specs.FetchFacts.{last_packet, opening, picked, no_facts, wanted_lines, wanted_refs}
 use Rattle.git_host.specs.FetchPlaces.{AtDelimiter, AtHave, AtHeader, AtNak, AtPack, AtPackHeader}
 use Rattle.git_host.specs.FetchPlaces.{AtReady, AtShallow, AtShallowLine, AtWanted, AtWantedHeader}
@@ -431,6 +440,43 @@ begins_by false q wanted e =
 
 pub begins : (q : FetchAsked) (wanted : List ObjectName) (place : Place) → place ≡ place_by (negotiates q) → StandsAt place q (no_facts wanted) []
 begins q wanted place is = subst (λ (p : Place). StandsAt p q (no_facts wanted) []) (sym is) (begins_by (negotiates q) q wanted refl)
+
+-- ---- what a sound repository may answer
+
+-- one report of another kind
+pub sound_so : (format : Format) (q : FetchAsked) (t u : FetchFacts) → u.boundary ≡ t.boundary → u.progress ≡ t.progress → AreSoundFacts format q t
+    → AreSoundFacts format q u
+sound_so format q t u boundary progress h = record {
+  boundary = subst (All (IsSoundLine format q)) (sym boundary) h.boundary;
+  quiet = λ none. progress ∙ h.quiet none;
+}
+
+pub none_sound : (format : Format) (q : FetchAsked) (wanted : List ObjectName) → AreSoundFacts format q (no_facts wanted)
+none_sound format q wanted = record { boundary = All-nil (IsSoundLine format q); quiet = λ none. refl }
+
+pub line_sound : (format : Format) (q : FetchAsked) (t : FetchFacts) (line : Boundary) → IsSoundLine format q line → AreSoundFacts format q t
+    → AreSoundFacts format q (with_line line t)
+line_sound format q t line is h = record { boundary = All-push (IsSoundLine format q) t.boundary line h.boundary is; quiet = h.quiet }
+
+no_quiet : true ≡ false → ⊥
+no_quiet e = cc
+
+pub progress_sound : (format : Format) (q : FetchAsked) (t : FetchFacts) (part : List ℕ) → no_progress_of (fetch q) ≡ false → AreSoundFacts format q t
+    → AreSoundFacts format q (with_progress part t)
+progress_sound format q t part wanted h = record { boundary = h.boundary; quiet = λ none. absurd (no_quiet (sym none ∙ wanted)) }
+
+pub may_have_it : (shallows : List ObjectName) (line : Boundary) → may_have shallows line ≡ true → IsUnshallowOf shallows line
+may_have_it shallows (ShallowAt id) is = tt
+may_have_it shallows (UnshallowAt id) is =
+    let at = Any-from_list_any (λ (shallow : ObjectName). is_eq (object_cmp shallow id)) shallows is in
+    (at.0, at.1, at.2, at.3, (is_same _ id).0 at.4)
+
+pub may_not_have : (shallows : List ObjectName) (line : Boundary) → may_have shallows line ≡ false → ¬ IsUnshallowOf shallows line
+may_not_have shallows (ShallowAt id) is known = no_quiet is
+may_not_have shallows (UnshallowAt id) is (at, commit, within, there, here) =
+    let found = list_any-from_Any (λ (shallow : ObjectName). is_eq (object_cmp shallow id)) shallows
+    (at, commit, within, there, (is_same commit id).1 here) in
+    no_quiet (sym found ∙ is)
 
 -- ---- what is in the hold
 

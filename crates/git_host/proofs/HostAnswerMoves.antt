@@ -1,4 +1,5 @@
 -- The answer to the request at hand, from one report to the next.
+use denote.Ref.{Bor}
 use Rattle.std.proofs.Common.{arith, ◌<◌, length, ◌≡◌, ℕ, Bool, true, false, List, [], ◌∷◌, ◌++◌, map, Option, Some, None, Result, Ok, refl, sym, ap, ◌∙◌}
 use Rattle.std.proofs.Common.{subst, append-nil}
 use Rattle.std.proofs.lemmas.List.{length-take}
@@ -11,25 +12,32 @@ use Rattle.git_names.specs.NameBytes.{name_bytes}
 use Rattle.git_names.specs.declared.reference.RefName.{RefName}
 use Rattle.git_names.specs.declared.object_format.Format.{Format}
 use Rattle.git_pkt.specs.Packets.{Pkt, longest_payload}
+use Rattle.git_msg.specs.declared.Boundary.{Boundary}
+use Rattle.git_msg.specs.Kept.{Kept}
 use Rattle.git_msg.specs.Asked.{FetchAsked, ObjectInfoAsked, fetch, ls_refs, object_info}
 use Rattle.git_server.specs.Packs.{Manner, whole, broken}
 use Rattle.git_server.specs.Repository.{Entry}
 use Rattle.git_host.specs.Admissions.{AdmissionFacts, IsAdmitted, Reports as AdmissionReports, ReportsWant, ReportsWantRef}
 use Rattle.git_host.specs.Admissions.{with_found, with_want}
 use Rattle.git_host.specs.AdmittedAnswers.{Becomes, BecomesAnswer}
-use Rattle.git_host.specs.FetchFacts.{FetchFacts, IsFetchAnswerOf, no_facts}
-use Rattle.git_host.specs.FetchPlaces.{EndsBoundary, Represents, ReportsAlone, ReportsAndGives, Steps, WhereAsked, asked_of as fetch_of, is_asked, is_boundary}
-use Rattle.git_host.specs.FetchPlaces.{step_of as fetch_step, with_pack, with_progress}
+use Rattle.git_host.specs.FetchFacts.{FetchFacts, IsSoundFetchAnswer, no_facts}
+use Rattle.git_host.specs.FetchPlaces.{EndsBoundary, IsToTheSame, Represents, ReportsAlone, ReportsAndGives, Steps, WhereAsked, asked_of as fetch_of, is_asked, is_boundary}
+use Rattle.git_host.specs.FetchPlaces.{ReportsLine, ReportsProgress, format_of as fetch_format, is_line_asked, is_pack, is_progress_asked}
+use Rattle.git_host.specs.FetchPlaces.{step_of as fetch_step, with_line, with_pack, with_progress}
 use Rattle.git_host.specs.ReferencesPlaces.{ReferencesFacts, Reports, ReportsHidden, ReportsOn, ReportsUnborn}
 use Rattle.git_host.specs.ReferencesPlaces.{with_ref, with_unborn}
 use Rattle.git_host.specs.SizesPlaces.{GivesSize, IsAsking, IsSizesAnswerOf, RepresentsSizes, StepsSizes}
 use Rattle.git_host.specs.HostSessions.{Facts, IsAnswerBy, of_fetch, of_references, of_sizes}
 use Rattle.git_host.specs.HostAnswers.{EndsAs, GivesOn, GoesOn, IsAnswering, IsAskedFor, IsGiven, ReportsBy, StepsAnswer, ended_as}
 use Rattle.git_host.specs.HostAnswers.{of_fetch_step, of_sizes_step, on_fetch, on_references, on_sizes, on_want_refs, on_wants, found_ids, part_of, part_of}
-use Rattle.git_host.specs.HostAnswers.{packet_where, reported_as, taken_where, with_report}
+use Rattle.git_host.specs.HostAnswers.{line_as, packet_where, progress_as, reported_as, taken_where, with_report}
 use Rattle.git_host.specs.declared.admission.Admission.{Admission as AdmissionMachine}
 use Rattle.git_host.specs.declared.admission.WantRefReported.{WantRefReported}
 use Rattle.git_host.specs.declared.admission.WantRefReported.TheVariants.{Taken as RefTaken}
+use Rattle.git_host.specs.declared.fetch_answer.BoundaryReported.{BoundaryReported}
+use Rattle.git_host.specs.declared.fetch_answer.BoundaryReported.TheVariants as Line
+use Rattle.git_host.specs.declared.fetch_answer.ProgressReported.{ProgressReported}
+use Rattle.git_host.specs.declared.fetch_answer.ProgressReported.TheVariants as Progressed
 use Rattle.git_host.specs.declared.fetch_answer.BoundaryEnd.{BoundaryEnd}
 use Rattle.git_host.specs.declared.fetch_answer.BoundaryEnd.TheVariants.{NotAsked as EndNotAsked, Absent, Packet as DelimGiven}
 use Rattle.git_host.specs.declared.fetch_answer.FetchAnswer.{FetchAnswer}
@@ -50,7 +58,7 @@ use Rattle.git_host.specs.declared.host_answer.AnswerStep.{AnswerStep}
 use Rattle.git_host.specs.declared.report.HostReported.{HostReported}
 use Rattle.git_host.specs.declared.report.HostReported.TheVariants.{Taken}
 use Rattle.git_host.specs.declared.report.Report.{Report}
-use Rattle.git_host.specs.declared.report.Report.TheVariants.{Want, WantRef, BoundaryEnd as EndsIt, Reference, Unborn}
+use Rattle.git_host.specs.declared.report.Report.TheVariants.{Want, WantRef, Boundary as LineOf, BoundaryEnd as EndsIt, Progress as ProgressOf, Reference, Unborn}
 
 found_more : (found : List (Option ObjectName)) (id : ObjectName) → found_ids (found ++ Some id ∷ []) ≡ found_ids found ++ id ∷ []
 found_more [] id = refl
@@ -67,7 +75,7 @@ all_found [] = refl
 all_found (id ∷ ids) = ap (λ (l : List ObjectName). id ∷ l) (all_found ids)
 
 fetch_by : (manner : Manner) (format : Format) (q : FetchAsked) (a : AdmissionFacts) (t : FetchFacts) (packets : List Pkt) → IsAdmitted format q a t.wanted
-    → IsFetchAnswerOf manner q t packets → IsAnswerBy manner format (fetch q) (of_fetch a t) packets
+    → IsSoundFetchAnswer manner format q t packets → IsAnswerBy manner format (fetch q) (of_fetch a t) packets
 fetch_by whole format q a t packets admitted is = (admitted, is)
 fetch_by broken format q a t packets admitted is = (admitted, is)
 
@@ -112,6 +120,9 @@ module _ {A : Type 0} where
 
   -- ---- a fetch
   module _ (a b : FetchAnswer A) where
+    same_asked : IsToTheSame a b → fetch_of b ≡ fetch_of a
+    same_asked same = ap (λ (r : Kept FetchAsked). r.asked) same.request
+
     pub fetch_gives : (with : FetchFacts → FetchFacts) (bytes : List ℕ) → ((t : FetchFacts) → (with t).wanted ≡ t.wanted) → ReportsAndGives with a bytes b
         → GivesOn (on_fetch with) (Fetch a) bytes (Fetch b)
     fetch_gives with bytes keeps gives format (fetch q) (of_fetch x t) front h =
@@ -119,7 +130,8 @@ module _ {A : Type 0} where
           g.packet,
           g.held.spelled,
           record {
-            asked = g.same ∙ h.asked;
+            asked = same_asked g.same ∙ h.asked;
+            format_is = g.same.format ∙ h.format_is;
             admitted = subst (λ (ids : List ObjectName). IsAdmitted format q x ids) (sym (keeps t)) h.admitted;
             represents = g.holds;
           },
@@ -134,7 +146,8 @@ module _ {A : Type 0} where
     fetch_goes with keeps goes format (fetch q) (of_fetch x t) front h =
         let (same, holds) = goes t front h.represents in
         record {
-          asked = same ∙ h.asked;
+          asked = same_asked same ∙ h.asked;
+          format_is = same.format ∙ h.format_is;
           admitted = subst (λ (ids : List ObjectName). IsAdmitted format q x ids) (sym (keeps t)) h.admitted;
           represents = holds;
         }
@@ -177,6 +190,35 @@ module _ {A : Type 0} where
         subst (λ (o : HostAnswer A). ReportsBy report o r bytes (Fetch b)) (sym was)
         (subst (λ (x : HostReported). ReportsBy report (Fetch a) x bytes (Fetch b)) (sym is) (taken_by report with bytes asked asks goes done))
 
+    line_by : (line : Boundary) (reported : BoundaryReported) (bytes : List ℕ) → is_line_asked reported ≡ is_boundary (fetch_step a)
+        → ReportsLine line reported a bytes b → ReportsBy (LineOf line) (Fetch a) (line_as reported) bytes (Fetch b)
+    line_by line Line.Packet bytes is done = (fetch_gives (with_line line) bytes (λ t. refl) done, tt)
+    line_by line Line.NotAsked bytes is same = (fetch_same same, λ is_wanted. absurd (cc))
+    line_by line Line.MixedFormats bytes is done = (fetch_same done.0, done.1)
+    line_by line Line.NotShallow bytes is done = (fetch_same done.0, done.1)
+
+    -- a line of the boundary
+    pub fetch_line : (old : HostAnswer A) (line : Boundary) (reported : BoundaryReported) (r : HostReported) (bytes : List ℕ) → old ≡ Fetch a
+        → r ≡ line_as reported → is_line_asked reported ≡ is_boundary (fetch_step a) → ReportsLine line reported a bytes b
+        → ReportsBy (LineOf line) old r bytes (Fetch b)
+    fetch_line old line reported r bytes was is asked done =
+        subst (λ (o : HostAnswer A). ReportsBy (LineOf line) o r bytes (Fetch b)) (sym was)
+        (subst (λ (x : HostReported). ReportsBy (LineOf line) (Fetch a) x bytes (Fetch b)) (sym is) (line_by line reported bytes asked done))
+
+    progress_by : (text : Bor (List ℕ)) (reported : ProgressReported) (bytes : List ℕ) → is_progress_asked reported ≡ is_pack (fetch_step a)
+        → ReportsProgress (part_of text.now) reported a bytes b → ReportsBy (ProgressOf text) (Fetch a) (progress_as reported) bytes (Fetch b)
+    progress_by text Progressed.Packet bytes is done = (fetch_gives (with_progress (part_of text.now)) bytes (λ t. refl) done, tt)
+    progress_by text Progressed.NotAsked bytes is same = (fetch_same same, λ is_wanted. absurd (cc))
+    progress_by text Progressed.Hidden bytes is done = (fetch_same done.0, done.1)
+
+    -- progress
+    pub fetch_progress : (old : HostAnswer A) (text : Bor (List ℕ)) (reported : ProgressReported) (r : HostReported) (bytes : List ℕ) → old ≡ Fetch a
+        → r ≡ progress_as reported → is_progress_asked reported ≡ is_pack (fetch_step a) → ReportsProgress (part_of text.now) reported a bytes b
+        → ReportsBy (ProgressOf text) old r bytes (Fetch b)
+    fetch_progress old text reported r bytes was is asked done =
+        subst (λ (o : HostAnswer A). ReportsBy (ProgressOf text) o r bytes (Fetch b)) (sym was)
+        (subst (λ (x : HostReported). ReportsBy (ProgressOf text) (Fetch a) x bytes (Fetch b)) (sym is) (progress_by text reported bytes asked done))
+
     boundary_ends : (end : BoundaryEnd) (bytes : List ℕ) → is_asked end ≡ is_boundary (fetch_step a) → EndsBoundary end a bytes b
         → ReportsBy EndsIt (Fetch a) (ended_as end) bytes (Fetch b)
     boundary_ends EndNotAsked bytes is same = (fetch_same same, λ is_wanted. absurd (cc))
@@ -189,11 +231,13 @@ module _ {A : Type 0} where
         subst (λ (o : HostAnswer A). ReportsBy EndsIt o r bytes (Fetch b)) (sym was)
         (subst (λ (x : HostReported). ReportsBy EndsIt (Fetch a) x bytes (Fetch b)) (sym is) (boundary_ends end bytes asked done))
 
-    fetch_given : (manner : Manner) → ((t : FetchFacts) (given : List Pkt) → Represents t given a → IsFetchAnswerOf manner (fetch_of a) t given)
+    fetch_given : (manner : Manner)
+        → ((t : FetchFacts) (given : List Pkt) → Represents t given a → IsSoundFetchAnswer manner (fetch_format a) (fetch_of a) t given)
         → IsGiven manner (Fetch a)
     fetch_given manner given format (fetch q) (of_fetch x t) front h =
         fetch_by manner format q x t front h.admitted
-        (subst (λ (asked : FetchAsked). IsFetchAnswerOf manner asked t front) h.asked (given t front h.represents))
+        (subst (λ (asked : FetchAsked). IsSoundFetchAnswer manner format asked t front) h.asked
+        (subst (λ (m : Format). IsSoundFetchAnswer manner m (fetch_of a) t front) h.format_is (given t front h.represents)))
     fetch_given manner given format (fetch q) (of_references t) front h = absurd h
     fetch_given manner given format (fetch q) (of_sizes t) front h = absurd h
     fetch_given manner given format (ls_refs q) f front h = absurd h
@@ -242,7 +286,7 @@ module _ {A : Type 0} where
     reference_by : (entry : Entry) (reported : Reported) (bytes : List ℕ) → Reports entry a reported bytes b
         → ReportsBy (Reference entry) (References a) (reported_as reported) bytes (References b)
     reference_by entry ReferencePacket bytes done = (references_give (with_ref entry) bytes done.0 done.1, tt)
-    reference_by entry ReferenceHidden bytes done = references_go (with_ref entry) done.0 done.1
+    reference_by entry ReferenceHidden bytes done = (references_go (with_ref entry) done.0 done.1, tt)
     reference_by entry ReferenceNotAsked bytes done = (references_same done.0, λ is_wanted. is_wanted done.1)
     reference_by entry ReferenceUnsorted bytes done = (references_same done.0, done.1)
     reference_by entry ReferenceMixed bytes done = (references_same done.0, done.1)
@@ -257,7 +301,7 @@ module _ {A : Type 0} where
     unborn_by : (target : RefName) (reported : Reported) (bytes : List ℕ) → ReportsUnborn (name_bytes target) a reported bytes b
         → ReportsBy (Unborn target) (References a) (reported_as reported) bytes (References b)
     unborn_by target ReferencePacket bytes done = (references_give (with_unborn (name_bytes target)) bytes done.0 done.1, tt)
-    unborn_by target ReferenceHidden bytes done = references_go (with_unborn (name_bytes target)) done.0 done.1
+    unborn_by target ReferenceHidden bytes done = (references_go (with_unborn (name_bytes target)) done.0 done.1, tt)
     unborn_by target ReferenceNotAsked bytes done = (references_same done.0, λ is_wanted. is_wanted done.1)
     unborn_by target ReferenceUnsorted bytes done = absurd done
     unborn_by target ReferenceMixed bytes done = absurd done
@@ -379,6 +423,7 @@ module _ {A : Type 0} where
       let is : t ≡ no_facts ids = h.facts ∙ ap no_facts (ap found_ids through.found ∙ all_found ids) in
       record {
         asked = done.asked ∙ h.asked;
+        format_is = done.format ∙ h.format_is;
         admitted = subst (λ (s : FetchFacts). IsAdmitted format q x s.wanted) (sym is)
             (subst (λ (m : Format). IsAdmitted m q x ids) h.format_is
             (subst (λ (r : FetchAsked). IsAdmitted a.format r x ids) h.asked through));

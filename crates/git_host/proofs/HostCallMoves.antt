@@ -14,13 +14,15 @@ use Rattle.git_msg.specs.Machine.RequestStreams.{IsLeftIn, limit_of, offer_of}
 use Rattle.git_msg.specs.Machine.StreamStages.{AreBegun, takes_bytes}
 use Rattle.git_server.specs.declared.outcome.Outcome.{Outcome}
 use Rattle.git_host.specs.HostSessions.{Facts, HostSetting, IsWaiting}
-use Rattle.git_host.specs.HostServer.{Hosts, HostsIn, IsReading, credit_of, outcome_in}
-use Rattle.git_host.specs.HostCalls.{HostCall, HostHeadline, Makes, accept, close, feed, given_by, given_in, feeds_by, next, over_after, over_with}
+use Rattle.git_host.specs.HostServer.{AreHandedOut, Hosts, HostsIn, IsReading, credit_of, outcome_in}
+use Rattle.git_host.specs.HostCalls.{AllHandOut, HandsOut, HostCall, HostHeadline, Makes, accept, close, feed, given_by, given_in, feeds_by, next, over_after, over_with}
 use Rattle.git_host.specs.HostCalls.{refuse, report, reported_after, reported_with, used_by, used_in}
 use Rattle.git_host.specs.declared.host_server.HostServer.{HostServer}
 use Rattle.git_host.specs.declared.host_server.Phase.{Phase}
 use Rattle.git_host.specs.declared.host_server.Phase.TheVariants.{Advertising, Reading, Asked as Whole, Answering, Refusing, Ended}
 use Rattle.git_host.specs.declared.report.HostStep.TheVariants.{Packet, NeedInput, Asked as AsksFor, Need as Needs, Ended as HasEnded}
+use Rattle.git_host.specs.declared.report.HostReported.TheVariants.{Packet as WasGiven, Taken, Hidden, NotAsked, MixedFormats, Unsorted, HeadTwice}
+use Rattle.git_host.specs.declared.report.HostReported.TheVariants.{NotShallow, OutOfMemory}
 use Rattle.git_host.proofs.HostMoves.{as_asked, is_reading_now}
 
 module _ {A : Type 0} where
@@ -49,7 +51,7 @@ module _ {A : Type 0} where
   one_call s close before old after new made used over facts given h =
       more_used s used true facts (given ++ []) new (more_given s used true facts given [] new refl (made.0.2 s used over facts given h))
   one_call s (next Packet bytes) before old after new made used over facts given h =
-      more_used s used over facts (given ++ bytes) new (same_given s used over facts given bytes _ new made.1 (made.0 s used over facts given h))
+      more_used s used over facts (given ++ bytes) new (same_given s used over facts given bytes _ new made.1 (made.0 s used over facts given h).0)
   one_call s (next NeedInput bytes) before old after new made used over facts given h =
       more_used s used over facts (given ++ bytes) new (more_given s used over facts given bytes new made.1 (made.0 s used over facts given h).0)
   one_call s (next AsksFor bytes) before old after new made used over facts given h =
@@ -64,7 +66,41 @@ module _ {A : Type 0} where
   one_call s accept before old after new made used over facts given h =
       more_used s used over facts (given ++ []) new (more_given s used over facts given [] new refl (made.0.2 s used over facts given h))
   one_call s (refuse text bytes) before old after new made used over facts given h =
-      more_used s used over facts (given ++ bytes) new (same_given s used over facts given bytes _ new made.1 (made.0.2 s used over facts given h))
+      more_used s used over facts (given ++ bytes) new (same_given s used over facts given bytes _ new made.1 (made.0.3 s used over facts given h))
+
+  -- a packet that is given has bytes
+  one_packet : (s : HostSetting) (call : HostCall) (before : ℕ) (old : HostServer A) (after : ℕ) (new : HostServer A) → Makes call before old after new
+      → (used : List ℕ) (over : Bool) (facts : List Facts) (given : List ℕ) → Hosts s used over facts given old → HandsOut call
+  one_packet s (feed piece count begun) before old after new made used over facts given h = tt
+  one_packet s close before old after new made used over facts given h = tt
+  one_packet s (next Packet bytes) before old after new made used over facts given h =
+      subst AreHandedOut (sym made.1) (made.0 s used over facts given h).1
+  one_packet s (next NeedInput bytes) before old after new made used over facts given h = tt
+  one_packet s (next AsksFor bytes) before old after new made used over facts given h = tt
+  one_packet s (next (Needs need) bytes) before old after new made used over facts given h = tt
+  one_packet s (next (HasEnded outcome) bytes) before old after new made used over facts given h = tt
+  one_packet s (report fact WasGiven bytes) before old after new made used over facts given h =
+      subst AreHandedOut (sym made.1) (made.0 s used over facts given h).1
+  one_packet s (report fact Taken bytes) before old after new made used over facts given h = tt
+  one_packet s (report fact Hidden bytes) before old after new made used over facts given h = tt
+  one_packet s (report fact NotAsked bytes) before old after new made used over facts given h = tt
+  one_packet s (report fact MixedFormats bytes) before old after new made used over facts given h = tt
+  one_packet s (report fact Unsorted bytes) before old after new made used over facts given h = tt
+  one_packet s (report fact HeadTwice bytes) before old after new made used over facts given h = tt
+  one_packet s (report fact NotShallow bytes) before old after new made used over facts given h = tt
+  one_packet s (report fact OutOfMemory bytes) before old after new made used over facts given h = tt
+  one_packet s accept before old after new made used over facts given h = tt
+  one_packet s (refuse text bytes) before old after new made used over facts given h = subst AreHandedOut (sym made.1) made.0.2
+
+  all_packets : (s : HostSetting) (calls : List HostCall) (before : ℕ) (old : HostServer A) (after : ℕ) (new : HostServer A)
+      → MakesAll Makes calls before old after new → (used : List ℕ) (over : Bool) (facts : List Facts) (given : List ℕ) → Hosts s used over facts given old
+      → AllHandOut calls
+  all_packets s [] before old after new made used over facts given h = tt
+  all_packets s (call ∷ calls) before old after new (middle, between, made, more) used over facts given h = (
+    one_packet s call before old middle between made used over facts given h,
+    all_packets s calls middle between after new more (used ++ used_by call) (over_with call over) (reported_with call facts) (given ++ given_by call)
+        (one_call s call before old middle between made used over facts given h),
+  )
 
   -- after any calls
   any_calls : (s : HostSetting) (calls : List HostCall) (before : ℕ) (old : HostServer A) (after : ℕ) (new : HostServer A)
@@ -136,6 +172,7 @@ after_calls s calls before after first last fresh no_credit made =
     record {
       rises = paid.rises;
       steps = omega (arith, paid.within, no_credit);
+      gives = all_packets s calls before first after last made [] false [] [] fresh;
       ends = λ outcome is. subst (λ (p : Phase _). HostsIn p s (used_in calls) (over_after false calls) (reported_after [] calls) (given_in calls)
           last.stream last.flush) (ended_is last.phase outcome is) h.stands;
       waits = λ on. waits_so s (used_in calls) (over_after false calls) (reported_after [] calls) (given_in calls) last.stream

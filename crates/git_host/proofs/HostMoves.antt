@@ -4,7 +4,8 @@ use Rattle.std.proofs.Common.{refl, sym, ap, ◌∙◌, subst}
 use Rattle.std.proofs.Common.{append_assoc, append-nil, length-append, inl, inr, take}
 use Rattle.std.specs.Prelude.{OnSome}
 use Rattle.arrayvec.specs.ArrayVec.{ArrayVec}
-use Rattle.git_pkt.specs.Packets.{Pkt, spelling_of}
+use Rattle.git_pkt.specs.Digits.{digits_of}
+use Rattle.git_pkt.specs.Packets.{Pkt, body_of, length_field, spelling_of}
 use Rattle.git_pkt.specs.Splits.{Given, SpellsAll}
 use Rattle.git_pkt.specs.Machine.ReaderState.{come_in, is_open_in}
 use Rattle.git_pkt.specs.Machine.Credit.{credit_of as packet_credit}
@@ -45,15 +46,16 @@ use Rattle.git_server.specs.declared.outcome.Outcome.TheVariants.{Flush, Refused
 use Rattle.git_server.proofs.Sent.{spelled_one}
 use Rattle.git_host.specs.HostSessions.{AllAnswered, AreAnswersBy, AtLast, Facts, HostSetting, IsAnswerBy, IsHosted, IsLacking, IsTailBy, ShowsWhere, StopsBy}
 use Rattle.git_host.specs.HostSessions.{advertised, nothing_for, of_fetch, of_references, of_sizes, refusal_packet}
-use Rattle.git_host.specs.HostServer.{Hosts, HostsIn, IsAdvertising, IsAtRequest, IsReading, IsRefusing, IsUntouched, ReadsOn}
-use Rattle.git_host.specs.HostServer.{EndsHost, IsAccepted, ReportsHost, StopsHost, HasReason, is_asked, begun_in, is_answering, ended_by, reads_on}
+use Rattle.git_host.specs.HostServer.{AreHandedOut, Hosts, HostsIn, IsAdvertising, IsAtRequest, IsReading, IsRefusing, IsUntouched, ReadsOn}
+use Rattle.git_host.specs.HostServer.{EndsHost, IsAccepted, IsGivenWith, ReportsHost, StopsHost, HasReason, is_asked, begun_in, is_answering, ended_by, reads_on}
 use Rattle.git_host.specs.HostServer.{given_with, is_reading, refused_by, with_last}
 use Rattle.git_host.specs.HostAnswers.{GivesOn, GoesOn, IsAnswering, IsGiven, LacksIt, ReportsBy, with_hidden, with_report, with_reported}
 use Rattle.git_host.specs.declared.host_answer.HostAnswer.{HostAnswer}
 use Rattle.git_host.specs.declared.host_server.HostServer.{HostServer}
 use Rattle.git_host.specs.declared.report.Report.{Report}
 use Rattle.git_host.specs.declared.report.HostReported.{HostReported}
-use Rattle.git_host.specs.declared.report.HostReported.TheVariants.{Packet as WasGiven, Taken, Hidden, NotAsked, MixedFormats, Unsorted, HeadTwice, OutOfMemory}
+use Rattle.git_host.specs.declared.report.HostReported.TheVariants.{Packet as WasGiven, Taken, Hidden, NotAsked, MixedFormats, Unsorted, HeadTwice}
+use Rattle.git_host.specs.declared.report.HostReported.TheVariants.{NotShallow, OutOfMemory}
 use Rattle.git_host.specs.declared.host_server.Phase.{Phase}
 use Rattle.git_host.specs.declared.host_server.Phase.TheVariants.{Advertising, Reading, Asked as Whole, Answering, Refusing, Ended}
 use Rattle.git_names.specs.declared.object_format.Format.{Format}
@@ -149,6 +151,18 @@ module _ (s : HostSetting) (asked : List Asked) (reported : List Facts) (given :
 
 -- ---- a stream whose hold was lent
 
+-- a packet is written in four bytes at least
+pub packet_some : (bytes : List ℕ) (packet : Pkt) → bytes ≡ spelling_of packet → 4 ≤ length bytes
+packet_some bytes packet is = omega (arith, ap length is, length-append (digits_of (length_field packet)) (body_of packet))
+
+some_packets : (packets : List Pkt) → packets ≢ [] → 4 ≤ length (spelled packets)
+some_packets [] some = absurd (some refl)
+some_packets (packet ∷ packets) some =
+    omega (arith, packet_some (spelling_of packet) packet refl, length-append (spelling_of packet) (spelled packets))
+
+some_advertised : (offer : Offer) → advertisement_of offer ≢ []
+some_advertised offer is = cc
+
 fault_lent : (r : PacketReader) (hold : ArrayVec ℕ) (b : Bool) (e : is_open_in r.state ≡ b) → packet_fault (with_hold_by r hold b e) ≡ packet_fault r
 fault_lent r hold true e = refl
 fault_lent r hold false e = refl
@@ -164,6 +178,9 @@ shut_lent r hold false e shut = e
 module _ {A : Type 0} (old : RequestStream A) (hold : ArrayVec ℕ) (new : RequestStream A) (lent : IsLent old hold new) where
   pub lent_bytes : hold_of new ≡ hold.items
   lent_bytes = ap held_of lent.packets ∙ held_lent old.packets hold (is_open_in old.packets.state) refl lent.between
+
+  pub lent_handed : 4 ≤ length hold.items → length hold.items ≤ 65520 → AreHandedOut (hold_of new)
+  lent_handed some fits = record { some = omega (arith, some, ap length lent_bytes); fits = omega (arith, fits, ap length lent_bytes) }
 
   pub lent_between : is_within_packet new ≡ false
   lent_between = ap is_open lent.packets ∙ shut_lent old.packets hold (is_open_in old.packets.state) refl lent.between
@@ -385,27 +402,34 @@ module _ {A : Type 0} (s : HostSetting) (used : List ℕ) (over : Bool) (reporte
   -- the advertisement was given
   pub advertised_now : (old : RequestStream A) (hold : ArrayVec ℕ) → IsLent old hold stream → length hold.items ≤ 65520
       → hold.items ≡ spelled (advertisement_of s.offer) → IsAdvertising s used over reported given old
-      → IsReading s used over reported (given ++ hold_of stream) stream
-  advertised_now old hold lent fits written h = record {
-    asked = [];
-    reads = lent_reads_on old hold stream lent fits s used over [] h.reads;
-    all = record {
-      answers = [];
-      answered = subst (λ (fs : List Facts). AreAnswersBy s.offer.format [] fs []) (sym h.none_reported) refl;
-      given_is = ap (λ (l : List ℕ). l ++ hold_of stream) h.none_given ∙ lent_bytes old hold stream lent ∙ written
-          ∙ ap spelled (ap (λ (b : Bool). if b then advertisement_of s.offer else []) (sym h.advertises) ∙ sym (append-nil (advertised s)));
-    };
-  }
+      → IsReading s used over reported (given ++ hold_of stream) stream × AreHandedOut (hold_of stream)
+  advertised_now old hold lent fits written h = (
+    record {
+      asked = [];
+      reads = lent_reads_on old hold stream lent fits s used over [] h.reads;
+      all = record {
+        answers = [];
+        answered = subst (λ (fs : List Facts). AreAnswersBy s.offer.format [] fs []) (sym h.none_reported) refl;
+        given_is = ap (λ (l : List ℕ). l ++ hold_of stream) h.none_given ∙ lent_bytes old hold stream lent ∙ written
+            ∙ ap spelled (ap (λ (b : Bool). if b then advertisement_of s.offer else []) (sym h.advertises) ∙ sym (append-nil (advertised s)));
+      };
+    },
+    lent_handed old hold stream lent (omega (arith, ap length written, some_packets (advertisement_of s.offer) (some_advertised s.offer))) fits,
+  )
 
   -- the error packet of a fault of the input was given
-  pub fault_reported : (old : RequestStream A) (hold : ArrayVec ℕ) (fault : Fault) → IsLent old hold stream → hold.items ≡ spelling_of (error_packet fault)
-      → IsRefusing s used over reported given old fault → IsHosted s used over reported (given ++ hold_of stream) (Refused fault)
-  fault_reported old hold fault lent written h = inl (record {
-    before = given;
-    stops = h.stops;
-    given_is = ap (λ (l : List ℕ). given ++ l) (lent_bytes old hold stream lent ∙ written
-        ∙ sym (append-nil (spelling_of (error_packet fault))) ∙ ap spelled (sym h.tail));
-  })
+  pub fault_reported : (old : RequestStream A) (hold : ArrayVec ℕ) (fault : Fault) → IsLent old hold stream → length hold.items ≤ 65520
+      → hold.items ≡ spelling_of (error_packet fault) → IsRefusing s used over reported given old fault
+      → IsHosted s used over reported (given ++ hold_of stream) (Refused fault) × AreHandedOut (hold_of stream)
+  fault_reported old hold fault lent fits written h = (
+    inl (record {
+      before = given;
+      stops = h.stops;
+      given_is = ap (λ (l : List ℕ). given ++ l) (lent_bytes old hold stream lent ∙ written
+          ∙ sym (append-nil (spelling_of (error_packet fault))) ∙ ap spelled (sym h.tail));
+    }),
+    lent_handed old hold stream lent (packet_some hold.items (error_packet fault) written) fits,
+  )
 
   module _ (flush : ℕ) (P : Asked → Facts → List Pkt → Type 0) (h : IsAtRequest s used over reported given stream flush P) where
     -- the answer is whole
@@ -455,6 +479,7 @@ pub not_asked : {A : Type 0} (report : Report) (old : HostServer A) → ((answer
 not_asked report old other s used over facts given h = (
   subst (λ (fs : List Facts). Hosts s used over fs (given ++ []) old) (sym (same_last facts))
       (subst (λ (bytes : List ℕ). Hosts s used over facts bytes old) (sym (append-nil given)) h),
+  tt,
   unasked report old.phase other,
   tt,
 )
@@ -477,23 +502,32 @@ module _ {A : Type 0} (s : HostSetting) (used : List ℕ) (over : Bool) (facts :
   goes_to with goes = subst (λ (bytes : List ℕ). IsAtRequest s used over (with_last with facts) bytes new flush (IsAnswering s.offer.format b))
       (sym (append-nil given)) (answer_goes with goes)
 
+  handed_out : (with : Facts → Facts) → GivesOn with a hold.items b → AreHandedOut (hold_of new)
+  handed_out with gives =
+      let (packet, held, is) = gives s.offer.format h.last.q h.last.f h.last.front h.last.last in
+      lent_handed old hold new lent (packet_some hold.items packet held) fits
+
   pub report_done : (report : Report) (r : HostReported) → ReportsBy report a r hold.items b
       → IsAtRequest s used over (with_last (with_reported r report) facts) (given ++ given_with r new) new flush (IsAnswering s.offer.format b)
-      × HasReason report (Answering a) r × EndsHost report r (Answering b)
-  report_done report WasGiven done = (answer_gives (with_report report) done.0, tt, done.1)
-  report_done report Taken goes = (goes_to (with_report report) goes, tt, tt)
-  report_done report Hidden goes = (goes_to (with_hidden report) goes, tt, tt)
-  report_done report NotAsked done = (goes_to (λ f. f) done.0, done.1, tt)
-  report_done report MixedFormats done = (goes_to (λ f. f) done.0, done.1, tt)
-  report_done report Unsorted done = (goes_to (λ f. f) done.0, done.1, tt)
-  report_done report HeadTwice done = (goes_to (λ f. f) done.0, done.1, tt)
-  report_done report OutOfMemory done = (goes_to (λ f. f) done.0, done.1, tt)
+      × IsGivenWith r new × HasReason report (Answering a) r × EndsHost report r (Answering b)
+  report_done report WasGiven done = (answer_gives (with_report report) done.0, handed_out (with_report report) done.0, tt, done.1)
+  report_done report Taken goes = (goes_to (with_report report) goes, tt, tt, tt)
+  report_done report Hidden done = (goes_to (with_hidden report) done.0, tt, done.1, tt)
+  report_done report NotAsked done = (goes_to (λ f. f) done.0, tt, done.1, tt)
+  report_done report MixedFormats done = (goes_to (λ f. f) done.0, tt, done.1, tt)
+  report_done report Unsorted done = (goes_to (λ f. f) done.0, tt, done.1, tt)
+  report_done report HeadTwice done = (goes_to (λ f. f) done.0, tt, done.1, tt)
+  report_done report NotShallow done = (goes_to (λ f. f) done.0, tt, done.1, tt)
+  report_done report OutOfMemory done = (goes_to (λ f. f) done.0, tt, done.1, tt)
 
   -- a packet of the answer
   pub packet_done : GivesOn (λ f. f) a hold.items b
-      → IsAtRequest s used over facts (given ++ hold_of new) new flush (IsAnswering s.offer.format b)
-  packet_done gives = subst (λ (fs : List Facts). IsAtRequest s used over fs (given ++ hold_of new) new flush (IsAnswering s.offer.format b))
-      (same_last facts) (answer_gives (λ f. f) gives)
+      → IsAtRequest s used over facts (given ++ hold_of new) new flush (IsAnswering s.offer.format b) × AreHandedOut (hold_of new)
+  packet_done gives = (
+    subst (λ (fs : List Facts). IsAtRequest s used over fs (given ++ hold_of new) new flush (IsAnswering s.offer.format b))
+        (same_last facts) (answer_gives (λ f. f) gives),
+    handed_out (λ f. f) gives,
+  )
 
   -- or something that it needs
   pub need_done : GoesOn (λ f. f) a b → IsAtRequest s used over facts given new flush (IsAnswering s.offer.format b)

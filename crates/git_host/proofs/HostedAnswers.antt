@@ -17,7 +17,7 @@ one_answer : (format : Format) (repo : Repository) (q : Asked) (f : Facts) (pack
 one_answer format repo (ls_refs q) (of_references t) packets of h = references_answer repo format q t packets of.0 of.1 h
 one_answer format repo (ls_refs q) (of_fetch a t) packets of h = absurd of
 one_answer format repo (ls_refs q) (of_sizes sizes) packets of h = absurd of
-one_answer format repo (fetch q) (of_fetch a t) packets of h = reported_answers whole repo q t of packets h.1
+one_answer format repo (fetch q) (of_fetch a t) packets of h = reported_answers whole repo q t of packets h.1.answer
 one_answer format repo (fetch q) (of_references t) packets of h = absurd of
 one_answer format repo (fetch q) (of_sizes sizes) packets of h = absurd of
 one_answer format repo (object_info q) (of_sizes sizes) packets of h = sizes_answer repo q sizes packets of h

@@ -2,7 +2,7 @@
 use Rattle.std.specs.Prelude.{◌≡◌, ◌≢◌, [], Result, Ok, Err}
 use Rattle.git_host.specs.Admissions.{AdmissionFacts, IsAdmitted, RepresentsAdmission, asked_of, format_of, step_of, wanted_by}
 use Rattle.git_host.specs.FetchFacts.{no_facts}
-use Rattle.git_host.specs.FetchPlaces.{Represents, asked_of as fetch_of}
+use Rattle.git_host.specs.FetchPlaces.{Represents, asked_of as fetch_of, format_of as fetch_format}
 use Rattle.git_host.specs.declared.admission.AdmissionStep.TheVariants.{Admitted}
 use Rattle.git_host.specs.declared.admission.Admission.{Admission}
 use Rattle.git_host.specs.declared.fetch_answer.FetchAnswer.{FetchAnswer}
@@ -11,6 +11,7 @@ module _ {A : Type 0} where
   -- the answer to the request that was admitted, of which nothing was given
   pub record BecomesAnswer (old : Admission A) (answer : FetchAnswer A) : Type 0 where
     pub asked : fetch_of answer ≡ asked_of old
+    pub format : fetch_format answer ≡ format_of old
     pub admitted : (a : AdmissionFacts) → RepresentsAdmission a old → IsAdmitted (format_of old) (asked_of old) a (wanted_by old)
     pub represents : (a : AdmissionFacts) → RepresentsAdmission a old → Represents (no_facts (wanted_by old)) [] answer
 

@@ -1,16 +1,22 @@
 -- What a store reports for one fetch, and the answers that this makes.
-use Rattle.std.specs.Prelude.{◌≡◌, ◌⊎◌, ℕ, ◌<◌, Bool, true, false, not, ◌&&◌, if◌then◌else◌, List, [], ◌∷◌, ◌++◌, length, codes}
+use Rattle.std.specs.Prelude.{◌≡◌, ◌⊎◌, ℕ, ◌<◌, Bool, true, false, not, ◌&&◌, if◌then◌else◌, All, List, [], ◌∷◌, ◌++◌, length, codes}
+use Rattle.std.specs.List.{list_any}
+use Rattle.std.specs.Ordering.{is_eq}
 use Rattle.git_names.specs.ObjectName.{ObjectName}
+use Rattle.git_names.specs.declared.object_format.Format.{Format}
 use Rattle.git_pkt.specs.Packets.{Pkt, flush, longest_payload}
 use Rattle.git_pkt.specs.Bands.{band_packet}
 use Rattle.git_pkt.specs.declared.band.Band.{Band}
 use Rattle.git_pkt.specs.declared.band.Band.TheVariants.{Pack, Progress}
 use Rattle.git_msg.specs.declared.Boundary.{Boundary}
-use Rattle.git_msg.specs.Asked.{FetchAsked, only_negotiates}
+use Rattle.git_msg.specs.declared.Boundary.TheVariants.{Shallow, Unshallow}
+use Rattle.git_msg.specs.Asked.{FetchAsked, fetch, no_progress_of, only_negotiates}
 use Rattle.git_msg.specs.ResponseLines.{wanted_of, wanted_text}
 use Rattle.git_msg.specs.WrittenRequest.{text_line}
 use Rattle.git_server.specs.Packs.{Manner, whole, broken, pack_source_packet, packfile_header}
 use Rattle.git_server.specs.FetchAnswers.{IsFlushed, nak_or_acks, negotiates, ready_lines, section, shallow_info}
+use Rattle.git_server.specs.Objects.{object_cmp, object_of}
+use Rattle.git_server.specs.Repository.{IsUnshallowOf}
 
 -- what a store reported for one fetch: whether it has each object that the client has, by place; whether it is ready to send a pack; the
 -- shallow boundary; the object of each wanted reference, by place; the bytes of the pack, and those of the progress
@@ -25,6 +31,21 @@ pub record FetchFacts : Type 0 where
 -- nothing but the objects of the wanted references
 abbrev pub no_facts : List ObjectName → FetchFacts
 no_facts wanted = record { has = []; ready = false; boundary = []; wanted = wanted; pack = []; progress = [] }
+
+-- a sound repository of the format may have the line in the shallow boundary for the request
+pub record IsSoundLine (format : Format) (q : FetchAsked) (line : Boundary) : Type 0 where
+  pub of_format : (object_of line).format ≡ format
+  pub unshallow : IsUnshallowOf q.shallows line
+
+-- whether the line is no `unshallow` line, or that of one of these commits
+abbrev pub may_have : List ObjectName → Boundary → Bool
+may_have shallows (Shallow id) = true
+may_have shallows (Unshallow id) = list_any (λ shallow. is_eq (object_cmp shallow id)) shallows
+
+-- a sound repository of the format may answer so, and where the request wants no progress there is none
+pub record AreSoundFacts (format : Format) (q : FetchAsked) (t : FetchFacts) : Type 0 where
+  pub boundary : All (IsSoundLine format q) t.boundary
+  pub quiet : no_progress_of (fetch q) ≡ true → t.progress ≡ []
 
 -- the items that were reported as there, by place
 abbrev pub picked : {X : Type 0} → List Bool → List X → List X
@@ -94,3 +115,8 @@ IsFetchAnswerWhere false ready manner q t packets = HasPack manner q t packets
 -- the packets are the answer to the fetch by what was reported
 abbrev pub IsFetchAnswerOf : Manner → FetchAsked → FetchFacts → List Pkt → Type 0
 IsFetchAnswerOf manner q t packets = IsFetchAnswerWhere (negotiates q) (is_ready q t) manner q t packets
+
+-- the packets are the answer to the fetch by what was reported, which a sound repository of the format may answer
+pub record IsSoundFetchAnswer (manner : Manner) (format : Format) (q : FetchAsked) (t : FetchFacts) (packets : List Pkt) : Type 0 where
+  pub sound : AreSoundFacts format q t
+  pub answer : IsFetchAnswerOf manner q t packets

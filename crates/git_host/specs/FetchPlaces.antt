@@ -1,17 +1,25 @@
 -- How far an answer to `fetch` has come, by what was reported and what was given.
-use Rattle.std.specs.Prelude.{◌≡◌, ℕ, ◌<◌, ◌≤◌, Bool, true, false, not, List, [], ◌∷◌, ◌++◌, length, map, take, codes}
+use Rattle.std.specs.Prelude.{◌≡◌, ◌≢◌, ℕ, ◌<◌, ◌≤◌, Bool, true, false, not, List, [], ◌∷◌, ◌++◌, length, map, take, codes}
+use Rattle.git_names.specs.declared.object_format.Format.{Format}
 use Rattle.git_pkt.specs.Packets.{Pkt, body_of, longest_payload, spelling_of}
 use Rattle.git_msg.specs.declared.Boundary.{Boundary}
-use Rattle.git_msg.specs.Asked.{FetchAsked, is_empty, only_negotiates}
+use Rattle.git_msg.specs.Asked.{FetchAsked, fetch, is_empty, no_progress_of, only_negotiates}
 use Rattle.git_msg.specs.WrittenRequest.{text_line}
 use Rattle.git_server.specs.Packs.{whole, broken, packfile_header}
 use Rattle.git_server.specs.FetchAnswers.{ack_packet, boundary_packet, negotiates, shallow_info}
-use Rattle.git_host.specs.FetchFacts.{AreParts, FetchFacts, IsFetchAnswerOf, acknowledgments, before_pack, is_ready, opening, picked, wanted_lines}
+use Rattle.git_server.specs.Objects.{object_of}
+use Rattle.git_server.specs.Repository.{IsUnshallowOf}
+use Rattle.git_host.specs.FetchFacts.{AreParts, AreSoundFacts, FetchFacts, IsFetchAnswerOf, IsSoundFetchAnswer, acknowledgments, before_pack, is_ready}
+use Rattle.git_host.specs.FetchFacts.{opening, picked, wanted_lines}
 use Rattle.git_host.specs.declared.fetch_answer.Place.{Place}
 use Rattle.git_host.specs.declared.fetch_answer.Place.TheVariants.{Header, Have, Nak, Ready, Delimiter, Shallow, ShallowLine, WantedHeader, Wanted, WantedEnd}
 use Rattle.git_host.specs.declared.fetch_answer.Place.TheVariants.{PackHeader, Pack, Whole as AtEnd, Broken as AtLoss}
 use Rattle.git_host.specs.declared.fetch_answer.Step.{Step}
 use Rattle.git_host.specs.declared.fetch_answer.Step.TheVariants.{Packet, AskHave, AskReady, AskBoundary, AskPack, Whole, Broken}
+use Rattle.git_host.specs.declared.fetch_answer.BoundaryReported.{BoundaryReported}
+use Rattle.git_host.specs.declared.fetch_answer.BoundaryReported.TheVariants as Line
+use Rattle.git_host.specs.declared.fetch_answer.ProgressReported.{ProgressReported}
+use Rattle.git_host.specs.declared.fetch_answer.ProgressReported.TheVariants as Progress
 use Rattle.git_host.specs.declared.fetch_answer.BoundaryEnd.{BoundaryEnd}
 use Rattle.git_host.specs.declared.fetch_answer.BoundaryEnd.TheVariants.{NotAsked, Absent, Packet as DelimGiven}
 use Rattle.git_host.specs.declared.fetch_answer.FetchAnswer.{FetchAnswer}
@@ -170,6 +178,9 @@ module _ {A : Type 0} where
   abbrev pub asked_of : FetchAnswer A → FetchAsked
   asked_of answer = answer.request.asked
 
+  abbrev pub format_of : FetchAnswer A → Format
+  format_of answer = answer.format
+
   abbrev pub place_of : FetchAnswer A → Place
   place_of answer = answer.place
 
@@ -181,13 +192,20 @@ module _ {A : Type 0} where
   pub record Represents (t : FetchFacts) (given : List Pkt) (answer : FetchAnswer A) : Type 0 where
     pub wanted : t.wanted ≡ answer.wanted.items
     pub all : length t.wanted ≡ length (asked_of answer).want_refs
+    pub sound : AreSoundFacts (format_of answer) (asked_of answer) t
     pub stands : StandsAt answer.place (asked_of answer) t given
+
+  -- the answer is to the same request
+  pub record IsToTheSame (old new : FetchAnswer A) : Type 0 where
+    pub request : new.request ≡ old.request
+    pub format : new.format ≡ old.format
+    pub wanted : new.wanted ≡ old.wanted
 
   -- these bytes are the next packet, and P holds of all that was given with it
   pub record Gives (given : List Pkt) (bytes : List ℕ) (old new : FetchAnswer A) (P : List Pkt → Type 0) : Type 0 where
     pub packet : Pkt
     pub held : Holds bytes packet
-    pub same : asked_of new ≡ asked_of old
+    pub same : IsToTheSame old new
     pub holds : P (given ++ packet ∷ [])
 
   -- the facts become these, and these bytes are the next packet
@@ -198,7 +216,7 @@ module _ {A : Type 0} where
   -- the facts become these, and no packet is given
   abbrev pub ReportsAlone : (FetchFacts → FetchFacts) → FetchAnswer A → FetchAnswer A → Type 0
   ReportsAlone with old new =
-      (t : FetchFacts) (given : List Pkt) → Represents t given old → (asked_of new ≡ asked_of old) × Represents (with t) given new
+      (t : FetchFacts) (given : List Pkt) → Represents t given old → IsToTheSame old new × Represents (with t) given new
 
   -- a report that was asked for does this; any other changes nothing
   abbrev pub WhereAsked : Bool → Type 0 → FetchAnswer A → FetchAnswer A → Type 0
@@ -209,9 +227,9 @@ module _ {A : Type 0} where
   abbrev pub Steps : FetchAnswer A → Step → List ℕ → FetchAnswer A → Type 0
   Steps old Packet bytes new = ReportsAndGives (λ t. t) old bytes new
   Steps old Whole bytes new =
-      (new ≡ old) × ((t : FetchFacts) (given : List Pkt) → Represents t given old → IsFetchAnswerOf whole (asked_of old) t given)
+      (new ≡ old) × ((t : FetchFacts) (given : List Pkt) → Represents t given old → IsSoundFetchAnswer whole (format_of old) (asked_of old) t given)
   Steps old Broken bytes new =
-      (new ≡ old) × ((t : FetchFacts) (given : List Pkt) → Represents t given old → IsFetchAnswerOf broken (asked_of old) t given)
+      (new ≡ old) × ((t : FetchFacts) (given : List Pkt) → Represents t given old → IsSoundFetchAnswer broken (format_of old) (asked_of old) t given)
   Steps old step bytes new = new ≡ old
 
 -- whether the end of the boundary was asked for
@@ -225,6 +243,15 @@ module _ {A : Type 0} where
   EndsBoundary NotAsked old bytes new = new ≡ old
   EndsBoundary Absent old bytes new = ReportsAlone (λ t. t) old new
   EndsBoundary DelimGiven old bytes new = ReportsAndGives (λ t. t) old bytes new
+
+-- whether a line of the boundary, or progress, was asked for
+abbrev pub is_line_asked : BoundaryReported → Bool
+is_line_asked Line.NotAsked = false
+is_line_asked reported = true
+
+abbrev pub is_progress_asked : ProgressReported → Bool
+is_progress_asked Progress.NotAsked = false
+is_progress_asked reported = true
 
 -- what is asked
 abbrev pub is_have : Step → Bool
@@ -273,3 +300,21 @@ after_haves false = Nak
 abbrev pub after_boundary : Bool → Place
 after_boundary true = PackHeader
 after_boundary false = WantedHeader
+
+module _ {A : Type 0} where
+  -- what a line of the boundary does: one that no sound repository has for the request changes nothing
+  abbrev pub ReportsLine : Boundary → BoundaryReported → FetchAnswer A → List ℕ → FetchAnswer A → Type 0
+  ReportsLine line Line.Packet old bytes new = ReportsAndGives (with_line line) old bytes new
+  ReportsLine line Line.NotAsked old bytes new = new ≡ old
+  ReportsLine line Line.MixedFormats old bytes new = (new ≡ old) × ((object_of line).format ≢ format_of old)
+  ReportsLine line Line.NotShallow old bytes new = (new ≡ old) × ¬ IsUnshallowOf (asked_of old).shallows line
+
+  -- the request wants no progress
+  abbrev pub WantsNoProgress : FetchAnswer A → Type 0
+  WantsNoProgress answer = no_progress_of (fetch (asked_of answer)) ≡ true
+
+  -- what bytes of the progress do
+  abbrev pub ReportsProgress : List ℕ → ProgressReported → FetchAnswer A → List ℕ → FetchAnswer A → Type 0
+  ReportsProgress part Progress.Packet old bytes new = ReportsAndGives (with_progress part) old bytes new
+  ReportsProgress part Progress.NotAsked old bytes new = new ≡ old
+  ReportsProgress part Progress.Hidden old bytes new = (new ≡ old) × WantsNoProgress old

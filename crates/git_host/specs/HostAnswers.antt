@@ -1,5 +1,5 @@
 -- How far the answer to the request at hand has come, by what was reported and what was given; and what a report does.
-use Rattle.std.specs.Prelude.{◌≡◌, ℕ, Bool, true, false, List, [], ◌∷◌, ◌++◌, take, Option, Some, None}
+use Rattle.std.specs.Prelude.{◌≡◌, ◌≢◌, ℕ, Bool, true, false, List, [], ◌∷◌, ◌++◌, take, Option, Some, None}
 use Rattle.git_names.specs.ObjectName.{ObjectName}
 use Rattle.git_names.specs.declared.object_format.Format.{Format}
 use Rattle.git_names.specs.NameBytes.{name_bytes}
@@ -7,17 +7,23 @@ use Rattle.git_pkt.specs.Packets.{Pkt, spelling_of}
 use Rattle.git_pkt.specs.declared.fault.Kind.{Kind}
 use Rattle.git_msg.specs.Asked.{Asked, FetchAsked, fetch, ls_refs, object_info}
 use Rattle.git_server.specs.Packs.{Manner, whole, broken}
+use Rattle.git_server.specs.Objects.{object_of}
+use Rattle.git_server.specs.Repository.{IsUnshallowOf}
 use Rattle.git_host.specs.Admissions.{AdmissionFacts, IsAdmitted, IsOfOtherFormat, RepresentsAdmission, asked_of, format_of, is_want, is_want_ref, step_of}
 use Rattle.git_host.specs.Admissions.{with_found, with_want}
 use Rattle.git_host.specs.FetchFacts.{FetchFacts, no_facts}
 use Rattle.git_host.specs.FetchPlaces.{Represents, is_boundary, is_have, is_pack, is_ready_asked, with_have, with_line, with_pack, with_progress, with_ready}
-use Rattle.git_host.specs.FetchPlaces.{asked_of as fetch_of, step_of as fetch_step}
+use Rattle.git_host.specs.FetchPlaces.{WantsNoProgress, asked_of as fetch_of, format_of as fetch_format, step_of as fetch_step}
 use Rattle.git_host.specs.ReferencesPlaces.{HasBegun, IsUnsoundAfter, ReferencesFacts, RepresentsReferences, is_whole, with_ref, with_unborn}
 use Rattle.git_host.specs.ReferencesPlaces.{format_of as references_format}
 use Rattle.git_host.specs.SizesPlaces.{IsAsking, RepresentsSizes, sizes_asked}
 use Rattle.git_host.specs.HostSessions.{Facts, IsAnswerBy, IsLacking, of_fetch, of_references, of_sizes}
 use Rattle.git_host.specs.declared.admission.Admission.{Admission as AdmissionMachine}
 use Rattle.git_host.specs.declared.admission.AdmissionStep.TheVariants.{AskWant, AskWantRef, Admitted}
+use Rattle.git_host.specs.declared.fetch_answer.BoundaryReported.{BoundaryReported}
+use Rattle.git_host.specs.declared.fetch_answer.BoundaryReported.TheVariants as Line
+use Rattle.git_host.specs.declared.fetch_answer.ProgressReported.{ProgressReported}
+use Rattle.git_host.specs.declared.fetch_answer.ProgressReported.TheVariants as Progressed
 use Rattle.git_host.specs.declared.fetch_answer.BoundaryEnd.{BoundaryEnd}
 use Rattle.git_host.specs.declared.fetch_answer.BoundaryEnd.TheVariants.{NotAsked as EndNotAsked, Absent, Packet as DelimGiven}
 use Rattle.git_host.specs.declared.fetch_answer.FetchAnswer.{FetchAnswer}
@@ -35,7 +41,7 @@ use Rattle.git_host.specs.declared.host_answer.HostAnswer.TheVariants.{Admission
 use Rattle.git_host.specs.declared.host_answer.AnswerStep.{AnswerStep}
 use Rattle.git_host.specs.declared.host_answer.AnswerStep.TheVariants.{Packet as GivesPacket, Need as Needs, Whole as AllGiven, Broken, Refused as IsRefused}
 use Rattle.git_host.specs.declared.report.HostReported.{HostReported}
-use Rattle.git_host.specs.declared.report.HostReported.TheVariants.{Packet, Taken, Hidden, NotAsked, MixedFormats, Unsorted, HeadTwice, OutOfMemory}
+use Rattle.git_host.specs.declared.report.HostReported.TheVariants.{Packet, Taken, Hidden, NotAsked, MixedFormats, Unsorted, HeadTwice, NotShallow, OutOfMemory}
 use Rattle.git_host.specs.declared.report.Need.{Need}
 use Rattle.git_host.specs.declared.report.Need.TheVariants.{Want as NeedWant, WantRef as NeedWantRef, Have as NeedHave, Ready as NeedReady}
 use Rattle.git_host.specs.declared.report.Need.TheVariants.{Boundary as NeedBoundary, Pack as NeedPack, Reference as NeedReference, Size as NeedSize}
@@ -119,6 +125,19 @@ abbrev pub taken_where : Bool → HostReported
 taken_where true = Taken
 taken_where false = NotAsked
 
+-- of a line of a shallow boundary
+abbrev pub line_as : BoundaryReported → HostReported
+line_as Line.Packet = Packet
+line_as Line.NotAsked = NotAsked
+line_as Line.MixedFormats = MixedFormats
+line_as Line.NotShallow = NotShallow
+
+-- of progress
+abbrev pub progress_as : ProgressReported → HostReported
+progress_as Progressed.Packet = Packet
+progress_as Progressed.NotAsked = NotAsked
+progress_as Progressed.Hidden = Hidden
+
 -- of the end of a shallow boundary
 abbrev pub ended_as : BoundaryEnd → HostReported
 ended_as EndNotAsked = NotAsked
@@ -163,6 +182,7 @@ module _ {A : Type 0} where
   -- an answer to a fetch that was admitted
   pub record IsFetching (format : Format) (q : FetchAsked) (a : AdmissionFacts) (t : FetchFacts) (front : List Pkt) (answer : FetchAnswer A) : Type 0 where
     pub asked : fetch_of answer ≡ q
+    pub format_is : fetch_format answer ≡ format
     pub admitted : IsAdmitted format q a t.wanted
     pub represents : Represents t front answer
 
@@ -245,10 +265,18 @@ module _ {A : Type 0} where
   IsReason report old NotAsked = ¬ IsAskedFor report old
   IsReason (WantRef id) (Admission admission) MixedFormats = IsOfOtherFormat id admission
   IsReason (WantRef id) (Admission admission) OutOfMemory = is_want_ref (step_of admission) ≡ true
+  IsReason (Boundary line) (Fetch answer) MixedFormats = (object_of line).format ≢ fetch_format answer
+  IsReason (Boundary line) (Fetch answer) NotShallow = ¬ IsUnshallowOf (fetch_of answer).shallows line
   IsReason (Reference entry) (References answer) MixedFormats = IsUnsoundAfter entry answer
   IsReason (Reference entry) (References answer) Unsorted = IsUnsoundAfter entry answer
   IsReason (Reference entry) (References answer) HeadTwice = IsUnsoundAfter entry answer
   IsReason report old reported = ⊥
+
+  -- the request does not ask for what was reported: progress is dropped where it wants none
+  abbrev pub IsUnwanted : Report → HostAnswer A → Type 0
+  IsUnwanted (Progress bytes) (Fetch answer) = WantsNoProgress answer
+  IsUnwanted (Progress bytes) answer = ⊥
+  IsUnwanted report answer = Unit {0}
 
   -- the end of a pack makes the answer whole, and its loss breaks it off
   abbrev pub EndsAs : Report → HostAnswer A → Type 0
@@ -260,5 +288,5 @@ module _ {A : Type 0} where
   abbrev pub ReportsBy : Report → HostAnswer A → HostReported → List ℕ → HostAnswer A → Type 0
   ReportsBy report old Packet bytes new = GivesOn (with_report report) old bytes new × EndsAs report new
   ReportsBy report old Taken bytes new = GoesOn (with_report report) old new
-  ReportsBy report old Hidden bytes new = GoesOn (with_hidden report) old new
+  ReportsBy report old Hidden bytes new = GoesOn (with_hidden report) old new × IsUnwanted report old
   ReportsBy report old reported bytes new = GoesOn (λ f. f) old new × IsReason report old reported

@@ -4,10 +4,11 @@ use Rattle.git_pkt.specs.Machine.Credit.{Pays}
 use Rattle.git_server.specs.declared.outcome.Outcome.{Outcome}
 use Rattle.git_host.specs.HostSessions.{Facts, HostSetting, IsHosted, IsWaiting}
 use Rattle.git_host.specs.HostAnswers.{with_reported}
-use Rattle.git_host.specs.HostServer.{AcceptsHost, ClosesHost, FeedsHost, RefusesHost, ReportsHost, StepsHost}
+use Rattle.git_host.specs.HostServer.{AcceptsHost, AreHandedOut, ClosesHost, FeedsHost, RefusesHost, ReportsHost, StepsHost}
 use Rattle.git_host.specs.HostServer.{begun_in, bytes_of, credit_of, given_with, outcome_of, reads_on, with_last}
 use Rattle.git_host.specs.declared.host_server.HostServer.{HostServer}
 use Rattle.git_host.specs.declared.report.HostReported.{HostReported}
+use Rattle.git_host.specs.declared.report.HostReported.TheVariants.{Packet as WasGiven}
 use Rattle.git_host.specs.declared.report.HostStep.{HostStep}
 use Rattle.git_host.specs.declared.report.HostStep.TheVariants.{Packet}
 use Rattle.git_host.specs.declared.report.Report.{Report}
@@ -34,6 +35,17 @@ given_by (next step bytes) = bytes
 given_by (report fact what bytes) = bytes
 given_by (refuse text bytes) = bytes
 given_by call = []
+
+-- if the call gave a packet, it gave the bytes of one at least, and no more than the longest has
+abbrev pub HandsOut : HostCall → Type 0
+HandsOut (next Packet bytes) = AreHandedOut bytes
+HandsOut (report fact WasGiven bytes) = AreHandedOut bytes
+HandsOut (refuse text bytes) = AreHandedOut bytes
+HandsOut call = Unit {0}
+
+abbrev pub AllHandOut : List HostCall → Type 0
+AllHandOut [] = Unit {0}
+AllHandOut (call ∷ calls) = HandsOut call × AllHandOut calls
 
 -- what was reported for each request, with what the call reported
 abbrev pub reported_with : HostCall → List Facts → List Facts
@@ -103,6 +115,8 @@ module _ {A : Type 0} where
     -- the calls took no more than 64 steps for each byte used and for each call of `feed`, and none set the counter back
     pub rises : before ≤ after
     pub steps : after ≤ before + 64 * (length (used_in calls) + feeds_in calls)
+    -- each packet has bytes, and no more than the longest
+    pub gives : AllHandOut calls
     -- if the session has ended, what was given is what the input calls for by what was reported of each request, and it ended so
     pub ends : (outcome : Outcome) → outcome_of server ≡ Some outcome
         → IsHosted s (used_in calls) (over_after false calls) (reported_after [] calls) (given_in calls) outcome

@@ -16,7 +16,7 @@ use Rattle.git_server.specs.Answers.{error_packet}
 use Rattle.git_server.specs.declared.outcome.Outcome.{Outcome}
 use Rattle.git_server.specs.declared.outcome.Outcome.TheVariants.{Refused}
 use Rattle.git_host.specs.HostSessions.{AllAnswered, AtLast, Facts, HostSetting, IsHosted, StopsBy, nothing_for, refusal_packet, tail_of}
-use Rattle.git_host.specs.HostAnswers.{EndsAs, IsAnswering, IsNeeded, IsReason, with_reported}
+use Rattle.git_host.specs.HostAnswers.{EndsAs, IsAnswering, IsNeeded, IsReason, IsUnwanted, with_reported}
 use Rattle.git_host.specs.declared.host_server.Phase.{Phase}
 use Rattle.git_host.specs.declared.host_server.Phase.TheVariants.{Advertising, Reading, Asked as Whole, Answering, Refusing, Ended}
 use Rattle.git_host.specs.declared.host_server.HostServer.{HostServer}
@@ -39,6 +39,11 @@ abbrev pub with_last : (Facts → Facts) → List Facts → List Facts
 with_last with [] = []
 with_last with (f ∷ []) = with f ∷ []
 with_last with (f ∷ g ∷ fs) = f ∷ with_last with (g ∷ fs)
+
+-- the bytes that a call gave: those of a packet at least, and no more than the longest packet has
+pub record AreHandedOut (bytes : List ℕ) : Type 0 where
+  pub some : 4 ≤ length bytes
+  pub fits : length bytes ≤ 65520
 
 -- a request that has come, for which nothing was reported or given
 pub record IsUntouched (asked : Asked) (q : Asked) (f : Facts) (front : List Pkt) : Type 0 where
@@ -184,7 +189,7 @@ module _ {A : Type 0} where
   abbrev pub StepsHost : HostServer A → HostStep → HostServer A → Type 0
   StepsHost old GivesPacket new = (s : HostSetting) (used : List ℕ) (over : Bool) (reported : List Facts) (given : List ℕ)
       → Hosts s used over reported given old
-      → Hosts s used over reported (given ++ bytes_of new) new
+      → Hosts s used over reported (given ++ bytes_of new) new × AreHandedOut (bytes_of new)
   StepsHost old step new = (s : HostSetting) (used : List ℕ) (over : Bool) (reported : List Facts) (given : List ℕ) → Hosts s used over reported given old
       → Hosts s used over reported given new × WaitsFor step new.phase
 
@@ -210,11 +215,16 @@ module _ {A : Type 0} where
   given_with WasGiven stream = hold_of stream
   given_with reported stream = []
 
-  -- why a report changed nothing, if it did so
+  -- a report whose packet was given has one
+  abbrev pub IsGivenWith : HostReported → RequestStream A → Type 0
+  IsGivenWith WasGiven stream = AreHandedOut (hold_of stream)
+  IsGivenWith reported stream = Unit {0}
+
+  -- why a report gave no packet, or changed nothing, if it did so
   abbrev pub HasReason : Report → Phase A → HostReported → Type 0
   HasReason report phase WasGiven = Unit {0}
   HasReason report phase Taken = Unit {0}
-  HasReason report phase Hidden = Unit {0}
+  HasReason report (Answering answer) Hidden = IsUnwanted report answer
   HasReason report (Answering answer) reported = IsReason report answer reported
   HasReason report phase reported = reported ≡ NotAsked
 
@@ -228,7 +238,7 @@ module _ {A : Type 0} where
   ReportsHost report old reported new = (s : HostSetting) (used : List ℕ) (over : Bool) (facts : List Facts) (given : List ℕ)
       → Hosts s used over facts given old
       → Hosts s used over (with_last (with_reported reported report) facts) (given ++ given_with reported new.stream) new
-      × HasReason report old.phase reported × EndsHost report reported new.phase
+      × IsGivenWith reported new.stream × HasReason report old.phase reported × EndsHost report reported new.phase
 
   -- a request is answered
   abbrev pub is_answering : Phase A → Bool
@@ -259,6 +269,7 @@ module _ {A : Type 0} where
   -- what it is to refuse one by a text: the session is over
   abbrev pub RefusesHost : List ℕ → HostServer A → Bool → HostServer A → Type 0
   RefusesHost text old true new = (new.phase ≡ Ended (ended_by NotOurs old.flush)) × (bytes_of new ≡ spelling_of (refusal_packet text))
+      × AreHandedOut (bytes_of new)
       × ((s : HostSetting) (used : List ℕ) (over : Bool) (reported : List Facts) (given : List ℕ) → Hosts s used over reported given old
       → Hosts s used over reported (given ++ bytes_of new) new)
   RefusesHost text old false new = Stays old new × ((s : HostSetting) (used : List ℕ) (over : Bool) (reported : List Facts) (given : List ℕ)

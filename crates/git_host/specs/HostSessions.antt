@@ -18,7 +18,7 @@ use Rattle.git_server.specs.Answers.{advertisement_of, error_packet, refusal_by,
 use Rattle.git_server.specs.declared.outcome.Outcome.{Outcome}
 use Rattle.git_server.specs.declared.outcome.Outcome.TheVariants.{Flush, Closed, Refused}
 use Rattle.git_host.specs.Admissions.{AdmissionFacts, IsAdmitted, IsRefusedBy, nothing_reported}
-use Rattle.git_host.specs.FetchFacts.{FetchFacts, IsFetchAnswerOf, no_facts}
+use Rattle.git_host.specs.FetchFacts.{FetchFacts, IsSoundFetchAnswer, no_facts}
 use Rattle.git_host.specs.ReferencesPlaces.{IsReferencesAnswerOf, ReferencesFacts, no_references}
 use Rattle.git_host.specs.SizesPlaces.{IsSizesAnswerOf}
 
@@ -37,7 +37,7 @@ nothing_for (object_info q) = of_sizes []
 -- the packets are the answer to the request by what was reported; that to a fetch may break off
 abbrev pub IsAnswerBy : Manner → Format → Asked → Facts → List Pkt → Type 0
 IsAnswerBy whole format (ls_refs q) (of_references t) packets = IsReferencesAnswerOf format q t packets
-IsAnswerBy manner format (fetch q) (of_fetch a t) packets = IsAdmitted format q a t.wanted × IsFetchAnswerOf manner q t packets
+IsAnswerBy manner format (fetch q) (of_fetch a t) packets = IsAdmitted format q a t.wanted × IsSoundFetchAnswer manner format q t packets
 IsAnswerBy whole format (object_info q) (of_sizes sizes) packets = IsSizesAnswerOf q sizes packets
 IsAnswerBy _ _ _ _ _ = ⊥
 

@@ -129,7 +129,11 @@ impl<A: Allocator + Copy> Admission<A> {
         ensures { Becomes self result }
     {
         match self.step {
-            AdmissionStep::Admitted => Ok(FetchAnswer::begin(self.request, self.wanted)),
+            AdmissionStep::Admitted => Ok(FetchAnswer::begin(
+                self.request,
+                self.wanted,
+                self.format,
+            )),
             _ => Err(self),
         }
     }

@@ -14,12 +14,14 @@ ghost use Rattle.git_msg.specs.WrittenRequest.{text_line};
 ghost use Rattle.git_server.specs.FetchAnswers.{ack_packet};
 ghost use Rattle.git_host.specs.FetchPlaces.{Holds};
 ghost use Rattle.git_pkt.specs.Packets.{longest_payload};
-ghost use Rattle.git_msg.specs.Asked.{is_empty, only_negotiates};
+ghost use Rattle.git_msg.specs.Asked.{fetch, is_empty, no_progress_of, only_negotiates};
 ghost use Rattle.git_server.specs.FetchAnswers.{negotiates};
+ghost use Rattle.git_server.specs.Objects.{object_of};
+ghost use Rattle.git_host.specs.FetchFacts.{may_have};
 ghost use Rattle.git_host.specs.FetchPlaces.{after_boundary, after_haves, place_by};
 
 use git_msg::{Boundary, Fetch, WantedRef, put_ack, put_boundary, put_line, put_wanted};
-use git_names::Oid;
+use git_names::{Format, Oid};
 use git_pkt::{Band, Hold, Packet, put, put_band};
 use std::alloc::Allocator;
 
@@ -73,6 +75,19 @@ pub enum Step {
     Broken,
 }
 
+/// What came of a line of the shallow boundary.
+#[derive(Clone, Copy, Debug)]
+pub enum BoundaryReported {
+    /// A packet was given.
+    Packet,
+    /// It was not asked for. Nothing changed.
+    NotAsked,
+    /// Its object is not of the request's format. Nothing changed.
+    MixedFormats,
+    /// It is an `unshallow` line of a commit that the request does not call shallow. Nothing changed.
+    NotShallow,
+}
+
 /// What came of the end of the shallow boundary.
 #[derive(Clone, Copy, Debug)]
 pub enum BoundaryEnd {
@@ -84,10 +99,22 @@ pub enum BoundaryEnd {
     Packet,
 }
 
+/// What came of bytes of the progress.
+#[derive(Clone, Copy, Debug)]
+pub enum ProgressReported {
+    /// Their packet was given.
+    Packet,
+    /// They were not asked for. Nothing changed.
+    NotAsked,
+    /// The request wants no progress: no packet was given, and nothing changed.
+    Hidden,
+}
+
 /// The answer to one `fetch`, a packet at a time.
 #[derive(Drop)]
 pub struct FetchAnswer<A: Allocator + Copy> {
     request: Fetch<A>,
+    format: Format,
     // The objects of its wanted references.
     wanted: Vec<Oid, A>,
     place: Place,
@@ -95,28 +122,32 @@ pub struct FetchAnswer<A: Allocator + Copy> {
 
 impl<A: Allocator + Copy> FetchAnswer<A> {
     ghost use Rattle.git_host.specs.FetchPlaces.{EndsBoundary, Steps, Represents, ReportsAlone, ReportsAndGives, WhereAsked};
-    ghost use Rattle.git_host.specs.FetchPlaces.{asked_of, is_line_at, place_of, step_of};
-    ghost use Rattle.git_host.specs.FetchPlaces.{is_boundary, is_asked, is_have, is_pack, is_ready_asked};
-    ghost use Rattle.git_host.specs.FetchPlaces.{with_have, with_line, with_pack, with_progress, with_ready};
+    ghost use Rattle.git_host.specs.FetchPlaces.{ReportsLine, ReportsProgress, asked_of, format_of, is_line_at, place_of, step_of};
+    ghost use Rattle.git_host.specs.FetchPlaces.{is_boundary, is_asked, is_have, is_line_asked, is_pack, is_progress_asked, is_ready_asked};
+    ghost use Rattle.git_host.specs.FetchPlaces.{with_have, with_pack, with_ready};
     ghost use Rattle.git_host.specs.FetchFacts.{no_facts};
 
-    /// The answer to this request, of which nothing was given. Each of its wanted references points to the object at the same place.
-    pub fn new(request: Fetch<A>, wanted: Vec<Oid, A>) -> FetchAnswer<A>
+    /// The answer to this request, of which nothing was given, and whose object names have this format. Each of its wanted references
+    /// points to the object at the same place.
+    pub fn new(request: Fetch<A>, wanted: Vec<Oid, A>, format: Format) -> FetchAnswer<A>
         requires { length wanted.items ≡ length request.asked.want_refs }
         ensures asked { asked_of result ≡ request.asked }
+        ensures format { format_of result ≡ format }
         ensures represents { Represents (no_facts wanted.items) [] result }
     {
-        Self::begin(request, wanted)
+        Self::begin(request, wanted, format)
     }
 
     // The same, where the caller knows how many objects there are by what was reported.
-    pub(crate) fn begin(request: Fetch<A>, wanted: Vec<Oid, A>) -> FetchAnswer<A>
+    pub(crate) fn begin(request: Fetch<A>, wanted: Vec<Oid, A>, format: Format) -> FetchAnswer<A>
         ensures asked { asked_of result ≡ request.asked }
+        ensures format { format_of result ≡ format }
         ensures represents { length wanted.items ≡ length request.asked.want_refs → Represents (no_facts wanted.items) [] result }
     {
         let place = first_place(&request);
         FetchAnswer {
             request,
+            format,
             wanted,
             place,
         }
@@ -251,21 +282,27 @@ impl<A: Allocator + Copy> FetchAnswer<A> {
     }
 
     /// A line of the shallow boundary. It is given at once, but for the first: the header of the section is given, and `next` gives the line.
-    /// Returns whether that was asked.
-    pub fn boundary(&mut self, line: Boundary, hold: &mut Hold) -> bool
-        ensures asked { result ≡ is_boundary (step_of self.old) }
-        ensures reported { WhereAsked result (ReportsAndGives (with_line line) self.old hold.new.items self.new) self.old self.new }
+    /// A line that no sound repository has for the request is refused.
+    pub fn boundary(&mut self, line: Boundary, hold: &mut Hold) -> BoundaryReported
+        ensures asked { is_line_asked result ≡ is_boundary (step_of self.old) }
+        ensures reported { ReportsLine line result self.old hold.new.items self.new }
     {
         let Place::Shallow(any) = self.place else {
-            return false;
+            return BoundaryReported::NotAsked;
         };
+        if commit_of(&line).format() != self.format {
+            return BoundaryReported::MixedFormats;
+        }
+        if !may_have(&line, self.request.shallows()) {
+            return BoundaryReported::NotShallow;
+        }
         if any {
             put_boundary(hold, &line);
-            return true;
+            return BoundaryReported::Packet;
         }
         put_line(hold, b"shallow-info", b"");
         self.place = Place::ShallowLine(line);
-        true
+        BoundaryReported::Packet
     }
 
     /// The boundary has no more lines. Returns whether that was asked, and whether a packet was given.
@@ -298,18 +335,22 @@ impl<A: Allocator + Copy> FetchAnswer<A> {
         true
     }
 
-    /// Bytes of the progress, a text for the client's user, as many as of the pack: their packet is given. Returns whether that was asked.
-    pub fn progress(&mut self, bytes: &[u8], hold: &mut Hold) -> bool
+    /// Bytes of the progress, a text for the client's user, as many as of the pack: their packet is given, unless the request wants no
+    /// progress.
+    pub fn progress(&mut self, bytes: &[u8], hold: &mut Hold) -> ProgressReported
         requires some { 0 < length bytes.now }
         requires fits { length bytes.now < longest_payload }
-        ensures asked { result ≡ is_pack (step_of self.old) }
-        ensures reported { WhereAsked result (ReportsAndGives (with_progress bytes.now) self.old hold.new.items self.new) self.old self.new }
+        ensures asked { is_progress_asked result ≡ is_pack (step_of self.old) }
+        ensures reported { ReportsProgress bytes.now result self.old hold.new.items self.new }
     {
         let Place::Pack = self.place else {
-            return false;
+            return ProgressReported::NotAsked;
         };
+        if drops_progress(&self.request) {
+            return ProgressReported::Hidden;
+        }
         put_band(hold, Band::Progress, bytes);
-        true
+        ProgressReported::Packet
     }
 
     /// The pack has no more bytes: the flush is given that ends the answer. Returns whether that was asked.
@@ -347,6 +388,33 @@ impl<A: Allocator + Copy> FetchAnswer<A> {
             Place::Ready => !negotiates_alone(&self.request),
             _ => false,
         }
+    }
+}
+
+// The commit of a line of the boundary.
+fn commit_of(line: &Boundary) -> Oid
+    ensures { result ≡ object_of line.now }
+{
+    match line {
+        Boundary::Shallow(id) => *id,
+        Boundary::Unshallow(id) => *id,
+    }
+}
+
+// Whether progress is dropped, since the request wants none.
+fn drops_progress<A: Allocator + Copy>(request: &Fetch<A>) -> bool
+    ensures { result ≡ no_progress_of (fetch request.now.asked) }
+{
+    request.no_progress()
+}
+
+// Whether the line is no `unshallow` line, or that of one of these commits.
+fn may_have(line: &Boundary, shallows: &[Oid]) -> bool
+    ensures { result ≡ may_have shallows.now line.now }
+{
+    match line {
+        Boundary::Shallow(_) => true,
+        Boundary::Unshallow(id) => shallows.iter().any(|shallow| shallow.cmp(id).is_eq()),
     }
 }
 

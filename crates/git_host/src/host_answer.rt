@@ -3,10 +3,11 @@
 ghost use Rattle.std.specs.Prelude.{◌≡◌, [], true, false};
 ghost use Rattle.git_msg.specs.Machine.HeldRequest.{asked_of};
 ghost use Rattle.git_host.specs.HostAnswers.{GoesOn, IsThrough, ended_as, is_admission, of_fetch_step, of_sizes_step, part_of, reported_as};
+ghost use Rattle.git_host.specs.HostAnswers.{line_as, progress_as};
 ghost use Rattle.git_host.specs.HostSessions.{nothing_for};
 
 use crate::admission::{Admission, AdmissionStep, WantRefReported};
-use crate::fetch_answer::{BoundaryEnd, FetchAnswer, Step};
+use crate::fetch_answer::{BoundaryEnd, BoundaryReported, FetchAnswer, ProgressReported, Step};
 use crate::references_answer::{ReferencesAnswer, Reported};
 use crate::report::{HostReported, LONGEST_PART, Need, Report, packet_where, taken_where};
 use crate::sizes_answer::{SizesAnswer, SizesStep};
@@ -176,7 +177,7 @@ impl<A: Allocator + Copy> HostAnswer<A> {
         let HostAnswer::Fetch(answer) = self else {
             return HostReported::NotAsked;
         };
-        packet_where(answer.boundary(line, hold))
+        line_as(answer.boundary(line, hold))
     }
 
     fn boundary_end(&mut self, hold: &mut Hold) -> HostReported
@@ -209,10 +210,7 @@ impl<A: Allocator + Copy> HostAnswer<A> {
         let HostAnswer::Fetch(answer) = self else {
             return HostReported::NotAsked;
         };
-        if answer.request().no_progress() {
-            return HostReported::Hidden;
-        }
-        packet_where(answer.progress(first_part(bytes), hold))
+        progress_as(answer.progress(first_part(bytes), hold))
     }
 
     fn pack_end(&mut self, hold: &mut Hold) -> HostReported
@@ -309,6 +307,27 @@ fn of_sizes(step: SizesStep) -> AnswerStep
         SizesStep::Packet => AnswerStep::Packet,
         SizesStep::AskSize(at) => AnswerStep::Need(Need::Size(at)),
         SizesStep::Whole => AnswerStep::Whole,
+    }
+}
+
+fn line_as(reported: BoundaryReported) -> HostReported
+    ensures { result ≡ line_as reported }
+{
+    match reported {
+        BoundaryReported::Packet => HostReported::Packet,
+        BoundaryReported::NotAsked => HostReported::NotAsked,
+        BoundaryReported::MixedFormats => HostReported::MixedFormats,
+        BoundaryReported::NotShallow => HostReported::NotShallow,
+    }
+}
+
+fn progress_as(reported: ProgressReported) -> HostReported
+    ensures { result ≡ progress_as reported }
+{
+    match reported {
+        ProgressReported::Packet => HostReported::Packet,
+        ProgressReported::NotAsked => HostReported::NotAsked,
+        ProgressReported::Hidden => HostReported::Hidden,
     }
 }
 

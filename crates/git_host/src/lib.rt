@@ -12,7 +12,7 @@ mod request_at_hand;
 mod sizes_answer;
 
 pub use admission::{Admission, AdmissionStep, WantRefReported};
-pub use fetch_answer::{BoundaryEnd, FetchAnswer, Step};
+pub use fetch_answer::{BoundaryEnd, BoundaryReported, FetchAnswer, ProgressReported, Step};
 pub use host_server::{HostServer, LONGEST_REFUSAL};
 pub use references_answer::{ReferencesAnswer, Reported};
 pub use report::{HostReported, HostStep, LONGEST_PART, Need, Report};

@@ -60,6 +60,8 @@ pub enum HostReported {
     Unsorted,
     /// It is `HEAD`, which was reported as unborn. Nothing changed.
     HeadTwice,
+    /// It is an `unshallow` line of a commit that the request does not call shallow. Nothing changed.
+    NotShallow,
     /// Memory ran out. Nothing changed.
     OutOfMemory,
 }

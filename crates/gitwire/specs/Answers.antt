@@ -9,7 +9,7 @@ use Rattle.gitwire.specs.declared.answer.What.TheVariants.{Done, More, Failed, N
 use Rattle.gitwire.specs.declared.answer.What.TheVariants.{Payload, Flush, Delim, ResponseEnd, Request, Stop, Packet, NeedInput, EndedByFlush}
 use Rattle.gitwire.specs.declared.answer.What.TheVariants.{EndedByClose, CanAsk, Finished, Event}
 use Rattle.gitwire.specs.declared.answer.What.TheVariants.{Asked, NeedWant, NeedWantRef, NeedHave, NeedReady, NeedBoundary, NeedPack, NeedReference, NeedSize}
-use Rattle.gitwire.specs.declared.answer.What.TheVariants.{OutOfOrder}
+use Rattle.gitwire.specs.declared.answer.What.TheVariants.{OutOfOrder, NotShallow}
 
 -- the number by which C knows it
 abbrev pub what_number : What → ℕ
@@ -57,6 +57,7 @@ what_number NeedPack = 40
 what_number NeedReference = 41
 what_number NeedSize = 42
 what_number OutOfOrder = 43
+what_number NotShallow = 44
 
 -- what is reported of a piece where nothing else is: more is to come, or none was due
 abbrev pub more_of : Bool → What

@@ -197,6 +197,7 @@ reporting HostReported.NotAsked part whole filled = answering What.NotNow
 reporting HostReported.MixedFormats part whole filled = refused_as BadObjectName
 reporting HostReported.Unsorted part whole filled = answering What.OutOfOrder
 reporting HostReported.HeadTwice part whole filled = answering What.OutOfOrder
+reporting HostReported.NotShallow part whole filled = answering What.NotShallow
 reporting HostReported.OutOfMemory part whole filled = answering What.OutOfMemory
 
 abbrev pub filled_by : HostReported → List ℕ → List ℕ → List ℕ

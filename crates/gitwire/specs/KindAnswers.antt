@@ -51,6 +51,7 @@ what_name What.NeedPack = codes "NeedPack"
 what_name What.NeedReference = codes "NeedReference"
 what_name What.NeedSize = codes "NeedSize"
 what_name What.OutOfOrder = codes "OutOfOrder"
+what_name What.NotShallow = codes "NotShallow"
 
 -- what has the number, or nothing has it
 abbrev pub IsWhatOf : ℕ → Option What → Type 0

@@ -88,6 +88,8 @@ pub enum What {
     NeedSize,
     /// A reference does not come after the one that was reported before it. Nothing changed.
     OutOfOrder,
+    /// A line of the shallow boundary is an `unshallow` of a commit that the request does not call shallow. Nothing changed.
+    NotShallow,
 }
 
 impl What {
@@ -103,7 +105,7 @@ impl What {
         }
     }
 
-    /// The number by which C knows it, from 0 to 43.
+    /// The number by which C knows it, from 0 to 44.
     pub fn number(self) -> u8
         ensures { result ≡ what_number self }
     {
@@ -152,6 +154,7 @@ impl What {
             What::NeedReference => 41,
             What::NeedSize => 42,
             What::OutOfOrder => 43,
+            What::NotShallow => 44,
         }
     }
 }

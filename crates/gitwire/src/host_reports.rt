@@ -84,7 +84,7 @@ pub extern "C" fn gitwire_host_ready(
 }
 
 /// A line of the shallow boundary, `shallow` or else `unshallow`, by the digits of its commit: `Packet`. `Failed` by `BadObjectName`, and
-/// nothing changed.
+/// `NotShallow` for an `unshallow` line of a commit that the request does not call shallow: nothing changed.
 #[unsafe(no_mangle)]
 pub extern "C" fn gitwire_host_boundary(
     alloc: Global,
@@ -248,7 +248,7 @@ pub extern "C" fn gitwire_host_fail(
 }
 
 // Takes what the host reports, and copies its packet to the front of the room, if it has one. `Packet`, `More`, `NotNow`, `OutOfOrder`,
-// `OutOfMemory` or `Failed`; `RoomTooSmall` where the room has less than 65,520 bytes; or `NoHandle`.
+// `NotShallow`, `OutOfMemory` or `Failed`; `RoomTooSmall` where the room has less than 65,520 bytes; or `NoHandle`.
 fn report_in(
     alloc: Global,
     host: &mut GitwireHost,
@@ -327,6 +327,7 @@ fn show(
         HostReported::MixedFormats => refused_as(Kind::BadObjectName),
         HostReported::Unsorted => GitwireAnswer::of(What::OutOfOrder),
         HostReported::HeadTwice => GitwireAnswer::of(What::OutOfOrder),
+        HostReported::NotShallow => GitwireAnswer::of(What::NotShallow),
         HostReported::OutOfMemory => GitwireAnswer::of(What::OutOfMemory),
     }
 }

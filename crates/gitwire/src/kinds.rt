@@ -68,6 +68,7 @@ fn what_of(number: u8) -> Option<What>
         41 => Some(What::NeedReference),
         42 => Some(What::NeedSize),
         43 => Some(What::OutOfOrder),
+        44 => Some(What::NotShallow),
         _ => None,
     }
 }
@@ -120,5 +121,6 @@ fn name_of(what: What) -> &'static str
         What::NeedReference => "NeedReference",
         What::NeedSize => "NeedSize",
         What::OutOfOrder => "OutOfOrder",
+        What::NotShallow => "NotShallow",
     }
 }

@@ -11,6 +11,7 @@ returns-in-Admitted g c =
       c.in-Admitted.is,
       record {
         asked = c.begin.ensures.asked;
+        format = c.begin.ensures.format;
         admitted = admitted;
         represents = λ a h. c.begin.ensures.represents (admitted a h).all;
       },

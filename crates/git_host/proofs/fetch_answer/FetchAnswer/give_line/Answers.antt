@@ -18,8 +18,8 @@ returns-in-ShallowLine g c t given h =
     record {
       packet = boundary_packet c.in-ShallowLine.line;
       held = line_held _ (boundary_text c.in-ShallowLine.line) c.put_boundary.ensures.written c.put_boundary.ensures.fits;
-      same = refl;
-      holds = record { wanted = h.wanted; all = h.all; stands = after_shallow_line q t given c.in-ShallowLine.line at };
+      same = record { request = refl; format = refl; wanted = refl };
+      holds = record { wanted = h.wanted; all = h.all; sound = h.sound; stands = after_shallow_line q t given c.in-ShallowLine.line at };
     }
 
 pub returns-in-WantedHeader : goal.returns-in-WantedHeader
@@ -29,8 +29,8 @@ returns-in-WantedHeader g c t given h =
     record {
       packet = text_line (codes "wanted-refs");
       held = line_held _ (codes "wanted-refs") c.put_line.ensures.written c.put_line.ensures.fits;
-      same = refl;
-      holds = record { wanted = h.wanted; all = h.all; stands = after_wanted_header q t given at };
+      same = record { request = refl; format = refl; wanted = refl };
+      holds = record { wanted = h.wanted; all = h.all; sound = h.sound; stands = after_wanted_header q t given at };
     }
 
 pub returns-in-PackHeader : goal.returns-in-PackHeader
@@ -40,8 +40,8 @@ returns-in-PackHeader g c t given h =
     record {
       packet = packfile_header;
       held = line_held _ (codes "packfile") c.put_line-in-PackHeader.ensures.written c.put_line-in-PackHeader.ensures.fits;
-      same = refl;
-      holds = record { wanted = h.wanted; all = h.all; stands = after_pack_header q t given at };
+      same = record { request = refl; format = refl; wanted = refl };
+      holds = record { wanted = h.wanted; all = h.all; sound = h.sound; stands = after_pack_header q t given at };
     }
 
 pub returns-in-Wanted : goal.returns-in-Wanted
@@ -54,10 +54,11 @@ returns-in-Wanted g c t given h =
     record {
       packet = text_line (wanted_text (wanted_of id name));
       held = c.put_found.ensures name id named (ap (λ (ids : List ObjectName). slice_get ids next) (c.as_slice.ensures.value ∙ sym h.wanted) ∙ here);
-      same = refl;
+      same = record { request = refl; format = refl; wanted = refl };
       holds = record {
         wanted = h.wanted;
         all = h.all;
+        sound = h.sound;
         stands = after_wanted c.after_wanted-self.result next q t given id name c.after_wanted-self.ensures.more c.after_wanted-self.ensures.over
             at named here;
       };
@@ -70,6 +71,6 @@ returns-in-WantedEnd g c t given h =
     record {
       packet = delim;
       held = record { spelled = c.put-in-WantedEnd.ensures; fits = omega arith };
-      same = refl;
-      holds = record { wanted = h.wanted; all = h.all; stands = after_all_wanted q t given h.all at };
+      same = record { request = refl; format = refl; wanted = refl };
+      holds = record { wanted = h.wanted; all = h.all; sound = h.sound; stands = after_all_wanted q t given h.all at };
     }

@@ -12,10 +12,11 @@ returns-in-Header-clause-steps g c t given h =
     record {
       packet = text_line (codes "acknowledgments");
       held = line_held _ (codes "acknowledgments") c.put_line.ensures.written c.put_line.ensures.fits;
-      same = refl;
+      same = record { request = refl; format = refl; wanted = refl };
       holds = record {
         wanted = h.wanted;
         all = h.all;
+        sound = h.sound;
         stands = have_place c.first_have-self.result _ _ q _ _ c.first_have-self.ensures.more c.first_have-self.ensures.over
             (after_header q t given at);
       };
@@ -28,6 +29,6 @@ returns-in-Nak-clause-steps g c t given h =
     record {
       packet = text_line (codes "NAK");
       held = line_held _ (codes "NAK") c.put_line-in-Nak.ensures.written c.put_line-in-Nak.ensures.fits;
-      same = refl;
-      holds = record { wanted = h.wanted; all = h.all; stands = after_nak q t given at };
+      same = record { request = refl; format = refl; wanted = refl };
+      holds = record { wanted = h.wanted; all = h.all; sound = h.sound; stands = after_nak q t given at };
     }

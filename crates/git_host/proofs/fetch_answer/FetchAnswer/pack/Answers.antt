@@ -3,7 +3,7 @@ use Rattle.git_pkt.specs.Bands.{band_packet}
 use Rattle.git_pkt.specs.declared.band.Band.TheVariants.{Pack as Band}
 use Rattle.git_host.specs.FetchPlaces.{StandsAt, with_pack}
 use Rattle.git_host.specs.declared.fetch_answer.Place.{Place}
-use Rattle.git_host.proofs.FetchMoves.{after_part, band_held}
+use Rattle.git_host.proofs.FetchMoves.{after_part, band_held, sound_so}
 use Rattle.git_host.proofs.fetch_answer.FetchAnswer.pack.Goals as goal
 
 pub returns-clause-reported : goal.returns-clause-reported
@@ -14,10 +14,11 @@ returns-clause-reported g c t given h =
     record {
       packet = band_packet Band bytes;
       held = band_held _ bytes Band c.put_band.ensures c.requires.fits;
-      same = refl;
+      same = record { request = refl; format = refl; wanted = refl };
       holds = record {
         wanted = h.wanted;
         all = h.all;
+        sound = sound_so _ q t (with_pack bytes t) refl refl h.sound;
         stands = subst (λ (p : Place). StandsAt p q (with_pack bytes t) (given ++ band_packet Band bytes ∷ [])) (sym c.in-Pack.is)
             (after_part q t given bytes c.requires.some c.requires.fits at);
       };

@@ -12,6 +12,6 @@ returns-clause-reported g c t given h =
     record {
       packet = pack_source_packet;
       held = record { spelled = c.put_band.ensures; fits = omega arith };
-      same = refl;
-      holds = record { wanted = h.wanted; all = h.all; stands = after_pack broken q t given h.all at };
+      same = record { request = refl; format = refl; wanted = refl };
+      holds = record { wanted = h.wanted; all = h.all; sound = h.sound; stands = after_pack broken q t given h.all at };
     }

@@ -1,8 +1,8 @@
 use Rattle.std.proofs.Common.{◌∙◌, codes, refl, subst, sym}
 use Rattle.git_msg.specs.WrittenRequest.{text_line}
-use Rattle.git_host.specs.FetchPlaces.{StandsAt}
+use Rattle.git_host.specs.FetchPlaces.{StandsAt, with_ready}
 use Rattle.git_host.specs.declared.fetch_answer.Place.{Place}
-use Rattle.git_host.proofs.FetchMoves.{after_ready, asks_ready_at, line_held}
+use Rattle.git_host.proofs.FetchMoves.{after_ready, asks_ready_at, line_held, sound_so}
 use Rattle.git_host.proofs.fetch_answer.FetchAnswer.ready.Goals as goal
 
 pub returns-clause-reported : goal.returns-clause-reported
@@ -13,6 +13,6 @@ returns-clause-reported g c t given h =
     record {
       packet = text_line (codes "ready");
       held = line_held _ (codes "ready") c.put_line.ensures.written c.put_line.ensures.fits;
-      same = refl;
-      holds = record { wanted = h.wanted; all = h.all; stands = after_ready q t given at other };
+      same = record { request = refl; format = refl; wanted = refl };
+      holds = record { wanted = h.wanted; all = h.all; sound = sound_so _ q t (with_ready t) refl refl h.sound; stands = after_ready q t given at other };
     }

@@ -13,12 +13,10 @@ returns-clause-steps g c s used over reported given h =
     let w = c.put_advertisement.new.hold in
     let lent = on_some c.lend.result c.in-Some.hold _ c.in-Some.is (c.lend.follows.holds w) in
     let stands = subst (λ (p : Phase g.row.A.Denot). HostsIn p s used over reported given old.stream old.flush) c.requires h.stands in
-    record {
-      offer = h.offer;
-      limit = h.limit;
-      stands = advertised_now s used over reported given (c.lend.follows.lender w) old.stream w lent (omega (arith, c.len.ensures.value, c.len.ensures.fits))
-          (c.put_advertisement.ensures.written ∙ ap (λ (o : Offer). spelled (advertisement_of o)) h.offer) stands;
-    }
+    let (is, handed) = advertised_now s used over reported given (c.lend.follows.lender w) old.stream w lent
+    (omega (arith, c.len.ensures.value, c.len.ensures.fits))
+    (c.put_advertisement.ensures.written ∙ ap (λ (o : Offer). spelled (advertisement_of o)) h.offer) stands in
+    (record { offer = h.offer; limit = h.limit; stands = is }, handed)
 
 pub returns-clause-credit : goal.returns-clause-credit
 returns-clause-credit g c =

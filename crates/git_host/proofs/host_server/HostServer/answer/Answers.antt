@@ -1,5 +1,6 @@
 use Rattle.std.proofs.Common.{arith, ◌≤◌, ◌++◌, length, refl, subst, sym}
 use Rattle.git_msg.specs.Machine.RequestStreams.{hold_of}
+use Rattle.git_server.specs.Answers.{error_packet}
 use Rattle.git_server.specs.declared.outcome.Outcome.{Outcome}
 use Rattle.git_host.specs.HostSessions.{IsHosted}
 use Rattle.git_host.specs.HostAnswers.{StepsAnswer}
@@ -8,7 +9,7 @@ use Rattle.git_host.specs.declared.host_answer.AnswerStep.{AnswerStep}
 use Rattle.git_host.specs.declared.host_server.Phase.{Phase}
 use Rattle.git_host.specs.declared.host_server.Phase.TheVariants.{Answering, Reading}
 use Rattle.git_host.proofs.HostMoves.{answering_no, broken_done, lacking_done, need_done, on_some, packet_done, whole_done, answering_credit, credit_falls}
-use Rattle.git_host.proofs.HostMoves.{lent_credit}
+use Rattle.git_host.proofs.HostMoves.{lent_credit, lent_handed, packet_some}
 use Rattle.git_host.proofs.host_server.HostServer.answer.Goals as goal
 
 pub returns-in_default-clause-steps : goal.returns-in_default-clause-steps
@@ -23,12 +24,9 @@ returns-in-Packet-clause-steps g c s used over reported given h =
     let stands = subst (λ (p : Phase g.row.A.Denot). HostsIn p s used over reported given old.stream old.flush) c.in-Answering.is h.stands in
     let steps = subst (λ (x : AnswerStep). StepsAnswer c.in-Answering.answer x c.next-step.new.hold.items c.next-step.new.self) c.in-Packet.is
     c.next-step.ensures in
-    record {
-      offer = h.offer;
-      limit = h.limit;
-      stands = packet_done s used over reported given old.flush old.stream
-          (c.lend.follows.lender w) w lent few c.in-Answering.answer c.next-step.new.self stands steps;
-    }
+    let (is, handed) = packet_done s used over reported given old.flush old.stream
+    (c.lend.follows.lender w) w lent few c.in-Answering.answer c.next-step.new.self stands steps in
+    (record { offer = h.offer; limit = h.limit; stands = is }, handed)
 
 pub returns-in-Need-clause-steps : goal.returns-in-Need-clause-steps
 returns-in-Need-clause-steps g c s used over reported given h =
@@ -93,14 +91,16 @@ returns-in-Refused-clause-steps g c s used over reported given h =
     let few : length w.items ≤ 65520 = omega (arith, c.len-in-Refused.ensures.value, c.len-in-Refused.ensures.fits) in
     let stands = subst (λ (p : Phase g.row.A.Denot). HostsIn p s used over reported given old.stream old.flush) c.in-Answering.is h.stands in
     let steps = subst (λ (x : AnswerStep). StepsAnswer c.in-Answering.answer x c.next-step.new.hold.items c.next-step.new.self) c.in-Refused.is
-    c.next-step.ensures in
-    record {
-      offer = h.offer;
-      limit = h.limit;
-      stands = subst (λ (o : Outcome). IsHosted s used over reported (given ++ hold_of (c.lend.follows.lender w)) o) (sym c.ended_by.ensures)
-          (lacking_done s used over reported given old.flush old.stream
-          (c.lend.follows.lender w) w lent few c.in-Answering.answer c.next-step.new.self stands c.in-Refused.kind steps c.put_error.ensures);
-    }
+    c.next-step.ensures in (
+      record {
+        offer = h.offer;
+        limit = h.limit;
+        stands = subst (λ (o : Outcome). IsHosted s used over reported (given ++ hold_of (c.lend.follows.lender w)) o) (sym c.ended_by.ensures)
+            (lacking_done s used over reported given old.flush old.stream
+            (c.lend.follows.lender w) w lent few c.in-Answering.answer c.next-step.new.self stands c.in-Refused.kind steps c.put_error.ensures);
+      },
+      lent_handed old.stream w (c.lend.follows.lender w) lent (packet_some w.items (error_packet (record { kind = c.in-Refused.kind; offset = old.flush })) c.put_error.ensures) few,
+    )
 
 pub returns-in-Packet-clause-credit : goal.returns-in-Packet-clause-credit
 returns-in-Packet-clause-credit g c =

@@ -1,9 +1,9 @@
-use Rattle.std.proofs.Common.{ap, subst, sym, ◌++◌, ◌∙◌}
+use Rattle.std.proofs.Common.{arith, ap, subst, sym, ◌++◌, ◌∙◌}
 use Rattle.git_msg.specs.Machine.RequestStreams.{hold_of}
 use Rattle.git_server.specs.declared.outcome.Outcome.{Outcome}
-use Rattle.git_host.specs.HostSessions.{IsHosted}
+use Rattle.git_host.specs.HostSessions.{IsHosted, refusal_packet}
 use Rattle.git_host.specs.declared.host_server.Phase.TheVariants.{Ended}
-use Rattle.git_host.proofs.HostMoves.{lent_bytes, on_some, refuses_hosts}
+use Rattle.git_host.proofs.HostMoves.{lent_bytes, lent_handed, on_some, packet_some, refuses_hosts}
 use Rattle.git_host.proofs.host_server.HostServer.refuse.Goals as goal
 
 pub returns-clause-refuses : goal.returns-clause-refuses
@@ -15,6 +15,7 @@ returns-clause-refuses g c =
     let asked = sym c.is_asked.ensures ∙ c.if-not-is_asked.false in (
       ap Ended c.ended_by.ensures,
       lent_bytes old.stream w new lent ∙ c.put_line.ensures.written,
+      lent_handed old.stream w new lent (packet_some w.items (refusal_packet c.args.text.now) c.put_line.ensures.written) (omega (arith, c.len.ensures.value, c.len.ensures.fits)),
       λ s used over reported given h.
           record {
             offer = h.offer;

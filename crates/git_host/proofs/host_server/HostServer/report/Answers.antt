@@ -14,10 +14,11 @@ returns-clause-reports g c s used over facts given h =
     let w = c.report-reported.new.hold in
     let lent = on_some c.lend.result c.in-Some.hold _ c.in-Some.is (c.lend.follows.holds w) in
     let stands = subst (λ (p : Phase g.row.A.Denot). HostsIn p s used over facts given old.stream old.flush) c.in-Answering.is h.stands in
-    let (is, why, ends) = report_done s used over facts given old.flush old.stream (c.lend.follows.lender w) w lent
+    let (is, handed, why, ends) = report_done s used over facts given old.flush old.stream (c.lend.follows.lender w) w lent
     (omega (arith, c.len.ensures.value, c.len.ensures.fits)) c.in-Answering.answer c.report-reported.new.self stands c.args.report c.report-reported.result
     c.report-reported.ensures in (
       record { offer = h.offer; limit = h.limit; stands = is },
+      handed,
       subst (λ (p : Phase g.row.A.Denot). HasReason c.args.report p c.report-reported.result) (sym c.in-Answering.is) why,
       ends,
     )

@@ -1,4 +1,4 @@
-use Rattle.std.proofs.Common.{subst}
+use Rattle.std.proofs.Common.{arith, subst}
 use Rattle.git_host.specs.HostServer.{HostsIn}
 use Rattle.git_host.specs.declared.host_server.Phase.{Phase}
 use Rattle.git_host.proofs.HostMoves.{fault_reported, on_some}
@@ -10,8 +10,6 @@ returns-clause-steps g c s used over reported given h =
     let w = c.put_error.new.hold in
     let lent = on_some c.lend.result c.in-Some.hold _ c.in-Some.is (c.lend.follows.holds w) in
     let stands = subst (λ (p : Phase g.row.A.Denot). HostsIn p s used over reported given old.stream old.flush) c.requires h.stands in
-    record {
-      offer = h.offer;
-      limit = h.limit;
-      stands = fault_reported s used over reported given (c.lend.follows.lender w) old.stream w c.args.fault lent c.put_error.ensures stands;
-    }
+    let (is, handed) = fault_reported s used over reported given (c.lend.follows.lender w) old.stream w c.args.fault lent
+    (omega (arith, c.len.ensures.value, c.len.ensures.fits)) c.put_error.ensures stands in
+    (record { offer = h.offer; limit = h.limit; stands = is }, handed)
