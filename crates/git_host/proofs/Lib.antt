@@ -6,6 +6,7 @@ pub mod ReferencesMoves
 pub mod SizesMoves
 pub mod HostAnswerMoves
 pub mod HostMoves
+pub mod FeedMoves
 pub mod LentBuffers
 pub mod HostCallMoves
 pub mod HostedAnswers

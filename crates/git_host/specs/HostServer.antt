@@ -1,5 +1,5 @@
 -- What a host's server represents: the bytes used, whether the input has ended, what was reported for each request, and the bytes given.
-use Rattle.std.specs.Prelude.{◌≡◌, ℕ, ◌+◌, ◌≤◌, Bool, true, false, List, [], ◌∷◌, ◌++◌, length, Option, Some, None}
+use Rattle.std.specs.Prelude.{◌≡◌, ◌⊎◌, ℕ, ◌+◌, ◌<◌, ◌≤◌, Bool, true, false, List, [], ◌∷◌, ◌++◌, length, Option, Some, None, IsSome}
 use Rattle.git_names.specs.declared.object_format.Format.{Format}
 use Rattle.git_pkt.specs.Packets.{Pkt, spelling_of}
 use Rattle.git_pkt.specs.declared.fault.Fault.{Fault}
@@ -9,6 +9,7 @@ use Rattle.git_msg.specs.declared.offers.Offer.{Offer}
 use Rattle.git_msg.specs.declared.streams.RequestStream.{RequestStream}
 use Rattle.git_msg.specs.Asked.{Asked}
 use Rattle.git_msg.specs.Machine.HeldRequest.{asked_of}
+use Rattle.git_msg.specs.Memory.{FaultNeedsRefusal}
 use Rattle.git_msg.specs.Machine.RequestStreams.{AreAsked, HasRead, hold_of, is_within_packet, limit_of, offer_of, wants_input}
 use Rattle.git_msg.specs.Machine.RequestStreams.{IsLent, IsUnlent, credit_of as stream_credit}
 use Rattle.arrayvec.specs.ArrayVec.{ArrayVec}
@@ -155,6 +156,27 @@ module _ {A : Type 0} where
   abbrev pub FeedsHost : List ℕ → HostServer A → HostServer A → Type 0
   FeedsHost more old new = (s : HostSetting) (used : List ℕ) (over : Bool) (reported : List Facts) (given : List ℕ) → Hosts s used over reported given old
       → Hosts s (used ++ more) over (reported ++ begun_in old.phase new.phase) given new
+
+  -- the fault of the input that ends the session, reported or not
+  abbrev pub fault_in : Phase A → Option Fault
+  fault_in (Refusing fault) = Some fault
+  fault_in (Ended (Refused fault)) = Some fault
+  fault_in phase = None
+
+  abbrev pub fault_of : HostServer A → Option Fault
+  fault_of server = fault_in server.phase
+
+  -- of a piece with bytes a server that waits for some uses one at least, or the input is refused
+  abbrev pub MovesHost : HostServer A → List ℕ → ℕ → HostServer A → Type 0
+  MovesHost old piece used new =
+      (s : HostSetting) (so_far : List ℕ) (over : Bool) (reported : List Facts) (given : List ℕ) → Hosts s so_far over reported given old
+      → reads_on old ≡ true → 0 < length piece → 0 < used ⊎ IsSome (fault_of new)
+
+  -- if the session does not end for want of memory, unless a list of at most as many bytes as the limit has was refused, that holds after the call
+  abbrev pub KeepsHostToMemory : (ℕ → Type 0) → HostServer A → HostServer A → Type 0
+  KeepsHostToMemory refuses old new =
+      (s : HostSetting) (so_far : List ℕ) (over : Bool) (reported : List Facts) (given : List ℕ) → Hosts s so_far over reported given old
+      → FaultNeedsRefusal refuses s.limit (fault_of old) → FaultNeedsRefusal refuses s.limit (fault_of new)
 
   -- the phase in which a fault of the input is reported to the client, but for an error packet of the client's
   abbrev pub refused_by : Kind → Fault → Phase A

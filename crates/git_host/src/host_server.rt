@@ -17,7 +17,7 @@ ghost use Rattle.git_host.specs.HostServer.{IsAccepted, ended_by, first_phase, i
 use crate::host_answer::{AnswerStep, HostAnswer};
 use crate::report::{HostReported, HostStep, Report};
 use crate::request_at_hand::{RequestAtHand, request_answered};
-use git_msg::{Limits, Offer, ReadGot, Request, RequestStream, put_line};
+use git_msg::{Limits, Memory, Offer, ReadGot, Request, RequestStream, put_line};
 use git_names::{Format, Steps};
 use git_pkt::{Fault, Hold, Kind};
 use git_server::{Outcome, put_advertisement};
@@ -60,10 +60,9 @@ impl<A: Allocator + Copy> HostServer<A> {
     ghost use Rattle.std.specs.Borrow.{LendsSo, sem, u8, unit};
     ghost use Rattle.std.specs.Prelude.{IfNone, IfSome, OnSome};
     ghost use Rattle.arrayvec.specs.contracts.array_vec.ArrayVec.{the_row as array_vec_row};
-    ghost use Rattle.git_pkt.specs.Machine.Credit.{Pays};
     ghost use Rattle.git_host.specs.contracts.host_server.HostServer.{the_row};
     ghost use Rattle.git_host.specs.HostServer.{IsLentBy, IsUnlentBy, bytes_of};
-    ghost use Rattle.git_host.specs.HostServer.{AcceptsHost, ClosesHost, FeedsHost, Hosts, RefusesHost, ReportsHost, StepsHost, StopsHost};
+    ghost use Rattle.git_host.specs.HostServer.{AcceptsHost, ClosesHost, Hosts, RefusesHost, ReportsHost, StepsHost, StopsHost};
     ghost use Rattle.git_host.specs.HostServer.{credit_of, outcome_of, reads_on, setting_of};
 
     /// A server at the beginning of a session. Of each request it keeps argument lines whose texts have at most `limits.args` bytes together,
@@ -97,36 +96,6 @@ impl<A: Allocator + Copy> HostServer<A> {
         match self.phase {
             Phase::Ended(outcome) => Some(outcome),
             _ => None,
-        }
-    }
-
-    /// Takes bytes of the input, and returns how many were used: all of them, or those up to the end of a request, a flush instead of one,
-    /// or a fault. None is used while a request is answered, nor after the end.
-    pub fn feed(&mut self, piece: &[u8], steps: &mut Steps) -> usize
-        ensures used { result ≤ length piece.now }
-        ensures feeds { FeedsHost (take result piece.now) self.old self.new }
-        ensures cost { Pays result steps.old steps.new (credit_of self.old) (credit_of self.new) }
-    {
-        if !self.wants_input() {
-            return 0;
-        }
-        let read = self.stream.feed(piece, steps);
-        let used = read.used;
-        match read.got {
-            ReadGot::More => used,
-            ReadGot::Request(request) => {
-                self.flush = self.stream.position().saturating_sub(4);
-                self.phase = Phase::Asked(request);
-                used
-            }
-            ReadGot::Stop => {
-                self.phase = Phase::Ended(Outcome::Flush);
-                used
-            }
-            ReadGot::Failed(fault) => {
-                self.stop(fault);
-                used
-            }
         }
     }
 
@@ -313,6 +282,45 @@ impl<A: Allocator + Copy> HostServer<A> {
         ensures { result ≡ is_asked self.now.phase }
     {
         matches!(self.phase, Phase::Asked(_))
+    }
+}
+
+impl<A: Memory + Copy> HostServer<A> {
+    ghost use Rattle.git_pkt.specs.Machine.Credit.{Pays};
+    ghost use Rattle.git_host.specs.HostServer.{FeedsHost, KeepsHostToMemory, MovesHost, credit_of};
+
+    /// Takes bytes of the input, and returns how many were used: all of them, or those up to the end of a request, a flush instead of one,
+    /// or a fault. None is used while a request is answered, nor after the end.
+    pub fn feed(&mut self, piece: &[u8], steps: &mut Steps) -> usize
+        ensures used { result ≤ length piece.now }
+        ensures feeds { FeedsHost (take result piece.now) self.old self.new }
+        ensures moves { MovesHost self.old piece.now result self.new }
+        ensures cost { Pays result steps.old steps.new (credit_of self.old) (credit_of self.new) }
+
+        // The input is refused for want of memory only where memory refused a list, which was to have no more bytes than the limit.
+        ensures memory { KeepsHostToMemory A.refuses self.old self.new }
+    {
+        if !self.wants_input() {
+            return 0;
+        }
+        let read = self.stream.feed(piece, steps);
+        let used = read.used;
+        match read.got {
+            ReadGot::More => used,
+            ReadGot::Request(request) => {
+                self.flush = self.stream.position().saturating_sub(4);
+                self.phase = Phase::Asked(request);
+                used
+            }
+            ReadGot::Stop => {
+                self.phase = Phase::Ended(Outcome::Flush);
+                used
+            }
+            ReadGot::Failed(fault) => {
+                self.stop(fault);
+                used
+            }
+        }
     }
 }
 

@@ -1,10 +1,11 @@
-use Rattle.std.proofs.Common.{arith, List, [], ◌++◌, subst, sym, take, ◌∙◌}
+use Rattle.std.proofs.Common.{arith, inl, inr, List, [], ◌++◌, subst, sym, take, ◌∙◌}
 use Rattle.git_msg.specs.declared.requests.Request.{Request}
 use Rattle.git_server.specs.declared.outcome.Outcome.TheVariants.{Flush}
 use Rattle.git_host.specs.HostSessions.{Facts}
 use Rattle.git_host.specs.HostServer.{Hosts, HostsIn, begun_in}
 use Rattle.git_host.specs.declared.host_server.Phase.{Phase}
 use Rattle.git_host.specs.declared.host_server.Phase.TheVariants.{Asked as Whole, Ended}
+use Rattle.git_host.proofs.FeedMoves.{needed_by, some_fault, some_used}
 use Rattle.git_host.proofs.HostMoves.{brought_fault, brought_more, brought_request, brought_stop, is_reading_now, none_now, stopped_hosts}
 use Rattle.git_host.proofs.host_server.HostServer.feed.Goals as goal
 
@@ -70,3 +71,32 @@ returns-in-Failed-clause-feeds g c s so_far over reported given h =
     (stopped_hosts _ c.stop.new.self fault c.stop.ensures s used over (reported ++ []) given h.offer h.limit
     (brought_fault s so_far over reported given old.stream c.feed-read.new.self c.args.piece.now c.feed-read.result c.feed-read.ensures.feeds stands
     fault c.in-Failed.is))
+
+pub returns-in-More-clause-moves : goal.returns-in-More-clause-moves
+returns-in-More-clause-moves g c s so_far over reported given h reads some =
+    let old = c.args.self.now in
+    let reading = is_reading_now old (sym c.wants_input.ensures ∙ c.if-not-wants_input.false) in
+    let stands = subst (λ (p : Phase g.row.A.Denot). HostsIn p s so_far over reported given old.stream old.flush) reading h.stands in
+    elim (some_used c.args.self.now.stream c.feed-read.new.self c.args.piece.now c.feed-read.result c.feed-read.ensures.feeds stands.reads.wants
+    _ c.in-More.is some) [
+      | inl used ↦ inl used
+      | inr (fault, is) ↦ absurd (cc)
+    ]
+
+pub returns-in-Request-clause-moves : goal.returns-in-Request-clause-moves
+returns-in-Request-clause-moves g c s so_far over reported given h reads some = inl (rw c.in-Request.is at c.feed-read.ensures.feeds.leaves).0
+
+pub returns-in-Stop-clause-moves : goal.returns-in-Stop-clause-moves
+returns-in-Stop-clause-moves g c s so_far over reported given h reads some = inl (rw c.in-Stop.is at c.feed-read.ensures.feeds.leaves).0
+
+pub returns-in-Failed-clause-moves : goal.returns-in-Failed-clause-moves
+returns-in-Failed-clause-moves g c s so_far over reported given h reads some =
+    inr (some_fault g.row.A.Denot c.stop.new.self.phase c.in-Failed.fault c.stop.ensures.phase)
+
+pub returns-in-Failed-clause-memory : goal.returns-in-Failed-clause-memory
+returns-in-Failed-clause-memory g c s so_far over reported given h needed =
+    let old = c.args.self.now in
+    let reading = is_reading_now old (sym c.wants_input.ensures ∙ c.if-not-wants_input.false) in
+    let stands = subst (λ (p : Phase g.row.A.Denot). HostsIn p s so_far over reported given old.stream old.flush) reading h.stands in
+    needed_by old.stream c.feed-read.new.self c.args.piece.now c.feed-read.result c.feed-read.ensures.feeds stands.reads.wants g.A.Memory.refuses s.limit
+    c.stop.new.self.phase c.in-Failed.fault c.in-Failed.is c.stop.ensures.phase stands.reads.limit c.feed-read.ensures.memory
