@@ -8,7 +8,7 @@ LIBRARY ?= crates/gitwire/out/libgitwire.a
 KIT = $(shell dirname "$$($(RT) doc)")
 VERSION = 0.2.0
 
-.PHONY: run program library install test test-program test-git-suite audit cases bench
+.PHONY: run program library install test test-program test-git-suite audit cases bench format
 
 # The crates of this repository that a crate depends on, lowest first, and it: its line of crates.txt names them in that order.
 with_those_below = $(foreach it,$(shell sed -n 's/^$(1)\( staticlib\)\{0,1\}: //p' crates.txt) $(1),$(if $(wildcard crates/$(it)),$(it)))
@@ -92,6 +92,10 @@ cases:
 	@cd crates/worked_conversations && $(RT) run -- data/packets.txt > /dev/null
 	@cd crates/worked_conversations/data && ../out/worked_conversations $$(cat ../args) | diff ../stdout - \
 		&& tail -n 1 ../stdout
+
+# Lays out the files of each crate, since the gate refuses a crate with a file in another layout, and all that stand on it.
+format:
+	@for crate in crates/*/; do (cd "$$crate" && $(RT) fmt) || exit; done
 
 # By what each wrong body is refused, those of the gate and those in wrong-bodies/: more than a merge waits for.
 # CRATES names those to be tried, where not all are; LANES is how many at a time.
