@@ -116,12 +116,12 @@ module _ {R A : Type 0} (state : R → RepoState) where
   server_gives server no_wait goes (PulledEnd outcome) new pulls = let over = pulls.tells.0 in absurd (cc)
 
   -- a call goes on with what held before it
-  runs_on : (call : ServerCall) (s : Setting) (used : List ℕ) (over : Bool) (given : List ℕ) (before : ℕ) (old : Server R A) (after : ℕ) (new : Server R A)
-      → Makes state call before old after new → Running state s used over given old
+  runs_on : (refuses : ℕ → Type 0) (call : ServerCall) (s : Setting) (used : List ℕ) (over : Bool) (given : List ℕ) (before : ℕ) (old : Server R A) (after : ℕ) (new : Server R A)
+      → Makes state refuses call before old after new → Running state s used over given old
       → (ended : Bool) × Running state s (used ++ used_by call) ended (given ++ given_with call) new
-  runs_on (feed piece count) s used over given before old after new made r = (over, made.goes s used over given r)
-  runs_on (pull answer) s used over given before old after new made r = (over, made.0.goes s used over given r)
-  runs_on close s used over given before old after new made r = (
+  runs_on refuses (feed piece count) s used over given before old after new made r = (over, made.goes s used over given r)
+  runs_on refuses (pull answer) s used over given before old after new made r = (over, made.0.goes s used over given r)
+  runs_on refuses close s used over given before old after new made r = (
     true,
     subst (λ (u : List ℕ). Running state s u true (given ++ []) new) (sym (append-nil used))
         (subst (λ (w : List ℕ). Running state s used true w new) (sym (append-nil given)) (made.0.closes s used over given r).0),
@@ -366,10 +366,10 @@ module _ {R A : Type 0} (state : R → RepoState) (format : Format) (limit : ℕ
 
   -- ---- from call to call
 
-  server_keeps : (h : History) (call : ServerCall) (old new : BothEnds R A) → MovesServer state call old new → Agree h old → Agree h new
-  server_keeps h call old new m a =
+  server_keeps : (refuses : ℕ → Type 0) (h : History) (call : ServerCall) (old new : BothEnds R A) → MovesServer state refuses call old new → Agree h old → Agree h new
+  server_keeps refuses h call old new m a =
       let s = setting_of (terms_with format) limit before true in
-      let (over, runs) = runs_on state call s a.used a.over a.given m.before old.server m.after new.server m.makes a.runs in
+      let (over, runs) = runs_on state refuses call s a.used a.over a.given m.before old.server m.after new.server m.makes a.runs in
       record {
         used = a.used ++ used_by call;
         over = over;
@@ -400,24 +400,25 @@ module _ {R A : Type 0} (state : R → RepoState) (format : Format) (limit : ℕ
             ∙ ap (λ (l : List ℕ). l ++ new.to_client) (sym takes);
       }
 
-  all_keep : (calls : List (EitherCall A)) (h : History) (old new : BothEnds R A) → MoveAll state calls old new → Agree h old
+  all_keep : (refuses : ℕ → Type 0) (calls : List (EitherCall A)) (h : History) (old new : BothEnds R A) → MoveAll state refuses calls old new → Agree h old
       → Agree (history_after h (calls_of_client calls)) new
-  all_keep [] h old new same a = subst (Agree h) (sym same) a
-  all_keep (of_server call ∷ calls) h old new (between, moves, more) a = all_keep calls h between new more (server_keeps h call old between moves a)
-  all_keep (of_client call ∷ calls) h old new (between, moves, more) a =
-      all_keep calls (after_call h call) between new more (client_keeps h call old between moves a)
+  all_keep refuses [] h old new same a = subst (Agree h) (sym same) a
+  all_keep refuses (of_server call ∷ calls) h old new (between, moves, more) a =
+      all_keep refuses calls h between new more (server_keeps refuses h call old between moves a)
+  all_keep refuses (of_client call ∷ calls) h old new (between, moves, more) a =
+      all_keep refuses calls (after_call h call) between new more (client_keeps h call old between moves a)
 
 -- ---- after any calls
 
-module _ {R A : Type 0} (state : R → RepoState) where
-  move_more : (calls : List (EitherCall A)) (call : EitherCall A) (old now next : BothEnds R A) → MoveAll state calls old now → Moves state call now next
-      → MoveAll state (calls ++ call ∷ []) old next
-  move_more [] call old now next same moves = (next, subst (λ (e : BothEnds R A). Moves state call e next) same moves, refl)
+module _ {R A : Type 0} (state : R → RepoState) (refuses : ℕ → Type 0) where
+  move_more : (calls : List (EitherCall A)) (call : EitherCall A) (old now next : BothEnds R A) → MoveAll state refuses calls old now → Moves state refuses call now next
+      → MoveAll state refuses (calls ++ call ∷ []) old next
+  move_more [] call old now next same moves = (next, subst (λ (e : BothEnds R A). Moves state refuses call e next) same moves, refl)
   move_more (first ∷ calls) call old now next (between, moved, more) moves = (between, moved, move_more calls call between now next more moves)
 
   pub one_more_call : (format : Format) (limit : ℕ) (before : RepoState) (calls : List (EitherCall A)) (call : EitherCall A) (now next : BothEnds R A)
-      → HaveMet state format limit before calls now → Moves state call now next → All (HasValues format) (history_of (calls ++ call ∷ [])).asked
-      → HaveMet state format limit before (calls ++ call ∷ []) next
+      → HaveMet state refuses format limit before calls now → Moves state refuses call now next → All (HasValues format) (history_of (calls ++ call ∷ [])).asked
+      → HaveMet state refuses format limit before (calls ++ call ∷ []) next
   one_more_call format limit before calls call now next met moves values = record {
     first = met.first;
     new_server = met.new_server;
@@ -431,10 +432,10 @@ module _ {R A : Type 0} (state : R → RepoState) where
     values = values;
   }
 
-module _ {R A : Type 0} (state : R → RepoState) (format : Format) (limit : ℕ) (before : RepoState) (calls : List (EitherCall A)) (now : BothEnds R A)
-    (met : HaveMet state format limit before calls now) where
+module _ {R A : Type 0} (state : R → RepoState) (refuses : ℕ → Type 0) (format : Format) (limit : ℕ) (before : RepoState) (calls : List (EitherCall A)) (now : BothEnds R A)
+    (met : HaveMet state refuses format limit before calls now) where
   agrees : Agree state format limit before met.sound met.written met.same_format (history_of calls) now
-  agrees = all_keep state format limit before met.sound met.written met.same_format calls nothing_yet met.first now met.moved (record {
+  agrees = all_keep state format limit before met.sound met.written met.same_format refuses calls nothing_yet met.first now met.moved (record {
     used = [];
     over = false;
     given = [];

@@ -80,16 +80,7 @@ module _ {R A : Type 0} (state : R → RepoState) where
   abbrev pub ServerGives : Server R A → Type 0
   ServerGives server = (pulled : Pulled) (new : Server R A) → Pulls state server pulled new → IsPulledPacket pulled
 
-  -- a call of the server: the bytes that it used were the first on their way to it, and those that it gave are the last on their way to the client
-  pub record MovesServer (call : ServerCall) (old new : BothEnds R A) : Type 0 where
-    pub before : ℕ
-    pub after : ℕ
-    pub makes : Makes state call before old.server after new.server
-    pub used : old.to_server ≡ used_by call ++ new.to_server
-    pub gave : new.to_client ≡ old.to_client ++ given_with call
-    pub same : new.client ≡ old.client
-
-  -- a call of the client, likewise
+  -- a call of the client: the bytes that it used were the first on their way to it, and those that it gave are the last on their way to the server
   pub record MovesClient (call : ClientCall A) (old new : BothEnds R A) : Type 0 where
     pub before : ℕ
     pub after : ℕ
@@ -98,9 +89,29 @@ module _ {R A : Type 0} (state : R → RepoState) where
     pub gave : new.to_server ≡ old.to_server ++ sent_by call
     pub same : new.server ≡ old.server
 
+  -- one of both has bytes to use that it waits for
+  abbrev pub HasBytes : BothEnds R A → Type 0
+  HasBytes now =
+      ((wants_input now.server ≡ true) × (now.to_server ≢ [])) ⊎ ((waits_for_input now.client ≡ true) × (now.to_client ≢ []))
+
+  -- neither waits for the other: the client can ask, one of both has a packet to give, or one has bytes to use
+  abbrev pub CanGoOn : BothEnds R A → Type 0
+  CanGoOn now =
+      (can_ask now.client ≡ true) ⊎ (ClientGives now.client ⊎ (ServerGives now.server ⊎ HasBytes now))
+
+module _ {R A : Type 0} (state : R → RepoState) (refuses : ℕ → Type 0) where
+  -- a call of the server: the bytes that it used were the first on their way to it, and those that it gave are the last on their way to the client
+  pub record MovesServer (call : ServerCall) (old new : BothEnds R A) : Type 0 where
+    pub before : ℕ
+    pub after : ℕ
+    pub makes : Makes state refuses call before old.server after new.server
+    pub used : old.to_server ≡ used_by call ++ new.to_server
+    pub gave : new.to_client ≡ old.to_client ++ given_with call
+    pub same : new.client ≡ old.client
+
   abbrev pub Moves : EitherCall A → BothEnds R A → BothEnds R A → Type 0
   Moves (of_server call) old new = MovesServer call old new
-  Moves (of_client call) old new = MovesClient call old new
+  Moves (of_client call) old new = MovesClient state call old new
 
   -- the calls were made one after the other
   abbrev pub MoveAll : List (EitherCall A) → BothEnds R A → BothEnds R A → Type 0
@@ -120,13 +131,3 @@ module _ {R A : Type 0} (state : R → RepoState) where
     pub written : CanBeWritten before.answers
     pub same_format : before.answers.format ≡ format
     pub values : All (HasValues format) (history_of calls).asked
-
-  -- one of both has bytes to use that it waits for
-  abbrev pub HasBytes : BothEnds R A → Type 0
-  HasBytes now =
-      ((wants_input now.server ≡ true) × (now.to_server ≢ [])) ⊎ ((waits_for_input now.client ≡ true) × (now.to_client ≢ []))
-
-  -- neither waits for the other: the client can ask, one of both has a packet to give, or one has bytes to use
-  abbrev pub CanGoOn : BothEnds R A → Type 0
-  CanGoOn now =
-      (can_ask now.client ≡ true) ⊎ (ClientGives now.client ⊎ (ServerGives now.server ⊎ HasBytes now))

@@ -15,33 +15,33 @@ ghost use Rattle.git_both_ends.specs.BothEnds.{BothEnds, CanGoOn, EitherCall, Ha
 ghost use Rattle.git_both_ends.specs.Plays.{setting_of};
 ghost use Rattle.git_both_ends.specs.ToldAnswers.{CanBeWritten, told_play};
 
+use git_msg::Memory;
 use git_server::Repo;
-use std::alloc::Allocator;
 
 /// A new server and a new client have met, and so they have after one call more of either, whose bytes come off the one queue and go into
 /// the other: so what holds wherever they have met is about any calls that a program makes.
-pub fn ends_meet_call_by_call<R: Repo, A: Allocator + Copy>()
+pub fn ends_meet_call_by_call<R: Repo, A: Memory + Copy>()
     ensures none { (format : Format) (limit : ℕ) (before : RepoState) (server : Server R A) (client : Client A)
         → IsSound before.answers → CanBeWritten before.answers → before.answers.format ≡ format
         → Running R.state (setting_of (terms_with format) limit before true) [] false [] server → Converses (terms_with format) nothing_yet client
-        → HaveMet R.state format limit before [] (record { server = server; client = client; to_server = []; to_client = [] }) }
+        → HaveMet R.state A.refuses format limit before [] (record { server = server; client = client; to_server = []; to_client = [] }) }
     ensures more { (format : Format) (limit : ℕ) (before : RepoState) (calls : List (EitherCall A)) (call : EitherCall A) (now next : BothEnds R A)
-        → HaveMet R.state format limit before calls now → Moves R.state call now next → All (HasValues format) (history_of (calls ++ call ∷ [])).asked
-        → HaveMet R.state format limit before (calls ++ call ∷ []) next }
+        → HaveMet R.state A.refuses format limit before calls now → Moves R.state A.refuses call now next → All (HasValues format) (history_of (calls ++ call ∷ [])).asked
+        → HaveMet R.state A.refuses format limit before (calls ++ call ∷ []) next }
 {}
 
 /// Neither end waits for the other. After any calls of a server and a client, with any cutting and in any order, what the client has handed
 /// out are the first events of the advertisement and of the repository's answers to what it was asked, unless a pack was lost. As long as
 /// neither has ended, the client can ask, or one of both has a packet to give, or has bytes to use that it waits for. And a client refuses
 /// nothing of a server that has refused nothing: it fails only where its input is closed, or its stream is too long.
-pub fn neither_waits_for_the_other<R: Repo, A: Allocator + Copy>()
+pub fn neither_waits_for_the_other<R: Repo, A: Memory + Copy>()
     ensures front { (format : Format) (limit : ℕ) (before : RepoState) (calls : List (EitherCall A)) (now : BothEnds R A)
-        → HaveMet R.state format limit before calls now → ¬ IsPackLost (outcome_of now.server)
+        → HaveMet R.state A.refuses format limit before calls now → ¬ IsPackLost (outcome_of now.server)
         → (later : List EventValue) × (told_play format before.answers (history_of calls).asked ≡ (history_of calls).events ++ later) }
     ensures goes_on { (format : Format) (limit : ℕ) (before : RepoState) (calls : List (EitherCall A)) (now : BothEnds R A)
-        → HaveMet R.state format limit before calls now
+        → HaveMet R.state A.refuses format limit before calls now
         → fault_of now.client ≡ None → has_left now.client ≡ false → outcome_of now.server ≡ None → CanGoOn R.state now }
     ensures sound { (format : Format) (limit : ℕ) (before : RepoState) (calls : List (EitherCall A)) (now : BothEnds R A) (fault : Fault)
-        → HaveMet R.state format limit before calls now → ¬ HasRefused now.server
+        → HaveMet R.state A.refuses format limit before calls now → ¬ HasRefused now.server
         → fault_of now.client ≡ Some fault → (fault.kind ≡ Truncated) ⊎ (fault.kind ≡ StreamTooLong) }
 {}

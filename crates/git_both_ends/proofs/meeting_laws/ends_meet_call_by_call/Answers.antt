@@ -19,5 +19,5 @@ returns g c = record {
     values = All-nil (HasValues format);
   };
   more = λ format limit before calls call now next met moves values.
-      one_more_call g.R.Repo.state format limit before calls call now next met moves values;
+      one_more_call g.R.Repo.state g.A.Memory.refuses format limit before calls call now next met moves values;
 }
