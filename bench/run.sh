@@ -5,8 +5,8 @@
 #
 # The arguments are the paths of the Rattle programs and of the library for C; without them, where `rt run` and `rt lib` leave them
 # in this repository.
-# `bench/run.sh --c-only` measures the C programs and Git alone; without a git the rows `serve`, `prefixes`, `check` and `fetch` are
-# left out. The streams lie in a new folder of /tmp (or of $BENCH_FOLDER), which is removed at the end, and take 5 GB. Times are
+# `bench/run.sh --c-only` measures the C programs and Git alone; without a git the rows `serve`, `prefixes`, `check`, `fetch` and
+# `clone` are left out. The streams lie in a new folder of /tmp (or of $BENCH_FOLDER), which is removed at the end, and take 5 GB. Times are
 # wall-clock seconds, the best of five runs that alternate; a ratio is C's time by ours, so 1.00 is as fast as C and more is faster.
 set -eu -o pipefail
 shopt -s inherit_errexit
@@ -47,7 +47,9 @@ if [ -z "$c_only" ]; then
     for program in calls client_calls; do
         ${CC:-gcc} -O3 -Wall -Wextra -I"$top/include" -o "$out/$program" "$top/bench/$program.c" "${taken[@]}"
     done
-    ${CC:-gcc} -O2 -Wall -Wextra -I"$top/include" -o "$out/daemon" "$top/examples/daemon.c" "${taken[@]}"
+    for program in daemon upload-pack; do
+        ${CC:-gcc} -O2 -Wall -Wextra -I"$top/include" -o "$out/$program" "$top/examples/$program.c" "${taken[@]}"
+    done
 fi
 
 streams=$(mktemp -d "${BENCH_FOLDER:-/tmp}/git2show-bench.XXXXXX")
@@ -156,6 +158,8 @@ source "$top/bench/prefixes.sh"
 source "$top/bench/check.sh"
 # shellcheck source=bench/fetch.sh
 source "$top/bench/fetch.sh"
+# shellcheck source=bench/clone.sh
+source "$top/bench/clone.sh"
 # shellcheck source=bench/sessions.sh
 source "$top/bench/sessions.sh"
 has_git=$(command -v git || true)
@@ -190,6 +194,7 @@ measure 'names, 1,000,000 of each kind' names "$out/names" "$our_names"
 [ -z "$has_git" ] || measure_prefixes
 [ -z "$has_git" ] || measure_check
 [ -z "$has_git" ] || measure_fetch
+[ -z "$has_git" ] || measure_clone
 echo
 if [ -z "$c_only" ]; then
     same_output
@@ -201,11 +206,12 @@ if [ -z "$c_only" ]; then
     echo "Peak resident set on 10 GB from a pipe: git2show show $our_peak KiB."
 fi
 if [ -z "$has_git" ]; then
-    echo "There is no git here: the rows 'serve', 'prefixes', 'check' and 'fetch' are left out."
+    echo "There is no git here: the rows 'serve', 'prefixes', 'check', 'fetch' and 'clone' are left out."
 elif [ -z "$c_only" ]; then
     tell_serve
     tell_prefixes
     tell_check
     tell_fetch
+    tell_clone
     tell_sessions
 fi

@@ -1,5 +1,6 @@
 /*
- * A client of daemon.c: what is kept of it, and its turn, in which it sends requests and is answered.
+ * A client of daemon.c: what is kept of it, and its turn, in which it sends requests and is answered. Where a folder of Git is served, a process
+ * of `upload-pack` takes it over once it has said what it wants.
  *
  * Whatever it does, it takes a `struct client`, a buffer of one packet in the library, what MOST_KEPT bytes of a request's arguments take
  * there, and nothing else.
@@ -7,13 +8,23 @@
 #include <gitwire.h>
 
 #include <errno.h>
+#include <fcntl.h>
+#include <limits.h>
 #include <poll.h>
+#include <signal.h>
 #include <stdio.h>
+#include <sys/prctl.h>
 #include <sys/socket.h>
+#include <sys/wait.h>
 #include <time.h>
 #include <unistd.h>
 
 #include "greeting.h"
+
+/* How many clients there may be at a time. */
+#ifndef MOST_CLIENTS
+#define MOST_CLIENTS 128
+#endif
 
 /*
  * How many bytes the texts of a request's argument lines may have. For a clone Git sends a line for each reference, `want-ref` and its name, or
@@ -36,8 +47,9 @@
 enum { MOST_PULLS = 64 };
 
 struct client {
-	enum { NOBODY, GREETING, SERVING, ENDING, LEAVING } phase;
-	int connection;
+	enum { NOBODY, GREETING, SERVING, ENDING, LEAVING, HANDED_OVER } phase;
+	int connection;                           /* -1 once it is handed over */
+	pid_t process;                            /* that which has it then */
 	time_t deadline;
 	time_t since;                             /* since when a whole request of it is waited for */
 	bool wants_input, input_ended;            /* what has come is used, and more is due; no more comes */
@@ -48,6 +60,8 @@ struct client {
 };
 
 static gitwire_repository repository = GITWIRE_NONE; /* one for all */
+static const char *folder;                            /* or a folder of Git, and how many seconds `upload-pack` is to wait for a client */
+static char timeout[40];
 static gitwire_writer writer = GITWIRE_NONE; /* of error packets */
 static time_t patience;
 
@@ -113,13 +127,55 @@ static void dismiss(struct client *c, const char *what, const char *why)
 	forget(c);
 }
 
-/* Reads on to the end of the first packet, whose payload comes to where the answer will be. */
+/* Gives the connection to a process of `upload-pack`, which ends where this one does. */
+static void hand_over(struct client *c)
+{
+	pid_t here = getpid();
+
+	c->process = fork();
+	if (c->process == 0) {
+		if (prctl(PR_SET_PDEATHSIG, SIGTERM) != 0 || getppid() != here || fcntl(c->connection, F_SETFL, 0) != 0)
+			_exit(127);
+		signal(SIGINT, SIG_DFL);
+		signal(SIGPIPE, SIG_DFL);
+		dup2(c->connection, STDIN_FILENO);
+		dup2(c->connection, STDOUT_FILENO);
+		execlp("upload-pack", "upload-pack", "--strict", timeout, "--", folder, (char *)NULL);
+		_exit(127);
+	}
+	if (c->process < 0) {
+		refuse(c, "no process can be made");
+		return;
+	}
+	close(c->connection);
+	c->connection = -1;
+	c->phase = HANDED_OVER;
+	c->wants_input = false;
+}
+
+/* Frees the place of a client whose process has ended. */
+static void see_off(struct client *c)
+{
+	char status[40];
+	int ended;
+
+	if (waitpid(c->process, &ended, WNOHANG) != c->process)
+		return;
+	snprintf(status, sizeof status, "%d", WIFEXITED(ended) ? WEXITSTATUS(ended) : 128 + WTERMSIG(ended));
+	if (ended != 0)
+		tell("upload-pack ended with status ", status);
+	c->phase = NOBODY;
+}
+
+/* Reads on to the end of the first packet, whose payload comes to where the answer will be. What follows it stays in the connection. */
 static void greet(struct client *c)
 {
-	gitwire_answer answer = gitwire_packet_reader_feed(&c->packets, c->in + c->in_at, c->in_end - c->in_at, c->out, sizeof c->out);
+	gitwire_answer answer = gitwire_packet_reader_feed(&c->packets, c->in, c->in_end, c->out, sizeof c->out);
 	const char *why;
 
-	c->in_at += answer.used;
+	if (answer.used > 0)
+		c->input_ended |= recv(c->connection, c->in, answer.used, 0) != (ssize_t)answer.used;
+	c->in_end = 0;
 	if (answer.kind == GITWIRE_MORE && !c->input_ended)
 		return;
 	if (answer.kind == GITWIRE_MORE)
@@ -131,6 +187,8 @@ static void greet(struct client *c)
 		refuse(c, text_of(answer));
 	} else if ((why = why_not((const char *)c->out, answer.length)) != NULL) {
 		refuse(c, why);
+	} else if (folder != NULL) {
+		hand_over(c);
 	} else if (gitwire_server_new(&c->server, &repository, MOST_KEPT, true) != GITWIRE_DONE) {
 		refuse(c, "no memory");
 	} else {
@@ -204,7 +262,7 @@ static void turn(struct client *c)
 	ssize_t count;
 
 	if (awaited(c) == POLLIN) {
-		count = recv(c->connection, c->in, sizeof c->in, 0);
+		count = recv(c->connection, c->in, sizeof c->in, c->phase == GREETING ? MSG_PEEK : 0);
 		if (!has_moved(c, count))
 			return;
 		c->in_at = 0;

@@ -1,10 +1,12 @@
 /*
  * Serves one repository to many clients over TCP, in one thread:
  *
+ *     daemon ADDRESS PORT SECONDS NAME FOLDER
  *     daemon ADDRESS PORT SECONDS NAME TEXT PACK [FILTERED]
  *
- * ADDRESS is one of the loopback network. PORT 0 is any that is free; the line on standard output has its number. TEXT is a
- * repository text, and PACK the pack of every fetch; a fetch with a filter gets FILTERED instead, where that is given. A client that
+ * ADDRESS is one of the loopback network. PORT 0 is any that is free; the line on standard output has its number. NAME is how clients name the
+ * repository. FOLDER is one of Git's own: each client of it is handed over to a process of `upload-pack` (upload-pack.c), found on the path. Or
+ * TEXT is a repository text, and PACK the pack of every fetch; a fetch with a filter gets FILTERED instead, where that is given. A client that
  * has not sent within so many SECONDS what it wants is closed, and so is one that then neither reads nor writes for as long. SIGINT
  * ends it.
  *
@@ -23,7 +25,7 @@
 
 #include "client.h"
 
-enum { MOST_CLIENTS = 128, TICK = 500 /* milliseconds */ };
+enum { TICK = 500 /* milliseconds */ };
 
 /* A request is waited for so many seconds at the least, whoever comes. */
 enum { LEAST_SECONDS = 1 };
@@ -89,9 +91,11 @@ static void give_turns(const struct pollfd *polled)
 	for (int i = 0; i < MOST_CLIENTS; i++) {
 		struct client *c = &clients[i];
 
-		if (polled[i].revents)
+		if (c->phase == HANDED_OVER)
+			see_off(c);
+		else if (polled[i].revents)
 			turn(c);
-		if (c->phase != NOBODY && c->deadline < now) /* judged after its turn, which counts */
+		if (c->phase != NOBODY && c->phase != HANDED_OVER && c->deadline < now) /* judged after its turn, which counts */
 			end_late(c);
 	}
 }
@@ -141,6 +145,14 @@ static void open_repository(const char *text_name, const char *pack_name, const 
 		stop(why);
 }
 
+static void open_folder(const char *name)
+{
+	if (access(name, X_OK) != 0)
+		stop("the folder cannot be read");
+	folder = name;
+	snprintf(timeout, sizeof timeout, "--timeout=%lld", (long long)patience);
+}
+
 static int listen_at(const char *address, uint16_t port, const char *name)
 {
 	struct sockaddr_in at = { .sin_family = AF_INET, .sin_port = htons(port) };
@@ -175,8 +187,8 @@ static void end(int number)
 
 int main(int count, char **words)
 {
-	if (count != 7 && count != 8) {
-		fputs("usage: daemon ADDRESS PORT SECONDS NAME TEXT PACK [FILTERED]\n", stderr);
+	if (count < 6 || count > 8) {
+		fputs("usage: daemon ADDRESS PORT SECONDS NAME FOLDER, or daemon ADDRESS PORT SECONDS NAME TEXT PACK [FILTERED]\n", stderr);
 		return 2;
 	}
 	patience = number_of(words[3], 1, 86400);
@@ -184,13 +196,16 @@ int main(int count, char **words)
 		stop("the name is too long");
 	signal(SIGINT, end);
 	signal(SIGPIPE, SIG_IGN); /* who is gone is seen by a write that fails; whoever read what is reported here may be gone too */
-	open_repository(words[5], words[6], words[7]); /* after the last word comes a NULL */
+	if (count == 6)
+		open_folder(words[5]);
+	else
+		open_repository(words[5], words[6], words[7]); /* after the last word comes a NULL */
 	if (gitwire_writer_new(&writer) != GITWIRE_DONE)
 		stop("no memory");
 	int listener = listen_at(words[1], (uint16_t)number_of(words[2], 0, 65535), words[4]);
 	run(listener);
 	for (struct client *c = clients; c < clients + MOST_CLIENTS; c++)
-		if (c->phase != NOBODY)
+		if (c->phase != NOBODY && c->phase != HANDED_OVER)
 			forget(c);
 	close(listener);
 	gitwire_repository_free(&repository);

@@ -32,6 +32,12 @@ static void cut_filter(const char **rest, char *part)
 	*rest += **rest == '+';
 }
 
+/* Whether a text is a number in decimal digits and no greater. Git would take `0x10` and `1k` for numbers too. */
+static bool is_number_up_to(const char *text, unsigned long most)
+{
+	return *text != 0 && text[strspn(text, "0123456789")] == 0 && strtoul(text, NULL, 10) <= most;
+}
+
 /* Where it does not, the reason is what the client receives. `depth` is how many filters of filters there may be. */
 static bool may_filter(const char *filter, size_t depth, char *reason, size_t room)
 {
@@ -45,7 +51,7 @@ static bool may_filter(const char *filter, size_t depth, char *reason, size_t ro
 		snprintf(reason, room, "filter '%s' not supported", kind);
 		return false;
 	}
-	if (strcmp(kind, "tree") == 0 && most != NULL && strtoul(filter + 5, NULL, 10) > strtoul(most, NULL, 10)) {
+	if (strcmp(kind, "tree") == 0 && most != NULL && !is_number_up_to(filter + 5, strtoul(most, NULL, 10))) {
 		snprintf(reason, room, "tree filter allows max depth %s, but got %s", most, filter + 5);
 		return false;
 	}

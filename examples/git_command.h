@@ -1,16 +1,20 @@
-/* Commands of Git as processes, each with a pipe to its input and one from its output. */
+/* Commands of Git as processes, each with a pipe to its input and one from its output. No shell reads their words. */
 #include <fcntl.h>
+#include <signal.h>
 #include <stdbool.h>
 #include <stdio.h>
 #include <stdlib.h>
-#include <sys/types.h>
+#include <sys/prctl.h>
 #include <sys/wait.h>
 #include <unistd.h>
+
+/* Where a command reports: to where this program does, among its output, or to a pipe of its own. */
+enum reports { TO_ERRORS, TO_OUTPUT, TO_PIPE };
 
 struct command {
 	pid_t id;
 	FILE *input, *output;
-	int messages; /* a pipe of what it reports, or -1 where that goes to where this program reports */
+	int messages; /* the pipe of what it reports, or -1 */
 	bool is_fed;
 	char *line;
 	size_t room;
@@ -19,35 +23,32 @@ struct command {
 /* Ends the program, and the session where one goes on, since a command of Git failed. */
 static _Noreturn void fail(const char *what);
 
-/* A pipe of which no other command gets an end: else one that is to end at the end of its input would wait for the others. */
-static bool make_pipe(int *ends)
-{
-	return pipe(ends) == 0 && fcntl(ends[0], F_SETFD, FD_CLOEXEC) == 0 && fcntl(ends[1], F_SETFD, FD_CLOEXEC) == 0;
-}
-
-/* Starts the command of these words, of which the last is NULL: no shell reads them. Ends the program where it cannot. */
-static void start(struct command *command, bool with_messages, const char *const *words)
+/* Starts the command of these words, of which the last is NULL. It ends where this program does, however that ends. */
+static void start(struct command *command, enum reports reports, const char *const *words)
 {
 	int input[2], output[2], messages[2] = { -1, -1 };
+	pid_t here = getpid();
 
-	if (!make_pipe(input) || !make_pipe(output) || (with_messages && !make_pipe(messages)))
+	if (pipe2(input, O_CLOEXEC) != 0 || pipe2(output, O_CLOEXEC) != 0 || (reports == TO_PIPE && pipe2(messages, O_CLOEXEC) != 0))
 		fail("no pipe can be made");
-	*command = (struct command){ .id = fork() };
+	*command = (struct command){ .id = fork(), .messages = messages[0] };
 	if (command->id == 0) {
+		if (prctl(PR_SET_PDEATHSIG, SIGTERM) != 0 || getppid() != here)
+			_exit(127);
+		signal(SIGPIPE, SIG_DFL);
 		dup2(input[0], STDIN_FILENO);
 		dup2(output[1], STDOUT_FILENO);
-		if (with_messages)
-			dup2(messages[1], STDERR_FILENO);
+		if (reports != TO_ERRORS)
+			dup2(reports == TO_PIPE ? messages[1] : output[1], STDERR_FILENO);
 		execvp(words[0], (char *const *)words);
 		_exit(127);
 	}
 	close(input[0]);
 	close(output[1]);
-	if (with_messages)
+	if (reports == TO_PIPE)
 		close(messages[1]);
 	command->input = fdopen(input[1], "w");
 	command->output = fdopen(output[0], "r");
-	command->messages = messages[0];
 	if (command->id < 0 || command->input == NULL || command->output == NULL)
 		fail("a command of Git cannot be started");
 }
@@ -57,6 +58,13 @@ static void end_input(struct command *command)
 {
 	command->is_fed = !ferror(command->input);
 	command->is_fed &= fclose(command->input) == 0;
+}
+
+/* Starts a command that has no input. */
+static void start_alone(struct command *command, enum reports reports, const char *const *words)
+{
+	start(command, reports, words);
+	end_input(command);
 }
 
 /* Waits for its end: its status, which is 0 where it did what it was to do. One that was killed or did not take its input has none, -1. */
@@ -74,31 +82,26 @@ static int end(struct command *command)
 	return WEXITSTATUS(status);
 }
 
-/* The next line of its output without its LF, until the next call, or NULL at the end. */
+/* The next line of its output without its LF, until the next call, or NULL at the end. What ends without an LF was cut off, and is none. */
 static char *next_line(struct command *command)
 {
 	ssize_t length = getline(&command->line, &command->room, command->output);
 
-	if (length <= 0)
+	if (length <= 0 || command->line[length - 1] != '\n')
 		return NULL;
-	if (command->line[length - 1] == '\n')
-		command->line[length - 1] = 0;
+	command->line[length - 1] = 0;
 	return command->line;
 }
 
-/* What a command without input prints, a line that has room: false where it says by its status of 1 that there is no such thing. */
-static bool ask(const char *const *words, char *answer, size_t room)
+/* What it printed, a line that has room: false where it says by its status of 1 that there is no such thing. */
+static bool answer_of(struct command *command, char *answer, size_t room)
 {
-	struct command command;
-	char *line;
+	char *line = next_line(command);
 	int status;
 
-	start(&command, false, words);
-	end_input(&command);
-	line = next_line(&command);
-	if (snprintf(answer, room, "%s", line == NULL ? "" : line) >= (int)room || next_line(&command) != NULL)
+	if (snprintf(answer, room, "%s", line == NULL ? "" : line) >= (int)room || next_line(command) != NULL)
 		fail("a command of Git prints more than it should");
-	status = end(&command);
+	status = end(command);
 	if (status != 0 && status != 1)
 		fail("a command of Git failed");
 	return status == 0;

@@ -2,17 +2,11 @@
 #include "store.h"
 
 /* What is asked for, looked up in the repository. */
-static struct names wants, common;
-static struct names client_boundary;  /* the commits of it whose parents the client has not */
+static struct names wants, common, excluded;
+static struct names client_boundary; /* the commits of it whose parents the client has not */
 
 /* What comes of it: the lines of the boundary. */
 static struct names shallows, unshallows;
-
-static void write_names(FILE *to, const char *before, const struct names *names)
-{
-	for (size_t i = 0; i < names->length; i++)
-		fprintf(to, "%s%s\n", before, names->at[i].digits);
-}
 
 /* Starts `git rev-list` from these commits on, without what the excluded ones lead to: parents come before children, each with all its parents. */
 static void start_walk(struct command *walk, const struct names *from, const struct names *excluded, uint64_t since)
@@ -21,32 +15,35 @@ static void start_walk(struct command *walk, const struct names *from, const str
 	const char *words[] = { "git", "rev-list", "--parents", "--topo-order", "--reverse", "--stdin", since > 0 ? age : NULL, NULL };
 
 	snprintf(age, sizeof age, "--max-age=%llu", (unsigned long long)since);
-	start(walk, false, words);
+	start(walk, TO_ERRORS, words);
 	write_names(walk->input, "", from);
 	write_names(walk->input, "^", excluded);
 	end_input(walk);
 }
 
-/* The commits that are wanted, those of tags too. */
-static void peel_wants(struct names *commits)
+/* Adds those of these objects that are commits, and the commits that the tags among them are of. */
+static void add_commits(const struct names *of, struct names *commits)
 {
-	struct found found;
+	struct names tags = { 0 };
 
-	for (size_t i = 0; i < wants.length; i++)
-		if (find_peeled(wants.at[i].digits, &found) && strcmp(found.type, "commit") == 0)
-			add_name(commits, found.id);
+	find_all(of, "", "commit", commits);
+	find_all(of, "", "tag", &tags);
+	find_all(&tags, "^{}", "commit", commits);
+	clear_names(&tags);
 }
 
 /* Whether a commit or a parent of it is known. */
 static bool reaches(const struct names *known, const char *commit)
 {
-	struct names parents = { 0 };
+	struct names alone = { 0 }, parents = { 0 };
 	bool is_so = has_name(known, commit);
 
+	add_name(&alone, commit);
 	if (!is_so)
-		read_commit(commit, &parents);
+		read_commits(&alone, &parents);
 	for (size_t i = 0; i < parents.length; i++)
 		is_so |= has_name(known, parents.at[i].digits);
+	clear_names(&alone);
 	clear_names(&parents);
 	return is_so;
 }
@@ -57,21 +54,18 @@ static bool reaches(const struct names *known, const char *commit)
  */
 static bool is_enough_common(void)
 {
-	struct names known = { 0 }, wanted = { 0 }, none = { 0 };
-	uint64_t oldest = UINT64_MAX, date;
+	struct names known = { 0 }, parents = { 0 }, wanted = { 0 }, none = { 0 };
 	struct command walk;
-	struct found found;
+	uint64_t oldest;
 	bool is_enough;
 
-	for (size_t i = 0; i < common.length; i++)
-		if (find(common.at[i].digits, &found) && strcmp(found.type, "commit") == 0) {
-			add_name(&known, found.id);
-			date = read_commit(found.id, &known);
-			oldest = date < oldest ? date : oldest;
-		}
+	find_all(&common, "", "commit", &known);
 	if (known.length == 0)
 		return false;
-	peel_wants(&wanted);
+	oldest = read_commits(&known, &parents);
+	for (size_t i = 0; i < parents.length; i++)
+		add_name(&known, parents.at[i].digits);
+	add_commits(&wants, &wanted);
 	start_walk(&walk, &wanted, &none, oldest);
 	for (char *line; (line = next_line(&walk)) != NULL;) {
 		char *commit = strsep(&line, " ");
@@ -86,6 +80,7 @@ static bool is_enough_common(void)
 	for (size_t i = 0; i < wanted.length; i++)
 		is_enough &= reaches(&known, wanted.at[i].digits);
 	clear_names(&known);
+	clear_names(&parents);
 	clear_names(&wanted);
 	return is_enough;
 }
@@ -104,20 +99,17 @@ static void note_boundary(const struct names *within, const struct names *last)
 /* Cuts the history of the commits in `within` off at this depth, and where `ends` or the repository itself ends. */
 static void cut_at_depth(struct names *within, uint64_t depth, const struct names *ends)
 {
-	struct names last = { 0 };
-	size_t level_end = within->length;
+	struct names last = { 0 }, inner;
 
-	for (size_t i = 0; i < within->length; i++) {
-		struct name commit = within->at[i];
-
-		if (i == level_end) {
-			depth--;
-			level_end = within->length;
-		}
-		if (depth <= 1 || has_name(&own_boundary, commit.digits) || has_name(ends, commit.digits))
-			add_name(&last, commit.digits);
-		else
-			read_commit(commit.digits, within);
+	for (size_t at = 0; at < within->length; depth--) {
+		inner = (struct names){ 0 };
+		for (; at < within->length; at++)
+			if (depth <= 1 || has_name(&own_boundary, within->at[at].digits) || has_name(ends, within->at[at].digits))
+				add_name(&last, within->at[at].digits);
+			else
+				add_name(&inner, within->at[at].digits);
+		read_commits(&inner, within);
+		clear_names(&inner);
 	}
 	note_boundary(within, &last);
 	clear_names(&last);
@@ -133,7 +125,7 @@ static void find_reachable(struct names *commits)
 	struct names others = { 0 };
 	struct command walk;
 
-	start(&walk, false, hidden ? all : shown);
+	start(&walk, TO_ERRORS, hidden ? all : shown);
 	write_names(walk.input, "", &client_boundary);
 	end_input(&walk);
 	for (char *line; (line = next_line(&walk)) != NULL;)

@@ -1,11 +1,17 @@
 #!/bin/sh
 # Git's smart HTTP for fetches, as a CGI script: a web server runs it for each request below an address, and Git fetches from
-# that address. GIT_PROJECT_ROOT is a folder that has NAME.repo, a repository text, and NAME.pack for each repository, of which
-# the path is /NAME or /NAME.git; a name may have slashes. Where NAME.filtered is there too, it is the pack of requests with a filter.
-# It needs `git2show` and `gzip` on the path: Git's client compresses the body of a longer request.
+# that address. GIT_PROJECT_ROOT is a folder that has the repositories; the path of one is /NAME or /NAME.git, and a name may have slashes. A
+# repository is one of these:
 #
-# Status 200 is answered once git2show has written its first bytes, or has ended well without any. Where it cannot serve a repository
-# the status is 500, and a line on standard error, which web servers keep in a log, names the file.
+#   - a folder of Git's own, NAME/.git, NAME, NAME.git/.git or NAME.git, that has a file `git-daemon-export-ok`, or any where GIT_HTTP_EXPORT_ALL is
+#     set: `upload-pack` (upload-pack.c) serves it, with `git`;
+#   - NAME.repo, a repository text, and NAME.pack: `git2show` serves these. Where NAME.filtered is there too, it is the pack of requests with a
+#     filter.
+#
+# These programs and `gzip` are to be on the path: Git's client compresses the body of a longer request.
+#
+# Status 200 is answered once the program has written its first bytes, or has ended well without any. Where it cannot serve a repository
+# the status is 500, and a line on standard error, which web servers keep in a log, names it.
 set -eu
 
 # refuse STATUS TEXT: answers with a line for the user, which Git prints. A body that was not read is read first: where a script ends
@@ -38,7 +44,7 @@ body() {
 }
 
 # whole_body: the same, written only after it has been read to its end: fcgiwrap, for one, reads no answer before it has passed a body
-# on. What is beyond 32 MiB, twice what git2show keeps of a request, is dropped.
+# on. What is beyond 32 MiB, twice what is kept of a request, is dropped.
 whole_body() {
     body | {
         head -c 33554432
@@ -54,7 +60,7 @@ request() {
     esac
 }
 
-# pass_on: answers with what git2show writes, as it comes. Its first four bytes are the digits of a packet's length, so a variable
+# pass_on: answers with what the program writes, as it comes. Its first four bytes are the digits of a packet's length, so a variable
 # can hold them.
 pass_on() {
     first=$(first_four)
@@ -65,6 +71,22 @@ pass_on() {
     begin_answer
     printf %s "$first"
     cat
+}
+
+# folder_of REPOSITORY: the folder of Git's own that this name leads to, if any.
+folder_of() {
+    for folder in "$1/.git" "$1" "$1.git/.git" "$1.git"; do
+        if [ -e "$folder/HEAD" ] || [ -h "$folder/HEAD" ]; then
+            printf %s "$folder"
+            return
+        fi
+    done
+}
+
+# may_serve FOLDER: whether its owner lets it be served over HTTP, as Git's own script has it.
+may_serve() {
+    [ -n "${GIT_HTTP_EXPORT_ALL+set}" ] || [ -e "$1/git-daemon-export-ok" ] || refuse '404 Not Found' 'no such repository'
+    [ "$(git --git-dir="$1" config --bool http.uploadpack)" != false ] || refuse '403 Forbidden' 'this repository is not served by HTTP'
 }
 
 # Whether there is a body that was not read.
@@ -91,15 +113,25 @@ case /$name in
 esac
 [ -n "${GIT_PROJECT_ROOT:-}" ] || fail 'GIT_PROJECT_ROOT is not set'
 repository=$GIT_PROJECT_ROOT/$name
-[ -e "$repository.repo" ] || refuse '404 Not Found' 'no such repository'
-for part in repo pack filtered; do
-    file=$repository.$part
-    if [ $part = filtered ] && [ ! -e "$file" ]; then continue; fi
-    if [ ! -r "$file" ] || [ -d "$file" ]; then fail "cannot read $file"; fi
-    set -- "$@" --$part "$file"
-done
-for program in git2show gzip; do
-    command -v $program > /dev/null || fail "$program is not on the path, $PATH"
+if [ -e "$repository.repo" ]; then
+    program=git2show
+    served=$repository.repo
+    set -- serve "$@"
+    for part in repo pack filtered; do
+        file=$repository.$part
+        if [ $part = filtered ] && [ ! -e "$file" ]; then continue; fi
+        if [ ! -r "$file" ] || [ -d "$file" ]; then fail "cannot read $file"; fi
+        set -- "$@" --$part "$file"
+    done
+else
+    program=upload-pack
+    served=$(folder_of "$repository")
+    [ -n "$served" ] || refuse '404 Not Found' 'no such repository'
+    may_serve "$served"
+    set -- "$@" --strict -- "$served"
+fi
+for tool in $program gzip; do
+    command -v $tool > /dev/null || fail "$tool is not on the path, $PATH"
 done
 
 unread=no
@@ -118,9 +150,9 @@ esac
 
 # Descriptor 3 collects what went wrong. That counts only where nothing was written: else the answer itself ends with the fault.
 exec 4>&1
-outcome=$({ { request | git2show serve "$@" || printf 'git2show ended with status %s, ' $? >&3; } | pass_on >&4; } 3>&1)
+outcome=$({ { request | $program "$@" || printf '%s ended with status %s, ' $program $? >&3; } | pass_on >&4; } 3>&1)
 case $outcome in
-    *git2show*nothing*) fail "cannot serve $repository.repo: $outcome" ;;
+    *$program*nothing*) fail "cannot serve $served: $outcome" ;;
     *gzip*nothing*) refuse '400 Bad Request' 'the body of the request is not compressed as its head states' ;;
     *nothing*) begin_answer ;;
 esac

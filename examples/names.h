@@ -69,3 +69,10 @@ static void add_name(struct names *names, const char *digits)
 	names->length++;
 	*find_place(names, digits) = names->length;
 }
+
+/* Writes each on a line of its own, after this text. */
+static void write_names(FILE *to, const char *before, const struct names *names)
+{
+	for (size_t i = 0; i < names->length; i++)
+		fprintf(to, "%s%s\n", before, names->at[i].digits);
+}

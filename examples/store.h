@@ -1,40 +1,21 @@
 /*
- * A Git repository on disk, by the commands of Git. What a client sends reaches them by their input or as a part of a longer word, and never as a
- * word of its own that could be an option.
+ * A Git repository on disk: its settings, its references by their names, and how it is entered. What a client sends reaches commands of Git by
+ * their input, as a part of a longer word, or as a pattern that begins with `refs/`, and never as a word of its own that could be an option.
  */
-#include <gitwire.h>
+#include "objects.h"
+#include "texts.h"
 
-#include "git_command.h"
-#include "names.h"
-
+#include <errno.h>
 #include <limits.h>
 #include <strings.h>
 #include <sys/stat.h>
 
 #define LINE_ROOM (2 * GITWIRE_REFERENCE_NAME_ROOM)
 
-static struct command objects;         /* git cat-file --batch-command, which runs as long as the session */
-static char *configuration;            /* each KEY LF VALUE NUL, or KEY NUL, in their order */
+static char *configuration;         /* each KEY LF VALUE NUL, or KEY NUL, in their order */
 static size_t configuration_length;
-static char space[4096];               /* what the names of references begin with in the namespace that is served */
-static struct names own_boundary;      /* the commits at which the history of the repository itself is cut off */
-
-/* Reads all that the configuration has: a few kilobytes. */
-static void read_configuration(void)
-{
-	static const char *const words[] = { "git", "config", "-z", "--list", NULL };
-	FILE *kept = open_memstream(&configuration, &configuration_length);
-	struct command command;
-	char bytes[4096];
-	size_t length;
-
-	start(&command, false, words);
-	end_input(&command);
-	while ((length = fread(bytes, 1, sizeof bytes, command.output)) > 0)
-		fwrite(bytes, 1, length, kept);
-	if (end(&command) != 0 || fclose(kept) != 0)
-		fail("the configuration cannot be read");
-}
+static char space[4096];            /* what the names of references begin with in the namespace that is served */
+static struct texts hidden;         /* the values of the settings of hidden references, in their order */
 
 /* The next setting of this key after `last`, or the first one after NULL: its value, which is empty where it has none. NULL if there is none. */
 static const char *next_value(const char *key, const char *last)
@@ -65,12 +46,32 @@ static bool is_set(const char *key, bool otherwise)
 	return strcasecmp(value, "true") == 0 || strcasecmp(value, "yes") == 0 || strcasecmp(value, "on") == 0 || strtol(value, NULL, 10) != 0;
 }
 
+/* Reads all that the configuration has, a few kilobytes, from `git config -z --list`. */
+static void read_configuration(struct command *command)
+{
+	FILE *kept = open_memstream(&configuration, &configuration_length);
+	char bytes[4096];
+	size_t length;
+
+	while (kept != NULL && (length = fread(bytes, 1, sizeof bytes, command->output)) > 0)
+		fwrite(bytes, 1, length, kept);
+	if (end(command) != 0 || kept == NULL || fclose(kept) != 0)
+		fail("the configuration cannot be read");
+	for (const char *entry = configuration; entry < configuration + configuration_length; entry += strlen(entry) + 1)
+		if (strncmp(entry, "transfer.hiderefs\n", 18) == 0 || strncmp(entry, "uploadpack.hiderefs\n", 20) == 0)
+			add_text(&hidden, "%s", strchr(entry, '\n') + 1);
+}
+
 /* A program that the owner of this machine wants to be started in the place of `git`, for packs: what the repository's own settings say is no such. */
 static bool find_hook(char *hook, size_t room)
 {
 	static const char *const words[] = { "git", "--git-dir=/nonexistent", "config", "uploadpack.packobjectshook", NULL };
+	struct command command;
 
-	return next_value("uploadpack.packobjectshook", NULL) != NULL && ask(words, hook, room) && *hook != 0;
+	if (next_value("uploadpack.packobjectshook", NULL) == NULL)
+		return false;
+	start_alone(&command, TO_ERRORS, words);
+	return answer_of(&command, hook, room) && *hook != 0;
 }
 
 /* Whether a reference, by its whole name, is in the namespace that is served. */
@@ -98,126 +99,117 @@ static bool is_hidden_by(const char *pattern, const char *name)
 /* Whether a reference, by its whole name, is hidden: the last setting that speaks of it counts. */
 static bool is_hidden(const char *name)
 {
-	bool hidden = false;
+	for (size_t i = hidden.length; i > 0; i--) {
+		const char *pattern = hidden.at[i - 1];
 
-	for (const char *entry = configuration; entry < configuration + configuration_length; entry += strlen(entry) + 1) {
-		const char *value = strchr(entry, '\n');
-
-		if (value == NULL || (strncmp(entry, "transfer.hiderefs\n", 18) != 0 && strncmp(entry, "uploadpack.hiderefs\n", 20) != 0))
-			continue;
-		if (is_hidden_by(value + 1 + (value[1] == '!'), name))
-			hidden = value[1] != '!';
+		if (is_hidden_by(pattern + (*pattern == '!'), name))
+			return *pattern != '!';
 	}
-	return hidden;
+	return false;
 }
 
-/* Looks up an object by its digits, or by those with `^{}` after them: its digits, type and size. */
-struct found {
-	char id[GITWIRE_OBJECT_NAME_ROOM + 1], type[16];
-	unsigned long long size;
-};
-static bool ask_objects(const char *what, const char *id, struct found *found)
+/* HEAD of the namespace, whose name has room for it: its target where it is symbolic, else an empty text. */
+static void start_head(struct command *command, char *name, size_t room)
 {
-	char line[256];
+	const char *const words[] = { "git", "symbolic-ref", "-q", "--", name, NULL };
 
-	if (fprintf(objects.input, "%s %s\n", what, id) < 0 || fflush(objects.input) != 0 || fgets(line, sizeof line, objects.output) == NULL)
-		fail("git cat-file ended");
-	return sscanf(line, "%64s %15s %llu", found->id, found->type, &found->size) == 3;
+	snprintf(name, room, "%sHEAD", space);
+	start_alone(command, TO_ERRORS, words);
 }
 
-static bool find(const char *id, struct found *found)
+static void receive_head(struct command *command, char *target, size_t room)
 {
-	return ask_objects("info", id, found);
+	if (!answer_of(command, target, room))
+		*target = 0;
 }
 
-/* What a tag, or a tag of a tag, is of, and of any other object that itself. */
-static bool find_peeled(const char *id, struct found *found)
+/* Whether a text can be the pattern of references: none of them has a byte that a pattern has a meaning for. */
+static bool is_pattern(const char *text)
 {
-	char peeled[GITWIRE_OBJECT_NAME_ROOM + 4];
-
-	snprintf(peeled, sizeof peeled, "%.*s^{}", GITWIRE_OBJECT_NAME_ROOM, id);
-	return find(id, found) && (strcmp(found->type, "tag") != 0 || find(peeled, found));
+	return strncmp(text, "refs/", 5) == 0 && strpbrk(text, "*?[\\ ") == NULL;
 }
 
-/* Reads a commit: its parents are added to `parents`, unless the history of the repository ends at it, and its date is returned. */
-static uint64_t read_commit(const char *id, struct names *parents)
+/* How many references are asked for by their names or by patterns. Where more are wanted, all are read. */
+enum { PATTERNS = 16 };
+
+static int compare_texts(const void *one, const void *other)
 {
-	static char *line;
-	static size_t room;
-	struct found found;
-	uint64_t date = 0;
-	ssize_t length;
-	unsigned long long left;
-
-	if (!ask_objects("contents", id, &found) || strcmp(found.type, "commit") != 0)
-		fail("a commit cannot be read");
-	for (left = found.size + 1; left > 0 && (length = getline(&line, &room, objects.output)) > 1; left -= (unsigned long long)length) {
-		char *end = strrchr(line, '>');
-
-		line[length - 1] = 0;
-		if (strncmp(line, "parent ", 7) == 0 && !has_name(&own_boundary, id))
-			add_name(parents, line + 7);
-		else if (strncmp(line, "committer ", 10) == 0 && end != NULL)
-			date = strtoull(end + 1, NULL, 10);
-	}
-	if (left > 0)
-		left--; /* the LF of the empty line */
-	for (; left > 0; left--)
-		if (getc_unlocked(objects.output) == EOF)
-			fail("git cat-file ended");
-	return date;
+	return strcmp(*(char *const *)one, *(char *const *)other);
 }
 
-/* The object of the reference of just this name: false where there is none. */
-static bool find_reference(const char *name, char *id)
+static int compare_to_line(const void *name, const void *line)
 {
-	const char *const words[] = { "git", "for-each-ref", "--format=%(objectname) %(refname)", "--", name, NULL };
+	return strcmp(name, strchr(*(char *const *)line, ' ') + 1);
+}
+
+/* Adds the lines `ID NAME` of those of the references of these whole names that are there. They rise by their names. */
+static void find_references(struct texts *names, struct texts *lines)
+{
+	const char *words[4 + PATTERNS + 1] = { "git", "for-each-ref", "--format=%(objectname) %(refname)", "--" };
 	struct command command;
-	bool found = false;
 
-	start(&command, false, words);
-	end_input(&command);
-	for (char *line; (line = next_line(&command)) != NULL;) {
-		size_t length = strcspn(line, " ");
-
-		if (length <= GITWIRE_OBJECT_NAME_ROOM && line[length] == ' ' && strcmp(line + length + 1, name) == 0) {
-			found = true;
-			snprintf(id, GITWIRE_OBJECT_NAME_ROOM + 1, "%.*s", (int)length, line);
-		}
+	for (size_t i = 0; names->length <= PATTERNS && i < names->length; i++)
+		words[4 + i] = names->at[i];
+	if (names->length == 0)
+		return;
+	qsort(names->at, names->length, sizeof *names->at, compare_texts);
+	start_alone(&command, TO_ERRORS, words);
+	for (char *line, *name; (line = next_line(&command)) != NULL;) {
+		if ((name = strchr(line, ' ')) == NULL)
+			fail("git for-each-ref prints no line of a reference");
+		name++;
+		if (bsearch(&name, names->at, names->length, sizeof *names->at, compare_texts) != NULL)
+			add_text(lines, "%s", line);
 	}
 	if (end(&command) != 0)
 		fail("git for-each-ref failed");
-	return found;
 }
 
-/* HEAD: its target, empty where it is none, and its object, false where there is none. */
-static bool find_head(char *target, size_t room, char *id)
+/* The object of the reference of just this name in such lines: false where there is none. */
+static bool find_reference(const struct texts *lines, const char *name, char *id)
 {
-	char name[sizeof space + 4];
-	const char *const ask_target[] = { "git", "symbolic-ref", "-q", "--", name, NULL };
-	const char *const ask_object[] = { "git", "rev-parse", "--verify", "-q", "--end-of-options", name, NULL };
+	char *const *line = lines->length == 0 ? NULL : bsearch(name, lines->at, lines->length, sizeof *lines->at, compare_to_line);
 
-	snprintf(name, sizeof name, "%sHEAD", space);
-	if (ask(ask_target, target, room))
-		return find_reference(target, id);
-	*target = 0;
-	return ask(ask_object, id, GITWIRE_OBJECT_NAME_ROOM + 1);
+	if (line != NULL)
+		snprintf(id, GITWIRE_OBJECT_NAME_ROOM + 1, "%.*s", (int)strcspn(*line, " "), *line);
+	return line != NULL;
 }
 
-/* Whether this is the folder of a repository, or a file that leads to one, whose folder `path` becomes. */
+/* The object of HEAD by its name and target: false where it is unborn. */
+static bool find_head(const char *name, const char *target, struct found *found)
+{
+	struct texts names = { 0 }, lines = { 0 };
+	bool is_there = find(name, found);
+
+	if (!is_there && *target != 0) {
+		add_text(&names, "%s", target);
+		find_references(&names, &lines);
+	}
+	if (!is_there && (lines.length > 0 || (*target == 0 && *space == 0))) /* a namespace may have none */
+		fail("HEAD leads to no object");
+	clear_texts(&names);
+	clear_texts(&lines);
+	return is_there;
+}
+
+/*
+ * Whether this is the folder of a repository, or a file that leads to one, whose folder `path` becomes. A file of another user than this process
+ * has leads to none: the folder could be any that this user may read.
+ */
 static bool leads_to_repository(char *path, size_t room)
 {
 	char line[PATH_MAX], inner[PATH_MAX + 16];
 	struct stat state;
 	size_t folder = (size_t)(strrchr(path, '/') == NULL ? 0 : strrchr(path, '/') - path + 1);
 	bool is_line;
+	FILE *file;
 
 	if (stat(path, &state) != 0)
 		return false;
 	if (S_ISREG(state.st_mode)) {
-		FILE *file = fopen(path, "r");
-
-		is_line = file != NULL && fgets(line, sizeof line, file) != NULL && strncmp(line, "gitdir: ", 8) == 0;
+		file = fopen(path, "r");
+		is_line = file != NULL && fstat(fileno(file), &state) == 0 && (state.st_uid == geteuid() || state.st_uid == 0)
+			&& fgets(line, sizeof line, file) != NULL && strncmp(line, "gitdir: ", 8) == 0;
 		if (file != NULL)
 			fclose(file);
 		if (!is_line)
@@ -235,14 +227,16 @@ static bool leads_to_repository(char *path, size_t room)
 /* What the repository in this folder says of itself: its object format, and where its history is cut off. False where this is the folder of none. */
 static bool read_repository(uint8_t *format)
 {
-	static const char *const words[] = { "git", "rev-parse", "--git-dir", "--show-object-format", "--git-path", "shallow", NULL };
+	static const char *const ask[] = { "git", "-c", "safe.bareRepository=all", "rev-parse", "--git-dir", "--show-object-format", "--git-path",
+		"shallow", NULL };
+	static const char *const settings[] = { "git", "-c", "safe.bareRepository=all", "config", "-z", "--list", NULL };
 	char line[GITWIRE_OBJECT_NAME_ROOM + 2], *answer;
-	struct command command;
+	struct command command, configured;
 	FILE *boundary;
 	bool is_here;
 
-	start(&command, false, words);
-	end_input(&command);
+	start_alone(&command, TO_ERRORS, ask);
+	start_alone(&configured, TO_ERRORS, settings); /* meanwhile */
 	is_here = (answer = next_line(&command)) != NULL && strcmp(answer, ".") == 0;
 	*format = (answer = next_line(&command)) != NULL && strcmp(answer, "sha256") == 0 ? GITWIRE_SHA256 : GITWIRE_SHA1;
 	boundary = (answer = next_line(&command)) == NULL ? NULL : fopen(answer, "r");
@@ -252,7 +246,10 @@ static bool read_repository(uint8_t *format)
 	}
 	if (boundary != NULL)
 		fclose(boundary);
-	return end(&command) == 0 && is_here;
+	if (end(&command) != 0 || !is_here)
+		return false;
+	read_configuration(&configured);
+	return true;
 }
 
 /* Goes into the repository, as Git finds it by this name: `strict` is by no other. Git is to look no further up, and judges whose folder it is. */
@@ -264,7 +261,7 @@ static bool enter(const char *name, bool strict, uint8_t *format)
 
 	while (!strict && length > 1 && name[length - 1] == '/')
 		length--;
-	for (size_t i = strict ? 1 : 0; i < (strict ? 2 : 4); i++) {
+	for (size_t i = strict ? 1 : 0; length > 0 && i < (strict ? 2 : 4); i++) {
 		if ((size_t)snprintf(path, sizeof path, "%.*s%s", (int)length, name, ends[i]) >= sizeof path || !leads_to_repository(path, sizeof path))
 			continue;
 		if (chdir(path) != 0 || getcwd(path, sizeof path) == NULL)
@@ -273,12 +270,14 @@ static bool enter(const char *name, bool strict, uint8_t *format)
 		setenv("GIT_CEILING_DIRECTORIES", path, 1);
 		unsetenv("GIT_DIR");
 		unsetenv("GIT_WORK_TREE");
+		setenv("GIT_NO_REPLACE_OBJECTS", "1", 1);
+		setenv("GIT_NO_LAZY_FETCH", "1", 0);
 		return read_repository(format) && setenv("GIT_DIR", ".", 1) == 0;
 	}
 	return false;
 }
 
-/* The namespace that is served: `a/b` of the environment is `refs/namespaces/a/refs/namespaces/b/`. */
+/* The namespace that is served: `a/b` of the environment is `refs/namespaces/a/refs/namespaces/b/`. Git has judged it where it read the repository. */
 static void read_space(void)
 {
 	const char *name = getenv("GIT_NAMESPACE");
@@ -288,19 +287,7 @@ static void read_space(void)
 		part = strcspn(name, "/");
 		if (part > 0)
 			length += (size_t)snprintf(space + length, sizeof space - length, "refs/namespaces/%.*s/", (int)part, name);
-		if (length >= sizeof space || strpbrk(name, "*?[\\ ~^:") != NULL)
-			stop("a namespace that is none");
+		if (length >= sizeof space)
+			stop("a namespace that is too long");
 	}
-}
-
-/* Opens the repository that was entered, for as long as it is served. */
-static void open_store(void)
-{
-	static const char *const check[] = { "git", "cat-file", "--batch-command", NULL };
-
-	setenv("GIT_NO_REPLACE_OBJECTS", "1", 1);
-	setenv("GIT_NO_LAZY_FETCH", "1", 0);
-	read_space();
-	read_configuration();
-	start(&objects, false, check);
 }

@@ -614,6 +614,8 @@ case_a_daemon_in_c_refuses_wrong_words() {
     expect 1 /dev/null <(echo 'daemon: the address is not of the loopback network')
     run daemon-watched 127.0.0.1 65536 1 here history-sha1.repo history-sha1.pack
     expect 1 /dev/null <(echo 'daemon: a number is none, or out of its range')
+    run daemon-watched 127.0.0.1 0 1 here nowhere
+    expect 1 /dev/null <(echo 'daemon: the folder cannot be read')
     run daemon-watched 127.0.0.1 0 1 here nowhere history-sha1.pack
     expect 1 /dev/null <(echo 'daemon: a file cannot be opened')
     run daemon-watched 127.0.0.1 0 1 here history-sha1.repo history-sha1.pack nowhere

@@ -10,7 +10,7 @@ write_examples() {
     local name
     make -s -C "$top" install PREFIX="$installed" PROGRAM="$program" LIBRARY="$library" RT="${RT:-rt}" >&2 ||
         stop 'what was built could not be installed'
-    for name in daemon fetch host list packets upload-pack watch; do
+    for name in daemon fetch list packets upload-pack watch; do
         compile "$name" "$top/examples/$name.c"
     done
     compile frugal_daemon "$top/examples/daemon.c" -DMOST_KEPT=200
@@ -174,7 +174,7 @@ case_library_header_stands_alone() {
 
 case_library_programs_compile_without_a_word() {
     local name
-    for name in daemon fetch host list packets watch library_calls library_writers library_host refused_memory; do
+    for name in daemon fetch list packets upload-pack watch library_calls library_writers library_host refused_memory; do
         expect_same "what the compiler prints for $name" /dev/null "$name.said"
     done
 }
@@ -426,75 +426,4 @@ case_a_client_in_c_shows_no_control_byte_of_the_progress() {
     expect_same 'what the terminal gets' <(printf '%s\r' 'half \x1b]0;x\x07' && printf '%s\n' 'done' '\xc2\x9b31m'"$one") \
         <(sed 's/\r$//' out)
     expect_same 'the pack' <(printf 'PACK!') pack
-}
-
-# write_host_files FOLDER NAME: what a host in C is to serve of a repository, in NAME.refs and NAME.pack.
-write_host_files() {
-    git -C "$1" show-ref --head > "$2.refs"
-    git -C "$1" pack-objects -q --all --stdout < /dev/null > "$2.pack"
-}
-
-# hosted NAME: what was written, as the host in C serves it and as Git is to name it.
-hosted() {
-    echo "ext::host-watched $room/$1.refs $room/$1.pack"
-}
-
-case_a_host_in_c_answers_git() {
-    write_host_files history-sha1 hosted
-    ls_remote "$(hosted hosted)"
-    lists 11 <(git ls-remote ./history-sha1 | grep -v -F '^{}')
-    ls_remote --heads "$(hosted hosted)"
-    lists 4 <(git ls-remote --heads ./history-sha1)
-    sent 'ref-prefix refs/heads/'
-    clone "$(hosted hosted)" ours --mirror
-    expect 0 /dev/null /dev/null
-    expect_same 'the references' <(git -C history-sha1 for-each-ref --format='%(refname) %(objectname)') \
-        <(git -C ours for-each-ref --format='%(refname) %(objectname)')
-    git -C ours fsck --full --strict --no-dangling
-}
-
-# Git sends what it has, and receives that nothing of it is common.
-case_a_host_in_c_answers_a_fetch_in_rounds() {
-    both history-sha1 --no-tags
-    grow widened history-sha1
-    write_host_files widened.git widened
-    git -C theirs fetch -q --no-tags "file://$room/widened.git" '+refs/heads/*:refs/remotes/origin/*'
-    fetch_from "$(hosted widened)" ours --no-tags
-    same_after_fetch
-    expect_line 'what Git got' NAK <(sed -n 's/^[^<]*< //p' "$trace")
-}
-
-case_a_host_in_c_leaves_out_what_no_answer_may_have() {
-    write_host_files history-sha1 marred
-    echo "$(git -C history-sha1 rev-parse HEAD) refs/heads/bad..name" >> marred.refs
-    echo '1111 refs/heads/short' >> marred.refs
-    echo nameless >> marred.refs
-    ls_remote --heads "$(hosted marred)"
-    expect_status 0
-    expect_same 'the list' <(git ls-remote --heads ./history-sha1) out
-    expect_same 'what the host reported' <(
-        printf 'host: a reference is left out: %s at 0\n' BadRefName BadObjectName
-        echo 'host: a line without a name is left out'
-    ) err
-}
-
-case_a_host_in_c_tells_what_is_wrong() {
-    write_host_files history-sha1 hosted
-    run host-watched hosted.refs hosted.pack < <(printf zzzz)
-    expect_status 1
-    expect_same 'standard error' <(echo 'host: refused: BadDigit at 0') err
-    expect_same 'the error packet' <(packet 'ERR BadDigit at 0') <(tail -n 1 out | sed 's/^0000//')
-    run host-watched hosted.refs hosted.pack < <(packet command=ls-refs)
-    expect_status 1
-    expect_same 'standard error' <(echo 'host: refused: Truncated at 20') err
-    run host-watched hosted.refs hosted.pack < <(packet 'ERR I leave')
-    expect_status 1
-    ! grep -a -q ERR out || differs 'an answer to an error' out
-    run host-watched hosted.refs hosted.pack < .
-    expect_status 1
-    expect_same 'what is reported of an input that cannot be read' <(echo 'host: the input cannot be read') err
-    under_valgrind bin/host hosted.refs hosted.pack < <(packet command=fetch; printf 0001; packet "want $one"; packet 'done'; printf 00000000)
-    expect_status 0
-    expect_same 'standard error' /dev/null err
-    grep -a -q packfile out || differs 'no packfile' out
 }

@@ -97,6 +97,8 @@ export PATH=$room/bin:$PATH
 . "$top/tests/partial_clones.sh"
 . "$top/tests/fetches.sh"
 . "$top/tests/upload_packs.sh"
+. "$top/tests/upload_pack_faults.sh"
+. "$top/tests/folders.sh"
 . "$top/tests/http_backend.sh"
 . "$top/tests/http.sh"
 . "$top/tests/web_servers.sh"

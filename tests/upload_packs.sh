@@ -1,5 +1,5 @@
-# Cases in which the real Git clones and fetches from examples/upload-pack.c, which serves a folder of Git's own, and in which what it has then
-# is compared with what it gets from `git upload-pack`.
+# Cases in which the real Git lists, clones and fetches from examples/upload-pack.c, which serves a folder of Git's own, and in which what it has
+# then is compared with what it gets from `git upload-pack`: for each kind of clone and fetch that `git2show serve` is tested with, and more.
 
 # The program with sanitizers, by the name under which Git starts it.
 uploading=$room/bin/upload-pack-watched
@@ -50,29 +50,233 @@ case_upload_pack_clones() {
         uploads "$name"
         uploads "$name" --mirror
     done
-    for option in --no-tags --single-branch --branch=topic --branch=nested; do
+    for option in --bare --no-tags --single-branch --branch=topic --branch=nested; do
         uploads history-sha1 $option
     done
+    uploads history-sha1 --single-branch --branch topic --no-tags
+    uploads history-sha256 --branch topical
     uploads heavy
+}
+
+case_upload_pack_clones_where_no_branch_is_checked_out() {
+    rm -rf served
+    git clone -q history-sha1 served
+    git -C served checkout -q --detach origin/alone
+    git -C served -c user.name=nobody -c user.email=nobody@example.org commit -q --allow-empty -m 'on no branch'
+    uploads served
+    [ "$(git -C ours rev-parse HEAD)" = "$(git -C served rev-parse HEAD)" ] || differs 'another HEAD'
+    lists_alike served
+    git -C served rev-parse nested > tag # no commit, as Git itself would not have it
+    cp tag served/.git/HEAD
+    answers_alike served "$(request peel symrefs)"
+    answers_alike served "$(request peel symrefs 'ref-prefix HEAD')"
+}
+
+# answers_alike FOLDER REQUEST: that this request alone is answered with the same bytes by both programs. Git sends `HEAD` of a namespace twice.
+answers_alike() {
+    local asked=${2//$'\n'/ }
+    GIT_PROTOCOL=version=2 git upload-pack --stateless-rpc "$1" < <(printf %s "$2") 2> /dev/null | awk '!seen[$0]++ { print }' > wanted
+    run "$uploading" --stateless-rpc "$1" < <(printf %s "$2")
+    expect 0 out /dev/null
+    echo >> out # after the flush, as awk has it
+    expect_same "the answer of $1 to '${asked:0:100}'" wanted out
+}
+
+# lists_alike FOLDER: that Git lists the same from both programs.
+lists_alike() {
+    git ls-remote --symref "file://$room/$1" > wanted
+    run git -c protocol.version=2 ls-remote --symref --upload-pack="$uploading" "file://$room/$1"
+    expect 0 wanted /dev/null
+}
+
+# prefixes PREFIX..: a request for the references of these.
+prefixes() {
+    request peel symrefs unborn "${@/#/ref-prefix }"
+}
+
+# many_prefixes COUNT: a request with so many prefixes and one of a folder: patterns are made of a few.
+many_prefixes() {
+    local i
+    prefixes refs/heads/alone/ refs/tags/of $(for ((i = 1; i < $1; i++)); do echo "refs/tags/t$i"; done)
+}
+
+case_upload_pack_answers_each_prefix_as_git() {
+    local name prefix count
+    for name in history-sha1 history-sha256 empty-sha1; do
+        [ $name = history-sha256 ] || lists_alike $name
+        for prefix in '' r refs/ refs/heads/ refs/tags/ HEAD H refs/heads/al refs/heads/alone refs/heads/alone/ refs/tags/nested refs/he \
+            refs/notes/ nothing 'refs/heads/*' 'refs/heads/[a-z]' 'refs/heads/a?one' 'refs/heads/\alone' 'refs/tags/of ' --all; do
+            answers_alike $name "$(of_format "$name" "$(prefixes "$prefix")")"
+        done
+        answers_alike $name "$(of_format "$name" "$(request)")"
+        answers_alike $name "$(of_format "$name" "$(request symrefs)")"
+        answers_alike $name "$(of_format "$name" "$(request peel 'ref-prefix refs/tags/')")"
+        answers_alike $name "$(of_format "$name" "$(prefixes HEAD refs/heads/ refs/tags/)")"
+        answers_alike $name "$(of_format "$name" "$(prefixes HEAD topic refs/topic refs/tags/topic refs/heads/topic refs/tags/)")"
+        for count in 14 15 16 40; do
+            answers_alike $name "$(of_format "$name" "$(many_prefixes $count)")"
+        done
+    done
+}
+
+# of_format NAME REQUEST: the request with the object format of the repository of this name.
+of_format() {
+    case $1 in
+        *sha256) echo "${2/0001/$(packet object-format=sha256)
+0001}" ;;
+        *) echo "$2" ;;
+    esac
+}
+
+# References of each namespace are those of a repository of its own.
+case_upload_pack_serves_a_namespace() {
+    local name
+    rm -rf served
+    git init -q --bare served
+    for name in one two/three; do
+        GIT_NAMESPACE=$name git -C history-sha1 push -q --mirror "$room/served" || true
+        git -C history-sha1 push -q "$room/served" "refs/heads/*:refs/namespaces/${name/\//\/refs/namespaces/}/refs/heads/*" \
+            "refs/tags/*:refs/namespaces/${name/\//\/refs/namespaces/}/refs/tags/*"
+    done
+    git -C served symbolic-ref refs/namespaces/one/HEAD refs/namespaces/one/refs/heads/topic
+    for name in one two/three two none; do
+        export GIT_NAMESPACE=$name
+        answers_alike served "$(prefixes)"
+        answers_alike served "$(prefixes HEAD refs/heads/ refs/tags/)"
+        answers_alike served "$(prefixes refs/heads/to HEAD)"
+    done
+    GIT_NAMESPACE=one uploads served --mirror
+    for name in .. 'a b' 'a*' 'a@{1}' .lock; do
+        GIT_NAMESPACE=$name run "$uploading" --http-backend-info-refs served
+        expect_status 128
+        expect_same 'standard output' /dev/null out
+    done
 }
 
 case_upload_pack_cuts_history_off() {
     uploads history-sha1 --depth=1
     uploads history-sha1 --depth=2 --no-single-branch
+    uploads history-sha256 --depth=2
     uploads history-sha256 --shallow-exclude=topical --no-single-branch
     uploads history-sha1 --shallow-since=2000-01-01
     both history-sha1 --depth=1 --no-tags
     uploads_to history-sha1 --no-tags --deepen=1
     uploads_to history-sha1 --no-tags --unshallow
     ! git -C ours rev-parse --is-shallow-repository | grep true || differs 'a history that is cut off still'
+    write_old_history
+    uploads old --shallow-since=2021-06-01
+    uploads old --shallow-exclude=early
+    uploads old --shallow-exclude=refs/tags/early
+    both old --depth 1 --no-single-branch
+    uploads_to old --depth 3
+    uploads_to old --shallow-since=2020-06-01
+    both history-sha256 --depth 1 --no-single-branch
+    uploads_to history-sha256 --unshallow
+}
+
+# A repository whose own history is cut off.
+case_upload_pack_serves_a_shallow_repository() {
+    write_old_history
+    rm -rf served
+    git clone -q --depth 3 "file://$room/old" served
+    uploads served
+    [ "$(git -C ours rev-list --count HEAD)" = 3 ] || differs 'another history'
+    uploads served --depth 2
+    uploads_to served --depth 4
+}
+
+# A client that names what no reference is called is refused: no revision is searched for.
+case_upload_pack_excludes_references_alone() {
+    local name
+    write_old_history
+    for name in ':/file' 'HEAD^{/file}' 'HEAD~1' 'main@{0}' '@{-1}' '@' "$(git -C old rev-parse HEAD~2)" 'early^{}' --all nothing; do
+        run "$uploading" --stateless-rpc old < <(
+            packet command=fetch
+            printf 0001
+            packet "want $(git -C old rev-parse HEAD)"
+            packet "deepen-not $name"
+            packet 'done'
+            printf 0000
+        )
+        expect_status 128
+        expect_same "the answer to '$name'" <(packet "ERR git upload-pack: ambiguous deepen-not: $name") out
+    done
 }
 
 case_upload_pack_sends_what_is_missing() {
     grow uploaded history-sha1
     both history-sha1 --no-tags
     uploads_to uploaded.git --no-tags
+    uploads_to uploaded.git --tags
+    git -C ours rev-parse --verify -q refs/tags/later > /dev/null || differs 'no new tag'
     both history-sha256
     uploads_to history-sha256
+}
+
+case_upload_pack_fills_an_empty_repository() {
+    rm -rf taking
+    git init -q --bare taking
+    run git -C taking -c protocol.version=2 fetch -q --upload-pack="$uploading" "file://$room/history-sha1" '+refs/*:refs/*'
+    expect 0 /dev/null /dev/null
+    git -C history-sha1 for-each-ref > wanted
+    git -C taking for-each-ref > written
+    expect_same 'the references' wanted written
+    git -C taking fsck --full --strict --no-dangling
+}
+
+# negotiates_alike NAME: that both servers have the same in common with the main branch of `ours`.
+negotiates_alike() {
+    local ask=(git -C ours -c protocol.version=2 fetch --negotiate-only --negotiation-tip=origin/main "file://$room/$1")
+    "${ask[@]}" > wanted 2> /dev/null || true
+    run "${ask[@]}" --upload-pack="$uploading"
+    expect 0 wanted /dev/null
+}
+
+case_upload_pack_negotiates_alone() {
+    grow bargaining history-sha1
+    both bargaining.git
+    negotiates_alike history-sha1
+    expect_line 'what is common' "$(git -C history-sha1 rev-parse main)" out
+    negotiates_alike empty-sha1
+}
+
+# A server for each request, as over HTTP.
+case_upload_pack_serves_without_a_state() {
+    write_stateless
+    cat > bin/stateless-server << EOF
+advertise() { '$uploading' --http-backend-info-refs "\$name"; }
+answer() { '$uploading' --stateless-rpc "\$name"; }
+EOF
+    sed -i 's/^skip=.*/skip=0/' bin/git-remote-stateless
+    rm -rf "$trace" ours
+    run git -c protocol.version=2 -c protocol.stateless.allow=always clone -q "stateless::$room/history-sha1" ours
+    clone_from_git history-sha1
+    same_clones
+    grow stateless history-sha1
+    both history-sha1 --no-tags
+    git -C theirs -c protocol.version=2 fetch -q --no-tags "file://$room/stateless.git" '+refs/heads/*:refs/remotes/origin/*'
+    fetch_from "stateless::$room/stateless.git" ours --no-tags
+    same_after_fetch
+    both history-sha1 --depth 1 --no-single-branch
+    git -C theirs -c protocol.version=2 fetch -q --unshallow origin
+    git -C ours remote set-url origin "stateless::$room/history-sha1"
+    run git -C ours -c protocol.version=2 -c protocol.stateless.allow=always fetch -q --unshallow origin
+    same_after_fetch
+    same_objects
+}
+
+# Git's client goes by the first line of a server, whatever version it is configured for.
+case_upload_pack_serves_over_ssh() {
+    local version
+    clone_from_git history-sha1
+    printf '%s\n' '#!/bin/sh' 'while [ $# -gt 1 ]; do shift; done' 'exec sh -c "$1"' > bin/no-ssh
+    chmod +x bin/no-ssh
+    export GIT_SSH=$room/bin/no-ssh GIT_SSH_VARIANT=simple
+    for version in 0 2; do
+        rm -rf ours
+        run git -c protocol.version=$version clone -q --upload-pack="$uploading" "nobody@nowhere:$room/history-sha1" ours
+        same_clones
+    done
 }
 
 case_upload_pack_filters() {
@@ -81,10 +285,59 @@ case_upload_pack_filters() {
     uploads served --filter=blob:none --bare
     uploads served --filter=tree:0 --bare
     misses_nothing_more
+    uploads served --filter=blob:limit=3 --filter=tree:2 --bare
+    misses_nothing_more
+    uploads served --filter="sparse:oid=$(git -C served hash-object -w --stdin <<< folder/)" --bare
+    misses_nothing_more
+    configured history-sha256 uploadpack.allowFilter true
+    uploads served --filter=blob:none --no-checkout
+    misses_nothing_more
     configured history-sha1
     rm -rf ours
     run git -c protocol.version=2 clone -q --filter=blob:none "file://$room/served" ours --upload-pack="$uploading" --bare
     expect_line 'what Git reports' 'warning: filtering not recognized by server, ignoring' err
+}
+
+# fills_in NAME OPTION..: that a partial clone with a checkout, which fetches what it needs, and then one of another branch have the same from both.
+fills_in() {
+    local name=$1
+    shift
+    clone "file://$room/$name" ours "$@" --config remote.origin.uploadpack="$uploading"
+    clone_from_git "$name" "$@"
+    same_clones
+    same_objects
+    [ "$(grep -c '> command=fetch' "$trace")" -gt 1 ] || differs 'a clone that fetched nothing more' "$trace"
+    git -C theirs checkout -q alone
+    run git -C ours checkout -q alone
+    expect 0 /dev/null /dev/null
+    same_clones
+    same_objects
+    expect_same 'what is not checked out' /dev/null <(git -C ours status --porcelain)
+}
+
+case_upload_pack_serves_a_checkout_after_a_partial_clone() {
+    configured history-sha1 uploadpack.allowFilter true
+    fills_in served --filter=blob:none
+    fills_in served --filter=tree:0
+    configured history-sha256 uploadpack.allowFilter true
+    fills_in served --filter=blob:none
+}
+
+# A filter that the owner does not allow, by what Git would take for its depth too.
+case_upload_pack_limits_filters() {
+    local filter
+    configured history-sha1 uploadpack.allowFilter true uploadpackfilter.tree.maxDepth 3 uploadpackfilter.blob:none.allow false
+    uploads served --filter=tree:3 --bare
+    for filter in tree:4 tree:0x10 tree:1k tree: tree:-1 combine:tree:1+tree:0x10 combine:tree%3A4 combine:combine:tree:9; do
+        run "$uploading" --stateless-rpc served < <(fetch_filtered "$filter" "$(git -C served rev-parse main)")
+        expect_status 128
+        grep -a -q '^....ERR tree filter allows max depth 3, but got ' out || differs "the answer to $filter" out
+    done
+    for filter in blob:none combine:blob:none+tree:1; do
+        run "$uploading" --stateless-rpc served < <(fetch_filtered "$filter" "$(git -C served rev-parse main)")
+        expect_status 128
+        expect_same "the answer to $filter" <(packet "ERR filter 'blob:none' not supported") out
+    done
 }
 
 # misses_nothing_more: that the clone without trees or blobs lacks just what that of Git lacks.
@@ -111,33 +364,4 @@ case_upload_pack_hides_references() {
     ! grep -q refs/heads/topic written || differs 'a hidden reference'
     run git -C ours -c protocol.version=2 fetch -q "file://$room/served" --upload-pack="$uploading" "$(printf '%040d' 1)"
     expect_status 128
-}
-
-# Where a command of Git fails, in the middle of a pack too, there is an error and no clone.
-case_upload_pack_reports_what_fails() {
-    local git=$(command -v git) command
-    mkdir -p failing
-    for command in pack-objects for-each-ref cat-file; do
-        printf '%s\n' '#!/bin/sh' "case \" \$* \" in *' $command '*) exec 2> /dev/null; '$git' \"\$@\" | head -c 300; kill -9 \$\$ ;; esac" \
-            "exec '$git' \"\$@\"" > failing/git
-        chmod +x failing/git
-        printf '%s\n' '#!/bin/sh' "PATH='$room/failing':\$PATH exec '$uploading' \"\$@\"" > uploading-badly
-        chmod +x uploading-badly
-        rm -rf ours
-        run git -c protocol.version=2 clone -q "file://$room/history-sha1" ours --upload-pack="$room/uploading-badly"
-        [ "$status" != 0 ] || differs "a clone though git $command failed"
-        [ ! -e ours ] || differs "a folder though git $command failed"
-    done
-}
-
-case_upload_pack_is_no_shell() {
-    mkdir -p 'a;touch run-by-a-shell $(touch run-by-a-shell)'
-    git init -q --bare 'a;touch run-by-a-shell $(touch run-by-a-shell)/it.git'
-    run "$uploading" --http-backend-info-refs 'a;touch run-by-a-shell $(touch run-by-a-shell)/it.git'
-    expect_status 0
-    [ ! -e run-by-a-shell ] || differs 'a name that was run as a command'
-    run "$uploading" --upload-pack=touch
-    [ "$status" != 0 ] || differs 'an option that is none'
-    run "$uploading" nowhere
-    [ "$status" != 0 ] || differs 'a folder that is none'
 }

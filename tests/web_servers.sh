@@ -14,6 +14,10 @@ build_site() {
     rm -rf "$site"
     mkdir -p "$site"/{bin,git/folder,lighttpd,temporary} "${backend%/*}"
     cp "$(realpath bin/git2show)" "$site/bin/git2show"
+    cp bin/upload-pack "$site/bin"
+    git clone -q --mirror history-sha1 "$site/git/folder/own.git"
+    git -C "$site/git/folder/own.git" config uploadpack.allowFilter true
+    : > "$site/git/folder/own.git/git-daemon-export-ok"
     cp "$top/examples/http-backend.sh" "$site/bin"
     # lighttpd hands no PATH on.
     printf '%s\n' '#!/bin/sh' "export PATH='$site/bin':\$PATH" 'exec http-backend.sh' > "$backend"
@@ -27,6 +31,7 @@ build_site() {
     [ "$(id -u)" != 0 ] || {
         chmod a+x "$room"
         chown 65534:65534 "$site" "$site"/{lighttpd,temporary}
+        chown -R 65534:65534 "$site/git/folder/own.git"
         unprivileged=(setpriv --reuid=65534 --regid=65534 --clear-groups)
     }
 }
@@ -121,7 +126,7 @@ serves_git() {
     reports_refusals "$1"
 }
 
-# serves_packs: a clone, and one with a pack of 20 megabytes.
+# serves_packs: a clone, one with a pack of 20 megabytes, and two of a folder of Git's own.
 serves_packs() {
     clone "$web/folder/history-sha1" ours
     clone_from_git history-sha1
@@ -129,6 +134,14 @@ serves_packs() {
     clone "$web/folder/heavy.git" ours --mirror
     expect 0 /dev/null /dev/null
     has_all heavy
+    clone "$web/folder/own" ours --mirror
+    expect 0 /dev/null /dev/null
+    has_all history-sha1
+    configured history-sha1 uploadpack.allowFilter true
+    clone "$web/folder/own.git" ours --filter=blob:none
+    clone_from_git served --filter=blob:none
+    same_clones
+    same_objects
 }
 
 # serves_long_requests: clones whose requests have more than a mebibyte, in chunks and compressed.

@@ -1,0 +1,85 @@
+/* A session of a server over the store: what it sends, what a request has, and how it ends where something fails. */
+#include <gitwire.h>
+
+#include <errno.h>
+#include <stdint.h>
+#include <string.h>
+#include <unistd.h>
+
+static gitwire_host host = GITWIRE_NONE;
+static uint8_t text[GITWIRE_REFERENCE_NAME_ROOM + 1];
+static uint8_t output[8 * GITWIRE_PACKET_ROOM]; /* what is to be sent, and behind it room for a packet */
+static size_t output_length;
+static unsigned timeout; /* how many seconds a client may take to send or take some bytes, or 0 */
+
+/* Sends all that there is to send, to a client that has a time only so much at once: a write ends when all is taken. */
+static void flush_output(void)
+{
+	for (size_t at = 0; at < output_length;) {
+		size_t left = output_length - at;
+		ssize_t written;
+
+		alarm(timeout);
+		written = write(STDOUT_FILENO, output + at, timeout > 0 && left > 8192 ? 8192 : left);
+		if (written < 0 && errno != EINTR)
+			stop("the answer cannot be written");
+		at += written < 0 ? 0 : (size_t)written;
+	}
+	if (output_length > 0)
+		alarm(0);
+	output_length = 0;
+}
+
+/* Where the next packet goes. */
+static uint8_t *room(void)
+{
+	if (sizeof output - output_length < GITWIRE_PACKET_ROOM)
+		flush_output();
+	return output + output_length;
+}
+
+/* Gives what a call wrote there, if anything. Any other answer means that this program is wrong. */
+static void give(gitwire_answer answer)
+{
+	if (answer.kind != GITWIRE_PACKET && answer.kind != GITWIRE_MORE)
+		stop("a call that may not be made now");
+	output_length += answer.length;
+}
+
+/* Gives the packets that follow what was reported, up to the next thing that is asked. */
+static void give_following(void)
+{
+	gitwire_answer next;
+
+	while ((next = gitwire_host_pull(&host, room(), GITWIRE_PACKET_ROOM)).kind == GITWIRE_PACKET)
+		give(next);
+}
+
+/*
+ * What is asked cannot be had: the session is over. The client receives that before a request is accepted and within a pack; elsewhere it sees
+ * that the server hangs up.
+ */
+static _Noreturn void fail(const char *what)
+{
+	static const uint8_t reason[] = "the repository cannot be read";
+	gitwire_answer answer = gitwire_host_fail(&host, room(), GITWIRE_PACKET_ROOM);
+
+	if (answer.kind == GITWIRE_NOT_NOW)
+		answer = gitwire_host_refuse(&host, reason, sizeof reason - 1, room(), GITWIRE_PACKET_ROOM);
+	if (answer.kind == GITWIRE_PACKET)
+		give(answer);
+	fprintf(stderr, PROGRAM ": %s\n", what);
+	flush_output();
+	exit(1);
+}
+
+/* The item of a list of the request, in `text` with a NUL after it, or NULL past the list's end. */
+static const char *item(uint8_t list, uint64_t at)
+{
+	gitwire_answer answer = gitwire_host_item(&host, list, at, text, sizeof text - 1);
+
+	if (answer.kind != GITWIRE_DONE)
+		return NULL;
+	text[answer.length] = 0;
+	return strlen((const char *)text) == answer.length ? (const char *)text : ""; /* one with a NUL in it is no name of anything */
+}

@@ -1,0 +1,35 @@
+/* Lists of texts. */
+#include <stdarg.h>
+#include <stdio.h>
+#include <stdlib.h>
+#include <string.h>
+
+struct texts {
+	char **at;
+	size_t length, room;
+};
+
+/* Adds a text of this format, as printf has it. */
+__attribute__((format(printf, 2, 3))) static void add_text(struct texts *texts, const char *format, ...)
+{
+	va_list values;
+
+	if (texts->length == texts->room) {
+		texts->room = 2 * texts->room + 16;
+		texts->at = realloc(texts->at, texts->room * sizeof *texts->at);
+		if (texts->at == NULL)
+			stop("no memory");
+	}
+	va_start(values, format);
+	if (vasprintf(&texts->at[texts->length++], format, values) < 0)
+		stop("no memory");
+	va_end(values);
+}
+
+static void clear_texts(struct texts *texts)
+{
+	for (size_t i = 0; i < texts->length; i++)
+		free(texts->at[i]);
+	free(texts->at);
+	*texts = (struct texts){ 0 };
+}
