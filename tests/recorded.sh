@@ -222,6 +222,88 @@ case_check_refuses_lines_on_bands() {
     withstands_damage
 }
 
+# write_another_command [END]: a conversation whose second request is for a command that this project does not know; this packet ends each response too.
+write_another_command() {
+    {
+        request
+        packet command=bundle-uri
+        packet agent=git/2.40
+        printf 0001
+        packet any
+        printf 0000
+        request peel
+        printf 0000
+    } > requests
+    {
+        packet 'version 2'
+        packet ls-refs
+        packet bundle-uri
+        printf 0000
+        printf 0000%s "$1"
+        packet bundle.version=1
+        packet bundle.mode=all
+        printf 0000%s "$1"
+        printf 0000%s "$1"
+    } > responses
+    printf '%s\n' 'capability ls-refs' 'capability bundle-uri' offered 'request ls-refs' 'end 0 0' 'request ls-refs' 'end 0 0' > wanted
+    : > empty
+}
+
+# A command, whose answer passes. The offsets of what comes after it count its bytes.
+case_check_takes_another_command() {
+    local place
+    write_another_command
+    run git2show check requests responses
+    expect 0 wanted empty
+    withstands_damage
+    place=$(($(wc -c < responses) - 4))
+    head -c "$place" responses > responses.tried
+    packet nothing >> responses.tried
+    run git2show check requests responses.tried
+    expect_status 1
+    expect_line 'standard error' "git2show: responses: BadLine at $place" err
+    head -c "$((place - 4))" responses > responses.tried
+    run git2show check requests responses.tried
+    expect_line 'standard error' "git2show: responses: Truncated at $((place - 4))" err
+    head -c "$((place - 2))" responses > responses.tried
+    run git2show check requests responses.tried
+    expect_line 'standard error' "git2show: responses: Truncated at $((place - 4))" err
+    printf '%s' "$(cat responses)00x" > responses.tried
+    run git2show check requests responses.tried
+    expect_line 'standard error' "git2show: responses: UnexpectedPacket at $((place + 4))" err
+}
+
+case_check_takes_another_command_without_a_state() {
+    write_another_command 0002
+    run git2show check --stateless requests responses
+    expect 0 wanted empty
+    withstands_damage --stateless
+}
+
+# One that was not advertised is refused, and so is one that does not come first.
+case_check_refuses_another_command() {
+    write_another_command
+    sed 's/bundle-uri/bundle-urj/' responses > responses.tried
+    run git2show check requests responses.tried
+    expect_status 1
+    grep -a -q -x 'git2show: requests: UnknownCommand at [0-9]*' err || differs 'another fault' err
+    {
+        packet agent=git/2.40
+        packet command=bundle-uri
+        printf 00000000
+    } > requests
+    run git2show check requests responses
+    expect_status 1
+    grep -a -q -x 'git2show: requests: UnknownCommand at [0-9]*' err || differs 'another fault' err
+    {
+        packet command=bundle-uri
+        printf 0001
+    } > requests
+    run git2show check requests responses
+    expect_status 1
+    expect_line 'standard error' "git2show: requests: Truncated at $(wc -c < requests)" err
+}
+
 case_check_tells_an_error_of_the_server() {
     git init -q ours
     recorded -C ours fetch -q 'ext::record history-sha1' "$(printf 'f%.0s' {1..40})"

@@ -1,7 +1,7 @@
 -- A reader of requests of another client, a packet at a time.
-use Rattle.std.proofs.Common.{◌≡◌, ◌≢◌, ◌⊎◌, ℕ, ◌+◌, ◌-◌, ◌<◌, ◌≤◌, true, false, List, [], ◌∷◌, ◌++◌, length, length-drop, take, drop, Option, Some, None}
-use Rattle.std.proofs.Common.{refl, sym, ap, ◌∙◌, subst, append-nil, inl, inr, arith}
-use Rattle.git_pkt.specs.Packets.{Pkt}
+use Rattle.std.proofs.Common.{◌≡◌, ◌≢◌, ◌⊎◌, ℕ, ◌+◌, ◌-◌, ◌<◌, ◌≤◌, Bool, true, false, List, [], ◌∷◌, ◌++◌, length, length-drop, take, drop, Option, Some, None}
+use Rattle.std.proofs.Common.{refl, sym, ap, ◌∙◌, subst, append-nil, append_assoc, inl, inr, arith, codes, if◌then◌else◌}
+use Rattle.git_pkt.specs.Packets.{Pkt, flush, delim, resp_end, payload, text_of as line_of}
 use Rattle.git_pkt.specs.Splits.{Given, SpellsAll}
 use Rattle.git_pkt.specs.Machine.PacketReader.{Reads, ReadsOn, ShownByFeed, fault_of as packet_fault, is_open, passes_of, position_of}
 use Rattle.git_pkt.specs.declared.fault.Fault.{Fault}
@@ -13,174 +13,401 @@ use Rattle.git_msg.specs.Admission.{nothing_barred}
 use Rattle.git_msg.specs.Asked.{Asked}
 use Rattle.git_msg.specs.Machine.HeldRequest.{asked_of, kept_of}
 use Rattle.git_msg.specs.Machine.RequestReader.{Takes}
-use Rattle.git_msg.specs.Machine.RequestStreams.{IsLeftIn, IsOne, asked_by}
-use Rattle.git_msg.specs.Machine.StreamStages.{AreBegun, Brings, HasTaken, IsBrought, fault_in, goes_on, stage_brought, stage_is_between, takes_bytes}
-use Rattle.git_msg.specs.WholeRequests.{AreRequests}
+use Rattle.git_msg.specs.Machine.RequestStreams.{IsLeftIn}
+use Rattle.git_msg.specs.Machine.StreamStages.{AreBegun, Brings, HasTaken, IsBrought, goes_on}
 use Rattle.git_msg.specs.declared.reader.RequestReader.{RequestReader}
 use Rattle.git_msg.specs.declared.streams.ReadGot.{ReadGot}
 use Rattle.git_msg.specs.declared.streams.ReadGot.TheVariants.{More, Request, Stop, Failed}
-use Rattle.git_msg.specs.declared.streams.ReadRequest.{ReadRequest}
-use Rattle.git_msg.specs.declared.streams.Stage.{Stage}
-use Rattle.git_msg.specs.declared.streams.Stage.TheVariants.{Between, Within, Stopped, Failed as FailedStage}
+use Rattle.git_msg.specs.declared.streams.Stage.TheVariants as OfRequests
 use Rattle.git_msg.proofs.Admission.{told_by_none}
 use Rattle.git_msg.proofs.PacketFaults.{told_of_packets}
-use Rattle.git_msg.proofs.StreamSteps.{left_begins, left_stays, rest_behind, stopped_by}
-use Rattle.git_msg.proofs.WholeRequests.{one_more_request, requests_more}
-use Rattle.git2show_lib.specs.Others.{first_place, given_as, judged_in, judged_packet, place_after, place_next}
-use Rattle.git2show_lib.specs.Machine.JudgedRequests.{HasRead, IsReady, Leaves, ReadsBy, StepLeaves, limit_of, offer_of, stage_of, text_of, wants_input}
+use Rattle.git_msg.proofs.StreamSteps.{left_begins, rest_behind, stopped_by}
+use Rattle.git2show_lib.specs.Others.{Advertised, AreCutOff, AreNoPacket, BeginWithOther, IsOtherBegun, first_place, given_as, is_other_capability, judged_line, judged_of}
+use Rattle.git2show_lib.specs.Others.{judged_packet, names_other, place_after, place_next}
+use Rattle.git2show_lib.specs.Machine.JudgedRequests.{AreQuestions, HasRead, IsBegun, IsLeft, IsOnward, IsQuestion, IsReady, IsRefused}
+use Rattle.git2show_lib.specs.Machine.JudgedRequests.{Leaves, ReadsBy, StepLeaves, advertised_by, asked_by, fault_in, got_as, got_passed}
+use Rattle.git2show_lib.specs.Machine.JudgedRequests.{limit_of, place_brought, place_for, stage_brought, stage_is_between, stage_passed, taken_in}
+use Rattle.git2show_lib.specs.Machine.JudgedRequests.{takes_bytes, text_of, wants_input}
+use Rattle.git2show_lib.specs.declared.judged_requests.JudgedGot.{JudgedGot}
+use Rattle.git2show_lib.specs.declared.judged_requests.JudgedGot.TheVariants as Got
+use Rattle.git2show_lib.specs.declared.judged_requests.JudgedRead.{JudgedRead}
 use Rattle.git2show_lib.specs.declared.judged_requests.JudgedRequests.{JudgedRequests}
+use Rattle.git2show_lib.specs.declared.judged_requests.Stage.{Stage}
+use Rattle.git2show_lib.specs.declared.judged_requests.Stage.TheVariants.{Between, Within, Passing, Stopped, Failed as FailedStage}
 use Rattle.git2show_lib.specs.declared.others.Place.{Place}
-use Rattle.git2show_lib.proofs.OtherLines.{judged_snoc, place_snoc}
+use Rattle.git2show_lib.proofs.OtherLines.{judged_snoc, none_snoc, place_snoc}
 
 some_left : (left : List Given) (g : Given) → left ++ g ∷ [] ≢ []
 some_left [] g e = cc
 some_left (x ∷ left) g e = cc
 
+-- ---- whole requests
+
+module _ (by : Advertised) (limit : ℕ) where
+  -- further packets after what is left
+  questions_more : (packets more : List Given) (asked : List (Option Asked)) (left : List Given) → AreQuestions by limit packets asked left
+      → AreQuestions by limit (packets ++ more) asked (left ++ more)
+  questions_more packets more [] left same = ap (λ (l : List Given). l ++ more) same
+  questions_more packets more (q ∷ qs) left (front, back, whole, first, rest) =
+      (front, back ++ more, ap (λ (l : List Given). l ++ more) whole ∙ append_assoc front back more, first, questions_more back more qs left rest)
+
+  -- what is left is one more request
+  one_more_question : (packets : List Given) (asked : List (Option Asked)) (left : List Given) (q : Option Asked) → AreQuestions by limit packets asked left
+      → IsQuestion by limit left q → AreQuestions by limit packets (asked ++ q ∷ []) []
+  one_more_question packets [] left q same is = (left, [], same ∙ sym (append-nil left), is, refl)
+  one_more_question packets (p ∷ ps) left q (front, back, whole, first, rest) is =
+      (front, back, whole, first, one_more_question back ps left q rest is)
+
+-- ---- what is left in a stage
+
+-- the first packet of a request is read as one
+first_known : (text : List ℕ) (p : Pkt) → judged_packet text first_place p ≡ None → ⊥
+unfolding judged_line
+first_known text flush e = cc
+first_known text delim e = cc
+first_known text resp_end e = cc
+first_known text (payload bytes) e = at (is_other_capability text (line_of bytes)) e where
+  at : (b : Bool) → (if b then Some (payload (codes "agent")) else Some (payload bytes)) ≡ None → ⊥
+  at true e = cc
+  at false e = cc
+
+module _ (by : Advertised) (limit : ℕ) (left : List Given) where
+  -- bytes that end no packet have no part in it
+  left_on : (rest later : List ℕ) (end further : ℕ) (stage : Stage) → takes_bytes stage ≡ true → IsLeft stage by limit left rest end
+      → IsLeft stage by limit left later further
+  left_on rest later end further Between on h = h
+  left_on rest later end further Within on h = h
+  left_on rest later end further Passing on h = h
+  left_on rest later end further Stopped on h = absurd (cc)
+  left_on rest later end further (FailedStage fault) on h = absurd (cc)
+
+  -- where a reader reads on, that is lines that begin a request, or a request that passes
+  pub left_begun : (rest : List ℕ) (end : ℕ) (stage : Stage) → takes_bytes stage ≡ true → IsLeft stage by limit left rest end
+      → IsBegun by limit left
+  left_begun rest end Between on h =
+      inl (left_begins by.offer limit (judged_of by.text left) rest end OfRequests.Between refl (ap (judged_of by.text) h))
+  left_begun rest end Within on h = inl (left_begins by.offer limit (judged_of by.text left) rest end OfRequests.Within refl h)
+  left_begun rest end Passing on h = inr h
+  left_begun rest end Stopped on h = absurd (cc)
+  left_begun rest end (FailedStage fault) on h = absurd (cc)
+
+  -- the bytes after it are refused
+  left_refused : (rest before : List ℕ) (end earlier : ℕ) (fault : Fault) (stage : Stage) → takes_bytes stage ≡ true → IsLeft stage by limit left before earlier
+      → AreNoPacket rest end fault → IsRefused by limit left rest end fault
+  left_refused rest before end earlier fault stage on h no_packet = at (left_begun before earlier stage on h) where
+    at : IsBegun by limit left → IsRefused by limit left rest end fault
+    at (inl begun) = inl (inr (inl (record { begun = begun; stops = no_packet.stops; not_the_end = no_packet.not_the_end })))
+    at (inr other) = inr (other, inl no_packet)
+
+  -- or the input ends after them, inside a request or a packet
+  left_cut : (rest before : List ℕ) (end earlier : ℕ) (fault : Fault) (stage : Stage) → takes_bytes stage ≡ true → IsLeft stage by limit left before earlier
+      → AreCutOff rest end fault → (stage_is_between stage ≡ false) ⊎ (rest ≢ []) → IsRefused by limit left rest end fault
+  left_cut rest before end earlier fault Between on h cut (inl e) = absurd (cc)
+  left_cut rest before end earlier fault Between on h cut (inr some) = inl (inr (inr (record {
+    begun = left_begins by.offer limit (judged_of by.text left) before earlier OfRequests.Between refl (ap (judged_of by.text) h);
+    still_open = cut.still_open;
+    inside = inr some;
+    kind = cut.kind;
+    at = cut.at;
+  })))
+  left_cut rest before end earlier fault Within on h cut inside = inl (inr (inr (record {
+    begun = left_begins by.offer limit (judged_of by.text left) before earlier OfRequests.Within refl h;
+    still_open = cut.still_open;
+    inside = inl h.0;
+    kind = cut.kind;
+    at = cut.at;
+  })))
+  left_cut rest before end earlier fault Passing on h cut inside = inr (h, inr cut)
+  left_cut rest before end earlier fault Stopped on h cut inside = absurd (cc)
+  left_cut rest before end earlier fault (FailedStage other) on h cut inside = absurd (cc)
+
+  module _ (g : Given) where
+    -- a packet after it is passed over
+    left_passed : (rest later : List ℕ) (end further : ℕ) (stage : Stage) → takes_bytes stage ≡ true → (stage ≡ Passing → ⊥)
+        → IsLeft stage by limit left rest end → judged_packet by.text (place_after first_place left) g.packet ≡ None
+        → judged_of by.text (left ++ g ∷ []) ≡ judged_of by.text left → IsLeft stage by limit (left ++ g ∷ []) later further
+    left_passed rest later end further Between on other h none same =
+        absurd (first_known by.text g.packet (ap (λ (gs : List Given). judged_packet by.text (place_after first_place gs) g.packet) (sym h) ∙ none))
+    left_passed rest later end further Within on other h none same =
+        subst (λ (gs : List Given). IsLeftIn OfRequests.Within by.offer limit gs later further) (sym same) h
+    left_passed rest later end further Passing on other h none same = absurd (other refl)
+    left_passed rest later end further Stopped on other h none same = absurd (cc)
+    left_passed rest later end further (FailedStage fault) on other h none same = absurd (cc)
+
+-- outside of requests that pass what is left is lines that begin a request
+left_lines : (by : Advertised) (limit : ℕ) (left : List Given) (rest : List ℕ) (end : ℕ) (stage : Stage) → takes_bytes stage ≡ true
+    → (stage ≡ Passing → ⊥) → IsLeft stage by limit left rest end → AreBegun by.offer limit (judged_of by.text left)
+left_lines by limit left rest end Between on other h =
+    left_begins by.offer limit (judged_of by.text left) rest end OfRequests.Between refl (ap (judged_of by.text) h)
+left_lines by limit left rest end Within on other h = left_begins by.offer limit (judged_of by.text left) rest end OfRequests.Within refl h
+left_lines by limit left rest end Passing on other h = absurd (other refl)
+left_lines by limit left rest end Stopped on other h = absurd (cc)
+left_lines by limit left rest end (FailedStage fault) on other h = absurd (cc)
+
+begins_on : (text : List ℕ) (left : List Given) (g : Given) → BeginWithOther text left → BeginWithOther text (left ++ g ∷ [])
+begins_on text [] g h = absurd h
+begins_on text (x ∷ left) g h = h
+
+-- outside of requests that pass the place is that after what is left, which a reader has taken
+place_other : (stage : Stage) (left : List Given) → (stage ≡ Passing → ⊥) → place_for stage left ≡ place_after first_place left
+place_other Between left other = refl
+place_other Within left other = refl
+place_other Passing left other = absurd (other refl)
+place_other Stopped left other = refl
+place_other (FailedStage fault) left other = refl
+
+taken_other : (stage : Stage) (text : List ℕ) (left : List Given) → (stage ≡ Passing → ⊥) → taken_in stage text left ≡ judged_of text left
+taken_other Between text left other = refl
+taken_other Within text left other = refl
+taken_other Passing text left other = absurd (other refl)
+taken_other Stopped text left other = refl
+taken_other (FailedStage fault) text left other = refl
+
 -- ---- how what was read goes on
 
 module _ {A : Type 0} (old new : JudgedRequests A) (u : List ℕ) (wants : wants_input old ≡ true)
-    (offer : offer_of new ≡ offer_of old) (text : text_of new ≡ text_of old) (limit : limit_of new ≡ limit_of old)
-    (used : List ℕ) (asked : List Asked) (h : HasRead used asked old) where
+    (by : advertised_by new ≡ advertised_by old) (limit : limit_of new ≡ limit_of old)
+    (used : List ℕ) (asked : List (Option Asked)) (h : HasRead used asked old) where
   -- the requests so far are requests by what the new reader has of the advertisement
-  earlier_requests : AreRequests (IsOne (offer_of new) (limit_of new)) (judged_in (text_of new) first_place h.packets) asked h.left
-  earlier_requests = rw (offer, text, limit) h.requests
+  earlier_requests : AreQuestions (advertised_by new) (limit_of new) h.packets asked h.left
+  earlier_requests =
+      subst (λ (b : Advertised). AreQuestions b (limit_of new) h.packets asked h.left) (sym by)
+      (subst (λ (n : ℕ). AreQuestions (advertised_by old) n h.packets asked h.left) (sym limit) h.requests)
 
   -- and what is left of the packets is what it was
-  left_before : IsLeftIn (stage_of old) (offer_of new) (limit_of new) h.left h.rest (length used)
-  left_before = rw (offer, limit) h.left_is
+  left_before : IsLeft old.stage (advertised_by new) (limit_of new) h.left h.rest (length used)
+  left_before =
+      subst (λ (b : Advertised). IsLeft old.stage b (limit_of new) h.left h.rest (length used)) (sym by)
+      (subst (λ (n : ℕ). IsLeft old.stage (advertised_by old) n h.left h.rest (length used)) (sym limit) h.left_is)
 
-  begun_before : AreBegun (offer_of new) (limit_of new) h.left
-  begun_before = left_begins (offer_of new) (limit_of new) h.left h.rest (length used) (stage_of old) wants left_before
+  left_still : (rest : List ℕ) → IsLeft old.stage (advertised_by new) (limit_of new) h.left rest (length (used ++ u))
+  left_still rest = left_on (advertised_by new) (limit_of new) h.left h.rest rest (length used) (length (used ++ u)) old.stage wants left_before
 
-  left_still : (rest : List ℕ) → IsLeftIn (stage_of old) (offer_of new) (limit_of new) h.left rest (length (used ++ u))
-  left_still rest =
-      left_stays (offer_of new) (limit_of new) h.left h.rest rest (length used) (length (used ++ u)) (stage_of old) wants left_before
+  -- the reader inside has taken it
+  taken_before : Takes (taken_in old.stage (text_of new) h.left) old.requests
+  taken_before = subst (λ (b : Advertised). Takes (taken_in old.stage b.text h.left) old.requests) (sym by) (h.onward wants)
+
+  taken_still : new.requests ≡ old.requests → Takes (taken_in old.stage (text_of new) h.left) new.requests
+  taken_still same = subst (λ (r : RequestReader A). Takes (taken_in old.stage (text_of new) h.left) r) (sym same) taken_before
 
   -- all that was read, in the stage that was reached
-  has_read : (packets left : List Given) (rest : List ℕ) (now : List Asked) (stage : Stage) → stage_of new ≡ stage
-      → new.place ≡ place_after first_place packets → Reads new.packets 0 (used ++ u) packets rest
-      → AreRequests (IsOne (offer_of new) (limit_of new)) (judged_in (text_of new) first_place packets) now left
-      → IsLeftIn stage (offer_of new) (limit_of new) left rest (length (used ++ u)) → (takes_bytes stage ≡ true → Takes left new.requests)
-      → HasRead (used ++ u) now new
-  has_read packets left rest now stage is place stream requests left_is takes = record {
+  has_read : (packets left : List Given) (rest : List ℕ) (now : List (Option Asked)) (stage : Stage) → new.stage ≡ stage
+      → Reads new.packets 0 (used ++ u) packets rest → AreQuestions (advertised_by new) (limit_of new) packets now left
+      → IsLeft stage (advertised_by new) (limit_of new) left rest (length (used ++ u))
+      → (takes_bytes stage ≡ true → new.place ≡ place_for stage left)
+      → (takes_bytes stage ≡ true → Takes (taken_in stage (text_of new) left) new.requests) → HasRead (used ++ u) now new
+  has_read packets left rest now stage is stream requests left_is place takes = record {
     packets = packets;
     left = left;
     rest = rest;
     reads = stream;
-    place_is = place;
     requests = requests;
-    left_is = subst (λ (s : Stage). IsLeftIn s (offer_of new) (limit_of new) left rest (length (used ++ u))) (sym is) left_is;
-    onward = λ on. takes (sym (ap takes_bytes is) ∙ on);
+    left_is = subst (λ (s : Stage). IsLeft s (advertised_by new) (limit_of new) left rest (length (used ++ u))) (sym is) left_is;
+    place_is = λ on. place (sym (ap takes_bytes is) ∙ on) ∙ ap (λ (s : Stage). place_for s left) (sym is);
+    onward = λ on.
+        subst (λ (s : Stage). Takes (taken_in s (text_of new) left) new.requests) (sym is) (takes (sym (ap takes_bytes is) ∙ on));
   }
 
-  none_more : (now : List Asked) → HasRead (used ++ u) now new → HasRead (used ++ u) (now ++ []) new
-  none_more now read = subst (λ (qs : List Asked). HasRead (used ++ u) qs new) (sym (append-nil now)) read
+  none_more : (now : List (Option Asked)) → HasRead (used ++ u) now new → HasRead (used ++ u) (now ++ []) new
+  none_more now read = subst (λ (qs : List (Option Asked)). HasRead (used ++ u) qs new) (sym (append-nil now)) read
 
   -- with no packet more
-  bytes_read : (rest : List ℕ) (stage : Stage) → stage_of new ≡ stage → new.place ≡ old.place → Reads new.packets 0 (used ++ u) (h.packets ++ []) rest
-      → IsLeftIn stage (offer_of new) (limit_of new) h.left rest (length (used ++ u)) → (takes_bytes stage ≡ true → Takes h.left new.requests)
-      → HasRead (used ++ u) (asked ++ []) new
-  bytes_read rest stage is same stream left_is takes =
-      none_more asked (has_read h.packets h.left rest asked stage is (same ∙ h.place_is)
-      (subst (λ (gs : List Given). Reads new.packets 0 (used ++ u) gs rest) (append-nil h.packets) stream) earlier_requests left_is takes)
+  bytes_read : (rest : List ℕ) (stage : Stage) → new.stage ≡ stage → Reads new.packets 0 (used ++ u) (h.packets ++ []) rest
+      → IsLeft stage (advertised_by new) (limit_of new) h.left rest (length (used ++ u))
+      → (takes_bytes stage ≡ true → new.place ≡ place_for stage h.left)
+      → (takes_bytes stage ≡ true → Takes (taken_in stage (text_of new) h.left) new.requests) → HasRead (used ++ u) (asked ++ []) new
+  bytes_read rest stage is stream left_is place takes =
+      none_more asked (has_read h.packets h.left rest asked stage is
+      (subst (λ (gs : List Given). Reads new.packets 0 (used ++ u) gs rest) (append-nil h.packets) stream) earlier_requests left_is place takes)
 
   -- the bytes end no packet
-  pub open_read : new.requests ≡ old.requests → stage_of new ≡ stage_of old → new.place ≡ old.place → ReadsOn old.packets u [] new.packets
+  pub open_read : new.requests ≡ old.requests → new.stage ≡ old.stage → new.place ≡ old.place → ReadsOn old.packets u [] new.packets
       → HasRead (used ++ u) (asked ++ []) new
   open_read same is place reads =
       let (rest, stream) = reads 0 used h.packets h.rest h.reads in
-      bytes_read rest (stage_of old) is place stream (left_still rest)
-      (λ on. subst (λ (r : RequestReader A). Takes h.left r) (sym same) (h.onward wants))
+      bytes_read rest old.stage is stream (left_still rest) (λ on. place ∙ h.place_is wants) (λ on. taken_still same)
 
   -- they are refused
-  pub refused_read : (fault : Fault) → stage_of new ≡ FailedStage fault → new.place ≡ old.place → packet_fault new.packets ≡ Some fault
-      → fault.kind ≢ Truncated → ReadsOn old.packets u [] new.packets → HasRead (used ++ u) (asked ++ []) new
-  refused_read fault is place told other reads =
+  pub refused_read : (fault : Fault) → new.stage ≡ FailedStage fault → packet_fault new.packets ≡ Some fault → fault.kind ≢ Truncated
+      → ReadsOn old.packets u [] new.packets → HasRead (used ++ u) (asked ++ []) new
+  refused_read fault is told other reads =
       let (rest, stream) = reads 0 used h.packets h.rest h.reads in
-      bytes_read rest (FailedStage fault) is place stream
-      (inr (inl (record {
-        begun = begun_before;
-        stops = stopped_by new.packets (used ++ u) (h.packets ++ []) rest fault told stream;
-        not_the_end = other;
-      }))) (λ on. absurd (cc))
+      let no_packet : AreNoPacket rest (length (used ++ u)) fault =
+      record { stops = stopped_by new.packets (used ++ u) (h.packets ++ []) rest fault told stream; not_the_end = other } in
+      bytes_read rest (FailedStage fault) is stream
+      (left_refused (advertised_by new) (limit_of new) h.left rest h.rest (length (used ++ u)) (length used) fault old.stage wants left_before no_packet)
+      (λ on. absurd (cc)) (λ on. absurd (cc))
 
   -- there are none, and the input ends
-  pub cut_read : (fault : Fault) → stage_of new ≡ FailedStage fault → new.place ≡ old.place → fault.kind ≡ Truncated → packet_fault old.packets ≡ None
-      → fault.offset + length h.rest ≡ position_of old.packets → (h.left ≢ []) ⊎ (h.rest ≢ []) → u ≡ [] → ReadsOn old.packets u [] new.packets
-      → HasRead (used ++ u) (asked ++ []) new
-  cut_read fault is place name sound at inside none reads =
+  pub cut_read : (fault : Fault) → new.stage ≡ FailedStage fault → fault.kind ≡ Truncated → packet_fault old.packets ≡ None
+      → fault.offset + length h.rest ≡ position_of old.packets → (stage_is_between old.stage ≡ false) ⊎ (h.rest ≢ []) → u ≡ []
+      → ReadsOn old.packets u [] new.packets → HasRead (used ++ u) (asked ++ []) new
+  cut_read fault is name sound at inside none reads =
       let (rest, stream) = reads 0 used h.packets h.rest h.reads in
       let all : used ++ u ≡ used = ap (λ (l : List ℕ). used ++ l) none ∙ append-nil used in
       let same = one_split 0 used (h.packets ++ []) h.packets rest h.rest
       (subst (λ (l : List ℕ). SpellsAll 0 l (h.packets ++ []) rest) all stream.splits.spelled) h.reads.splits.spelled
       stream.splits.ends h.reads.splits.ends in
-      bytes_read h.rest (FailedStage fault) is place (subst (λ (l : List ℕ). Reads new.packets 0 (used ++ u) (h.packets ++ []) l) same.rest_is stream)
-      (inr (inr (record {
-        begun = begun_before;
+      let cut : AreCutOff h.rest (length (used ++ u)) fault =
+      record {
         still_open = (sound_rest old.packets 0 used h.packets h.rest sound h.reads).1;
-        inside = inside;
         kind = name;
         at = omega (arith, at, h.reads.position, ap length all);
-      })))
-      (λ on. absurd (cc))
+      } in
+      bytes_read h.rest (FailedStage fault) is
+      (subst (λ (l : List ℕ). Reads new.packets 0 (used ++ u) (h.packets ++ []) l) same.rest_is stream)
+      (left_cut (advertised_by new) (limit_of new) h.left h.rest h.rest (length (used ++ u)) (length used) fault old.stage wants left_before cut inside)
+      (λ on. absurd (cc)) (λ on. absurd (cc))
 
-  module _ (g : Given) (place : new.place ≡ place_next old.place g.packet) (reads : ReadsOn old.packets u (g ∷ []) new.packets) where
-    placed : new.place ≡ place_after first_place (h.packets ++ g ∷ [])
-    placed = place ∙ ap (λ (p : Place). place_next p g.packet) h.place_is ∙ sym (place_snoc first_place h.packets g)
+  module _ (g : Given) (reads : ReadsOn old.packets u (g ∷ []) new.packets) where
+    requests_with : AreQuestions (advertised_by new) (limit_of new) (h.packets ++ g ∷ []) asked (h.left ++ g ∷ [])
+    requests_with = questions_more (advertised_by new) (limit_of new) h.packets (g ∷ []) asked h.left earlier_requests
+
+    -- they end the first packet of a request that passes
+    pub begun_read : old.stage ≡ Between → names_other (text_of new) g.packet ≡ true → new.stage ≡ Passing → new.place ≡ old.place
+        → new.requests ≡ old.requests → HasRead (used ++ u) (asked ++ []) new
+    begun_read was names is place same =
+        let (rest, stream) = reads 0 used h.packets h.rest h.reads in
+        let nothing : h.left ≡ [] =
+        subst (λ (s : Stage). IsLeft s (advertised_by new) (limit_of new) h.left h.rest (length used)) was left_before in
+        let other : IsOtherBegun (text_of new) (g ∷ []) = record { begins = names; goes_on = (not_flush g.packet names, tt) } in
+        none_more asked (has_read (h.packets ++ g ∷ []) (h.left ++ g ∷ []) rest asked Passing is stream requests_with
+        (subst (λ (gs : List Given). IsOtherBegun (text_of new) (gs ++ g ∷ [])) (sym nothing) other)
+        (λ on. place ∙ h.place_is wants ∙ ap (λ (s : Stage). place_for s h.left) was ∙ ap (λ (gs : List Given). place_after first_place gs) nothing)
+        (λ on.
+        subst (λ (gs : List Given). Takes gs new.requests)
+        (ap (λ (s : Stage). taken_in s (text_of new) h.left) was ∙ ap (λ (gs : List Given). judged_of (text_of new) gs) nothing)
+        (taken_still same)))
+      where
+        not_flush : (p : Pkt) → names_other (text_of new) p ≡ true → p ≢ flush
+        not_flush flush names e = absurd (cc)
+        not_flush delim names e = absurd (cc)
+        not_flush resp_end names e = absurd (cc)
+        not_flush (payload bytes) names e = absurd (cc)
+
+    -- or a further one of it
+    going_read : old.stage ≡ Passing → g.packet ≢ flush → new.stage ≡ Passing → new.place ≡ old.place → new.requests ≡ old.requests
+        → HasRead (used ++ u) (asked ++ []) new
+    going_read was other is place same =
+        let (rest, stream) = reads 0 used h.packets h.rest h.reads in
+        let begun : IsOtherBegun (text_of new) h.left =
+        subst (λ (s : Stage). IsLeft s (advertised_by new) (limit_of new) h.left h.rest (length used)) was left_before in
+        none_more asked (has_read (h.packets ++ g ∷ []) (h.left ++ g ∷ []) rest asked Passing is stream requests_with
+        (record { begins = begins_on (text_of new) h.left g begun.begins; goes_on = none_snoc flush h.left g begun.goes_on other })
+        (λ on. place ∙ h.place_is wants ∙ ap (λ (s : Stage). place_for s h.left) was)
+        (λ on. subst (λ (s : Stage). Takes (taken_in s (text_of new) h.left) new.requests) was (taken_still same)))
+
+    -- or its flush
+    ended_read : old.stage ≡ Passing → g.packet ≡ flush → new.stage ≡ Between → new.place ≡ old.place → new.requests ≡ old.requests
+        → HasRead (used ++ u) (asked ++ None ∷ []) new
+    ended_read was end is place same =
+        let (rest, stream) = reads 0 used h.packets h.rest h.reads in
+        let begun : IsOtherBegun (text_of new) h.left =
+        subst (λ (s : Stage). IsLeft s (advertised_by new) (limit_of new) h.left h.rest (length used)) was left_before in
+        has_read (h.packets ++ g ∷ []) [] rest (asked ++ None ∷ []) Between is stream
+        (one_more_question (advertised_by new) (limit_of new) (h.packets ++ g ∷ []) asked (h.left ++ g ∷ []) None requests_with (record {
+          begins = begins_on (text_of new) h.left g begun.begins;
+          ends = record { front = h.left; last = g; parts = refl; none_before = begun.goes_on; is_last = end };
+        }))
+        refl
+        (λ on. place ∙ h.place_is wants ∙ ap (λ (s : Stage). place_for s h.left) was)
+        (λ on. subst (λ (s : Stage). Takes (taken_in s (text_of new) h.left) new.requests) was (taken_still same))
+
+  -- they end a packet of a request that passes
+  pub passing_read : (p : Pkt) (offset : ℕ) → ReadsOn old.packets u (record { packet = p; offset = offset } ∷ []) new.packets → old.stage ≡ Passing
+      → new.stage ≡ stage_passed p → new.place ≡ old.place → new.requests ≡ old.requests → HasRead (used ++ u) (asked ++ asked_by (got_passed {A = A} p)) new
+  passing_read flush offset reads was is place same = ended_read (record { packet = flush; offset = offset }) reads was refl is place same
+  passing_read delim offset reads was is place same =
+      going_read (record { packet = delim; offset = offset }) reads was (λ e. cc) is place same
+  passing_read resp_end offset reads was is place same =
+      going_read (record { packet = resp_end; offset = offset }) reads was (λ e. cc) is place same
+  passing_read (payload bytes) offset reads was is place same =
+      going_read (record { packet = payload bytes; offset = offset }) reads was (λ e. cc) is place same
+
+  -- ---- a packet of any other request
+
+  module _ (other : old.stage ≡ Passing → ⊥) (g : Given) (reads : ReadsOn old.packets u (g ∷ []) new.packets) where
+    placed : new.place ≡ place_next old.place g.packet → new.place ≡ place_after first_place (h.left ++ g ∷ [])
+    placed place =
+        place ∙ ap (λ (p : Place). place_next p g.packet) (h.place_is wants ∙ place_other old.stage h.left other)
+        ∙ sym (place_snoc first_place h.left g)
+
+    taken_now : Takes (judged_of (text_of new) h.left) old.requests
+    taken_now =
+        subst (λ (gs : List Given). Takes gs old.requests) (taken_other old.stage (text_of new) h.left other) taken_before
+
+    begun_now : AreBegun (advertised_by new).offer (limit_of new) (judged_of (text_of new) h.left)
+    begun_now = left_lines (advertised_by new) (limit_of new) h.left h.rest (length used) old.stage wants other left_before
 
     -- what the packets are read as, with one more
     judged_with : (judged : Option Pkt) → judged_packet (text_of new) old.place g.packet ≡ judged
-        → judged_in (text_of new) first_place (h.packets ++ g ∷ []) ≡ judged_in (text_of new) first_place h.packets ++ given_as judged g.offset
+        → judged_of (text_of new) (h.left ++ g ∷ []) ≡ judged_of (text_of new) h.left ++ given_as judged g.offset
     judged_with judged is =
-        judged_snoc (text_of new) first_place h.packets g
-        ∙ ap (λ (o : Option Pkt). judged_in (text_of new) first_place h.packets ++ given_as o g.offset)
-        (ap (λ (p : Place). judged_packet (text_of new) p g.packet) (sym h.place_is) ∙ is)
+        judged_snoc (text_of new) first_place h.left g
+        ∙ ap (λ (o : Option Pkt). judged_of (text_of new) h.left ++ given_as o g.offset)
+        (ap (λ (p : Place). judged_packet (text_of new) p g.packet) (sym (h.place_is wants ∙ place_other old.stage h.left other)) ∙ is)
 
-    -- they end a packet that is passed over
-    pub passed_read : judged_packet (text_of new) old.place g.packet ≡ None → new.requests ≡ old.requests → stage_of new ≡ stage_of old
-        → HasRead (used ++ u) (asked ++ []) new
-    passed_read none same is =
+    -- it is passed over
+    pub passed_read : judged_packet (text_of new) old.place g.packet ≡ None → new.place ≡ place_next old.place g.packet → new.requests ≡ old.requests
+        → new.stage ≡ old.stage → HasRead (used ++ u) (asked ++ []) new
+    passed_read none place same is =
         let (rest, stream) = reads 0 used h.packets h.rest h.reads in
-        let judged = judged_with None none ∙ append-nil (judged_in (text_of new) first_place h.packets) in
-        none_more asked (has_read (h.packets ++ g ∷ []) h.left rest asked (stage_of old) is placed stream
-        (subst (λ (gs : List Given). AreRequests (IsOne (offer_of new) (limit_of new)) gs asked h.left) (sym judged) earlier_requests)
-        (left_still rest) (λ on. subst (λ (r : RequestReader A). Takes h.left r) (sym same) (h.onward wants)))
+        let judged = judged_with None none ∙ append-nil (judged_of (text_of new) h.left) in
+        let here = ap (λ (p : Place). judged_packet (text_of new) p g.packet) (sym (h.place_is wants ∙ place_other old.stage h.left other)) ∙ none in
+        none_more asked (has_read (h.packets ++ g ∷ []) (h.left ++ g ∷ []) rest asked old.stage is stream (requests_with g reads)
+        (left_passed (advertised_by new) (limit_of new) h.left g h.rest rest (length used) (length (used ++ u)) old.stage wants other left_before here judged)
+        (λ on. placed place ∙ sym (place_other old.stage (h.left ++ g ∷ []) other))
+        (λ on.
+        subst (λ (gs : List Given). Takes gs new.requests)
+        (taken_other old.stage (text_of new) h.left other ∙ sym judged ∙ sym (taken_other old.stage (text_of new) (h.left ++ g ∷ []) other))
+        (taken_still same)))
 
-    -- or one that is read as this
+    -- or read as this
     module _ (j : Pkt) (judged : judged_packet (text_of new) old.place g.packet ≡ Some j) where
-      abbrev read_as : Given
+      abbrev pub read_as : Given
       read_as = record { packet = j; offset = g.offset }
 
-      with_packet : AreRequests (IsOne (offer_of new) (limit_of new)) (judged_in (text_of new) first_place (h.packets ++ g ∷ [])) asked (h.left ++ read_as ∷ [])
-      with_packet =
-          subst (λ (gs : List Given). AreRequests (IsOne (offer_of new) (limit_of new)) gs asked (h.left ++ read_as ∷ [])) (sym (judged_with (Some j) judged))
-          (requests_more (IsOne (offer_of new) (limit_of new)) (judged_in (text_of new) first_place h.packets) (read_as ∷ []) asked h.left earlier_requests)
+      abbrev all_judged : List Given
+      all_judged = judged_of (text_of new) (h.left ++ g ∷ [])
+
+      parts : all_judged ≡ judged_of (text_of new) h.left ++ read_as ∷ []
+      parts = judged_with (Some j) judged
+
+      brought : (got : ReadGot A) → Brings nothing_barred old.requests read_as got new.requests → IsBrought nothing_barred all_judged got new.requests
+      brought got brings =
+          subst (λ (gs : List Given). IsBrought nothing_barred gs got new.requests) (sym parts) (brings.brings (judged_of (text_of new) h.left) taken_now)
 
       brought_read : (rest : List ℕ) → Reads new.packets 0 (used ++ u) (h.packets ++ g ∷ []) rest → rest ≡ [] → (got : ReadGot A)
-          → Brings nothing_barred old.requests read_as got new.requests → stage_of new ≡ stage_brought got → HasRead (used ++ u) (asked ++ asked_by got) new
-      brought_read rest stream none More brings is =
-          let brought = brings.brings h.left (h.onward wants) in
-          none_more asked (has_read (h.packets ++ g ∷ []) (h.left ++ read_as ∷ []) rest asked Within is placed stream with_packet
-          (some_left h.left read_as, brought.1) (λ on. brought.0))
-      brought_read rest stream none (Request request) brings is =
-          let brought = brings.brings h.left (h.onward wants) in
-          has_read (h.packets ++ g ∷ []) [] rest (asked ++ asked_of request ∷ []) Between is placed stream
-          (one_more_request (IsOne (offer_of new) (limit_of new)) (judged_in (text_of new) first_place (h.packets ++ g ∷ [])) asked
-          (h.left ++ read_as ∷ []) (asked_of request) with_packet (kept_of request, brought.1)) refl (λ on. brought.0)
-      brought_read rest stream none Stop brings is =
-          let brought = brings.brings h.left (h.onward wants) in
-          none_more asked (has_read (h.packets ++ g ∷ []) (h.left ++ read_as ∷ []) rest asked Stopped is placed stream with_packet (brought.1, none)
-          (λ on. absurd (cc)))
-      brought_read rest stream none (Failed fault) brings is =
-          let told = told_by_none (offer_of new) (limit_of new) (h.left ++ read_as ∷ []) fault (brings.brings h.left (h.onward wants)) in
-          none_more asked (has_read (h.packets ++ g ∷ []) (h.left ++ read_as ∷ []) rest asked (FailedStage fault) is placed stream with_packet
-          (inl (record { front = h.left; last = read_as; whole = refl; begun = begun_before; told = told; no_rest = none })) (λ on. absurd (cc)))
+          → IsBrought nothing_barred all_judged got new.requests → new.stage ≡ stage_brought got
+          → new.place ≡ place_brought got (place_next old.place g.packet) → HasRead (used ++ u) (asked ++ asked_by (got_as got)) new
+      brought_read rest stream none More brings is place =
+          none_more asked (has_read (h.packets ++ g ∷ []) (h.left ++ g ∷ []) rest asked Within is stream (requests_with g reads)
+          (λ e. some_left (judged_of (text_of new) h.left) read_as (sym parts ∙ e), brings.1) (λ on. placed place) (λ on. brings.0))
+      brought_read rest stream none (Request request) brings is place =
+          has_read (h.packets ++ g ∷ []) [] rest (asked ++ Some (asked_of request) ∷ []) Between is stream
+          (one_more_question (advertised_by new) (limit_of new) (h.packets ++ g ∷ []) asked (h.left ++ g ∷ []) (Some (asked_of request))
+          (requests_with g reads) (kept_of request, brings.1)) refl (λ on. place) (λ on. brings.0)
+      brought_read rest stream none Stop brings is place =
+          none_more asked (has_read (h.packets ++ g ∷ []) (h.left ++ g ∷ []) rest asked Stopped is stream (requests_with g reads) (brings.1, none)
+          (λ on. absurd (cc)) (λ on. absurd (cc)))
+      brought_read rest stream none (Failed fault) brings is place =
+          let told = told_by_none (advertised_by new).offer (limit_of new) all_judged fault brings in
+          none_more asked (has_read (h.packets ++ g ∷ []) (h.left ++ g ∷ []) rest asked (FailedStage fault) is stream (requests_with g reads)
+          (inl (inl (record {
+            front = judged_of (text_of new) h.left;
+            last = read_as;
+            whole = parts;
+            begun = begun_now;
+            told = told;
+            no_rest = none;
+          }))) (λ on. absurd (cc)) (λ on. absurd (cc)))
 
-      pub packet_read : (got : ReadGot A) → Brings nothing_barred old.requests read_as got new.requests → stage_of new ≡ stage_brought got
-          → packet_fault new.packets ≡ None → is_open new.packets ≡ false → HasRead (used ++ u) (asked ++ asked_by got) new
-      packet_read got brings is sound shut =
+      pub packet_read : (got : ReadGot A) → Brings nothing_barred old.requests read_as got new.requests → new.stage ≡ stage_brought got
+          → new.place ≡ place_brought got (place_next old.place g.packet) → packet_fault new.packets ≡ None → is_open new.packets ≡ false
+          → HasRead (used ++ u) (asked ++ asked_by (got_as got)) new
+      packet_read got brings is place sound shut =
           let (rest, stream) = reads 0 used h.packets h.rest h.reads in
-          brought_read rest stream (rest_behind new.packets (used ++ u) (h.packets ++ g ∷ []) rest sound shut stream) got brings is
+          brought_read rest stream (rest_behind new.packets (used ++ u) (h.packets ++ g ∷ []) rest sound shut stream) got (brought got brings) is place
 
 -- ---- how a reader is left after a packet
 
@@ -198,70 +425,98 @@ module _ {A : Type 0} where
   reads_behind Stop on = absurd (cc)
   reads_behind (Failed fault) on = absurd (cc)
 
-module _ {A : Type 0} (old new : JudgedRequests A) (g : Given) (used : ℕ) (ready : IsReady old) (some : 0 < used)
-    (sound : packet_fault new.packets ≡ None) (gathers : passes_of new.packets ≡ false) (shut : is_open new.packets ≡ false) where
-  ready_behind : (got : ReadGot A) → goes_on got ≡ true → Brings nothing_barred old.requests g got new.requests → stage_of new ≡ stage_brought got
-      → IsReady new
-  ready_behind got on brings is = record {
-    wants = ap takes_bytes is ∙ reads_behind got on;
-    gathers = gathers;
-    sound = sound;
-    open_ended = brings.sound on;
-    ready = brings.ready on;
-    taken = taken_behind old.requests new.requests g got brings on ready.taken;
-  }
-
-  pub packet_leaves : (got : ReadGot A) → Brings nothing_barred old.requests g got new.requests → stage_of new ≡ stage_brought got
-      → StepLeaves got used new
-  packet_leaves More brings is = (some, ready_behind More refl brings is)
-  packet_leaves (Request request) brings is =
-      let (left, takes) = ready.taken in
-      (some, ready_behind (Request request) refl brings is, ap stage_is_between is, shut, (brings.brings left takes).2)
-  packet_leaves Stop brings is = (some, ap takes_bytes is, ap fault_in is)
-  packet_leaves (Failed fault) brings is = ap fault_in is
-
--- a reader that passes a packet over goes on
-pub passed_leaves : {A : Type 0} (old new : JudgedRequests A) (used : ℕ) → IsReady old → 0 < used → packet_fault new.packets ≡ None
-    → passes_of new.packets ≡ false → new.requests ≡ old.requests → stage_of new ≡ stage_of old → StepLeaves {A = A} More used new
-passed_leaves {A = A} old new used ready some sound gathers same is = (
-  some,
-  record {
-    wants = ap takes_bytes is ∙ ready.wants;
+module _ {A : Type 0} (old new : JudgedRequests A) (used : ℕ) (ready : IsReady old) (some : 0 < used)
+    (sound : packet_fault new.packets ≡ None) (gathers : passes_of new.packets ≡ false) where
+  -- it goes on with the reader inside as it was
+  ready_still : new.requests ≡ old.requests → takes_bytes new.stage ≡ true → IsReady new
+  ready_still same wants = record {
+    wants = wants;
     gathers = gathers;
     sound = sound;
     open_ended = rw same ready.open_ended;
     ready = rw same ready.ready;
     taken = subst (λ (r : RequestReader A). HasTaken r) (sym same) ready.taken;
-  },
-)
+  }
+
+  pub goes_leaves : new.requests ≡ old.requests → takes_bytes new.stage ≡ true → StepLeaves {A = A} Got.More used new
+  goes_leaves same wants = (some, ready_still same wants)
+
+  pub passed_leaves : new.requests ≡ old.requests → new.stage ≡ old.stage → StepLeaves {A = A} Got.More used new
+  passed_leaves same is = goes_leaves same (ap takes_bytes is ∙ ready.wants)
+
+  module _ (shut : is_open new.packets ≡ false) where
+    pub passing_leaves : (p : Pkt) → new.requests ≡ old.requests → new.stage ≡ stage_passed p → StepLeaves (got_passed {A = A} p) used new
+    passing_leaves flush same is =
+        record { some = some; onward = ready_still same (ap takes_bytes is); between = ap stage_is_between is; shut = shut }
+    passing_leaves delim same is = goes_leaves same (ap takes_bytes is)
+    passing_leaves resp_end same is = goes_leaves same (ap takes_bytes is)
+    passing_leaves (payload bytes) same is = goes_leaves same (ap takes_bytes is)
+
+    module _ (g : Given) where
+      ready_behind : (got : ReadGot A) → goes_on got ≡ true → Brings nothing_barred old.requests g got new.requests → new.stage ≡ stage_brought got
+          → IsReady new
+      ready_behind got on brings is = record {
+        wants = ap takes_bytes is ∙ reads_behind got on;
+        gathers = gathers;
+        sound = sound;
+        open_ended = brings.sound on;
+        ready = brings.ready on;
+        taken = taken_behind old.requests new.requests g got brings on ready.taken;
+      }
+
+      pub packet_leaves : (got : ReadGot A) → Brings nothing_barred old.requests g got new.requests → new.stage ≡ stage_brought got
+          → StepLeaves (got_as got) used new
+      packet_leaves More brings is = (some, ready_behind More refl brings is)
+      packet_leaves (Request request) brings is =
+          let (left, takes) = ready.taken in (
+            record { some = some; onward = ready_behind (Request request) refl brings is; between = ap stage_is_between is; shut = shut },
+            (brings.brings left takes).2,
+          )
+      packet_leaves Stop brings is = (some, ap takes_bytes is, ap fault_in is)
+      packet_leaves (Failed fault) brings is = ap fault_in is
+
+-- a packet that passes brings no fault
+pub no_news : {A : Type 0} (p : Pkt) (fault : Fault) (used : ℕ) (piece : List ℕ) → got_passed {A = A} p ≡ Got.Failed fault → ShownByFeed fault used piece
+no_news flush fault used piece is = absurd (cc)
+no_news delim fault used piece is = absurd (cc)
+no_news resp_end fault used piece is = absurd (cc)
+no_news (payload bytes) fault used piece is = absurd (cc)
 
 -- a fault of a packet is none that the bytes show
-pub packet_news : {A : Type 0} (old : JudgedRequests A) (new : RequestReader A) (g : Given) (got : ReadGot A) → IsReady old
-    → Brings nothing_barred old.requests g got new → (fault : Fault) (used : ℕ) (piece : List ℕ) → got ≡ Failed fault → ShownByFeed fault used piece
-packet_news old new g got ready brings fault used piece is =
+fault_news : {A : Type 0} (old : JudgedRequests A) (new : RequestReader A) (g : Given) → IsReady old → (told : Fault)
+    → Brings nothing_barred old.requests g (Failed told) new → (fault : Fault) (used : ℕ) (piece : List ℕ) → told ≡ fault → ShownByFeed fault used piece
+fault_news old new g ready told brings fault used piece same =
     let (left, takes) = ready.taken in
-    let t =
-    told_by_none _ _ (left ++ g ∷ []) fault (subst (λ (o : ReadGot _). IsBrought nothing_barred (left ++ g ∷ []) o new) is (brings.brings left takes)) in
-    record {
-      not_the_end = told_of_packets Truncated tt _ _ (left ++ g ∷ []) fault t;
-      one_more = λ too_long. absurd (told_of_packets StreamTooLong tt _ _ (left ++ g ∷ []) fault t too_long);
-    }
+    let t = told_by_none _ _ (left ++ g ∷ []) told (brings.brings left takes) in
+    subst (λ (f : Fault). ShownByFeed f used piece) same (record {
+      not_the_end = told_of_packets Truncated tt _ _ (left ++ g ∷ []) told t;
+      one_more = λ too_long. absurd (told_of_packets StreamTooLong tt _ _ (left ++ g ∷ []) told t too_long);
+    })
+
+pub packet_news : {A : Type 0} (old : JudgedRequests A) (new : RequestReader A) (g : Given) (got : ReadGot A) → IsReady old
+    → Brings nothing_barred old.requests g got new → (fault : Fault) (used : ℕ) (piece : List ℕ) → got_as got ≡ Got.Failed fault
+    → ShownByFeed fault used piece
+packet_news old new g More ready brings fault used piece is = absurd (cc)
+packet_news old new g (Request request) ready brings fault used piece is = absurd (cc)
+packet_news old new g Stop ready brings fault used piece is = absurd (cc)
+packet_news old new g (Failed told) ready brings fault used piece is = fault_news old new g ready told brings fault used piece (cc)
 
 -- ---- a step over what is left of a piece
 
 module _ {A : Type 0} (old mid new : JudgedRequests A) (piece : List ℕ) (done : ℕ) (within : done ≤ length piece)
-    (more : ℕ) (got : ReadGot A) where
+    (more : ℕ) (got : JudgedGot A) where
   abbrev Stepping : Type 0
   Stepping = ReadsBy StepLeaves mid (take (length piece - done) (drop done piece)) (record { used = more; got = got }) new
 
-  pub reads_further : Stepping → ((used : List ℕ) (asked : List Asked) → HasRead used asked old → HasRead (used ++ take done piece) asked mid)
-      → (used : List ℕ) (asked : List Asked) → HasRead used asked old → HasRead (used ++ take (done + more) piece) (asked ++ asked_by got) new
+  pub reads_further : Stepping
+      → ((used : List ℕ) (asked : List (Option Asked)) → HasRead used asked old → HasRead (used ++ take done piece) asked mid)
+      → (used : List ℕ) (asked : List (Option Asked)) → HasRead used asked old → HasRead (used ++ take (done + more) piece) (asked ++ asked_by got) new
   reads_further steps before used asked h =
       subst (λ (bytes : List ℕ). HasRead bytes (asked ++ asked_by got) new) (joined used piece done more within)
       (steps.reads (used ++ take done piece) asked (before used asked h))
 
   -- a fault that what is left of the piece shows, the piece shows
-  pub shows_further : Stepping → (fault : Fault) → got ≡ Failed fault → ShownByFeed fault (done + more) piece
+  pub shows_further : Stepping → (fault : Fault) → got ≡ Got.Failed fault → ShownByFeed fault (done + more) piece
   shows_further steps fault is =
       let shown = steps.news fault is in
       record {
@@ -270,15 +525,19 @@ module _ {A : Type 0} (old mid new : JudgedRequests A) (piece : List ℕ) (done 
       }
 
 -- what a step did, by its answer
-pub steps_with : {A : Type 0} (old new : JudgedRequests A) (piece : List ℕ) (read : ReadRequest A) (got : ReadGot A) → read.got ≡ got
+pub steps_with : {A : Type 0} (old new : JudgedRequests A) (piece : List ℕ) (read : JudgedRead A) (got : JudgedGot A) → read.got ≡ got
     → ReadsBy StepLeaves old piece read new → ReadsBy StepLeaves old piece (record { used = read.used; got = got }) new
 steps_with {A = A} old new piece read got is steps =
-    subst (λ (o : ReadGot A). ReadsBy StepLeaves old piece (record { used = read.used; got = o }) new) is steps
+    subst (λ (o : JudgedGot A). ReadsBy StepLeaves old piece (record { used = read.used; got = o }) new) is steps
 
 -- how a reader is left after a step that is the last of a call
-pub leaves_further : {A : Type 0} (new : JudgedRequests A) (piece : List ℕ) (done more : ℕ) (got : ReadGot A) → got ≢ More → StepLeaves got more new
+onward_further : {A : Type 0} (new : JudgedRequests A) (done more : ℕ) → IsOnward more new → IsOnward (done + more) new
+onward_further new done more o = record { some = omega (arith, o.some); onward = o.onward; between = o.between; shut = o.shut }
+
+pub leaves_further : {A : Type 0} (new : JudgedRequests A) (piece : List ℕ) (done more : ℕ) (got : JudgedGot A) → got ≢ Got.More → StepLeaves got more new
     → Leaves got (done + more) piece new
-leaves_further new piece done more More other leaves = absurd (other refl)
-leaves_further new piece done more (Request request) other (some, ready, between, shut, format) = (omega (arith, some), ready, between, shut, format)
-leaves_further new piece done more Stop other (some, quiet, none) = (omega (arith, some), quiet, none)
-leaves_further new piece done more (Failed fault) other leaves = leaves
+leaves_further new piece done more Got.More other leaves = absurd (other refl)
+leaves_further new piece done more (Got.Request request) other (on, format) = (onward_further new done more on, format)
+leaves_further new piece done more Got.Other other on = onward_further new done more on
+leaves_further new piece done more Got.Stop other (some, quiet, none) = (omega (arith, some), quiet, none)
+leaves_further new piece done more (Got.Failed fault) other leaves = leaves

@@ -1,5 +1,7 @@
 pub mod CheckRuns
 pub mod OtherLines
+pub mod Turns
+pub mod PassedAnswers
 pub mod KnownLines
 pub mod JudgedSteps
 pub mod JudgedReadings

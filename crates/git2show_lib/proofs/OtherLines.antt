@@ -1,12 +1,13 @@
 -- Lines cut at a byte, their keys and words, and packets judged one more at a time.
-use Rattle.std.proofs.Common.{arith, ◌≡◌, ℕ, ◌+◌, ◌||◌, ◌==◌, Bool, true, false, List, [], ◌∷◌, ◌++◌, length, drop, Option, Some, None, unwrap_or, suc}
+use Rattle.std.proofs.Common.{arith, ◌≡◌, ◌≢◌, ℕ, ◌+◌, ◌||◌, ◌==◌, Bool, true, false, List, [], ◌∷◌, ◌++◌, length, drop, Option, Some, None, unwrap_or, suc}
 use Rattle.std.proofs.Common.{refl, sym, ap, ◌∙◌, append_assoc, append-nil}
 use Rattle.std.specs.List.{after_first, before_first, list_any}
 use Rattle.std.proofs.lemmas.Grind.{common_steps}
+use Rattle.git_pkt.specs.Packets.{Pkt}
 use Rattle.git_pkt.specs.Splits.{Given}
 use Rattle.git_msg.specs.Texts.{IsCutAt}
 use Rattle.git_msg.proofs.TextParts.{cut_place}
-use Rattle.git2show_lib.specs.Others.{given_as, judged_in, judged_packet, line_kept, lines_kept, place_after, place_next}
+use Rattle.git2show_lib.specs.Others.{NoneIs, given_as, judged_in, judged_packet, line_kept, lines_kept, place_after, place_next}
 use Rattle.git2show_lib.specs.declared.others.Place.{Place}
 
 -- ---- lines
@@ -59,3 +60,7 @@ pub kept_snoc : (gs : List Given) (g : Given) → lines_kept (gs ++ g ∷ []) �
 kept_snoc [] g = append-nil (line_kept g.packet)
 kept_snoc (h ∷ gs) g =
     ap (λ (l : List ℕ). line_kept h.packet ++ l) (kept_snoc gs g) ∙ sym (append_assoc (line_kept h.packet) (lines_kept gs) (line_kept g.packet))
+
+pub none_snoc : (packet : Pkt) (gs : List Given) (g : Given) → NoneIs packet gs → g.packet ≢ packet → NoneIs packet (gs ++ g ∷ [])
+none_snoc packet [] g none other = (other, tt)
+none_snoc packet (h ∷ gs) g none other = (none.0, none_snoc packet gs g none.1 other)

@@ -1,6 +1,6 @@
 -- The next request, read a piece at a time: what all pieces so far result in, and what each end of the reading states of them.
-use Rattle.std.proofs.Common.{arith, ◌≡◌, ℕ, ◌-◌, ◌≤◌, Bool, true, false, List, [], ◌++◌, length, take, drop, Option, Result, Ok, Err}
-use Rattle.std.proofs.Common.{IsErrAnd, inl, inr, refl, sym, ap, ◌∙◌, append_assoc, append-nil, length-append, length-drop, take-append-drop}
+use Rattle.std.proofs.Common.{arith, ◌≡◌, ℕ, ◌-◌, ◌≤◌, Bool, true, false, List, [], ◌∷◌, ◌++◌, length, take, drop, Option, None, Result, Ok, Err}
+use Rattle.std.proofs.Common.{IsErrAnd, inl, inr, refl, sym, ap, subst, ◌∙◌, append_assoc, append-nil, length-append, length-drop, take-append-drop}
 use Rattle.std.proofs.Math.Seq.{drop-length}
 use Rattle.std.proofs.lemmas.List.{length-take-le}
 use Rattle.std.proofs.lemmas.Result.{err_from_is_err_and}
@@ -9,36 +9,31 @@ use Rattle.std.proofs.KnownBytes.{Consumes-nil, Consumes-trans, Consumes-kept}
 use Rattle.git_pkt.specs.declared.fault.Fault.{Fault}
 use Rattle.git_pkt.specs.Streams.{Flow, flow}
 use Rattle.git_pkt.proofs.EngineLemmas.{timely}
-use Rattle.git_msg.specs.Machine.RequestStreams.{asked_by}
-use Rattle.git_msg.specs.declared.offers.Offer.{Offer}
+use Rattle.git_msg.specs.Asked.{Asked}
 use Rattle.git_msg.specs.declared.requests.Request.{Request as HeldRequest}
-use Rattle.git_msg.specs.declared.streams.ReadGot.{ReadGot}
-use Rattle.git_msg.specs.declared.streams.ReadGot.TheVariants.{More, Request, Stop, Failed}
-use Rattle.git_msg.specs.declared.streams.ReadRequest.{ReadRequest}
 use Rattle.git_client.specs.Machine.RunSteps.{window_of}
 use Rattle.git_client.specs.declared.hearing.Window.{Window}
 use Rattle.git2show_lib.specs.declared.checking.CheckFault.{CheckFault}
 use Rattle.git2show_lib.specs.declared.checking.CheckFault.TheVariants.{ReadFault}
-use Rattle.git2show_lib.specs.Machine.JudgedRequests.{Closes, Feeds, IsReady, advertised_by, offer_of, text_of}
+use Rattle.git2show_lib.specs.Machine.JudgedRequests.{Closes, Feeds, HasRead, IsOnward, IsReady, asked_by}
+use Rattle.git2show_lib.specs.declared.judged_requests.JudgedGot.{JudgedGot}
+use Rattle.git2show_lib.specs.declared.judged_requests.JudgedGot.TheVariants.{More, Request, Other, Stop, Failed}
+use Rattle.git2show_lib.specs.declared.judged_requests.JudgedRead.{JudgedRead}
+use Rattle.git2show_lib.specs.declared.requests_read.Next.{Next}
 use Rattle.git2show_lib.specs.declared.judged_requests.JudgedRequests.{JudgedRequests}
 use Rattle.git2show_lib.proofs.JudgedReadings.{asked_so_far, begun_so_far, nothing_begun, refused_as, stopped_at}
-use Rattle.git2show_lib.specs.Machine.CheckSteps.{ReadsAll, ReadsFault, ReadsNoMore, ReadsOn, ReadsRequest, ReadsTo}
+use Rattle.git2show_lib.specs.Machine.CheckSteps.{ReadsAll, ReadsFault, ReadsNoMore, ReadsOn, ReadsRequest, ReadsTo, ReadsWhole}
 
 -- the bytes at the front of a piece are a window of it
-front_window : (end : ℕ) (piece : List ℕ) → take end piece ≡ window_of (record { start = 0; end = end }) piece
+pub front_window : (end : ℕ) (piece : List ℕ) → take end piece ≡ window_of (record { start = 0; end = end }) piece
 front_window end piece = let same : end ≡ end - 0 = omega arith in ap (λ (n : ℕ). take n piece) same
 
 module _ {A : Type 0} where
   -- what a call of `feed` did, by its answer
-  feeds_with : {old new : JudgedRequests A} {piece : List ℕ} (read : ReadRequest A) {got : ReadGot A} → read.got ≡ got → Feeds old piece read new
+  feeds_with : {old new : JudgedRequests A} {piece : List ℕ} (read : JudgedRead A) {got : JudgedGot A} → read.got ≡ got → Feeds old piece read new
       → Feeds old piece (record { used = read.used; got = got }) new
   feeds_with {old = old} {new = new} {piece = piece} read is feeds =
       rw is at feeds
-
-  -- what was advertised stays
-  advertised_stays : (old new : JudgedRequests A) → offer_of new ≡ offer_of old → text_of new ≡ text_of old → advertised_by new ≡ advertised_by old
-  advertised_stays old new offer text =
-      ap (λ (o : Offer). record { offer = o; text = text_of new }) offer ∙ ap (λ (l : List ℕ). record { offer = offer_of old; text = l }) text
 
   -- before the first byte all that waits is left
   pub reads_nothing : (s : JudgedRequests A) (waiting : List ℕ) (left : Option (List ℕ)) → ReadsOn s s [] waiting waiting (flow left left)
@@ -79,36 +74,49 @@ module _ {A : Type 0} where
     }
 
     -- of the bytes that were left some were read
-    module _ {used : ℕ} {got : ReadGot A} {new : JudgedRequests A} (feeds : Feeds middle unused (record { used = used; got = got }) new) where
-      fed : ReadsOn old new (asked_by got) waiting (drop used unused) (flow before left)
-      fed = record {
+    module _ {used : ℕ} {got : JudgedGot A} {new : JudgedRequests A} (feeds : Feeds middle unused (record { used = used; got = got }) new) where
+      fed : (asked : List (Option Asked)) → asked_by got ≡ asked → ReadsOn old new asked waiting (drop used unused) (flow before left)
+      fed asked is = record {
         came = so_far.came;
         used = so_far.used ++ take used unused;
         read = so_far.read;
         parts = so_far.parts ∙ simp (append_assoc, take-append-drop);
         reads = λ bytes known h.
-            rw (append_assoc bytes so_far.used (take used unused), append-nil known) at
-            (feeds.reads (bytes ++ so_far.used) (known ++ []) (so_far.reads bytes known h));
-        advertised = advertised_stays middle new feeds.offer feeds.text ∙ so_far.advertised;
+            subst (λ (qs : List (Option Asked)). HasRead (bytes ++ (so_far.used ++ take used unused)) (known ++ qs) new) is
+            (rw (append_assoc bytes so_far.used (take used unused), append-nil known) at
+            (feeds.reads (bytes ++ so_far.used) (known ++ []) (so_far.reads bytes known h)));
+        advertised = feeds.by ∙ so_far.advertised;
         limit = feeds.limit ∙ so_far.limit;
       }
 
-    module _ {new : JudgedRequests A} (read : ReadRequest A) where
+    module _ {new : JudgedRequests A} (read : JudgedRead A) where
       -- they end a request
+      fed_whole : {ended : Bool} {got : JudgedGot A} {question : Option Asked} {rest : List ℕ}
+          → Feeds middle unused (record { used = read.used; got = got }) new → asked_by got ≡ question ∷ [] → IsOnward read.used new
+          → read.used ≤ length unused → drop read.used unused ≡ rest → ended ≡ false → ReadsWhole ended old new question waiting rest (flow before left)
+      unfolding fed
+      fed_whole {ended = ended} news asks on within rest_is open_ended =
+          rw (← rest_is) (record {
+            reads = fed news _ asks;
+            onward = on.onward;
+            can_come = open_ended;
+            some = omega (arith, on.some, within, length-append so_far.used (take read.used unused), length-take-le read.used unused within);
+            alone = λ bytes known h. (h.left, h.rest, asked_so_far h, nothing_begun h on.between on.shut on.onward.sound);
+          })
+
+      -- that is this request
       pub fed_request : {ended : Bool} {request : HeldRequest A} {rest : List ℕ} → read.got ≡ Request request → Feeds middle unused read new
           → read.used ≤ length unused → drop read.used unused ≡ rest → ended ≡ false → ReadsRequest ended old new request waiting rest (flow before left)
-      unfolding fed
-      fed_request {ended = ended} {request = request} is feeds within rest_is open_ended =
+      fed_request is feeds within rest_is open_ended =
           let news = feeds_with read is feeds in
-          let (some, ready, between, shut, format) = news.leaves in
-          rw (← rest_is) (record {
-            reads = fed news;
-            onward = ready;
-            can_come = open_ended;
-            format = format;
-            some = omega (arith, some, within, length-append so_far.used (take read.used unused), length-take-le read.used unused within);
-            alone = λ bytes known h. (h.left, h.rest, asked_so_far h, nothing_begun h between shut ready.sound);
-          })
+          record { whole = fed_whole news refl news.leaves.0 within rest_is open_ended; format = news.leaves.1 }
+
+      -- or one for another command
+      pub fed_other : {ended : Bool} {rest : List ℕ} → read.got ≡ Other → Feeds middle unused read new → read.used ≤ length unused
+          → drop read.used unused ≡ rest → ended ≡ false → ReadsWhole ended old new None waiting rest (flow before left)
+      fed_other is feeds within rest_is open_ended =
+          let news = feeds_with read is feeds in
+          fed_whole news refl news.leaves within rest_is open_ended
 
       -- they end in a flush instead of a request
       pub fed_stop : {ended : Bool} → read.got ≡ Stop → Feeds middle unused read new → ReadsNoMore ended old new waiting (flow before left)
@@ -117,7 +125,7 @@ module _ {A : Type 0} where
           let (some, quiet, sound) = news.leaves in
           record {
             unused = drop read.used unused;
-            reads = fed news;
+            reads = fed news [] refl;
             over = λ bytes known h. let (stop, none) = stopped_at h quiet sound in (h.left, h.rest, asked_so_far h, (none, inl stop));
           }
 
@@ -129,7 +137,7 @@ module _ {A : Type 0} where
           let shown = news.news fault refl in
           record {
             unused = drop read.used unused;
-            reads = fed news;
+            reads = fed news [] refl;
             refused = λ bytes known h. (h.left, h.rest, asked_so_far h, refused_as h news.leaves);
             timely = timely fault.kind ended (drop read.used unused) shown.not_the_end
                 (λ long. omega (arith, shown.one_more long, length-drop read.used unused));
@@ -141,7 +149,7 @@ module _ {A : Type 0} where
           let news = feeds_with read is feeds in
           let (all, onward) = news.leaves in
           let none : drop read.used unused ≡ [] = rw all (drop-length unused) in
-          (onward, rw none at (fed news))
+          (onward, rw none at (fed news [] refl))
 
   module _ {old middle : JudgedRequests A} {waiting : List ℕ} {before left : Option (List ℕ)}
       (so_far : ReadsOn old middle [] waiting [] (flow before left)) where
@@ -195,7 +203,7 @@ module _ {A : Type 0} where
           }
 
   -- a read failed, and a `?` answers the fault that it met
-  pub read_fault : (result : Result (Option (HeldRequest A)) CheckFault) (fault : CheckFault) (ended : Bool) (old new : JudgedRequests A)
+  pub read_fault : (result : Result (Next A) CheckFault) (fault : CheckFault) (ended : Bool) (old new : JudgedRequests A)
       (waiting : List ℕ) (window : Window) (piece : List ℕ) (reader : Flow) → IsErrAnd result (λ e. e ≡ fault) → fault ≡ ReadFault
       → ReadsAll ended old new waiting reader → ReadsTo result ended old new waiting window piece reader
   read_fault result fault ended old new waiting window piece reader answered named all =

@@ -4,6 +4,7 @@ pub mod Reports
 pub mod CheckFaults
 pub mod Noting
 pub mod JudgedRequests
+pub mod OtherAnswers
 pub mod CheckSteps
 pub mod CheckedStreams
 pub mod HeldScripts

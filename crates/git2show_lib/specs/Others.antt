@@ -1,10 +1,13 @@
--- What a request of another client may have since its server advertised it, beside what this project knows: keys of capability lines, and
--- words of the values of `fetch` and `ls-refs`.
-use Rattle.std.specs.Prelude.{◌≡◌, ℕ, ◌==◌, Bool, true, false, not, ◌&&◌, ◌||◌, Option, Some, None, List, [], ◌∷◌, ◌++◌, length, codes, if◌then◌else◌}
+-- What a request of another client may have since its server advertised it, beside what this project knows: keys of capability lines, commands,
+-- and words of the values of `fetch` and `ls-refs`.
+use Rattle.std.specs.Prelude.{◌≡◌, ◌≢◌, ◌⊎◌, ℕ, ◌+◌, ◌-◌, ◌==◌, Bool, true, false, not, ◌&&◌, ◌||◌, Option, Some, None, List, [], ◌∷◌, ◌++◌, length, codes, if◌then◌else◌}
 use Rattle.std.specs.List.{before_first, list_any, list_all}
 use Rattle.std.specs.Str.{bytes_eq}
 use Rattle.git_pkt.specs.Packets.{Pkt, flush, delim, resp_end, payload, text_of}
 use Rattle.git_pkt.specs.Splits.{Given, Splits}
+use Rattle.git_pkt.specs.Faults.{IsOpen, StopsBy}
+use Rattle.git_pkt.specs.declared.fault.Fault.{Fault}
+use Rattle.git_pkt.specs.declared.fault.Kind.TheVariants.{Truncated}
 use Rattle.git_msg.specs.Advertisement.{key_of, value_of}
 use Rattle.git_msg.specs.Arguments.{name_of}
 use Rattle.git_msg.specs.Capability.{is_key_byte, is_value_byte}
@@ -12,6 +15,8 @@ use Rattle.git_msg.specs.Texts.{parts_of, spaced_words}
 use Rattle.git_msg.specs.declared.arguments.Command.{Command}
 use Rattle.git_msg.specs.declared.arguments.Command.TheVariants.{LsRefs, Fetch}
 use Rattle.git_msg.specs.declared.offers.Offer.{Offer}
+use Rattle.git_client.specs.declared.events.Ending.{Ending}
+use Rattle.git_client.specs.declared.events.Ending.TheVariants.{FlushOnly, ResponseEnd}
 use Rattle.git2show_lib.specs.declared.others.Place.{Place}
 
 -- ---- what is known
@@ -108,6 +113,15 @@ is_other_argument text (Some command) line =
     not (is_own_word (before_first (λ c. c == 32) line)) && is_advertised text (Some command) (before_first (λ c. c == 32) line)
 is_other_argument text None line = false
 
+-- the line names a command that is not known, and was advertised by its key
+unfoldable pub is_other_command : List ℕ → List ℕ → Bool
+is_other_command text line =
+    bytes_eq (key_of line) (codes "command") && not (is_own_key (value_of line)) && is_advertised text None (value_of line)
+
+abbrev pub names_other : List ℕ → Pkt → Bool
+names_other text (payload bytes) = is_other_command text (text_of bytes)
+names_other text packet = false
+
 -- the command that a value names, if it has words of its own in an advertisement
 unfoldable pub command_named : List ℕ → Option Command
 command_named value =
@@ -157,7 +171,78 @@ abbrev pub judged_in : List ℕ → Place → List Given → List Given
 judged_in text place [] = []
 judged_in text place (g ∷ gs) = given_as (judged_packet text place g.packet) g.offset ++ judged_in text (place_next place g.packet) gs
 
+-- those of one request
+abbrev pub judged_of : List ℕ → List Given → List Given
+judged_of text packets = judged_in text first_place packets
+
 -- what a server advertised: what is offered by it, and its lines that have something which is not known
 pub record Advertised : Type 0 where
   pub offer : Offer
   pub text : List ℕ
+
+-- ---- requests for commands that are not known, and the answers to them
+
+-- none of the packets is this
+abbrev pub NoneIs : Pkt → List Given → Type 0
+NoneIs packet [] = Unit {0}
+NoneIs packet (g ∷ gs) = (g.packet ≢ packet) × NoneIs packet gs
+
+-- the packets are those up to the first that is this
+pub record EndAt (packet : Pkt) (packets : List Given) : Type 0 where
+  pub front : List Given
+  pub last : Given
+  pub parts : packets ≡ front ++ last ∷ []
+  pub none_before : NoneIs packet front
+  pub is_last : last.packet ≡ packet
+
+-- the first of the packets is a line that names a command which is not known, and was advertised
+abbrev pub BeginWithOther : List ℕ → List Given → Type 0
+BeginWithOther text [] = ⊥
+BeginWithOther text (g ∷ gs) = names_other text g.packet ≡ true
+
+-- the packets are such a request, which passes up to its flush
+pub record IsOtherRequest (text : List ℕ) (packets : List Given) : Type 0 where
+  pub begins : BeginWithOther text packets
+  pub ends : EndAt flush packets
+
+-- the packets begin such a request
+pub record IsOtherBegun (text : List ℕ) (packets : List Given) : Type 0 where
+  pub begins : BeginWithOther text packets
+  pub goes_on : NoneIs flush packets
+
+-- the packet that ends each response
+abbrev pub last_of : Ending → Pkt
+last_of FlushOnly = flush
+last_of ResponseEnd = resp_end
+
+abbrev pub is_last : Ending → Pkt → Bool
+is_last FlushOnly flush = true
+is_last ResponseEnd resp_end = true
+is_last ending packet = false
+
+-- the bytes are the answer to such a request, which passes up to the packet that ends each response
+pub record IsOtherAnswer (ending : Ending) (bytes : List ℕ) : Type 0 where
+  pub given : List Given
+  pub splits : Splits 0 bytes given []
+  pub ends : EndAt (last_of ending) given
+
+-- the bytes begin such an answer, and this rest of them is no packet
+pub record IsAnswerBegun (ending : Ending) (bytes rest : List ℕ) : Type 0 where
+  pub given : List Given
+  pub splits : Splits 0 bytes given rest
+  pub goes_on : NoneIs (last_of ending) given
+
+-- the bytes after packets are no packet's
+pub record AreNoPacket (rest : List ℕ) (end : ℕ) (fault : Fault) : Type 0 where
+  pub stops : StopsBy (end - length rest) rest end fault.kind fault.offset
+  pub not_the_end : fault.kind ≢ Truncated
+
+-- the input ended where a packet was due: reported at the end of the last whole packet
+pub record AreCutOff (rest : List ℕ) (end : ℕ) (fault : Fault) : Type 0 where
+  pub still_open : IsOpen rest
+  pub kind : fault.kind ≡ Truncated
+  pub at : fault.offset + length rest ≡ end
+
+-- packets that pass break off before their last
+abbrev pub BreakOff : List ℕ → ℕ → Fault → Type 0
+BreakOff rest end fault = AreNoPacket rest end fault ⊎ AreCutOff rest end fault

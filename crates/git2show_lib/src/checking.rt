@@ -6,13 +6,14 @@ ghost use Rattle.git_pkt.specs.Machine.Engine.{FailsAs, IsShownBy};
 ghost use Rattle.git_pkt.specs.Streams.{flow, is_broken, Moves};
 ghost use Rattle.git_client.specs.Parts.{terms_of};
 ghost use Rattle.git2show_lib.specs.Machine.CheckFaults.{run_fault, run_result, standing_of, AreSpent};
-ghost use Rattle.git2show_lib.specs.Machine.CheckedStreams.{of_responses, Checked};
+ghost use Rattle.git2show_lib.specs.Machine.CheckedStreams.{of_responses, placed_result, Checked};
 
 use crate::advertisement::hear_advertisement;
 use crate::judged_requests::JudgedRequests;
 use crate::left_over::see_the_end;
 use crate::noting::Noting;
-use crate::requests_read::next_request;
+use crate::other_answers::pass_answer;
+use crate::requests_read::{Next, next_request};
 use git_client::{Client, Ending, Window, ask_next, hear};
 use git_msg::Limits;
 use git_names::Format;
@@ -64,7 +65,8 @@ impl From<RunFault> for CheckFault {
 /// The transcript is written to `out`: a line for each event and for each request. It is flushed before each read and at the end.
 ///
 /// A request may have what was advertised and is not known: a capability line by its key, and an argument by its first word, where that is
-/// among the words of the command. It is taken as it comes, and changes nothing.
+/// among the words of the command. It is taken as it comes, and changes nothing. So may be a request whose first line names a command that is
+/// not known and was advertised by its key: the request passes up to its flush, and the answer to it up to what ends each response.
 ///
 /// `Requests` and `Responses` with the first fault that is met in this order: a byte left over is `UnexpectedPacket` at its offset, and
 /// what [`Client::ask`] refuses of a request is a fault of the responses, at the offset where its response would begin. What an
@@ -102,50 +104,78 @@ pub fn check<Q: Read, R: Read, O: Write, A: Allocator + Copy>(
 {
     let mut client = Client::new(format, ending);
     let mut noting = Noting::new(alloc);
-    let mut left = hear_advertisement(
-        &mut client,
-        &mut noting,
-        responses,
-        other_piece,
-        out,
-        turns,
-    )?;
+    let heard = hear_advertisement(&mut client, &mut noting, responses, other_piece, out, turns);
+    let mut left = at_place(heard, 0)?;
     let advertised = match noting.into_text() {
         Ok(text) => text,
         Err(kind) => {
-            return Err(CheckFault::Responses(Fault {
-                kind,
-                offset: client.position(),
-            }));
+            let offset = client.position();
+            return at_place(Err(RunFault::Refused(Fault { kind, offset })), 0);
         }
     };
     let offer = client.caps().offer(format);
     let mut asking = JudgedRequests::new(alloc, offer, advertised, Limits::DEFAULT);
     let mut waiting = Window { start: 0, end: 0 };
-    while let Some(request) = next_request(
-        &mut asking,
-        requests,
-        piece,
-        &mut waiting,
-        turns - responses.reads(),
-    )? {
-        ask_next(&mut client, request, &mut Discard, out)?;
-        left = hear(
-            &mut client,
-            responses,
-            other_piece,
-            left,
-            out,
-            &mut Discard,
-            &mut Discard,
-            turns - requests.reads(),
-        )?;
+    // How many bytes of the responses passed by the client.
+    let mut passed: u64 = 0;
+    'requests: loop {
+        match next_request(
+            &mut asking,
+            requests,
+            piece,
+            &mut waiting,
+            turns - responses.reads(),
+        )? {
+            Next::Request(request) => {
+                at_place(ask_next(&mut client, request, &mut Discard, out), passed)?;
+                let heard = hear(
+                    &mut client,
+                    responses,
+                    other_piece,
+                    left,
+                    out,
+                    &mut Discard,
+                    &mut Discard,
+                    turns - requests.reads(),
+                );
+                left = at_place(heard, passed)?;
+            }
+            Next::Other => {
+                let place = client.position().saturating_add(passed);
+                let answer = pass_answer(
+                    ending,
+                    responses,
+                    other_piece,
+                    left,
+                    turns - requests.reads(),
+                );
+                let over = at_place(answer, place)?;
+                left = over.left;
+                passed = passed.saturating_add(over.count);
+            }
+            Next::Nothing => {
+                return see_the_end(
+                    responses,
+                    other_piece,
+                    left,
+                    client.position().saturating_add(passed),
+                    turns - requests.reads(),
+                );
+            }
+        }
     }
-    see_the_end(
-        responses,
-        other_piece,
-        left,
-        client.position(),
-        turns - requests.reads(),
-    )
+}
+
+/// The same answer of a run over the responses, where so many bytes of them were before what it counts.
+fn at_place<T>(run: Result<T, RunFault>, before: u64) -> Result<T, CheckFault>
+    ensures { result ≡ placed_result before run }
+{
+    match run {
+        Ok(done) => Ok(done),
+        Err(RunFault::Refused(fault)) => Err(CheckFault::Responses(Fault {
+            kind: fault.kind,
+            offset: fault.offset.saturating_add(before),
+        })),
+        Err(fault) => Err(CheckFault::from(fault)),
+    }
 }

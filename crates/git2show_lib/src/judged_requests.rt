@@ -1,13 +1,13 @@
 //! Requests of another client, read from bytes that come in pieces, against all that its server advertised.
 
 ghost use Rattle.std.specs.Prelude.{◌≡◌, ◌<◌, ◌≤◌, [], length};
-ghost use Rattle.git_msg.specs.Machine.StreamStages.{stage_brought};
-ghost use Rattle.git2show_lib.specs.Machine.JudgedRequests.{stage_as};
+ghost use Rattle.git_pkt.specs.Packets.{seen};
+ghost use Rattle.git2show_lib.specs.Machine.JudgedRequests.{got_as, got_passed, place_brought, stage_brought, stage_passed};
 
-use crate::others::{Place, judged_packet};
-use git_msg::{AdmitsAll, Limits, Offer, ReadGot, ReadRequest, RequestReader, take_packet};
+use crate::others::{Place, judged_packet, names_other};
+use git_msg::{AdmitsAll, Limits, Offer, ReadGot, Request, RequestReader, take_packet};
 use git_names::Steps;
-use git_pkt::{Fault, Got, Kind, PacketReader};
+use git_pkt::{Fault, Got, Kind, Packet, PacketReader};
 use std::alloc::Allocator;
 
 /// How far a reader of requests has come.
@@ -17,9 +17,47 @@ enum Stage {
     Between,
     /// After a packet of a request, and before its flush.
     Within,
+    /// The same of a request for a command that is not known.
+    Passing,
     /// After a flush with nothing before it.
     Stopped,
     Failed(Fault),
+}
+
+/// What came of some bytes of a piece.
+#[derive(Drop)]
+pub(crate) struct JudgedRead<A: Allocator + Copy> {
+    /// How many bytes of the piece were used.
+    pub(crate) used: usize,
+    /// What they brought.
+    pub(crate) got: JudgedGot<A>,
+}
+
+/// What the bytes used brought.
+#[derive(Drop)]
+pub(crate) enum JudgedGot<A: Allocator + Copy> {
+    /// Nothing whole yet: all of the piece was used.
+    More,
+    /// A whole request.
+    Request(Request<A>),
+    /// A whole request for a command that is not known, and was advertised.
+    Other,
+    /// A flush with nothing before it, by which the other end leaves. Nothing after it is read.
+    Stop,
+    /// The first fault of the bytes.
+    Failed(Fault),
+}
+
+impl<A: Allocator + Copy> JudgedRead<A> {
+    /// Bytes that brought nothing whole.
+    fn more(used: usize) -> JudgedRead<A>
+        ensures { result ≡ record { used = used; got = JudgedGot.More } }
+    {
+        JudgedRead {
+            used,
+            got: JudgedGot::More,
+        }
+    }
 }
 
 /// Reads requests, gitprotocol-v2(5), against what was offered, and takes what else was advertised as it comes.
@@ -59,7 +97,7 @@ impl<A: Allocator + Copy> JudgedRequests<A> {
 
     /// Reads on. It returns after a whole request, at a flush instead of one, with the whole piece used, or at the first
     /// fault. Call it again with the bytes that it did not use.
-    pub(crate) fn feed(&mut self, piece: &[u8]) -> ReadRequest<A>
+    pub(crate) fn feed(&mut self, piece: &[u8]) -> JudgedRead<A>
         requires { IsReady self.old }
         ensures used { result.used ≤ length piece.now }
         ensures feeds { Feeds self.old piece.now result self.new }
@@ -69,14 +107,11 @@ impl<A: Allocator + Copy> JudgedRequests<A> {
             let step = self.step(&piece[used..]);
             used += step.used;
             match step.got {
-                ReadGot::More => {}
-                got => return ReadRequest { used, got },
+                JudgedGot::More => {}
+                got => return JudgedRead { used, got },
             }
         }
-        ReadRequest {
-            used,
-            got: ReadGot::More,
-        }
+        JudgedRead::more(used)
     }
 
     /// The input ends here, where more could come. Between two requests that is well; inside one it is refused as
@@ -101,7 +136,7 @@ impl<A: Allocator + Copy> JudgedRequests<A> {
     }
 
     /// Uses bytes up to the end of a packet, or all of them.
-    fn step(&mut self, piece: &[u8]) -> ReadRequest<A>
+    fn step(&mut self, piece: &[u8]) -> JudgedRead<A>
         requires ready { IsReady self.old }
         requires some { 0 < length piece.now }
         ensures used { result.used ≤ length piece.now }
@@ -110,25 +145,32 @@ impl<A: Allocator + Copy> JudgedRequests<A> {
         let fed = self.packets.feed(piece, &mut Steps::new());
         let used = fed.used;
         match fed.got {
-            Got::More => ReadRequest {
-                used,
-                got: ReadGot::More,
-            },
+            Got::More => JudgedRead::more(used),
             Got::Failed(fault) => {
                 self.stage = Stage::Failed(fault);
-                ReadRequest {
+                JudgedRead {
                     used,
-                    got: ReadGot::Failed(fault),
+                    got: JudgedGot::Failed(fault),
                 }
             }
             Got::Packet(packet, offset) => {
+                if let Stage::Passing = self.stage {
+                    self.stage = stage_passed(packet);
+                    return JudgedRead {
+                        used,
+                        got: got_passed(packet),
+                    };
+                }
+                if let Stage::Between = self.stage {
+                    if names_other(&self.advertised, packet) {
+                        self.stage = Stage::Passing;
+                        return JudgedRead::more(used);
+                    }
+                }
                 let next = self.place.after(packet);
                 let Some(judged) = judged_packet(&self.advertised, self.place, packet) else {
                     self.place = next;
-                    return ReadRequest {
-                        used,
-                        got: ReadGot::More,
-                    };
+                    return JudgedRead::more(used);
                 };
                 let got = take_packet(
                     &mut self.requests,
@@ -137,9 +179,12 @@ impl<A: Allocator + Copy> JudgedRequests<A> {
                     offset,
                     &mut Steps::new(),
                 );
-                self.place = next;
+                self.place = place_brought(&got, next);
                 self.stage = stage_after(&got);
-                ReadRequest { used, got }
+                JudgedRead {
+                    used,
+                    got: judged_got(got),
+                }
             }
         }
     }
@@ -147,12 +192,54 @@ impl<A: Allocator + Copy> JudgedRequests<A> {
 
 /// The stage of the reader after a packet that brought this.
 fn stage_after<A: Allocator + Copy>(got: &ReadGot<A>) -> Stage
-    ensures { stage_as result ≡ stage_brought got.now }
+    ensures { result ≡ stage_brought got.now }
 {
     match got {
         ReadGot::More => Stage::Within,
         ReadGot::Request(_) => Stage::Between,
         ReadGot::Stop => Stage::Stopped,
         ReadGot::Failed(fault) => Stage::Failed(*fault),
+    }
+}
+
+/// Where the next packet is, after one that brought this: at `next` where the request goes on.
+fn place_brought<A: Allocator + Copy>(got: &ReadGot<A>, next: Place) -> Place
+    ensures { result ≡ place_brought got.now next }
+{
+    match got {
+        ReadGot::Request(_) => Place::first(),
+        _ => next,
+    }
+}
+
+/// What a packet of a request brought.
+fn judged_got<A: Allocator + Copy>(got: ReadGot<A>) -> JudgedGot<A>
+    ensures { result ≡ got_as got }
+{
+    match got {
+        ReadGot::More => JudgedGot::More,
+        ReadGot::Request(request) => JudgedGot::Request(request),
+        ReadGot::Stop => JudgedGot::Stop,
+        ReadGot::Failed(fault) => JudgedGot::Failed(fault),
+    }
+}
+
+/// The stage after a packet of a request that passes, which goes up to its flush.
+fn stage_passed(packet: Packet<'_>) -> Stage
+    ensures { result ≡ stage_passed (seen packet.entry) }
+{
+    match packet {
+        Packet::Flush => Stage::Between,
+        _ => Stage::Passing,
+    }
+}
+
+/// And what it brought.
+fn got_passed<A: Allocator + Copy>(packet: Packet<'_>) -> JudgedGot<A>
+    ensures { result ≡ got_passed (seen packet.entry) }
+{
+    match packet {
+        Packet::Flush => JudgedGot::Other,
+        _ => JudgedGot::More,
     }
 }

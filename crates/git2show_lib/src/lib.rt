@@ -7,6 +7,7 @@ mod judged_requests;
 mod left_over;
 mod lines;
 mod noting;
+mod other_answers;
 mod others;
 mod playing;
 mod reports;

@@ -6,8 +6,9 @@ ghost use Rattle.git_pkt.specs.Packets.{seen};
 ghost use Rattle.git_msg.specs.Advertisement.{key_of, value_of};
 ghost use Rattle.git_msg.specs.Texts.{spaced_words};
 ghost use Rattle.git2show_lib.specs.Others.{command_at_line, command_named, first_place, has_word, is_advertised, is_allowed_key, is_allowed_value};
-ghost use Rattle.git2show_lib.specs.Others.{is_feature, is_own_key, is_own_word, is_other_argument, is_other_capability, is_other_line, is_word_of_answers};
-ghost use Rattle.git2show_lib.specs.Others.{is_word_of_objects, judged_line, judged_packet, line_has, place_at_line, place_next, word_passes};
+ghost use Rattle.git2show_lib.specs.Others.{is_feature, is_own_key, is_own_word, is_other_argument, is_other_capability, is_other_command, is_other_line};
+ghost use Rattle.git2show_lib.specs.Others.{is_word_of_answers, is_word_of_objects, judged_line, judged_packet, line_has, names_other, place_at_line};
+ghost use Rattle.git2show_lib.specs.Others.{place_next, word_passes};
 
 use git_msg::{Command, is_word, split_at_first};
 use git_pkt::{Packet, text};
@@ -94,6 +95,24 @@ fn judged_line<'p>(advertised: &[u8], place: Place, payload: &'p [u8]) -> Option
         return Some(Packet::Payload(b"agent"));
     }
     Some(Packet::Payload(payload))
+}
+
+/// Whether the packet is a line that names a command which is not known, and was advertised.
+pub(crate) fn names_other(advertised: &[u8], packet: Packet<'_>) -> bool
+    ensures { result ≡ names_other advertised.now (seen packet.entry) }
+{
+    match packet {
+        Packet::Payload(payload) => is_other_command(advertised, text(payload)),
+        Packet::Flush | Packet::Delim | Packet::RespEnd => false,
+    }
+}
+
+#[tactic(auto, unfolding(crate::specs::Others::is_other_command))]
+fn is_other_command(advertised: &[u8], line: &[u8]) -> bool
+    ensures { result ≡ is_other_command advertised.now line.now }
+{
+    let (key, value) = key_and_value(line);
+    is_word(key, b"command") && !is_own_key(value) && is_advertised(advertised, None, value)
 }
 
 /// Whether a line of an advertisement has something that is not known.

@@ -10,15 +10,26 @@ ghost use Rattle.git2show_lib.specs.Machine.CheckSteps.{ReadsTo};
 ghost use Rattle.git2show_lib.specs.Machine.JudgedRequests.{IsReady};
 
 use crate::checking::CheckFault;
-use crate::judged_requests::JudgedRequests;
+use crate::judged_requests::{JudgedGot, JudgedRequests};
 use git_client::Window;
-use git_msg::{ReadGot, Request};
+use git_msg::Request;
 use git_pkt::{Told, receive};
 use std::alloc::Allocator;
 use std::io::Read;
 
+/// What comes next of the requests.
+#[derive(Drop)]
+pub(crate) enum Next<A: Allocator + Copy> {
+    /// A request.
+    Request(Request<A>),
+    /// A request for a command that is not known, and was advertised.
+    Other,
+    /// None after the last one.
+    Nothing,
+}
+
 /// Reads the next request. What waits of the piece is read first, and then what is read into it; afterwards that of the piece waits
-/// which was not used. Answers `None` after the last request.
+/// which was not used.
 ///
 /// `Requests` with the first fault of the requests, `ReadFault` where a read fails, and `ReadLimit` where the reader has made as many
 /// reads as `turns` and needs one more.
@@ -28,7 +39,7 @@ pub(crate) fn next_request<R: Read, A: Allocator + Copy>(
     piece: &mut [u8],
     waiting: &mut Window,
     turns: u64,
-) -> Result<Option<Request<A>>, CheckFault>
+) -> Result<Next<A>, CheckFault>
     requires ready { IsReady stream.old }
     requires room { 0 < length piece.old }
     requires ordered { waiting.old.start ≤ waiting.old.end }
@@ -51,10 +62,11 @@ pub(crate) fn next_request<R: Read, A: Allocator + Copy>(
         let read = stream.feed(&piece[waiting.start..waiting.end]);
         waiting.start += read.used;
         match read.got {
-            ReadGot::Request(request) => return Ok(Some(request)),
-            ReadGot::Stop => return Ok(None),
-            ReadGot::Failed(fault) => return Err(CheckFault::Requests(fault)),
-            ReadGot::More => {}
+            JudgedGot::Request(request) => return Ok(Next::Request(request)),
+            JudgedGot::Other => return Ok(Next::Other),
+            JudgedGot::Stop => return Ok(Next::Nothing),
+            JudgedGot::Failed(fault) => return Err(CheckFault::Requests(fault)),
+            JudgedGot::More => {}
         }
         if reader.reads() == turns {
             return Err(CheckFault::ReadLimit);
@@ -63,7 +75,7 @@ pub(crate) fn next_request<R: Read, A: Allocator + Copy>(
         *waiting = Window { start: 0, end };
         if end == 0 {
             return match stream.close() {
-                Ok(()) => Ok(None),
+                Ok(()) => Ok(Next::Nothing),
                 Err(fault) => Err(CheckFault::Requests(fault)),
             };
         }

@@ -1,12 +1,14 @@
 //! Runs: the bytes of their streams, and what `show`, `check` and `play` result in.
 
 ghost use Rattle.std.specs.Prelude.{ℕ, ◌≡◌, ◌++◌, ◌∷◌, [], Err, List, None, Ok, Some, codes, false, true};
-ghost use Rattle.git2show_lib.specs.Machine.CheckedStreams.{Checked};
+ghost use Rattle.git2show_lib.specs.Others.{names_other};
+ghost use Rattle.git2show_lib.specs.Machine.CheckedStreams.{Checked, moved};
 ghost use Rattle.git2show_lib.specs.Machine.ShownStream.{Shows};
 ghost use Rattle.git_both_ends.specs.Plays.{Played};
 ghost use Rattle.git_msg.specs.Asked.{ls_refs};
 ghost use Rattle.git_msg.specs.Machine.HeldRequest.{asked_of};
 ghost use Rattle.git_msg.specs.declared.requests.Request.{Request};
+ghost use Rattle.git_pkt.specs.Packets.{payload};
 ghost use Rattle.git_pkt.specs.Streams.{AreRead, AreWritten, IsTimely, flow};
 ghost use Rattle.git_pkt.specs.declared.fault.Kind.TheVariants.{BadLength, StreamTooLong, Truncated};
 ghost use Rattle.git_pkt.specs.declared.fault.RunFault.TheVariants.{ReadFault, Refused};
@@ -48,6 +50,16 @@ pub fn streams_checked<A: Allocator + Copy>()
     ensures not_while_requests_may_come { ¬ Checked A terms 0 (Ok tt) (standing false) (standing true) ([] ∷ offer_bytes ∷ []) (codes "offered\n" ∷ []) }
     ensures not_while_responses_may_come { ¬ Checked A terms 0 (Ok tt) (standing true) (standing false) ([] ∷ offer_bytes ∷ []) (codes "offered\n" ∷ []) }
     ensures not_without_an_advertisement { ¬ Checked A terms 0 (Ok tt) (standing true) (standing true) ([] ∷ [] ∷ []) ([] ∷ []) }
+{}
+
+/// A command that is not known and was advertised, and where a fault is reported after what passed for it.
+pub fn another_command()
+    ensures named { names_other (codes "bundle-uri\n") (payload (codes "command=bundle-uri\n")) ≡ true }
+    ensures reported { moved 10 (fault_at BadLength 5) ≡ fault_at BadLength 15 }
+    ensures none_passed { moved 0 (fault_at BadLength 5) ≡ fault_at BadLength 5 }
+    ensures not_unadvertised { names_other (codes "other\n") (payload (codes "command=bundle-uri\n")) ≡ false }
+    ensures not_known { names_other (codes "fetch=other\n") (payload (codes "command=fetch\n")) ≡ false }
+    ensures not_a_capability { names_other (codes "bundle-uri\n") (payload (codes "bundle-uri\n")) ≡ false }
 {}
 
 /// A play without requests: the client receives the advertisement, and leaves.

@@ -10,18 +10,19 @@ use Rattle.git_pkt.specs.declared.fault.Kind.TheVariants.{UnexpectedPacket}
 use Rattle.git_msg.specs.Asked.{Asked}
 use Rattle.git_msg.specs.Machine.HeldRequest.{asked_of, format_of}
 use Rattle.git_msg.specs.Requests.{IsStop}
-use Rattle.git_msg.specs.Machine.RequestStreams.{IsRefusedAs}
-use Rattle.git_msg.specs.Machine.StreamStages.{AreBegun}
 use Rattle.git_msg.specs.declared.requests.Request.{Request}
 use Rattle.git_client.specs.Machine.RunSteps.{HearsTo, HearsWhole, window_of}
 use Rattle.git_client.specs.declared.client.Client.{Client}
 use Rattle.git_client.specs.declared.hearing.Window.{Window}
-use Rattle.git2show_lib.specs.Machine.JudgedRequests.{HasRead, AreAskedBy, IsReady, advertised_by, limit_of, offer_of}
+use Rattle.git2show_lib.specs.Others.{judged_of}
+use Rattle.git2show_lib.specs.Machine.JudgedRequests.{HasRead, AreAskedBy, IsBegun, IsReady, IsRefused, advertised_by, limit_of, offer_of, text_of}
 use Rattle.git2show_lib.specs.Machine.Noting.{HasNotedLines}
 use Rattle.git2show_lib.specs.declared.judged_requests.JudgedRequests.{JudgedRequests}
 use Rattle.git2show_lib.specs.declared.noting.Noting.{Noting}
 use Rattle.git2show_lib.specs.declared.checking.CheckFault.{CheckFault}
 use Rattle.git2show_lib.specs.declared.checking.CheckFault.TheVariants.{Requests, Responses, ReadFault, ReadLimit}
+use Rattle.git2show_lib.specs.declared.requests_read.Next.{Next}
+use Rattle.git2show_lib.specs.declared.requests_read.Next.TheVariants.{Request as NextRequest, Other as NextOther, Nothing as NextNothing}
 
 -- where the bytes of the pack and of the progress go: nowhere
 abbrev pub nowhere : Flow
@@ -35,54 +36,59 @@ module _ {A : Type 0} where
   HearsNoting (Err fault) ended old new notes piece reader out = HearsTo (Err fault) ended old new [] piece reader out nowhere nowhere
 
   -- of the bytes that waited and those that came, all but the last were used, and they ask this
-  pub record ReadsOn (old new : JudgedRequests A) (asked : List Asked) (waiting unused : List ℕ) (reader : Flow) : Type 0 where
+  pub record ReadsOn (old new : JudgedRequests A) (asked : List (Option Asked)) (waiting unused : List ℕ) (reader : Flow) : Type 0 where
     pub came : List ℕ
     pub used : List ℕ
     pub read : Consumes reader.before reader.after came
     pub parts : waiting ++ came ≡ used ++ unused
-    pub reads : (before : List ℕ) (known : List Asked) → HasRead before known old → HasRead (before ++ used) (known ++ asked) new
+    pub reads : (before : List ℕ) (known : List (Option Asked)) → HasRead before known old → HasRead (before ++ used) (known ++ asked) new
     pub advertised : advertised_by new ≡ advertised_by old
     pub limit : limit_of new ≡ limit_of old
 
   -- what the bytes used so far ask, whatever they are, with what comes after the last whole request
   abbrev pub Asking : JudgedRequests A → (List ℕ → List Given → List ℕ → Type 0) → Type 0
   Asking s Stands =
-      (before : List ℕ) (known : List Asked) → HasRead before known s
+      (before : List ℕ) (known : List (Option Asked)) → HasRead before known s
       → (left : List Given) × (rest : List ℕ) × AreAskedBy (advertised_by s) (limit_of s) before known left rest × Stands before left rest
 
-  -- a request was read whole, and nothing after it
-  pub record ReadsRequest (ended : Bool) (old new : JudgedRequests A) (request : Request A) (waiting unused : List ℕ) (reader : Flow) : Type 0 where
-    pub reads : ReadsOn old new (asked_of request ∷ []) waiting unused reader
+  -- a request was read whole, for a command that is known or not, and nothing after it
+  pub record ReadsWhole (ended : Bool) (old new : JudgedRequests A) (question : Option Asked) (waiting unused : List ℕ) (reader : Flow) : Type 0 where
+    pub reads : ReadsOn old new (question ∷ []) waiting unused reader
     pub onward : IsReady new
     pub can_come : ended ≡ false
-    pub format : format_of request ≡ (offer_of new).format
     pub some : 0 < length reads.used
     pub alone : Asking new (λ used left rest. (left ≡ []) × (rest ≡ []))
+
+  -- it is this request
+  pub record ReadsRequest (ended : Bool) (old new : JudgedRequests A) (request : Request A) (waiting unused : List ℕ) (reader : Flow) : Type 0 where
+    pub whole : ReadsWhole ended old new (Some (asked_of request)) waiting unused reader
+    pub format : format_of request ≡ (offer_of new).format
 
   -- no further request comes: a flush comes instead of one, or the input ended after a whole one
   pub record ReadsNoMore (ended : Bool) (old new : JudgedRequests A) (waiting : List ℕ) (reader : Flow) : Type 0 where
     pub unused : List ℕ
     pub reads : ReadsOn old new [] waiting unused reader
-    pub over : Asking new (λ used left rest. (rest ≡ []) × (IsStop left ⊎ ((left ≡ []) × (unused ≡ []) × (ended ≡ true))))
+    pub over : Asking new (λ used left rest. (rest ≡ []) × (IsStop (judged_of (text_of new) left) ⊎ ((left ≡ []) × (unused ≡ []) × (ended ≡ true))))
 
   -- all bytes were read, and more can come
   pub record ReadsAll (ended : Bool) (old new : JudgedRequests A) (waiting : List ℕ) (reader : Flow) : Type 0 where
     pub reads : ReadsOn old new [] waiting [] reader
-    pub begun : Asking new (λ used left rest. AreBegun (offer_of new) (limit_of new) left × IsOpen rest)
+    pub begun : Asking new (λ used left rest. IsBegun (advertised_by new) (limit_of new) left × IsOpen rest)
     pub can_come : ended ≡ false
 
   -- what comes instead of a request is refused
   pub record ReadsFault (fault : Fault) (ended : Bool) (old new : JudgedRequests A) (waiting : List ℕ) (reader : Flow) : Type 0 where
     pub unused : List ℕ
     pub reads : ReadsOn old new [] waiting unused reader
-    pub refused : Asking new (λ used left rest. IsRefusedAs (offer_of new) (limit_of new) left rest (length used) fault)
+    pub refused : Asking new (λ used left rest. IsRefused (advertised_by new) (limit_of new) left rest (length used) fault)
     pub timely : IsTimely fault.kind ended unused
 
   -- how the next request was read
-  abbrev pub ReadsTo : Result (Option (Request A)) CheckFault → Bool → JudgedRequests A → JudgedRequests A → List ℕ → Window → List ℕ → Flow → Type 0
-  ReadsTo (Ok (Some request)) ended old new waiting window piece reader =
+  abbrev pub ReadsTo : Result (Next A) CheckFault → Bool → JudgedRequests A → JudgedRequests A → List ℕ → Window → List ℕ → Flow → Type 0
+  ReadsTo (Ok (NextRequest request)) ended old new waiting window piece reader =
       ReadsRequest ended old new request waiting (window_of window piece) reader
-  ReadsTo (Ok None) ended old new waiting window piece reader = ReadsNoMore ended old new waiting reader
+  ReadsTo (Ok NextOther) ended old new waiting window piece reader = ReadsWhole ended old new None waiting (window_of window piece) reader
+  ReadsTo (Ok NextNothing) ended old new waiting window piece reader = ReadsNoMore ended old new waiting reader
   ReadsTo (Err (Requests fault)) ended old new waiting window piece reader = ReadsFault fault ended old new waiting reader
   ReadsTo (Err ReadFault) ended old new waiting window piece reader = ReadsAll ended old new waiting reader
   ReadsTo (Err ReadLimit) ended old new waiting window piece reader = ReadsAll ended old new waiting reader

@@ -1,41 +1,123 @@
 -- Requests of another client in a stream of bytes, read against all that its server advertised, and what a reader of them represents.
-use Rattle.std.specs.Prelude.{◌≡◌, ℕ, ◌<◌, Bool, true, false, List, [], ◌++◌, length, take, Option, Some, None, Result, Ok, Err}
+use Rattle.std.specs.Prelude.{◌≡◌, ◌⊎◌, ℕ, ◌<◌, Bool, true, false, List, [], ◌∷◌, ◌++◌, length, take, Option, Some, None, Result, Ok, Err}
+use Rattle.git_pkt.specs.Packets.{Pkt, flush}
 use Rattle.git_pkt.specs.Splits.{Given, Splits}
 use Rattle.git_pkt.specs.Machine.PacketReader.{Reads, ShownByFeed, fault_of as packet_fault, is_open, passes_of, position_of}
 use Rattle.git_pkt.specs.declared.fault.Fault.{Fault}
 use Rattle.git_pkt.specs.declared.fault.Kind.TheVariants.{Truncated}
 use Rattle.git_msg.specs.Asked.{Asked}
-use Rattle.git_msg.specs.Machine.HeldRequest.{format_of}
+use Rattle.git_msg.specs.Machine.HeldRequest.{asked_of, format_of}
 use Rattle.git_msg.specs.Machine.RequestReader.{Takes, fault_of as reader_fault, is_waiting, limit_in, offer_of as offer_in}
-use Rattle.git_msg.specs.Machine.RequestStreams.{IsLeftIn, IsOne, asked_by}
-use Rattle.git_msg.specs.Machine.StreamStages.{HasTaken, fault_in, stage_is_between, takes_bytes}
-use Rattle.git_msg.specs.WholeRequests.{AreRequests}
+use Rattle.git_msg.specs.Machine.RequestStreams.{IsLeftIn, IsOne, IsRefusedAs}
+use Rattle.git_msg.specs.Machine.StreamStages.{AreBegun, HasTaken}
 use Rattle.git_msg.specs.declared.offers.Offer.{Offer}
 use Rattle.git_msg.specs.declared.streams.ReadGot.{ReadGot}
-use Rattle.git_msg.specs.declared.streams.ReadGot.TheVariants.{More, Request as RequestGot, Stop as StopGot, Failed as FailedGot}
-use Rattle.git_msg.specs.declared.streams.ReadRequest.{ReadRequest}
-use Rattle.git_msg.specs.declared.streams.Stage.{Stage as StageOfRequests}
+use Rattle.git_msg.specs.declared.streams.ReadGot.TheVariants as OfReader
 use Rattle.git_msg.specs.declared.streams.Stage.TheVariants as OfRequests
-use Rattle.git2show_lib.specs.Others.{Advertised, first_place, judged_in, place_after}
+use Rattle.git2show_lib.specs.Others.{Advertised, BreakOff, IsOtherBegun, IsOtherRequest, first_place, judged_of, place_after}
+use Rattle.git2show_lib.specs.declared.others.Place.{Place}
+use Rattle.git2show_lib.specs.declared.judged_requests.JudgedGot.{JudgedGot}
+use Rattle.git2show_lib.specs.declared.judged_requests.JudgedGot.TheVariants.{More, Request as RequestGot, Other as OtherGot, Stop as StopGot, Failed as FailedGot}
+use Rattle.git2show_lib.specs.declared.judged_requests.JudgedRead.{JudgedRead}
 use Rattle.git2show_lib.specs.declared.judged_requests.JudgedRequests.{JudgedRequests}
 use Rattle.git2show_lib.specs.declared.judged_requests.Stage.{Stage}
-use Rattle.git2show_lib.specs.declared.judged_requests.Stage.TheVariants.{Between, Within, Stopped, Failed}
+use Rattle.git2show_lib.specs.declared.judged_requests.Stage.TheVariants.{Between, Within, Passing, Stopped, Failed}
 
--- the bytes are whole requests, which ask for these, further packets, and a rest that no packet begins, where each packet is read as
--- what was advertised has it
-pub record AreAskedBy (by : Advertised) (limit : ℕ) (bytes : List ℕ) (asked : List Asked) (left : List Given) (rest : List ℕ) : Type 0 where
+-- the packets are a whole request: one that asks for this, where each packet is read as what was advertised has it, or one for a command
+-- that is not known
+abbrev pub IsQuestion : Advertised → ℕ → List Given → Option Asked → Type 0
+IsQuestion by limit packets (Some q) = IsOne by.offer limit (judged_of by.text packets) q
+IsQuestion by limit packets None = IsOtherRequest by.text packets
+
+-- the packets are whole requests, one after another, and then what is left
+abbrev pub AreQuestions : Advertised → ℕ → List Given → List (Option Asked) → List Given → Type 0
+AreQuestions by limit packets [] left = packets ≡ left
+AreQuestions by limit packets (q ∷ qs) left =
+    (front : List Given) × (more : List Given) × (packets ≡ front ++ more) × IsQuestion by limit front q × AreQuestions by limit more qs left
+
+-- the bytes are whole requests, further packets, and a rest that no packet begins
+pub record AreAskedBy (by : Advertised) (limit : ℕ) (bytes : List ℕ) (asked : List (Option Asked)) (left : List Given) (rest : List ℕ) : Type 0 where
   pub packets : List Given
   pub splits : Splits 0 bytes packets rest
-  pub requests : AreRequests (IsOne by.offer limit) (judged_in by.text first_place packets) asked left
+  pub requests : AreQuestions by limit packets asked left
 
--- the same stage of a reader of requests
-abbrev pub stage_as : Stage → StageOfRequests
-stage_as Between = OfRequests.Between
-stage_as Within = OfRequests.Within
-stage_as Stopped = OfRequests.Stopped
-stage_as (Failed fault) = OfRequests.Failed fault
+-- what is left after the whole requests begins one
+abbrev pub IsBegun : Advertised → ℕ → List Given → Type 0
+IsBegun by limit left = AreBegun by.offer limit (judged_of by.text left) ⊎ IsOtherBegun by.text left
+
+-- what is left after the whole requests is refused
+abbrev pub IsRefused : Advertised → ℕ → List Given → List ℕ → ℕ → Fault → Type 0
+IsRefused by limit left rest end fault =
+    IsRefusedAs by.offer limit (judged_of by.text left) rest end fault ⊎ (IsOtherBegun by.text left × BreakOff rest end fault)
+
+-- ---- the stage of a reader
+
+-- what is left in a stage
+abbrev pub IsLeft : Stage → Advertised → ℕ → List Given → List ℕ → ℕ → Type 0
+IsLeft Between by limit left rest end = left ≡ []
+IsLeft Within by limit left rest end = IsLeftIn OfRequests.Within by.offer limit (judged_of by.text left) rest end
+IsLeft Passing by limit left rest end = IsOtherBegun by.text left
+IsLeft Stopped by limit left rest end = IsLeftIn OfRequests.Stopped by.offer limit (judged_of by.text left) rest end
+IsLeft (Failed fault) by limit left rest end = IsRefused by limit left rest end fault
+
+-- where the packet is that comes after what is left
+abbrev pub place_for : Stage → List Given → Place
+place_for Passing left = first_place
+place_for stage left = place_after first_place left
+
+-- what of that a reader of requests has taken
+abbrev pub taken_in : Stage → List ℕ → List Given → List Given
+taken_in Passing text left = []
+taken_in stage text left = judged_of text left
+
+-- the fault of a stage
+abbrev pub fault_in : Stage → Option Fault
+fault_in (Failed fault) = Some fault
+fault_in stage = None
+
+-- bytes are read on
+abbrev pub takes_bytes : Stage → Bool
+takes_bytes Between = true
+takes_bytes Within = true
+takes_bytes Passing = true
+takes_bytes stage = false
+
+-- no request is begun
+abbrev pub stage_is_between : Stage → Bool
+stage_is_between Between = true
+stage_is_between stage = false
+
+-- the stage after a packet of a request that passes, and what that brought
+abbrev pub stage_passed : Pkt → Stage
+stage_passed flush = Between
+stage_passed packet = Passing
 
 module _ {A : Type 0} where
+  abbrev pub got_passed : Pkt → JudgedGot A
+  got_passed flush = OtherGot
+  got_passed packet = More
+
+  -- the stage after a packet that brought this to a reader of requests
+  abbrev pub stage_brought : ReadGot A → Stage
+  stage_brought OfReader.More = Within
+  stage_brought (OfReader.Request request) = Between
+  stage_brought OfReader.Stop = Stopped
+  stage_brought (OfReader.Failed fault) = Failed fault
+
+  -- where the next packet is
+  abbrev pub place_brought : ReadGot A → Place → Place
+  place_brought (OfReader.Request request) next = first_place
+  place_brought got next = next
+
+  -- and what is handed on
+  abbrev pub got_as : ReadGot A → JudgedGot A
+  got_as OfReader.More = More
+  got_as (OfReader.Request request) = RequestGot request
+  got_as OfReader.Stop = StopGot
+  got_as (OfReader.Failed fault) = FailedGot fault
+
+  -- ---- a reader
+
   -- what the requests are read against
   abbrev pub offer_of : JudgedRequests A → Offer
   offer_of s = offer_in s.requests
@@ -50,20 +132,17 @@ module _ {A : Type 0} where
   abbrev pub limit_of : JudgedRequests A → ℕ
   limit_of s = limit_in s.requests
 
-  abbrev pub stage_of : JudgedRequests A → StageOfRequests
-  stage_of s = stage_as s.stage
-
   -- the fault that ended the reading
   abbrev pub fault_of : JudgedRequests A → Option Fault
-  fault_of s = fault_in (stage_of s)
+  fault_of s = fault_in s.stage
 
   -- bytes are read on: no fault came, and no flush instead of a request
   abbrev pub wants_input : JudgedRequests A → Bool
-  wants_input s = takes_bytes (stage_of s)
+  wants_input s = takes_bytes s.stage
 
   -- no request is begun
   abbrev pub is_between : JudgedRequests A → Bool
-  is_between s = stage_is_between (stage_of s)
+  is_between s = stage_is_between s.stage
 
   -- a packet has begun that is not whole
   abbrev pub is_within_packet : JudgedRequests A → Bool
@@ -82,61 +161,74 @@ module _ {A : Type 0} where
     pub ready : is_waiting s.requests ≡ false
     pub taken : HasTaken s.requests
 
-  -- the reader has used these bytes, and handed out requests that ask for these
-  pub record HasRead (used : List ℕ) (asked : List Asked) (s : JudgedRequests A) : Type 0 where
+  -- the reader has used these bytes, and handed out these requests
+  pub record HasRead (used : List ℕ) (asked : List (Option Asked)) (s : JudgedRequests A) : Type 0 where
     pub packets : List Given
     pub left : List Given
     pub rest : List ℕ
     pub reads : Reads s.packets 0 used packets rest
-    pub place_is : s.place ≡ place_after first_place packets
-    pub requests : AreRequests (IsOne (offer_of s) (limit_of s)) (judged_in (text_of s) first_place packets) asked left
-    pub left_is : IsLeftIn (stage_of s) (offer_of s) (limit_of s) left rest (length used)
-    pub onward : wants_input s ≡ true → Takes left s.requests
+    pub requests : AreQuestions (advertised_by s) (limit_of s) packets asked left
+    pub left_is : IsLeft s.stage (advertised_by s) (limit_of s) left rest (length used)
+    pub place_is : wants_input s ≡ true → s.place ≡ place_for s.stage left
+    pub onward : wants_input s ≡ true → Takes (taken_in s.stage (text_of s) left) s.requests
 
-  -- how the reader is left after a whole request, a flush instead of one, or a fault
-  abbrev pub LeavesAt : ReadGot A → ℕ → JudgedRequests A → Type 0
+  -- what was asked by an answer
+  abbrev pub asked_by : JudgedGot A → List (Option Asked)
+  asked_by (RequestGot request) = Some (asked_of request) ∷ []
+  asked_by OtherGot = None ∷ []
+  asked_by got = []
+
+  -- how the reader is left after a whole request
+  pub record IsOnward (used : ℕ) (new : JudgedRequests A) : Type 0 where
+    pub some : 0 < used
+    pub onward : IsReady new
+    pub between : is_between new ≡ true
+    pub shut : is_within_packet new ≡ false
+
+  -- or after a flush instead of one, or a fault
+  abbrev pub LeavesAt : JudgedGot A → ℕ → JudgedRequests A → Type 0
   LeavesAt More used new = Unit {0}
-  LeavesAt (RequestGot request) used new =
-      (0 < used) × IsReady new × (is_between new ≡ true) × (is_within_packet new ≡ false) × (format_of request ≡ (offer_of new).format)
+  LeavesAt (RequestGot request) used new = IsOnward used new × (format_of request ≡ (offer_of new).format)
+  LeavesAt OtherGot used new = IsOnward used new
   LeavesAt StopGot used new = (0 < used) × (wants_input new ≡ false) × (fault_of new ≡ None)
   LeavesAt (FailedGot fault) used new = fault_of new ≡ Some fault
 
   -- how it is left after each answer of `feed`
-  abbrev pub Leaves : ReadGot A → ℕ → List ℕ → JudgedRequests A → Type 0
+  abbrev pub Leaves : JudgedGot A → ℕ → List ℕ → JudgedRequests A → Type 0
   Leaves More used piece new = (used ≡ length piece) × IsReady new
   Leaves got used piece new = LeavesAt got used new
 
   -- and after the bytes up to the end of a packet, or all of them
-  abbrev pub StepLeaves : ReadGot A → ℕ → JudgedRequests A → Type 0
+  abbrev pub StepLeaves : JudgedGot A → ℕ → JudgedRequests A → Type 0
   StepLeaves More used new = (0 < used) × IsReady new
   StepLeaves got used new = LeavesAt got used new
 
   -- a fault is none of the input's end, and that the stream is too long is reported only where the piece has a further byte
-  abbrev pub IsNews : List ℕ → ReadRequest A → Type 0
+  abbrev pub IsNews : List ℕ → JudgedRead A → Type 0
   IsNews piece read = (fault : Fault) → read.got ≡ FailedGot fault → ShownByFeed fault read.used piece
 
   -- what a reader does with the bytes that it uses, whatever was read before, by how it is left
-  pub record ReadsBy (Left : ReadGot A → ℕ → JudgedRequests A → Type 0) (old : JudgedRequests A) (piece : List ℕ) (read : ReadRequest A)
+  pub record ReadsBy (Left : JudgedGot A → ℕ → JudgedRequests A → Type 0) (old : JudgedRequests A) (piece : List ℕ) (read : JudgedRead A)
       (new : JudgedRequests A) : Type 0 where
-    pub reads : (used : List ℕ) (asked : List Asked) → HasRead used asked old → HasRead (used ++ take read.used piece) (asked ++ asked_by read.got) new
+    pub reads : (used : List ℕ) (asked : List (Option Asked)) → HasRead used asked old
+        → HasRead (used ++ take read.used piece) (asked ++ asked_by read.got) new
     pub leaves : Left read.got read.used new
     pub news : IsNews piece read
-    pub offer : offer_of new ≡ offer_of old
-    pub text : text_of new ≡ text_of old
+    pub by : advertised_by new ≡ advertised_by old
     pub limit : limit_of new ≡ limit_of old
 
   -- what a call of `feed` does
-  abbrev pub Feeds : JudgedRequests A → List ℕ → ReadRequest A → JudgedRequests A → Type 0
+  abbrev pub Feeds : JudgedRequests A → List ℕ → JudgedRead A → JudgedRequests A → Type 0
   Feeds old piece read new = ReadsBy (λ got used s. Leaves got used piece s) old piece read new
 
   -- what the bytes up to the end of a packet do, or all of them
-  abbrev pub Steps : JudgedRequests A → List ℕ → ReadRequest A → JudgedRequests A → Type 0
+  abbrev pub Steps : JudgedRequests A → List ℕ → JudgedRead A → JudgedRequests A → Type 0
   Steps old piece read new = ReadsBy StepLeaves old piece read new
 
   -- what a call of `close` means: all was whole requests, or the last was cut off
   abbrev pub Closes : Result (Unit {0}) Fault → JudgedRequests A → JudgedRequests A → Type 0
   Closes (Ok done) old new =
-      (new ≡ old) × ((used : List ℕ) (asked : List Asked) → HasRead used asked old → AreAskedBy (advertised_by old) (limit_of old) used asked [] [])
+      (new ≡ old) × ((used : List ℕ) (asked : List (Option Asked)) → HasRead used asked old → AreAskedBy (advertised_by old) (limit_of old) used asked [] [])
   Closes (Err fault) old new =
       (fault.kind ≡ Truncated) × (fault_of new ≡ Some fault) × (advertised_by new ≡ advertised_by old) × (limit_of new ≡ limit_of old)
-      × ((used : List ℕ) (asked : List Asked) → HasRead used asked old → HasRead used asked new)
+      × ((used : List ℕ) (asked : List (Option Asked)) → HasRead used asked old → HasRead used asked new)

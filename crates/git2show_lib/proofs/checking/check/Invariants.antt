@@ -9,11 +9,11 @@ use Rattle.git_client.specs.Machine.RunSteps.{window_of}
 use Rattle.git2show_lib.proofs.CheckRuns.{Checking}
 use Rattle.git2show_lib.proofs.checking.check.Given as goal
 
--- the requests that were read were asked, and the response to each was received whole: what waits of both pieces is all that was read
+-- the requests that were read came in turn, and what came for each is whole: what waits of both pieces is all that was read
 -- and not used
-abbrev pub invariant-loop-asking : goal.invariant-loop-asking
-invariant-loop-asking g l = record {
-  checking : Checking (terms_of l.fn.format l.fn.ending) USUAL l.client l.asking (window_of l.waiting l.piece) (window_of l.left l.other_piece)
+abbrev pub invariant-requests : goal.invariant-requests
+invariant-requests g l = record {
+  checking : Checking (terms_of l.fn.format l.fn.ending) USUAL l.client l.asking l.passed (window_of l.waiting l.piece) (window_of l.left l.other_piece)
       (flow (g.Q.Read.remaining (inner_of l.fn.requests)) (g.Q.Read.remaining (inner_of l.requests)))
       (flow (g.R.Read.remaining (inner_of l.fn.responses)) (g.R.Read.remaining (inner_of l.responses)))
       (flow (g.O.Write.contents (inner_of l.fn.out)) (g.O.Write.contents (inner_of l.out)));
@@ -35,5 +35,5 @@ invariant-loop-asking g l = record {
 }
 
 -- each request uses a byte, or more
-abbrev pub decreases-loop-asking : goal.decreases-loop-asking
-decreases-loop-asking g l = last_position - bytes_used l.asking
+abbrev pub decreases-requests : goal.decreases-requests
+decreases-requests g l = last_position - bytes_used l.asking

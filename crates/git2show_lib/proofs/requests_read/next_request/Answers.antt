@@ -3,7 +3,7 @@ use Rattle.std.specs.Io.KnownBytes.{Consumes, Keeps}
 use Rattle.git_pkt.specs.Machine.Told.{inner_of, has_ended}
 use Rattle.git_client.proofs.HearingBytes.{rest_of_window}
 use Rattle.git2show_lib.specs.declared.checking.CheckFault.TheVariants.{ReadFault}
-use Rattle.git2show_lib.proofs.RequestsRead.{reads_nothing, fed_request, fed_stop, fed_fault, fed_more, came_in_front, came_not}
+use Rattle.git2show_lib.proofs.RequestsRead.{reads_nothing, fed_request, fed_other, fed_stop, fed_fault, fed_more, came_in_front, came_not}
 use Rattle.git2show_lib.proofs.RequestsRead.{read_all, read_fault, ended_whole, ended_inside}
 use Rattle.git2show_lib.proofs.requests_read.next_request.Goals as goal
 
@@ -27,6 +27,14 @@ returns-in-Request-clause-asked g c =
     let read = c.feed-read.result in
     rw c.in-Request.request-is (fed_request was.so_far read c.in-Request.is c.feed-read.ensures.feeds c.feed-read.ensures.used
     (rest_of_window at.start at.end read.used c.loop-request.piece c.feed-read.ensures.used) was.open_ended)
+
+pub returns-in-Other-clause-asked : goal.returns-in-Other-clause-asked
+returns-in-Other-clause-asked g c =
+    let at = c.loop-request.waiting in
+    let was = c.loop-request.invariant in
+    let read = c.feed-read.result in
+    fed_other was.so_far read c.in-Other.is c.feed-read.ensures.feeds c.feed-read.ensures.used
+    (rest_of_window at.start at.end read.used c.loop-request.piece c.feed-read.ensures.used) was.open_ended
 
 pub returns-in-Stop-clause-asked : goal.returns-in-Stop-clause-asked
 returns-in-Stop-clause-asked g c = fed_stop c.loop-request.invariant.so_far c.feed-read.result c.in-Stop.is c.feed-read.ensures.feeds

@@ -1,11 +1,9 @@
-use Rattle.std.proofs.Common.{◌≡◌, ◌⊎◌, length, length-append, ℕ, true, false, List, [], ◌∷◌, ◌++◌, codes, refl, sym, ap, arith, ◌∙◌, inl, inr, subst}
+use Rattle.std.proofs.Common.{◌≡◌, ◌⊎◌, ◌≤◌, length, length-append, ℕ, Option, None, Some, true, false, List, [], ◌∷◌, ◌++◌, codes, refl, sym, ap, arith, ◌∙◌, inl, inr, subst}
 use Rattle.std.proofs.lemmas.List.Elements.{All-nil}
 use Rattle.git_pkt.proofs.Spelling.{none_begins_nothing}
 use Rattle.git_pkt.specs.Splits.{Given, Splits}
 use Rattle.git_pkt.proofs.Streams.{one_split}
 use Rattle.git_msg.specs.Requests.{IsStop}
-use Rattle.git_msg.specs.Machine.RequestStreams.{IsOne}
-use Rattle.git_msg.proofs.WholeRequests.{left_at_the_end}
 use Rattle.git_client.specs.Conversation.{IsConversation}
 use Rattle.git_msg.specs.Advertisement.{noted_of, noted_offer, offers_command}
 use Rattle.git_msg.specs.Asked.{Asked, command_asked}
@@ -14,7 +12,9 @@ use Rattle.git_client.specs.Events.{offered}
 use Rattle.git_names.specs.declared.object_format.Format.TheVariants.{Sha1}
 use Rattle.git_pkt.specs.Packets.{flush}
 use Rattle.git_client.proofs.EventsHeard.{later_questions}
-use Rattle.git2show_lib.specs.Others.{first_place, is_other_line, is_own_key, judged_in, line_kept}
+use Rattle.git2show_lib.specs.Others.{Advertised, is_other_line, is_own_key, judged_of, line_kept}
+use Rattle.git2show_lib.specs.Machine.CheckedStreams.{Turn, bytes_in, heard_in, heard_of}
+use Rattle.git2show_lib.specs.Machine.JudgedRequests.{AreQuestions}
 use Rattle.git_rows.specs.WorkedConversations.{offer_bytes, terms}
 use Rattle.git_rows.proofs.ReceivedPackets.{flushes_are, offer_packets, offer_splits, offer_then, whole_offer}
 use Rattle.git_rows.proofs.runs.streams_checked.Goals as goal
@@ -26,8 +26,10 @@ returns-clause-whole g c = record {
   unused = [];
   found = record { used = []; unused = []; asked = []; left = []; rest = [] };
   by = record { offer = noted_offer (noted_of (flush ∷ text_line (codes "version 2") ∷ [])) Sha1; text = [] };
+  r = record { opening = offer_bytes; turns = []; begun = [] };
   were_read = refl;
   told = refl;
+  received = record { asked_is = refl; used_is = refl; in_turn = tt };
   heard = later_questions terms [] [] offer_bytes (offered ∷ []) whole_offer;
   may_be = λ caps noted. All-nil (λ (q : Asked). offers_command caps (command_asked q) ≡ true);
   in_turn = omega arith;
@@ -56,7 +58,7 @@ returns-clause-whole g c = record {
     lines = record { given = offer_packets; rest = []; splits = offer_splits; text_is = refl };
   });
   asks = record { packets = []; splits = record { spelled = refl; ends = none_begins_nothing }; requests = refl };
-  ends = record { answered = record { asked = refl; whole = whole_offer }; over = (refl, inr (refl, refl, refl)); nothing_left = refl; ended = refl };
+  ends = record { answered = record { asked = refl; nothing_begun = refl; whole = whole_offer }; over = (refl, inr (refl, refl, refl)); nothing_left = refl; ended = refl };
 }
 
 -- a stream of no bytes was used whole
@@ -67,23 +69,57 @@ nothing_used (b ∷ used) unused e = cc
 first_of_two : (a b x y : List ℕ) → a ∷ b ∷ [] ≡ x ∷ y ∷ [] → (x ≡ a) × (y ≡ b)
 first_of_two a b x y e = (cc, cc)
 
--- no flush comes instead of a request where no packet comes
-none_stops : (left front : List Given) (P : Type 0) → [] ≡ front ++ left → IsStop left ⊎ ((left ≡ []) × P × (false ≡ true)) → ⊥
-none_stops left front P e (inl stop) = omega (arith, ap length e, ap length stop.alone, length-append front left)
-none_stops left front P e (inr (none, rest, ended)) = cc
+-- no more is received of turns than comes in them
+heard_once : (question : Option Asked) (bytes : List ℕ) → length (heard_of question bytes) ≤ length bytes
+heard_once None bytes = omega arith
+heard_once (Some q) bytes = omega arith
+
+heard_within : (turns : List Turn) → length (heard_in turns) ≤ length (bytes_in turns)
+heard_within [] = omega arith
+heard_within (x ∷ turns) =
+    omega (
+      arith,
+      heard_once x.question x.bytes,
+      heard_within turns,
+      length-append (heard_of x.question x.bytes) (heard_in turns),
+      length-append x.bytes (bytes_in turns),
+    )
+
+-- where no packet comes none is left
+none_left : (by : Advertised) (limit : ℕ) (packets : List Given) (asked : List (Option Asked)) (left : List Given) → packets ≡ []
+    → AreQuestions by limit packets asked left → left ≡ []
+none_left by limit packets [] left none same = sym same ∙ none
+none_left by limit packets (q ∷ qs) left none (front, more, whole, first, rest) =
+    none_left by limit more qs left (nothing_after front more (sym whole ∙ none)) rest
+  where
+    nothing_after : (front more : List Given) → front ++ more ≡ [] → more ≡ []
+    nothing_after [] more e = e
+    nothing_after (g ∷ front) more e = cc
+
+-- and no flush comes instead of a request
+none_stops : (text : List ℕ) (left : List Given) (P : Type 0) → left ≡ [] → IsStop (judged_of text left) ⊎ ((left ≡ []) × P × (false ≡ true)) → ⊥
+none_stops text left P none (inl stop) = omega (arith, ap length (ap (judged_of text) none), ap length stop.alone)
+none_stops text left P none (inr (same, rest, ended)) = cc
 
 pub returns-clause-not_while_requests_may_come : goal.returns-clause-not_while_requests_may_come
 returns-clause-not_while_requests_may_come g c = λ h.
     let used = nothing_used h.found.used h.found.unused (first_of_two [] offer_bytes _ _ h.were_read).0 in
     let splits = subst (λ (bytes : List ℕ). Splits 0 bytes h.asks.packets h.found.rest) used h.asks.splits in
     let packets = (one_split 0 [] h.asks.packets [] h.found.rest [] splits.spelled refl splits.ends none_begins_nothing).packets in
-    let judged = judged_in h.by.text first_place h.asks.packets in
-    let end = left_at_the_end (IsOne h.by.offer 0) judged h.found.asked h.found.left h.asks.requests in
-    none_stops h.found.left end.0 _ (sym (ap (judged_in h.by.text first_place) packets) ∙ end.1) h.ends.over.1
+    none_stops h.by.text h.found.left _ (none_left h.by 0 h.asks.packets h.found.asked h.found.left packets h.asks.requests) h.ends.over.1
+
+-- nothing was received where nothing was read
+none_received : (opening heard bytes begun unused : List ℕ) → (((opening ++ bytes) ++ begun) ++ unused ≡ []) → length heard ≤ length bytes
+    → opening ++ heard ≡ []
+none_received [] [] bytes begun unused e less = refl
+none_received [] (b ∷ heard) bytes begun unused e less =
+    absurd (omega (arith, less, ap length e, length-append (bytes ++ begun) unused, length-append bytes begun))
+none_received (b ∷ opening) heard bytes begun unused e less = cc
 
 pub returns-clause-not_without_an_advertisement : goal.returns-clause-not_without_an_advertisement
 returns-clause-not_without_an_advertisement g c = λ h.
-    let used = nothing_used h.h.used h.unused (first_of_two [] [] _ _ h.were_read).1 in
+    let all = (first_of_two [] [] _ _ h.were_read).1 in
+    let used = h.received.used_is ∙ none_received h.r.opening (heard_in h.r.turns) (bytes_in h.r.turns) h.r.begun h.unused all (heard_within h.r.turns) in
     let whole = subst (λ (bytes : List ℕ). IsConversation terms h.h.asked bytes h.h.events) used h.ends.answered.whole in
     let count = flushes_are terms h.h.asked [] h.h.events [] [] whole (record { spelled = refl; ends = none_begins_nothing }) in
     omega (arith, count)

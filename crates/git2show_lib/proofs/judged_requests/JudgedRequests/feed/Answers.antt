@@ -1,8 +1,8 @@
-use Rattle.std.proofs.Common.{arith, ◌++◌, ◌+◌, ◌∙◌, ap, subst, take, length, length-drop, append-nil, List}
+use Rattle.std.proofs.Common.{arith, ◌++◌, ◌+◌, ◌∙◌, ap, subst, take, length, length-drop, append-nil, List, Option}
 use Rattle.git_pkt.proofs.Pieces.{left_of}
 use Rattle.git_msg.specs.Asked.{Asked}
-use Rattle.git_msg.specs.declared.streams.ReadGot.TheVariants.{More}
 use Rattle.git2show_lib.specs.Machine.JudgedRequests.{HasRead}
+use Rattle.git2show_lib.specs.declared.judged_requests.JudgedGot.TheVariants.{More}
 use Rattle.git2show_lib.proofs.JudgedSteps.{leaves_further, reads_further, shows_further, steps_with}
 use Rattle.git2show_lib.proofs.judged_requests.JudgedRequests.feed.Goals as goal
 
@@ -19,11 +19,10 @@ loop-used-preserved g c =
     record {
       within = omega (arith, c.step-step.ensures.used, ap length (left_of piece done was.within), length-drop done piece);
       reads = λ used asked h.
-          subst (λ (qs : List Asked). HasRead (used ++ take (done + read.used) piece) qs new) (append-nil asked)
+          subst (λ (qs : List (Option Asked)). HasRead (used ++ take (done + read.used) piece) qs new) (append-nil asked)
           (reads_further old mid new piece done was.within read.used More steps was.reads used asked h);
       ready = steps.leaves.1;
-      offer = steps.offer ∙ was.offer;
-      text = steps.text ∙ was.text;
+      by = steps.by ∙ was.by;
       limit = steps.limit ∙ was.limit;
     }
 
@@ -43,8 +42,7 @@ returns-in_default g c =
         reads = reads_further old mid new piece done was.within read.used read.got steps was.reads;
         leaves = leaves_further new piece done read.used read.got c.in_default.not-More steps.leaves;
         news = λ fault is. shows_further old mid new piece done was.within read.used read.got steps fault is;
-        offer = steps.offer ∙ was.offer;
-        text = steps.text ∙ was.text;
+        by = steps.by ∙ was.by;
         limit = steps.limit ∙ was.limit;
       };
     }

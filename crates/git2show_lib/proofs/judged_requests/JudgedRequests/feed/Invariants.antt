@@ -1,16 +1,15 @@
-use Rattle.std.proofs.Common.{length, ◌-◌, ◌≡◌, ◌++◌, ◌≤◌, ℕ, List, take}
+use Rattle.std.proofs.Common.{length, ◌-◌, ◌≡◌, ◌++◌, ◌≤◌, ℕ, List, take, Option}
 use Rattle.git_msg.specs.Asked.{Asked}
-use Rattle.git2show_lib.specs.Machine.JudgedRequests.{HasRead, IsReady, limit_of, offer_of, text_of}
+use Rattle.git2show_lib.specs.Machine.JudgedRequests.{HasRead, IsReady, advertised_by, limit_of}
 use Rattle.git2show_lib.proofs.judged_requests.JudgedRequests.feed.Given as goal
 
 -- what was used so far brought nothing whole, and bytes are wanted on
 abbrev pub invariant-loop-used : goal.invariant-loop-used
 invariant-loop-used g l = record {
   within : l.used ≤ length l.piece;
-  reads : (used : List ℕ) (asked : List Asked) → HasRead used asked l.fn.self → HasRead (used ++ take l.used l.piece) asked l.self;
+  reads : (used : List ℕ) (asked : List (Option Asked)) → HasRead used asked l.fn.self → HasRead (used ++ take l.used l.piece) asked l.self;
   ready : IsReady l.self;
-  offer : offer_of l.self ≡ offer_of l.fn.self;
-  text : text_of l.self ≡ text_of l.fn.self;
+  by : advertised_by l.self ≡ advertised_by l.fn.self;
   limit : limit_of l.self ≡ limit_of l.fn.self;
 }
 

@@ -1,0 +1,287 @@
+-- An answer that passes, a piece at a time.
+use Rattle.std.proofs.Common.{arith, ◌≡◌, ◌≢◌, ℕ, ◌+◌, ◌-◌, ◌≤◌, Bool, true, false, List, [], ◌∷◌, ◌++◌, length, take, drop, Option, None, Some, Result, Ok}
+use Rattle.std.proofs.Common.{IsErrAnd, inl, inr, refl, sym, ap, ◌∙◌, subst, append_assoc, append-nil, length-drop, take-append-drop}
+use Rattle.std.proofs.lemmas.List.{take_all}
+use Rattle.std.proofs.KnownBytes.{Consumes-nil, Consumes-trans, Consumes-kept}
+use Rattle.std.specs.Io.KnownBytes.{Consumes, Keeps}
+use Rattle.git_pkt.specs.Packets.{Pkt, flush, delim, resp_end, payload}
+use Rattle.git_pkt.specs.Splits.{Given}
+use Rattle.git_pkt.specs.Streams.{Flow, flow}
+use Rattle.git_pkt.specs.Machine.PacketReader.{Reads, ReadsOn, ShownByFeed, fault_of, is_open, open_length, position_of}
+use Rattle.git_pkt.specs.declared.fault.Fault.{Fault}
+use Rattle.git_pkt.specs.declared.fault.Kind.TheVariants.{Truncated}
+use Rattle.git_pkt.specs.declared.fault.RunFault.{RunFault}
+use Rattle.git_pkt.specs.declared.fault.RunFault.TheVariants.{ReadFault}
+use Rattle.git_pkt.specs.declared.reader.PacketReader.{PacketReader}
+use Rattle.git_pkt.proofs.EngineLemmas.{at_fault, timely}
+use Rattle.git_pkt.proofs.KnownRest.{rest_length, sound_rest}
+use Rattle.git_pkt.proofs.Pieces.{joined, left_of}
+use Rattle.git_msg.proofs.StreamSteps.{rest_behind, stopped_by}
+use Rattle.git_client.specs.Machine.RunSteps.{window_of}
+use Rattle.git_client.specs.declared.events.Ending.{Ending}
+use Rattle.git_client.specs.declared.events.Ending.TheVariants.{FlushOnly, ResponseEnd}
+use Rattle.git2show_lib.specs.Others.{is_last, last_of}
+use Rattle.git2show_lib.specs.Machine.OtherAnswers.{BreaksIn, BreaksOff, ClosesAnswer, HasPassed, Passes, PassesAll, PassesNot, PassesOn, PassesPiece, PassesTo}
+use Rattle.git2show_lib.specs.Machine.OtherAnswers.{PassesUpTo, PassesWhole, Uses}
+use Rattle.git2show_lib.specs.declared.other_answers.Passed.{Passed}
+use Rattle.git2show_lib.proofs.OtherLines.{none_snoc}
+use Rattle.git2show_lib.proofs.RequestsRead.{front_window}
+
+-- ---- the last packet
+
+pub last_is : (ending : Ending) (p : Pkt) → is_last ending p ≡ true → p ≡ last_of ending
+last_is FlushOnly flush e = refl
+last_is FlushOnly delim e = absurd (cc)
+last_is FlushOnly resp_end e = absurd (cc)
+last_is FlushOnly (payload bytes) e = absurd (cc)
+last_is ResponseEnd flush e = absurd (cc)
+last_is ResponseEnd delim e = absurd (cc)
+last_is ResponseEnd resp_end e = refl
+last_is ResponseEnd (payload bytes) e = absurd (cc)
+
+pub not_last : (ending : Ending) (p : Pkt) → is_last ending p ≡ false → p ≢ last_of ending
+not_last FlushOnly flush e same = cc
+not_last FlushOnly delim e same = cc
+not_last FlushOnly resp_end e same = cc
+not_last FlushOnly (payload bytes) e same = cc
+not_last ResponseEnd flush e same = cc
+not_last ResponseEnd delim e same = cc
+not_last ResponseEnd resp_end e same = cc
+not_last ResponseEnd (payload bytes) e same = cc
+
+-- ---- a piece
+
+module _ (ending : Ending) (old new : PacketReader) (used u : List ℕ) (h : Passes ending used old) where
+  -- bytes that end no packet
+  pub passes_bytes : ReadsOn old u [] new → Passes ending (used ++ u) new
+  passes_bytes reads =
+      let (rest, stream) = reads 0 used h.given h.rest h.reads in
+      record {
+        given = h.given;
+        rest = rest;
+        reads = subst (λ (gs : List Given). Reads new 0 (used ++ u) gs rest) (append-nil h.given) stream;
+        goes_on = h.goes_on;
+      }
+
+  -- or one that is not the last
+  pub passes_packet : (g : Given) → ReadsOn old u (g ∷ []) new → is_last ending g.packet ≡ false → Passes ending (used ++ u) new
+  passes_packet g reads other =
+      let (rest, stream) = reads 0 used h.given h.rest h.reads in
+      record {
+        given = h.given ++ g ∷ [];
+        rest = rest;
+        reads = stream;
+        goes_on = none_snoc (last_of ending) h.given g h.goes_on (not_last ending g.packet other);
+      }
+
+  -- or the last one
+  pub passed_whole : (g : Given) → ReadsOn old u (g ∷ []) new → is_last ending g.packet ≡ true → fault_of new ≡ None → is_open new ≡ false
+      → HasPassed ending (used ++ u) new
+  passed_whole g reads last sound shut =
+      let (rest, stream) = reads 0 used h.given h.rest h.reads in
+      let none = rest_behind new (used ++ u) (h.given ++ g ∷ []) rest sound shut stream in
+      let all : Reads new 0 (used ++ u) (h.given ++ g ∷ []) [] =
+      subst (λ (bytes : List ℕ). Reads new 0 (used ++ u) (h.given ++ g ∷ []) bytes) none stream in
+      record {
+        answer = record {
+          given = h.given ++ g ∷ [];
+          splits = all.splits;
+          ends = record { front = h.given; last = g; parts = refl; none_before = h.goes_on; is_last = last_is ending g.packet last };
+        };
+        position = omega (arith, all.position);
+      }
+
+  -- or what is no packet
+  pub breaks_there : (fault : Fault) → ReadsOn old u [] new → fault_of new ≡ Some fault → fault.kind ≢ Truncated → BreaksOff ending (used ++ u) fault
+  breaks_there fault reads told other =
+      let (rest, stream) = reads 0 used h.given h.rest h.reads in
+      let all : Reads new 0 (used ++ u) h.given rest =
+      subst (λ (gs : List Given). Reads new 0 (used ++ u) gs rest) (append-nil h.given) stream in
+      record {
+        rest = rest;
+        begun = record { given = h.given; splits = all.splits; goes_on = h.goes_on };
+        breaks = inl (record { stops = stopped_by new (used ++ u) h.given rest fault told all; not_the_end = other });
+      }
+
+-- the input ends there
+pub cut_there : (ending : Ending) (old : PacketReader) (used : List ℕ) (fault : Fault) → Passes ending used old → fault_of old ≡ None
+    → fault.kind ≡ Truncated → fault.offset + open_length old ≡ position_of old → BreaksOff ending used fault
+cut_there ending old used fault h sound kind at =
+    let (held, still_open) = sound_rest old 0 used h.given h.rest sound h.reads in
+    record {
+      rest = h.rest;
+      begun = record { given = h.given; splits = h.reads.splits; goes_on = h.goes_on };
+      breaks = inr (record { still_open = still_open; kind = kind; at = omega (arith, at, rest_length old h.rest held, h.reads.position) });
+    }
+
+-- between two packets
+pub cut_between : (ending : Ending) (old : PacketReader) (used : List ℕ) (fault : Fault) → Passes ending used old → fault_of old ≡ None
+    → fault.kind ≡ Truncated → is_open old ≡ false → fault.offset ≡ position_of old → BreaksOff ending used fault
+cut_between ending old used fault h sound kind shut at =
+    let none = rest_behind old used h.given h.rest sound shut h.reads in
+    record {
+      rest = h.rest;
+      begun = record { given = h.given; splits = h.reads.splits; goes_on = h.goes_on };
+      breaks = inr (record {
+        still_open = (sound_rest old 0 used h.given h.rest sound h.reads).1;
+        kind = kind;
+        at = omega (arith, at, ap length none, h.reads.position);
+      });
+    }
+
+-- ---- a piece of which some is used
+
+module _ (ending : Ending) (first mid : PacketReader) (piece : List ℕ) (done : ℕ) (within : done ≤ length piece)
+    (so_far : (bytes : List ℕ) → Passes ending bytes first → Passes ending (bytes ++ take done piece) mid) where
+  abbrev left_bytes : List ℕ
+  left_bytes = take (length piece - done) (drop done piece)
+
+  -- some more of it
+  pub passes_further : (new : PacketReader) (more : ℕ)
+      → ((bytes : List ℕ) → Passes ending bytes mid → Passes ending (bytes ++ take more left_bytes) new)
+      → (bytes : List ℕ) → Passes ending bytes first → Passes ending (bytes ++ take (done + more) piece) new
+  passes_further new more on bytes h =
+      subst (λ (l : List ℕ). Passes ending l new) (joined bytes piece done more within) (on (bytes ++ take done piece) (so_far bytes h))
+
+  pub passed_further : (new : PacketReader) (more : ℕ)
+      → ((bytes : List ℕ) → Passes ending bytes mid → HasPassed ending (bytes ++ take more left_bytes) new)
+      → (bytes : List ℕ) → Passes ending bytes first → HasPassed ending (bytes ++ take (done + more) piece) new
+  passed_further new more on bytes h =
+      subst (λ (l : List ℕ). HasPassed ending l new) (joined bytes piece done more within) (on (bytes ++ take done piece) (so_far bytes h))
+
+  pub breaks_further : (fault : Fault) (more : ℕ) → ((bytes : List ℕ) → Passes ending bytes mid → BreaksOff ending (bytes ++ take more left_bytes) fault)
+      → (bytes : List ℕ) → Passes ending bytes first → BreaksOff ending (bytes ++ take (done + more) piece) fault
+  breaks_further fault more on bytes h =
+      subst (λ (l : List ℕ). BreaksOff ending l fault) (joined bytes piece done more within) (on (bytes ++ take done piece) (so_far bytes h))
+
+  -- what is left of the piece shows a fault, and so the piece does
+  pub shown_further : (fault : Fault) (more : ℕ) → ShownByFeed fault more left_bytes → ShownByFeed fault (done + more) piece
+  shown_further fault more shown = record {
+    not_the_end = shown.not_the_end;
+    one_more = λ long. omega (arith, shown.one_more long, ap length (left_of piece done within), length-drop done piece);
+  }
+
+  -- nothing is left of it
+  pub passes_to_the_end : (new : PacketReader) (more : ℕ) → more ≡ length left_bytes
+      → ((bytes : List ℕ) → Passes ending bytes mid → Passes ending (bytes ++ take more left_bytes) new)
+      → (bytes : List ℕ) → Passes ending bytes first → Passes ending (bytes ++ piece) new
+  passes_to_the_end new more all on bytes h =
+      let end : done + more ≡ length piece = omega (arith, all, within, ap length (left_of piece done within), length-drop done piece) in
+      subst (λ (l : List ℕ). Passes ending (bytes ++ l) new) (take_all (done + more) piece (omega (arith, end))) (passes_further new more on bytes h)
+
+-- a piece passed with this answer
+pub piece_passed : (ending : Ending) (old new : PacketReader) (piece : List ℕ) (end other : Option ℕ) → end ≡ other
+    → PassesPiece ending (Ok end) old new piece → PassesPiece ending (Ok other) old new piece
+piece_passed ending old new piece end other same passes = subst (λ (o : Option ℕ). PassesPiece ending (Ok o) old new piece) same passes
+
+-- ---- an answer so far
+
+-- of the bytes that waited and those that came these are left, and the others pass
+pub record PassingSoFar (ending : Ending) (r : PacketReader) (waiting unused : List ℕ) (reader : Flow) : Type 0 where
+  pub used : List ℕ
+  pub uses : Uses used waiting unused reader
+  pub passes : Passes ending used r
+
+pub passed_nothing : (ending : Ending) (r : PacketReader) (waiting : List ℕ) (left : Option (List ℕ)) → Reads r 0 [] [] []
+    → PassingSoFar ending r waiting waiting (flow left left)
+passed_nothing ending r waiting left reads = record {
+  used = [];
+  uses = record { came = []; read = Consumes-nil left; parts = append-nil waiting };
+  passes = record { given = []; rest = []; reads = reads; goes_on = tt };
+}
+
+module _ {ending : Ending} {old : PacketReader} {waiting unused : List ℕ} {reader : Flow} (s : PassingSoFar ending old waiting unused reader) where
+  -- all that was left passes too
+  pub passed_on : {new : PacketReader} → PassesAll ending old new unused → PassingSoFar ending new waiting [] reader
+  passed_on p = record {
+    used = s.used ++ unused;
+    uses = record { came = s.uses.came; read = s.uses.read; parts = s.uses.parts ∙ sym (append-nil (s.used ++ unused)) };
+    passes = p.passes s.used s.passes;
+  }
+
+  -- it ends in what was left
+  pub passed_up_to : {new : PacketReader} {piece : List ℕ} {end : ℕ} (passed : Passed) → PassesUpTo ending end old new unused
+      → drop end unused ≡ window_of passed.left piece → passed.count ≡ position_of new → passed.left.start ≤ passed.left.end
+      → passed.left.end ≤ length piece → PassesWhole ending passed waiting piece reader
+  passed_up_to {end = end} passed p rest count ordered within =
+      let has = p.passes s.used s.passes in
+      record {
+        used = s.used ++ take end unused;
+        uses = record {
+          came = s.uses.came;
+          read = s.uses.read;
+          parts = s.uses.parts ∙ ap (λ (l : List ℕ). s.used ++ l) (sym (take-append-drop end unused))
+              ∙ sym (append_assoc s.used (take end unused) (drop end unused)) ∙ ap (λ (l : List ℕ). (s.used ++ take end unused) ++ l) rest;
+        };
+        answer = has.answer;
+        count = count ∙ has.position;
+        ordered = ordered;
+        within = within;
+      }
+
+  -- or breaks off
+  pub passed_not : {fault : Fault} {ended : Bool} → BreaksIn ending fault old unused → PassesNot ending fault ended waiting reader
+  passed_not {fault = fault} {ended = ended} b = record {
+    used = s.used ++ take b.used unused;
+    unused = drop b.used unused;
+    uses = record {
+      came = s.uses.came;
+      read = s.uses.read;
+      parts = s.uses.parts ∙ ap (λ (l : List ℕ). s.used ++ l) (sym (take-append-drop b.used unused))
+          ∙ sym (append_assoc s.used (take b.used unused) (drop b.used unused));
+    };
+    breaks = b.breaks s.used s.passes;
+    timely = timely fault.kind ended (drop b.used unused) b.shown.not_the_end (λ long. omega (arith, b.shown.one_more long, length-drop b.used unused));
+  }
+
+module _ {ending : Ending} {r : PacketReader} {waiting : List ℕ} {before left after : Option (List ℕ)} (s : PassingSoFar ending r waiting [] (flow before left)) where
+  -- more bytes came
+  came_more : (came : List ℕ) → Consumes left after came → PassingSoFar ending r waiting came (flow before after)
+  came_more came read = record {
+    used = s.used;
+    uses = record {
+      came = s.uses.came ++ came;
+      read = Consumes-trans before left after s.uses.came came s.uses.read read;
+      parts = sym (append_assoc waiting s.uses.came came) ∙ ap (λ (l : List ℕ). l ++ came) (s.uses.parts ∙ append-nil s.used);
+    };
+    passes = s.passes;
+  }
+
+  pub came_in_front : (end : ℕ) (piece : List ℕ) → Consumes left after (take end piece)
+      → PassingSoFar ending r waiting (window_of (record { start = 0; end = end }) piece) (flow before after)
+  came_in_front end piece read = rw (front_window end piece) at (came_more (take end piece) read)
+
+  -- a read failed
+  came_not : Keeps left after → PassingSoFar ending r waiting [] (flow before after)
+  came_not kept = record {
+    used = s.used;
+    uses = record { came = s.uses.came; read = Consumes-kept before left after s.uses.came s.uses.read kept; parts = s.uses.parts };
+    passes = s.passes;
+  }
+
+-- more is due
+pub goes_on : {ending : Ending} {r : PacketReader} {waiting : List ℕ} {reader : Flow} → PassingSoFar ending r waiting [] reader → fault_of r ≡ None
+    → PassesOn ending waiting reader
+goes_on {ending} {r} s sound = record {
+  used = s.used;
+  uses = s.uses;
+  rest = s.passes.rest;
+  begun = record { given = s.passes.given; splits = s.passes.reads.splits; goes_on = s.passes.goes_on };
+  still_open = (sound_rest r 0 s.used s.passes.given s.passes.rest sound s.passes.reads).1;
+}
+
+-- a read failed, and a `?` answers the fault that it met
+pub read_failed : {ending : Ending} {r : PacketReader} {waiting : List ℕ} {before left : Option (List ℕ)} (after : Option (List ℕ))
+    (result : Result Passed RunFault) (fault : RunFault) (ended : Bool) (piece : List ℕ) → IsErrAnd result (λ e. e ≡ fault) → fault ≡ ReadFault → Keeps left after
+    → PassingSoFar ending r waiting [] (flow before left) → fault_of r ≡ None → PassesTo ending result ended waiting piece (flow before after)
+read_failed {ending} {waiting = waiting} {before} after result fault ended piece answered named kept s sound =
+    at_fault result fault ReadFault (λ (x : Result Passed RunFault). PassesTo ending x ended waiting piece (flow before after)) named answered
+    (goes_on (came_not s kept) sound)
+
+-- the input ended
+pub ended_within : {ending : Ending} {r : PacketReader} {waiting : List ℕ} {before left after : Option (List ℕ)} {ended : Bool} {fault : Fault} (end : ℕ)
+    (piece : List ℕ) → end ≡ 0 → Consumes left after (take end piece) → ended ≡ true → PassingSoFar ending r waiting [] (flow before left)
+    → ClosesAnswer fault r → PassesNot ending fault ended waiting (flow before after)
+ended_within {ending} {ended = ended} {fault} end piece none read at_end s (kind, breaks) =
+    let now = came_more s [] (rw none at read) in
+    record { used = now.used; unused = []; uses = now.uses; breaks = breaks ending now.used now.passes; timely = rw kind (refl, at_end) }

@@ -1,0 +1,105 @@
+-- What a reader of packets does with an answer that passes.
+use Rattle.std.specs.Prelude.{◌≡◌, ℕ, ◌≤◌, Bool, false, List, [], ◌++◌, length, take, Option, Some, None, Result, Ok, Err}
+use Rattle.std.specs.Io.KnownBytes.{Consumes}
+use Rattle.git_pkt.specs.Faults.{IsOpen}
+use Rattle.git_pkt.specs.Splits.{Given}
+use Rattle.git_pkt.specs.Streams.{Flow, IsTimely}
+use Rattle.git_pkt.specs.Machine.PacketReader.{Reads, ShownByFeed, fault_of, passes_of, position_of}
+use Rattle.git_pkt.specs.declared.fault.Fault.{Fault}
+use Rattle.git_pkt.specs.declared.fault.Kind.TheVariants.{Truncated}
+use Rattle.git_pkt.specs.declared.fault.RunFault.{RunFault}
+use Rattle.git_pkt.specs.declared.fault.RunFault.TheVariants.{ReadFault, WriteFault, ReadLimit, Refused}
+use Rattle.git_pkt.specs.declared.reader.PacketReader.{PacketReader}
+use Rattle.git_client.specs.Machine.RunSteps.{window_of}
+use Rattle.git_client.specs.declared.events.Ending.{Ending}
+use Rattle.git2show_lib.specs.Others.{BreakOff, IsAnswerBegun, IsOtherAnswer, NoneIs, last_of}
+use Rattle.git2show_lib.specs.declared.other_answers.Passed.{Passed}
+
+-- ---- the reader
+
+-- it has packets of an answer, of which none is the last
+pub record Passes (ending : Ending) (used : List ℕ) (r : PacketReader) : Type 0 where
+  pub given : List Given
+  pub rest : List ℕ
+  pub reads : Reads r 0 used given rest
+  pub goes_on : NoneIs (last_of ending) given
+
+-- it has a whole answer
+pub record HasPassed (ending : Ending) (used : List ℕ) (r : PacketReader) : Type 0 where
+  pub answer : IsOtherAnswer ending used
+  pub position : position_of r ≡ length used
+
+-- the bytes of an answer break off
+pub record BreaksOff (ending : Ending) (used : List ℕ) (fault : Fault) : Type 0 where
+  pub rest : List ℕ
+  pub begun : IsAnswerBegun ending used rest
+  pub breaks : BreakOff rest (length used) fault
+
+-- all of the piece was used, and more is due
+pub record PassesAll (ending : Ending) (old new : PacketReader) (piece : List ℕ) : Type 0 where
+  pub sound : fault_of new ≡ None
+  pub gathers : passes_of new ≡ false
+  pub passes : (used : List ℕ) → Passes ending used old → Passes ending (used ++ piece) new
+
+-- the answer ends in the piece
+pub record PassesUpTo (ending : Ending) (used : ℕ) (old new : PacketReader) (piece : List ℕ) : Type 0 where
+  pub within : used ≤ length piece
+  pub passes : (bytes : List ℕ) → Passes ending bytes old → HasPassed ending (bytes ++ take used piece) new
+
+-- it breaks off there
+pub record BreaksIn (ending : Ending) (fault : Fault) (old : PacketReader) (piece : List ℕ) : Type 0 where
+  pub used : ℕ
+  pub breaks : (bytes : List ℕ) → Passes ending bytes old → BreaksOff ending (bytes ++ take used piece) fault
+  pub shown : ShownByFeed fault used piece
+
+-- how a piece passed
+abbrev pub PassesPiece : Ending → Result (Option ℕ) Fault → PacketReader → PacketReader → List ℕ → Type 0
+PassesPiece ending (Ok None) old new piece = PassesAll ending old new piece
+PassesPiece ending (Ok (Some used)) old new piece = PassesUpTo ending used old new piece
+PassesPiece ending (Err fault) old new piece = BreaksIn ending fault old piece
+
+-- the input ends in an answer
+abbrev pub ClosesAnswer : Fault → PacketReader → Type 0
+ClosesAnswer fault old =
+    (fault.kind ≡ Truncated) × ((ending : Ending) (used : List ℕ) → Passes ending used old → BreaksOff ending used fault)
+
+-- ---- an answer over a reader of bytes
+
+-- of the bytes that waited and those that came, all but the last were used
+pub record Uses (used waiting unused : List ℕ) (reader : Flow) : Type 0 where
+  pub came : List ℕ
+  pub read : Consumes reader.before reader.after came
+  pub parts : waiting ++ came ≡ used ++ unused
+
+-- the answer passed whole
+pub record PassesWhole (ending : Ending) (passed : Passed) (waiting piece : List ℕ) (reader : Flow) : Type 0 where
+  pub used : List ℕ
+  pub uses : Uses used waiting (window_of passed.left piece) reader
+  pub answer : IsOtherAnswer ending used
+  pub count : passed.count ≡ length used
+  pub ordered : passed.left.start ≤ passed.left.end
+  pub within : passed.left.end ≤ length piece
+
+-- all bytes were used, and more are due
+pub record PassesOn (ending : Ending) (waiting : List ℕ) (reader : Flow) : Type 0 where
+  pub used : List ℕ
+  pub uses : Uses used waiting [] reader
+  pub rest : List ℕ
+  pub begun : IsAnswerBegun ending used rest
+  pub still_open : IsOpen rest
+
+-- the bytes break off
+pub record PassesNot (ending : Ending) (fault : Fault) (ended : Bool) (waiting : List ℕ) (reader : Flow) : Type 0 where
+  pub used : List ℕ
+  pub unused : List ℕ
+  pub uses : Uses used waiting unused reader
+  pub breaks : BreaksOff ending used fault
+  pub timely : IsTimely fault.kind ended unused
+
+-- how an answer passed
+abbrev pub PassesTo : Ending → Result Passed RunFault → Bool → List ℕ → List ℕ → Flow → Type 0
+PassesTo ending (Ok passed) ended waiting piece reader = PassesWhole ending passed waiting piece reader
+PassesTo ending (Err ReadFault) ended waiting piece reader = PassesOn ending waiting reader
+PassesTo ending (Err ReadLimit) ended waiting piece reader = PassesOn ending waiting reader
+PassesTo ending (Err (Refused fault)) ended waiting piece reader = PassesNot ending fault ended waiting reader
+PassesTo ending (Err WriteFault) ended waiting piece reader = ⊥

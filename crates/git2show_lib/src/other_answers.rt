@@ -1,0 +1,127 @@
+//! Answers to commands that are not known, which pass as packets.
+
+ghost use Rattle.std.specs.Prelude.{◌≡◌, ◌≤◌, ◌<◌, length, false, IsTrue, IfErr, OnOk, None};
+ghost use Rattle.git_pkt.specs.Machine.Told.{inner_of, reads_of, has_failed, has_ended, has_wasted};
+ghost use Rattle.git_pkt.specs.Machine.Engine.{FailsAs, IsShownBy, IsSpent};
+ghost use Rattle.git_pkt.specs.Machine.PacketReader.{fault_of, passes_of};
+ghost use Rattle.git_pkt.specs.Packets.{seen};
+ghost use Rattle.git_pkt.specs.Streams.{flow};
+ghost use Rattle.git_client.specs.Machine.RunSteps.{window_of};
+ghost use Rattle.git2show_lib.specs.Others.{is_last};
+ghost use Rattle.git2show_lib.specs.Machine.OtherAnswers.{ClosesAnswer, PassesPiece, PassesTo};
+
+use git_client::{Ending, Window};
+use git_names::Steps;
+use git_pkt::{Fault, Got, Kind, Packet, PacketReader, RunFault, Told, receive};
+use std::io::Read;
+
+/// What an answer that passed has left.
+#[derive(Clone, Copy, Debug)]
+pub(crate) struct Passed {
+    /// The bytes of the piece after it.
+    pub(crate) left: Window,
+    /// How many bytes it has.
+    pub(crate) count: u64,
+}
+
+/// Passes over an answer: packets up to the one that ends each response, a flush or a response end. What waits of the piece is used first,
+/// and then what is read into it.
+///
+/// `Refused` with what is no packet, at its offset in the answer; `ReadFault` where a read fails, and `ReadLimit` where the reader has made
+/// as many reads as `turns` and needs one more.
+pub(crate) fn pass_answer<R: Read>(
+    ending: Ending,
+    reader: &mut Told<R>,
+    piece: &mut [u8],
+    waiting: Window,
+    turns: u64,
+) -> Result<Passed, RunFault>
+    requires room { 0 < length piece.old }
+    requires ordered { waiting.start ≤ waiting.end }
+    requires within { waiting.end ≤ length piece.old }
+    requires sound_reader { has_failed reader.old ≡ false }
+    requires open_ended { has_ended reader.old ≡ false }
+    requires turns { reads_of reader.old ≤ turns }
+
+    ensures reads { reads_of reader.new ≤ turns }
+    ensures useful { has_wasted reader.new ≡ has_wasted reader.old }
+    ensures passed { PassesTo ending result (has_ended reader.new) (window_of waiting piece.old) piece.new
+        (flow (R.remaining (inner_of reader.old)) (R.remaining (inner_of reader.new))) }
+    ensures room { length piece.new ≡ length piece.old }
+    ensures goes_on { OnOk result (has_ended reader.new ≡ false) }
+    ensures fault { IfErr result (IsShownBy (IsTrue (has_failed reader.new)) ⊥ (IsSpent reader.new turns)) }
+    ensures told { FailsAs result (has_failed reader.new) false }
+{
+    let mut packets = PacketReader::new();
+    let mut left = waiting;
+    'answer: loop {
+        match pass_piece(&mut packets, ending, &piece[left.start..left.end]) {
+            Ok(Some(used)) => {
+                left.start += used;
+                let count = packets.position();
+                return Ok(Passed { left, count });
+            }
+            Ok(None) => {}
+            Err(fault) => return Err(RunFault::Refused(fault)),
+        }
+        if reader.reads() == turns {
+            return Err(RunFault::ReadLimit);
+        }
+        let end = receive(reader, piece)?;
+        if end == 0 {
+            return Err(RunFault::Refused(close(&mut packets)));
+        }
+        left = Window { start: 0, end };
+    }
+}
+
+/// Passes over what the piece has of an answer. Answers where its last packet ends in the piece, if it does.
+fn pass_piece(
+    packets: &mut PacketReader,
+    ending: Ending,
+    piece: &[u8],
+) -> Result<Option<usize>, Fault>
+    requires sound { fault_of packets.old ≡ None }
+    requires gathers { passes_of packets.old ≡ false }
+    ensures { PassesPiece ending result packets.old packets.new piece.now }
+{
+    let mut used = 0;
+    while used < piece.len() {
+        let fed = packets.feed(&piece[used..], &mut Steps::new());
+        used += fed.used;
+        match fed.got {
+            Got::More => return Ok(None),
+            Got::Failed(fault) => return Err(fault),
+            Got::Packet(packet, _) => {
+                if is_last(ending, packet) {
+                    return Ok(Some(used));
+                }
+            }
+        }
+    }
+    Ok(None)
+}
+
+/// Whether the packet ends a response.
+fn is_last(ending: Ending, packet: Packet<'_>) -> bool
+    ensures { result ≡ is_last ending (seen packet.entry) }
+{
+    match ending {
+        Ending::FlushOnly => matches!(packet, Packet::Flush),
+        Ending::ResponseEnd => matches!(packet, Packet::RespEnd),
+    }
+}
+
+/// The input ends inside an answer: it is truncated, at the end of the last whole packet.
+fn close(packets: &mut PacketReader) -> Fault
+    requires { fault_of packets.old ≡ None }
+    ensures { ClosesAnswer result packets.old }
+{
+    match packets.close() {
+        Ok(()) => Fault {
+            kind: Kind::Truncated,
+            offset: packets.position(),
+        },
+        Err(fault) => fault,
+    }
+}
