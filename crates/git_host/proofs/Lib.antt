@@ -5,7 +5,8 @@ pub mod RepositoryFacts
 pub mod ReferencesMoves
 pub mod SizesMoves
 pub mod HostAnswerMoves
+pub mod FetchFronts
+pub mod AnswerFronts
 pub mod HostMoves
-pub mod LentBuffers
 pub mod HostCallMoves
 pub mod HostedAnswers
