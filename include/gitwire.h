@@ -148,7 +148,7 @@ enum {
 	GITWIRE_NEED_HAVE = 37,       /* whether the store has the object at a place of LIST_HAVES: gitwire_host_have */
 	GITWIRE_NEED_READY = 38,      /* whether enough is common to make a pack: gitwire_host_ready */
 	GITWIRE_NEED_BOUNDARY = 39,   /* the next line of the shallow boundary, or its end: gitwire_host_boundary, _boundary_end */
-	GITWIRE_NEED_PACK = 40,       /* bytes of the pack or of progress, or the end: gitwire_host_pack, _progress, _pack_end, _fail */
+	GITWIRE_NEED_PACK = 40,       /* bytes of the pack or of progress, or the end: gitwire_host_pack, _progress, _pack_end */
 	GITWIRE_NEED_REFERENCE = 41,  /* the next reference, or the end: gitwire_host_reference, _unborn, _references_end */
 	GITWIRE_NEED_SIZE = 42,       /* the size of the object at a place of LIST_OIDS: gitwire_host_size */
 	GITWIRE_OUT_OF_ORDER = 43,    /* a reference does not come after the one that was reported before it; nothing changed */
@@ -567,8 +567,7 @@ gitwire_answer gitwire_host_boundary_end(gitwire_host *host, uint8_t *room, size
 /*
  * Bytes of the pack, or of a text for the client's user: PACKET, and `used` of them are in it, 65,515 at most. The others are reported by a further
  * call. No bytes are MORE; so is a text where the request has `no-progress`, and all of it is used. The pack's end: PACKET, the flush that ends the
- * answer. That the rest cannot be had, as where a process failed: PACKET, a text on the band of fatal errors, and the session is over
- * (PackSource). That one too may be made where NEED_PACK is asked alone; a request that is ASKED can be refused, and elsewhere a host hangs up.
+ * answer.
  */
 GITWIRE_LOOKED_AT
 gitwire_answer gitwire_host_pack(gitwire_host *host, const uint8_t *bytes, size_t length, uint8_t *room, size_t room_length);
@@ -576,8 +575,6 @@ GITWIRE_LOOKED_AT
 gitwire_answer gitwire_host_progress(gitwire_host *host, const uint8_t *text, size_t length, uint8_t *room, size_t room_length);
 GITWIRE_LOOKED_AT
 gitwire_answer gitwire_host_pack_end(gitwire_host *host, uint8_t *room, size_t room_length);
-GITWIRE_LOOKED_AT
-gitwire_answer gitwire_host_fail(gitwire_host *host, uint8_t *room, size_t room_length);
 
 /*
  * For `ls-refs`: any reference of the store, in the order of the bytes of their names. PACKET where the request asks for it, else MORE. A target or a
@@ -596,6 +593,11 @@ gitwire_answer gitwire_host_references_end(gitwire_host *host, uint8_t *room, si
 /* For `object-info`: the size of the object that is asked about, where the store has it. PACKET. */
 GITWIRE_LOOKED_AT
 gitwire_answer gitwire_host_size(gitwire_host *host, bool has_size, uint64_t size, uint8_t *room, size_t room_length);
+
+/* What is asked cannot be had, as where a disk or a process failed: where any NEED_.. is asked. PACKET, and the session is over (PackSource): an
+ * error packet, or where NEED_PACK is asked a text on the band of fatal errors. A request that is ASKED can be refused. */
+GITWIRE_LOOKED_AT
+gitwire_answer gitwire_host_fail(gitwire_host *host, uint8_t *room, size_t room_length);
 
 GITWIRE_FREES(gitwire_host)
 

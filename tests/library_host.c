@@ -49,10 +49,10 @@ static void ask(const char *request, uint64_t command)
 	EXPECT(gitwire_host_close(&host) == GITWIRE_NOT_NOW && gitwire_host_accept(&host) == GITWIRE_NOT_NOW);
 }
 
-/* Whether each call that reports returns this, but for the one of this number. */
+/* Whether each call that reports returns this, but for the one of this number, which is asked for: then that it failed can be reported too. */
 static void expect_of_reports(uint8_t kind, int but, size_t length)
 {
-	for (int call = 0; call < 14; call++) {
+	for (int call = 0; call < (but < 0 ? 14 : 13); call++) {
 		gitwire_answer answer;
 
 		if (call == but)
@@ -227,6 +227,16 @@ static void try_refusals(void)
 	EXPECT(gitwire_host_fail(&host, ROOM).kind == GITWIRE_PACKET && room[4] == 3);
 	memset(room, '#', sizeof room);
 	EXPECT(tells_fault(gitwire_host_pull(&host, ROOM), GITWIRE_FAULT_PACK_SOURCE, 0, 97));
+	begin(0);
+	ask(LS_REFS "0000", GITWIRE_LS_REFS);
+	EXPECT(sends(gitwire_host_fail(&host, ROOM), 0, "0019ERR PackSource at 24\n"));
+	EXPECT(tells_fault(gitwire_host_pull(&host, ROOM), GITWIRE_FAULT_PACK_SOURCE, 0, 24));
+	EXPECT(tells(gitwire_host_fail(&host, ROOM), GITWIRE_NOT_NOW, 0, 0, 0));
+	begin(0);
+	ask(FETCH "0032want " ONE "\n" "0009done\n" "0000", GITWIRE_FETCH);
+	EXPECT(pulls(GITWIRE_NEED_WANT, 0));
+	EXPECT(sends(gitwire_host_fail(&host, ROOM), 0, "0019ERR PackSource at 81\n"));
+	EXPECT(tells_fault(gitwire_host_pull(&host, ROOM), GITWIRE_FAULT_PACK_SOURCE, 0, 81));
 	begin(0);
 	EXPECT(tells(gitwire_host_feed(&host, TEXT(LS_REFS "0000")), GITWIRE_MORE, 28, 0, 0));
 	memset(text, 'a', sizeof text);

@@ -68,7 +68,7 @@ so_far_more : (lines : List Boundary) (line : Boundary) → is_empty lines ≡ f
 so_far_more [] line e = absurd (cc)
 so_far_more (l ∷ ls) line e = ap (λ (x : List Pkt). text_line (codes "shallow-info") ∷ x) (map_more boundary_packet (l ∷ ls) line)
 
-so_far_ends : (lines : List Boundary) → is_empty lines ≡ false → shallow_so_far lines ++ delim ∷ [] ≡ shallow_info lines
+pub so_far_ends : (lines : List Boundary) → is_empty lines ≡ false → shallow_so_far lines ++ delim ∷ [] ≡ shallow_info lines
 so_far_ends [] e = absurd (cc)
 so_far_ends (l ∷ ls) e = refl
 
@@ -82,7 +82,7 @@ none_wanted ids [] e = refl
 none_wanted ids (n ∷ ns) e = absurd (cc)
 
 module _ (q : FetchAsked) (t : FetchFacts) where
-  opening_is : negotiates q ≡ true → opening q t ≡ acknowledgments q t ++ ready_lines
+  pub opening_is : negotiates q ≡ true → opening q t ≡ acknowledgments q t ++ ready_lines
   opening_is e = ap (λ (b : Bool). if b then acknowledgments q t ++ ready_lines else []) e
 
   opening_none : negotiates q ≡ false → opening q t ≡ []
@@ -109,7 +109,7 @@ pub record SoFar (next : ℕ) (any : Bool) (q : FetchAsked) (t : FetchFacts) (gi
   pub unready : t.ready ≡ false
   pub after : NothingAfter t
 
-all_reported : (next : ℕ) (any : Bool) (q : FetchAsked) (t : FetchFacts) (given : List Pkt) → SoFar next any q t given → length q.haves ≤ next
+pub all_reported : (next : ℕ) (any : Bool) (q : FetchAsked) (t : FetchFacts) (given : List Pkt) → SoFar next any q t given → length q.haves ≤ next
     → StandsAt (after_haves any) q t given
 all_reported next true q t given h over = record {
   negotiates = h.negotiates;
@@ -337,7 +337,7 @@ one_more {X = X} xs at x here =
     take_more xs at x (slice_get_within xs at x here)
     ∙ ap (λ (y : X). take at xs ++ y ∷ []) (sym (unwrap_or-slice_get xs at x) ∙ ap (λ (o : Option X). unwrap_or o x) here)
 
-after_name : (next : ℕ) (q : FetchAsked) (t : FetchFacts) (given : List Pkt) (id : ObjectName) (name : List ℕ) → AtWanted next q t given
+pub after_name : (next : ℕ) (q : FetchAsked) (t : FetchFacts) (given : List Pkt) (id : ObjectName) (name : List ℕ) → AtWanted next q t given
     → slice_get q.want_refs next ≡ Some name → slice_get t.wanted next ≡ Some id
     → AtWanted (next + 1) q t (given ++ text_line (wanted_text (wanted_of id name)) ∷ [])
 after_name next q t given id name h named here =

@@ -70,7 +70,7 @@ found_less [] = refl
 found_less (Some x ∷ found) = ap (λ (l : List ObjectName). x ∷ l) (found_less found)
 found_less (None ∷ found) = found_less found
 
-all_found : (ids : List ObjectName) → found_ids (map Some ids) ≡ ids
+pub all_found : (ids : List ObjectName) → found_ids (map Some ids) ≡ ids
 all_found [] = refl
 all_found (id ∷ ids) = ap (λ (l : List ObjectName). id ∷ l) (all_found ids)
 

@@ -13,17 +13,22 @@ use Rattle.git_msg.specs.declared.streams.Stage.TheVariants.{Between, Within, St
 use Rattle.git_msg.specs.Machine.RequestStreams.{IsLeftIn, limit_of, offer_of}
 use Rattle.git_msg.specs.Machine.StreamStages.{AreBegun, takes_bytes}
 use Rattle.git_server.specs.declared.outcome.Outcome.{Outcome}
-use Rattle.git_host.specs.HostSessions.{Facts, HostSetting, IsWaiting}
-use Rattle.git_host.specs.HostServer.{AreHandedOut, Hosts, HostsIn, IsReading, credit_of, outcome_in}
+use Rattle.git_msg.specs.Asked.{Asked}
+use Rattle.git_msg.specs.Machine.HeldRequest.{asked_of}
+use Rattle.git_host.specs.HostAnswers.{IsAnswering}
+use Rattle.git_host.specs.HostLookups.{at_hand}
+use Rattle.git_host.specs.HostSessions.{AtLast, Facts, HostSetting, IsSoFar, IsUnderWay, IsWaiting, nothing_for}
+use Rattle.git_host.specs.HostServer.{AreHandedOut, Hosts, HostsIn, IsReading, IsUntouched, credit_of, outcome_in}
 use Rattle.git_host.specs.HostCalls.{AllHandOut, HandsOut, HostCall, HostHeadline, Makes, accept, close, feed, given_by, given_in, feeds_by, next, over_after, over_with}
-use Rattle.git_host.specs.HostCalls.{refuse, report, reported_after, reported_with, used_by, used_in}
+use Rattle.git_host.specs.HostCalls.{nothing, refuse, report, reported_after, reported_with, used_by, used_in}
 use Rattle.git_host.specs.declared.host_server.HostServer.{HostServer}
 use Rattle.git_host.specs.declared.host_server.Phase.{Phase}
 use Rattle.git_host.specs.declared.host_server.Phase.TheVariants.{Advertising, Reading, Asked as Whole, Answering, Refusing, Ended}
 use Rattle.git_host.specs.declared.report.HostStep.TheVariants.{Packet, NeedInput, Asked as AsksFor, Need as Needs, Ended as HasEnded}
 use Rattle.git_host.specs.declared.report.HostReported.TheVariants.{Packet as WasGiven, Taken, Hidden, NotAsked, MixedFormats, Unsorted, HeadTwice}
 use Rattle.git_host.specs.declared.report.HostReported.TheVariants.{NotShallow, OutOfMemory}
-use Rattle.git_host.proofs.HostMoves.{as_asked, is_reading_now}
+use Rattle.git_host.proofs.AnswerFronts.{answering_so_far, start_so_far}
+use Rattle.git_host.proofs.HostMoves.{as_asked, is_reading_now, last_goes, same_last}
 
 module _ {A : Type 0} where
   -- nothing more used, or nothing more given
@@ -67,6 +72,8 @@ module _ {A : Type 0} where
       more_used s used over facts (given ++ []) new (more_given s used over facts given [] new refl (made.0.2 s used over facts given h))
   one_call s (refuse text bytes) before old after new made used over facts given h =
       more_used s used over facts (given ++ bytes) new (same_given s used over facts given bytes _ new made.1 (made.0.3 s used over facts given h))
+  one_call s nothing before old after new made used over facts given h =
+      more_used s used over facts (given ++ []) new (more_given s used over facts given [] new refl (made.0 s used over facts given h))
 
   -- a packet that is given has bytes
   one_packet : (s : HostSetting) (call : HostCall) (before : ℕ) (old : HostServer A) (after : ℕ) (new : HostServer A) → Makes call before old after new
@@ -90,6 +97,7 @@ module _ {A : Type 0} where
   one_packet s (report fact NotShallow bytes) before old after new made used over facts given h = tt
   one_packet s (report fact OutOfMemory bytes) before old after new made used over facts given h = tt
   one_packet s accept before old after new made used over facts given h = tt
+  one_packet s nothing before old after new made used over facts given h = tt
   one_packet s (refuse text bytes) before old after new made used over facts given h = subst AreHandedOut (sym made.1) made.0.2
 
   all_packets : (s : HostSetting) (calls : List HostCall) (before : ℕ) (old : HostServer A) (after : ℕ) (new : HostServer A)
@@ -131,6 +139,7 @@ module _ {A : Type 0} where
   paid_by accept before old after new made = record { rises = omega (arith, made.1.steps); within = omega (arith, made.1.steps, made.1.credit) }
   paid_by (refuse text bytes) before old after new made =
       record { rises = omega (arith, made.2.steps); within = omega (arith, made.2.steps, made.2.credit) }
+  paid_by nothing before old after new made = record { rises = omega (arith, made.1.steps); within = omega (arith, made.1.steps, made.1.credit) }
 
 ended_is : {A : Type 0} (phase : Phase A) (outcome : Outcome) → outcome_in phase ≡ Some outcome → phase ≡ Ended outcome
 ended_is Advertising outcome is = absurd (cc)
@@ -164,6 +173,31 @@ waits_so s used over facts given stream h =
       all = h.all;
     }
 
+-- while a request is asked about or answered
+under_way : {A : Type 0} (s : HostSetting) (used : List ℕ) (over : Bool) (facts : List Facts) (given : List ℕ) (phase : Phase A) (stream : RequestStream A)
+    (flush : ℕ) (asked : Asked) → at_hand phase ≡ Some asked → HostsIn phase s used over facts given stream flush → IsUnderWay s used over facts given
+under_way s used over facts given (Whole request) stream flush asked is h = record {
+  asked = h.asked;
+  goes_on = h.reads.goes_on;
+  are_asked = h.are_asked;
+  last = subst (λ (fs : List Facts). AtLast s h.asked fs given (IsSoFar s.offer.format)) (same_last facts)
+      (last_goes s h.asked facts given (IsUntouched (asked_of request)) (IsSoFar s.offer.format) (λ f. f) h.last
+      (λ q f front x. subst (λ (g : Facts). IsSoFar s.offer.format q g front) (sym x.nothing)
+      (subst (IsSoFar s.offer.format q (nothing_for q)) (sym x.none) (start_so_far s.offer.format q))));
+}
+under_way s used over facts given (Answering answer) stream flush asked is h = record {
+  asked = h.asked;
+  goes_on = h.reads.goes_on;
+  are_asked = h.are_asked;
+  last = subst (λ (fs : List Facts). AtLast s h.asked fs given (IsSoFar s.offer.format)) (same_last facts)
+      (last_goes s h.asked facts given (IsAnswering s.offer.format answer) (IsSoFar s.offer.format) (λ f. f) h.last
+      (λ q f front x. answering_so_far s.offer.format answer q f front x));
+}
+under_way s used over facts given Advertising stream flush asked is h = absurd (cc)
+under_way s used over facts given Reading stream flush asked is h = absurd (cc)
+under_way s used over facts given (Refusing fault) stream flush asked is h = absurd (cc)
+under_way s used over facts given (Ended outcome) stream flush asked is h = absurd (cc)
+
 pub after_calls : {A : Type 0} (s : HostSetting) (calls : List HostCall) (before after : ℕ) (first last : HostServer A) → Hosts s [] false [] [] first
     → credit_of first ≡ 0 → MakesAll Makes calls before first after last → HostHeadline s calls before after last
 after_calls s calls before after first last fresh no_credit made =
@@ -175,6 +209,8 @@ after_calls s calls before after first last fresh no_credit made =
       gives = all_packets s calls before first after last made [] false [] [] fresh;
       ends = λ outcome is. subst (λ (p : Phase _). HostsIn p s (used_in calls) (over_after false calls) (reported_after [] calls) (given_in calls)
           last.stream last.flush) (ended_is last.phase outcome is) h.stands;
+      answers = λ asked is. under_way s (used_in calls) (over_after false calls) (reported_after [] calls) (given_in calls) last.phase last.stream
+          last.flush asked is h.stands;
       waits = λ on. waits_so s (used_in calls) (over_after false calls) (reported_after [] calls) (given_in calls) last.stream
           (subst (λ (p : Phase _). HostsIn p s (used_in calls) (over_after false calls) (reported_after [] calls) (given_in calls)
           last.stream last.flush) (is_reading_now last on) h.stands);

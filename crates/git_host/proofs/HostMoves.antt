@@ -49,10 +49,12 @@ use Rattle.git_host.specs.HostSessions.{advertised, nothing_for, of_fetch, of_re
 use Rattle.git_host.specs.HostServer.{AreHandedOut, Hosts, HostsIn, IsAdvertising, IsAtRequest, IsReading, IsRefusing, IsUntouched, ReadsOn}
 use Rattle.git_host.specs.HostServer.{EndsHost, IsAccepted, IsGivenWith, ReportsHost, StopsHost, HasReason, is_asked, begun_in, is_answering, ended_by, reads_on}
 use Rattle.git_host.specs.HostServer.{given_with, is_reading, refused_by, with_last}
-use Rattle.git_host.specs.HostAnswers.{GivesOn, GoesOn, IsAnswering, IsGiven, LacksIt, ReportsBy, with_hidden, with_report, with_reported}
+use Rattle.git_host.specs.HostAnswers.{FailsBy, GivesOn, GoesOn, IsAnswering, IsCut, IsGiven, LacksIt, ReportsBy, with_hidden, with_report, with_reported}
 use Rattle.git_host.specs.declared.host_answer.HostAnswer.{HostAnswer}
 use Rattle.git_host.specs.declared.host_server.HostServer.{HostServer}
+use Rattle.git_host.specs.declared.host_answer.Failing.TheVariants.{NotAsked as FailingUnasked, Packet as FailingPacket}
 use Rattle.git_host.specs.declared.report.Report.{Report}
+use Rattle.git_host.specs.declared.report.Report.TheVariants.{Failed}
 use Rattle.git_host.specs.declared.report.HostReported.{HostReported}
 use Rattle.git_host.specs.declared.report.HostReported.TheVariants.{Packet as WasGiven, Taken, Hidden, NotAsked, MixedFormats, Unsorted, HeadTwice}
 use Rattle.git_host.specs.declared.report.HostReported.TheVariants.{NotShallow, OutOfMemory}
@@ -545,7 +547,7 @@ module _ {A : Type 0} (s : HostSetting) (used : List ℕ) (over : Bool) (facts :
 
   pub broken_done : IsGiven broken a → IsHosted s used over facts given (ended_by PackSource flush)
   broken_done is = request_refused s used over facts given new flush (IsAnswering s.offer.format a) same_done PackSource
-      (λ q f front x. is s.offer.format q f front x)
+      (λ q f front x. inl (is s.offer.format q f front x))
 
   pub lacking_done : (kind : Kind) → LacksIt kind a → hold.items ≡ spelling_of (error_packet (record { kind = kind; offset = flush }))
       → IsHosted s used over facts (given ++ hold_of new) (ended_by kind flush)
@@ -564,6 +566,41 @@ module _ {A : Type 0} (s : HostSetting) (used : List ℕ) (over : Bool) (facts :
               (error_packet fault, written, lacking_tail kind s.offer.format fault q f front lack none))));
         },
       )
+
+  -- what is asked cannot be had, and nothing of a pack was given
+  pub cut_done : IsCut a → hold.items ≡ spelling_of (error_packet (record { kind = PackSource; offset = flush }))
+      → IsHosted s used over facts (given ++ hold_of new) (ended_by PackSource flush)
+  cut_done cut written =
+      let fault : Fault = record { kind = PackSource; offset = flush } in
+      inr (
+        h.reads.goes_on,
+        record {
+          asked = h.asked;
+          are_asked = h.are_asked;
+          at = h.at;
+          last = subst (λ (bytes : List ℕ). AtLast s h.asked facts (given ++ bytes) (IsTailBy PackSource s.offer.format fault))
+              (sym (lent_bytes old hold new lent))
+              (subst (λ (fs : List Facts). AtLast s h.asked fs (given ++ hold.items) (IsTailBy PackSource s.offer.format fault)) (same_last facts)
+              (last_gives s h.asked facts given (IsAnswering s.offer.format a) (IsTailBy PackSource s.offer.format fault) (λ f. f) hold.items h.last
+              (λ q f front x. let (begins, before) = cut s.offer.format q f front x in
+              (error_packet fault, written, inr (record { front = front; begins = begins; before = before; packets_are = refl })))));
+        },
+      )
+
+  -- nothing was asked
+  pub fail_unasked : FailsBy a FailingUnasked hold.items b
+      → IsAtRequest s used over (with_last (with_reported NotAsked Failed) facts) (given ++ []) new flush (IsAnswering s.offer.format b)
+      × HasReason Failed (Answering a) NotAsked
+  fail_unasked done = (
+    goes_to (λ f. f) (λ format q f front x. subst (λ (o : HostAnswer A). IsAnswering format o q f front) (sym done.0) x),
+    done.1,
+  )
+
+  -- the pack breaks off
+  pub fail_packet : FailsBy a FailingPacket hold.items b
+      → IsAtRequest s used over (with_last (with_reported WasGiven Failed) facts) (given ++ hold_of new) new flush (IsAnswering s.offer.format b)
+      × AreHandedOut (hold_of new) × EndsHost Failed WasGiven (Answering b)
+  fail_packet done = (answer_gives (λ f. f) done.0, handed_out (λ f. f) done.0, done.1)
 
 -- the host refused the request that came by a text
 pub text_refuses : {A : Type 0} (s : HostSetting) (used : List ℕ) (over : Bool) (facts : List Facts) (given : List ℕ) (flush : ℕ) (old new : RequestStream A)

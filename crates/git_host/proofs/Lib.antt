@@ -5,8 +5,9 @@ pub mod RepositoryFacts
 pub mod ReferencesMoves
 pub mod SizesMoves
 pub mod HostAnswerMoves
+pub mod FetchFronts
+pub mod AnswerFronts
 pub mod HostMoves
 pub mod FeedMoves
-pub mod LentBuffers
 pub mod HostCallMoves
 pub mod HostedAnswers

@@ -266,6 +266,13 @@ abbrev pub is_boundary : Step → Bool
 is_boundary AskBoundary = true
 is_boundary _ = false
 
+-- something that comes before the pack
+abbrev pub is_before_pack : Step → Bool
+is_before_pack (AskHave place) = true
+is_before_pack AskReady = true
+is_before_pack AskBoundary = true
+is_before_pack _ = false
+
 abbrev pub is_pack : Step → Bool
 is_pack AskPack = true
 is_pack _ = false

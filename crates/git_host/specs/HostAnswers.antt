@@ -1,5 +1,5 @@
 -- How far the answer to the request at hand has come, by what was reported and what was given; and what a report does.
-use Rattle.std.specs.Prelude.{◌≡◌, ◌≢◌, ℕ, Bool, true, false, List, [], ◌∷◌, ◌++◌, take, Option, Some, None}
+use Rattle.std.specs.Prelude.{◌≡◌, ◌≢◌, ℕ, Bool, true, false, ◌||◌, List, [], ◌∷◌, ◌++◌, take, Option, Some, None}
 use Rattle.git_names.specs.ObjectName.{ObjectName}
 use Rattle.git_names.specs.declared.object_format.Format.{Format}
 use Rattle.git_names.specs.NameBytes.{name_bytes}
@@ -12,13 +12,14 @@ use Rattle.git_server.specs.Repository.{IsUnshallowOf}
 use Rattle.git_host.specs.Admissions.{AdmissionFacts, IsAdmitted, IsOfOtherFormat, RepresentsAdmission, asked_of, format_of, is_want, is_want_ref, step_of}
 use Rattle.git_host.specs.Admissions.{with_found, with_want}
 use Rattle.git_host.specs.FetchFacts.{FetchFacts, no_facts}
-use Rattle.git_host.specs.FetchPlaces.{Represents, is_boundary, is_have, is_pack, is_ready_asked, with_have, with_line, with_pack, with_progress, with_ready}
+use Rattle.git_host.specs.FetchPlaces.{ReportsAndGives, Represents, is_before_pack, is_boundary, is_have, is_pack, is_ready_asked, with_have, with_line, with_pack, with_progress, with_ready}
 use Rattle.git_host.specs.FetchPlaces.{WantsNoProgress, asked_of as fetch_of, format_of as fetch_format, step_of as fetch_step}
 use Rattle.git_host.specs.ReferencesPlaces.{HasBegun, IsUnsoundAfter, ReferencesFacts, RepresentsReferences, is_whole, with_ref, with_unborn}
 use Rattle.git_host.specs.ReferencesPlaces.{format_of as references_format}
 use Rattle.git_host.specs.SizesPlaces.{IsAsking, RepresentsSizes, sizes_asked}
-use Rattle.git_host.specs.HostSessions.{Facts, IsAnswerBy, IsLacking, of_fetch, of_references, of_sizes}
+use Rattle.git_host.specs.HostSessions.{Facts, IsAnswerBy, IsBeforePack, IsFrontBy, IsLacking, of_fetch, of_references, of_sizes}
 use Rattle.git_host.specs.declared.admission.Admission.{Admission as AdmissionMachine}
+use Rattle.git_host.specs.declared.admission.AdmissionStep.{AdmissionStep}
 use Rattle.git_host.specs.declared.admission.AdmissionStep.TheVariants.{AskWant, AskWantRef, Admitted}
 use Rattle.git_host.specs.declared.fetch_answer.BoundaryReported.{BoundaryReported}
 use Rattle.git_host.specs.declared.fetch_answer.BoundaryReported.TheVariants as Line
@@ -38,6 +39,8 @@ use Rattle.git_host.specs.declared.sizes_answer.SizesStep.{SizesStep}
 use Rattle.git_host.specs.declared.sizes_answer.SizesStep.TheVariants.{AskSize, Packet as SizesPacket, Whole as SizesWhole}
 use Rattle.git_host.specs.declared.host_answer.HostAnswer.{HostAnswer}
 use Rattle.git_host.specs.declared.host_answer.HostAnswer.TheVariants.{Admission, Fetch, References, Sizes, Whole}
+use Rattle.git_host.specs.declared.host_answer.Failing.{Failing}
+use Rattle.git_host.specs.declared.host_answer.Failing.TheVariants.{NotAsked as FailingUnasked, Packet as FailingPacket, CutShort}
 use Rattle.git_host.specs.declared.host_answer.AnswerStep.{AnswerStep}
 use Rattle.git_host.specs.declared.host_answer.AnswerStep.TheVariants.{Packet as GivesPacket, Need as Needs, Whole as AllGiven, Broken, Refused as IsRefused}
 use Rattle.git_host.specs.declared.report.HostReported.{HostReported}
@@ -47,7 +50,7 @@ use Rattle.git_host.specs.declared.report.Need.TheVariants.{Want as NeedWant, Wa
 use Rattle.git_host.specs.declared.report.Need.TheVariants.{Boundary as NeedBoundary, Pack as NeedPack, Reference as NeedReference, Size as NeedSize}
 use Rattle.git_host.specs.declared.report.Report.{Report}
 use Rattle.git_host.specs.declared.report.Report.TheVariants.{Want, WantRef, Have, Ready, Boundary, BoundaryEnd as EndsBoundary, Pack, Progress}
-use Rattle.git_host.specs.declared.report.Report.TheVariants.{PackEnd, PackFailed}
+use Rattle.git_host.specs.declared.report.Report.TheVariants.{PackEnd, Failed}
 use Rattle.git_host.specs.declared.report.Report.TheVariants.{Reference, Unborn, ReferencesEnd, Size}
 
 -- ---- what a report adds to what was reported for its request
@@ -97,7 +100,7 @@ with_report EndsBoundary f = f
 with_report (Pack bytes) f = on_fetch (with_pack (part_of bytes.now)) f
 with_report (Progress bytes) f = on_fetch (with_progress (part_of bytes.now)) f
 with_report PackEnd f = f
-with_report PackFailed f = f
+with_report Failed f = f
 with_report (Reference entry) f = on_references (with_ref entry) f
 with_report (Unborn target) f = on_references (with_unborn (name_bytes target)) f
 with_report ReferencesEnd f = f
@@ -124,6 +127,22 @@ packet_where false = NotAsked
 abbrev pub taken_where : Bool → HostReported
 taken_where true = Taken
 taken_where false = NotAsked
+
+-- whether something is asked that a request wants
+abbrev pub asks_wanted : AdmissionStep → Bool
+asks_wanted (AskWant at) = true
+asks_wanted (AskWantRef at) = true
+asks_wanted step = false
+
+-- an answer is cut short where something is asked
+abbrev pub cut_where : Bool → Failing
+cut_where true = CutShort
+cut_where false = FailingUnasked
+
+-- the report is that what is asked cannot be had
+abbrev pub is_failure : Report → Bool
+is_failure Failed = true
+is_failure report = false
 
 -- of a line of a shallow boundary
 abbrev pub line_as : BoundaryReported → HostReported
@@ -253,11 +272,14 @@ module _ {A : Type 0} where
   IsAskedFor (Pack bytes) (Fetch answer) = is_pack (fetch_step answer) ≡ true
   IsAskedFor (Progress bytes) (Fetch answer) = is_pack (fetch_step answer) ≡ true
   IsAskedFor PackEnd (Fetch answer) = is_pack (fetch_step answer) ≡ true
-  IsAskedFor PackFailed (Fetch answer) = is_pack (fetch_step answer) ≡ true
   IsAskedFor (Reference entry) (References answer) = ¬ is_whole answer
   IsAskedFor (Unborn target) (References answer) = ¬ HasBegun answer
   IsAskedFor ReferencesEnd (References answer) = ¬ is_whole answer
   IsAskedFor (Size size) (Sizes answer) = (at : ℕ) × IsAsking answer at
+  IsAskedFor Failed (Admission admission) = asks_wanted (step_of admission) ≡ true
+  IsAskedFor Failed (Fetch answer) = (is_before_pack (fetch_step answer) || is_pack (fetch_step answer)) ≡ true
+  IsAskedFor Failed (References answer) = Unit {0}
+  IsAskedFor Failed (Sizes answer) = (at : ℕ) × IsAsking answer at
   IsAskedFor report answer = ⊥
 
   -- why a report changed nothing
@@ -281,8 +303,26 @@ module _ {A : Type 0} where
   -- the end of a pack makes the answer whole, and its loss breaks it off
   abbrev pub EndsAs : Report → HostAnswer A → Type 0
   EndsAs PackEnd (Fetch answer) = fetch_step answer ≡ FetchWhole
-  EndsAs PackFailed (Fetch answer) = fetch_step answer ≡ FetchBroken
+  EndsAs Failed (Fetch answer) = fetch_step answer ≡ FetchBroken
+  EndsAs Failed answer = ⊥
   EndsAs report answer = Unit {0}
+
+  -- what was given is the front of an answer, before its pack
+  abbrev pub IsCut : HostAnswer A → Type 0
+  IsCut old = (format : Format) (q : Asked) (f : Facts) (front : List Pkt) → IsAnswering format old q f front
+      → IsFrontBy format q f front × IsBeforePack q f front
+
+  -- what it does that what is asked cannot be had, by what came of it
+  abbrev pub FailsBy : HostAnswer A → Failing → List ℕ → HostAnswer A → Type 0
+  FailsBy old FailingUnasked bytes new = (new ≡ old) × ¬ IsAskedFor Failed old
+  FailsBy old FailingPacket bytes new = GivesOn (λ f. f) old bytes new × EndsAs Failed new
+  FailsBy old CutShort bytes new = IsCut old
+
+  -- the same of an answer to a fetch
+  abbrev pub FailsFetch : FetchAnswer A → Failing → List ℕ → FetchAnswer A → Type 0
+  FailsFetch old FailingUnasked bytes new = (new ≡ old) × (is_before_pack (fetch_step old) ≡ false) × (is_pack (fetch_step old) ≡ false)
+  FailsFetch old FailingPacket bytes new = ReportsAndGives (λ t. t) old bytes new × (fetch_step new ≡ FetchBroken)
+  FailsFetch old CutShort bytes new = is_before_pack (fetch_step old) ≡ true
 
   -- what a report does, by what came of it
   abbrev pub ReportsBy : Report → HostAnswer A → HostReported → List ℕ → HostAnswer A → Type 0

@@ -2,9 +2,11 @@
 use Rattle.std.specs.Prelude.{◌≡◌, ℕ, ◌+◌, ◌*◌, ◌≤◌, Bool, true, false, List, [], ◌∷◌, ◌++◌, length, take, flat_map, sum_by, Some}
 use Rattle.git_pkt.specs.Machine.Credit.{Pays}
 use Rattle.git_server.specs.declared.outcome.Outcome.{Outcome}
-use Rattle.git_host.specs.HostSessions.{Facts, HostSetting, IsHosted, IsWaiting}
+use Rattle.git_msg.specs.Asked.{Asked}
+use Rattle.git_host.specs.HostLookups.{request_of}
+use Rattle.git_host.specs.HostSessions.{Facts, HostSetting, IsHosted, IsUnderWay, IsWaiting}
 use Rattle.git_host.specs.HostAnswers.{with_reported}
-use Rattle.git_host.specs.HostServer.{AcceptsHost, AreHandedOut, ClosesHost, FeedsHost, RefusesHost, ReportsHost, StepsHost}
+use Rattle.git_host.specs.HostServer.{AcceptsHost, AreHandedOut, ClosesHost, FeedsHost, RefusesHost, ReportsHost, Stays, StepsHost}
 use Rattle.git_host.specs.HostServer.{begun_in, bytes_of, credit_of, given_with, outcome_of, reads_on, with_last}
 use Rattle.git_host.specs.declared.host_server.HostServer.{HostServer}
 use Rattle.git_host.specs.declared.report.HostReported.{HostReported}
@@ -14,8 +16,8 @@ use Rattle.git_host.specs.declared.report.HostStep.TheVariants.{Packet}
 use Rattle.git_host.specs.declared.report.Report.{Report}
 
 -- a call that changed a server: `feed` of a piece, of which so many bytes were used, and what it adds to what was reported, where a request came;
--- `close`; `next` with what it returned, and the bytes that it gave; `report` with what came of it, and the bytes that it gave; `accept`; and
--- `refuse` with its text, and the bytes that it gave
+-- `close`; `next` with what it returned, and the bytes that it gave; `report` with what came of it, and the bytes that it gave; `accept`;
+-- `refuse` with its text, and the bytes that it gave; or one of these that returned that it may not be made then
 pub data HostCall : Type 0 where
   feed : List ℕ → ℕ → List Facts → HostCall
   close : HostCall
@@ -23,6 +25,7 @@ pub data HostCall : Type 0 where
   report : Report → HostReported → List ℕ → HostCall
   accept : HostCall
   refuse : List ℕ → List ℕ → HostCall
+  nothing : HostCall
 
 -- the bytes that the call used
 abbrev pub used_by : HostCall → List ℕ
@@ -109,6 +112,7 @@ module _ {A : Type 0} where
   Makes (report fact what bytes) before old after new = ReportsHost fact old what new × (bytes ≡ given_with what new.stream) × IsFree before old after new
   Makes accept before old after new = AcceptsHost old true new × IsFree before old after new
   Makes (refuse text bytes) before old after new = RefusesHost text old true new × (bytes ≡ bytes_of new) × IsFree before old after new
+  Makes nothing before old after new = Stays old new × IsFree before old after new
 
   -- what holds of a server that was new before these calls, while they raised the counter from `before` to `after`
   pub record HostHeadline (s : HostSetting) (calls : List HostCall) (before after : ℕ) (server : HostServer A) : Type 0 where
@@ -120,5 +124,9 @@ module _ {A : Type 0} where
     -- if the session has ended, what was given is what the input calls for by what was reported of each request, and it ended so
     pub ends : (outcome : Outcome) → outcome_of server ≡ Some outcome
         → IsHosted s (used_in calls) (over_after false calls) (reported_after [] calls) (given_in calls) outcome
+    -- while a request is asked about or answered, each one before it was answered, and for it the front of an answer was given; or as much as
+    -- could be had of its pack; or nothing, since the store lacks what it asks for
+    pub answers : (asked : Asked) → request_of server ≡ Some asked
+        → IsUnderWay s (used_in calls) (over_after false calls) (reported_after [] calls) (given_in calls)
     -- it waits for input only where the input goes on, none of it is refused, and each request was answered
     pub waits : reads_on server ≡ true → IsWaiting s (used_in calls) (over_after false calls) (reported_after [] calls) (given_in calls)

@@ -4,15 +4,14 @@ use Rattle.git_names.specs.declared.object_format.Format.{Format}
 use Rattle.git_pkt.specs.Packets.{Pkt, spelling_of}
 use Rattle.git_pkt.specs.declared.fault.Fault.{Fault}
 use Rattle.git_pkt.specs.declared.fault.Kind.{Kind}
-use Rattle.git_pkt.specs.declared.fault.Kind.TheVariants.{NotOurs, RemoteError}
+use Rattle.git_pkt.specs.declared.fault.Kind.TheVariants.{NotOurs, PackSource, RemoteError}
 use Rattle.git_msg.specs.declared.offers.Offer.{Offer}
 use Rattle.git_msg.specs.declared.streams.RequestStream.{RequestStream}
 use Rattle.git_msg.specs.Asked.{Asked}
 use Rattle.git_msg.specs.Machine.HeldRequest.{asked_of}
 use Rattle.git_msg.specs.Memory.{FaultNeedsRefusal}
 use Rattle.git_msg.specs.Machine.RequestStreams.{AreAsked, HasRead, hold_of, is_within_packet, limit_of, offer_of, wants_input}
-use Rattle.git_msg.specs.Machine.RequestStreams.{IsLent, IsUnlent, credit_of as stream_credit}
-use Rattle.arrayvec.specs.ArrayVec.{ArrayVec}
+use Rattle.git_msg.specs.Machine.RequestStreams.{credit_of as stream_credit}
 use Rattle.git_server.specs.Answers.{error_packet}
 use Rattle.git_server.specs.declared.outcome.Outcome.{Outcome}
 use Rattle.git_server.specs.declared.outcome.Outcome.TheVariants.{Refused}
@@ -26,6 +25,7 @@ use Rattle.git_host.specs.declared.report.HostReported.TheVariants.{Packet as Wa
 use Rattle.git_host.specs.declared.report.HostStep.{HostStep}
 use Rattle.git_host.specs.declared.report.HostStep.TheVariants.{Packet as GivesPacket, NeedInput, Asked as AsksFor, Need as Needs, Ended as HasEnded}
 use Rattle.git_host.specs.declared.report.Report.{Report}
+use Rattle.git_host.specs.declared.report.Report.TheVariants.{Failed}
 
 -- the setting of a session
 abbrev pub setting_of : Offer → ℕ → Bool → HostSetting
@@ -34,6 +34,11 @@ setting_of offer limit advertise = record { offer = offer; limit = limit; advert
 -- the outcome where the host refused the request whose flush is at this offset
 abbrev pub ended_by : Kind → ℕ → Outcome
 ended_by kind flush = Refused (record { kind = kind; offset = flush })
+
+-- the session ended since what was asked could not be had
+abbrev pub IsLost : Outcome → Type 0
+IsLost (Refused fault) = fault.kind ≡ PackSource
+IsLost outcome = ⊥
 
 -- of the last request
 abbrev pub with_last : (Facts → Facts) → List Facts → List Facts
@@ -215,23 +220,6 @@ module _ {A : Type 0} where
   StepsHost old step new = (s : HostSetting) (used : List ℕ) (over : Bool) (reported : List Facts) (given : List ℕ) → Hosts s used over reported given old
       → Hosts s used over reported given new × WaitsFor step new.phase
 
-  -- but for its stream the server is what it was
-  pub record HasSameRest (old new : HostServer A) : Type 0 where
-    pub offer : new.offer ≡ old.offer
-    pub limits : new.limits ≡ old.limits
-    pub flush : new.flush ≡ old.flush
-    pub phase : new.phase ≡ old.phase
-
-  -- the buffer was lent, and has these bytes after that
-  pub record IsLentBy (old : HostServer A) (hold : ArrayVec ℕ) (new : HostServer A) : Type 0 where
-    pub stream : IsLent old.stream hold new.stream
-    pub rest : HasSameRest old new
-
-  -- it was not lent, and nothing changed
-  pub record IsUnlentBy (old new : HostServer A) : Type 0 where
-    pub stream : IsUnlent old.stream new.stream
-    pub rest : HasSameRest old new
-
   -- the bytes that a report gave
   abbrev pub given_with : HostReported → RequestStream A → List ℕ
   given_with WasGiven stream = hold_of stream
@@ -250,9 +238,11 @@ module _ {A : Type 0} where
   HasReason report (Answering answer) reported = IsReason report answer reported
   HasReason report phase reported = reported ≡ NotAsked
 
-  -- what the end of a pack leads to, or its loss
+  -- what the end of a pack leads to, and that what is asked cannot be had: the session ends, or does so once that is looked at
   abbrev pub EndsHost : Report → HostReported → Phase A → Type 0
   EndsHost report WasGiven (Answering answer) = EndsAs report answer
+  EndsHost Failed WasGiven (Ended outcome) = IsLost outcome
+  EndsHost Failed WasGiven phase = ⊥
   EndsHost report reported phase = Unit {0}
 
   -- what a report does, by what came of it

@@ -1,5 +1,6 @@
 -- Sessions over a host's own store: what is given for the bytes used, by what was reported for each request. No machine is named here.
-use Rattle.std.specs.Prelude.{◌≡◌, ◌≢◌, ◌⊎◌, ℕ, ◌+◌, Bool, true, false, if◌then◌else◌, List, [], ◌∷◌, ◌++◌, length, Option, codes}
+use Rattle.std.specs.Prelude.{◌≡◌, ◌≢◌, ◌⊎◌, ℕ, ◌+◌, ◌≤◌, Bool, true, false, if◌then◌else◌, List, [], ◌∷◌, ◌++◌, length, Option, Some, codes}
+use Rattle.std.specs.Option.{ForSome}
 use Rattle.git_names.specs.declared.object_format.Format.{Format}
 use Rattle.git_pkt.specs.Packets.{Pkt}
 use Rattle.git_pkt.specs.Splits.{Given}
@@ -18,7 +19,7 @@ use Rattle.git_server.specs.Answers.{advertisement_of, error_packet, refusal_by,
 use Rattle.git_server.specs.declared.outcome.Outcome.{Outcome}
 use Rattle.git_server.specs.declared.outcome.Outcome.TheVariants.{Flush, Closed, Refused}
 use Rattle.git_host.specs.Admissions.{AdmissionFacts, IsAdmitted, IsRefusedBy, nothing_reported}
-use Rattle.git_host.specs.FetchFacts.{FetchFacts, IsSoundFetchAnswer, no_facts}
+use Rattle.git_host.specs.FetchFacts.{FetchFacts, IsSoundFetchAnswer, before_pack, no_facts}
 use Rattle.git_host.specs.ReferencesPlaces.{IsReferencesAnswerOf, ReferencesFacts, no_references}
 use Rattle.git_host.specs.SizesPlaces.{IsSizesAnswerOf}
 
@@ -115,14 +116,68 @@ abbrev pub IsLacking : Kind → Asked → Facts → Type 0
 IsLacking kind (fetch q) (of_fetch a t) = IsRefusedBy kind q a
 IsLacking kind q f = ⊥
 
+-- ---- what is given before an answer is whole
+
+-- the one list is the front of the other
+abbrev pub IsFront : {X : Type 0} → List X → List X → Type 0
+IsFront {X} front all = (more : List X) × (all ≡ front ++ more)
+
+-- each was reported in what is reported later
+pub record GrowsAdmission (a later : AdmissionFacts) : Type 0 where
+  pub wants : IsFront a.wants later.wants
+  pub found : IsFront a.found later.found
+
+pub record GrowsFetch (t later : FetchFacts) : Type 0 where
+  pub has : IsFront t.has later.has
+  pub ready : t.ready ≡ true → later.ready ≡ true
+  pub boundary : IsFront t.boundary later.boundary
+  pub wanted : IsFront t.wanted later.wanted
+  pub pack : IsFront t.pack later.pack
+  pub progress : IsFront t.progress later.progress
+
+pub record GrowsReferences (t later : ReferencesFacts) : Type 0 where
+  pub unborn : ForSome t.unborn (λ target. later.unborn ≡ Some target)
+  pub refs : IsFront t.refs later.refs
+
+abbrev pub Grows : Facts → Facts → Type 0
+Grows (of_references t) (of_references later) = GrowsReferences t later
+Grows (of_fetch a t) (of_fetch b later) = GrowsAdmission a b × GrowsFetch t later
+Grows (of_sizes sizes) (of_sizes later) = IsFront sizes later
+Grows f later = ⊥
+
+-- the packets are the front of an answer to the request, by what was reported and what may be reported later
+pub record IsFrontBy (format : Format) (q : Asked) (f : Facts) (front : List Pkt) : Type 0 where
+  pub later : Facts
+  pub grows : Grows f later
+  pub more : List Pkt
+  pub answer : IsAnswerBy whole format q later (front ++ more)
+
+-- no more was given than what comes before the section of the pack
+abbrev pub IsBeforePack : Asked → Facts → List Pkt → Type 0
+IsBeforePack (fetch q) (of_fetch a t) front = length front ≤ length (before_pack q t)
+IsBeforePack q f front = Unit {0}
+
+-- an answer that was cut short before its pack began, since what was asked could not be had: as far as it had come, and the error packet
+pub record IsCutShort (format : Format) (fault : Fault) (q : Asked) (f : Facts) (packets : List Pkt) : Type 0 where
+  pub front : List Pkt
+  pub begins : IsFrontBy format q f front
+  pub before : IsBeforePack q f front
+  pub packets_are : packets ≡ front ++ error_packet fault ∷ []
+
+-- what is given while a request is answered: the front of an answer; or the answer as far as its pack could be had; or nothing, since the store
+-- lacks what is asked for
+abbrev pub IsSoFar : Format → Asked → Facts → List Pkt → Type 0
+IsSoFar format q f front =
+    IsFrontBy format q f front ⊎ (IsAnswerBy broken format q f front ⊎ ((kind : Kind) × IsLacking kind q f × (front ≡ [])))
+
 -- what is given for a request that the host refuses, by the name that it is refused by: an error packet, for the store lacks what is asked for or
--- by a text of the host's; or the answer as far as the pack could be had
+-- by a text of the host's; or the answer as far as the pack could be had, or what comes before it
 abbrev pub IsTailBy : Kind → Format → Fault → Asked → Facts → List Pkt → Type 0
 IsTailBy NotOurs format fault q f tail =
     (IsLacking NotOurs q f × (tail ≡ error_packet fault ∷ []))
     ⊎ ((text : List ℕ) × (f ≡ nothing_for q) × (tail ≡ refusal_packet text ∷ []))
 IsTailBy UnknownRef format fault q f tail = IsLacking UnknownRef q f × (tail ≡ error_packet fault ∷ [])
-IsTailBy PackSource format fault q f tail = IsAnswerBy broken format q f tail
+IsTailBy PackSource format fault q f tail = IsAnswerBy broken format q f tail ⊎ IsCutShort format fault q f tail
 IsTailBy kind format fault q f tail = ⊥
 
 -- the host refused the last request, reported at its flush, which is the last packet that was used
@@ -157,3 +212,10 @@ pub record IsWaiting (s : HostSetting) (used : List ℕ) (over : Bool) (reported
   pub begun : AreBegun s.offer s.limit left
   pub unrefused : IsOpen rest
   pub all : AllAnswered s asked reported given
+
+-- the last whole request is answered: each one before it was, and so much was given for it
+pub record IsUnderWay (s : HostSetting) (used : List ℕ) (over : Bool) (reported : List Facts) (given : List ℕ) : Type 0 where
+  pub asked : List Asked
+  pub goes_on : over ≡ false
+  pub are_asked : AreAsked s.offer s.limit used asked [] []
+  pub last : AtLast s asked reported given (IsSoFar s.offer.format)

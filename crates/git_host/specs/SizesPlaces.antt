@@ -48,6 +48,11 @@ module _ {A : Type 0} where
   abbrev pub IsAsking : SizesAnswer A → ℕ → Type 0
   IsAsking answer at = (answer.place ≡ Object at) × (at < length (sizes_asked answer).oids)
 
+  -- whether a size is asked
+  abbrev pub Asks : SizesAnswer A → Bool → Type 0
+  Asks answer true = (at : ℕ) × IsAsking answer at
+  Asks answer false = (at : ℕ) → IsAsking answer at → ⊥
+
   -- the sizes become these, and these bytes are the next packet
   pub record GivesSize (with : List (Option ℕ) → List (Option ℕ)) (old : SizesAnswer A) (bytes : List ℕ) (new : SizesAnswer A) : Type 0 where
     pub same : sizes_asked new ≡ sizes_asked old

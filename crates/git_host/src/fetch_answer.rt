@@ -123,7 +123,7 @@ pub struct FetchAnswer<A: Allocator + Copy> {
 impl<A: Allocator + Copy> FetchAnswer<A> {
     ghost use Rattle.git_host.specs.FetchPlaces.{EndsBoundary, Steps, Represents, ReportsAlone, ReportsAndGives, WhereAsked};
     ghost use Rattle.git_host.specs.FetchPlaces.{ReportsLine, ReportsProgress, asked_of, format_of, is_line_at, place_of, step_of};
-    ghost use Rattle.git_host.specs.FetchPlaces.{is_boundary, is_asked, is_have, is_line_asked, is_pack, is_progress_asked, is_ready_asked};
+    ghost use Rattle.git_host.specs.FetchPlaces.{is_before_pack, is_boundary, is_asked, is_have, is_line_asked, is_pack, is_progress_asked, is_ready_asked};
     ghost use Rattle.git_host.specs.FetchPlaces.{with_have, with_pack, with_ready};
     ghost use Rattle.git_host.specs.FetchFacts.{no_facts};
 
@@ -379,6 +379,17 @@ impl<A: Allocator + Copy> FetchAnswer<A> {
         put_band(hold, Band::Fatal, b"PackSource");
         self.place = Place::Broken;
         true
+    }
+
+    // Whether something is asked that comes before the pack.
+    pub(crate) fn asks_before_pack(&self) -> bool
+        ensures { result ≡ is_before_pack (step_of self.now) }
+    {
+        match self.place {
+            Place::Have(_, _) => true,
+            Place::Shallow(_) => true,
+            _ => self.asks_ready(),
+        }
     }
 
     fn asks_ready(&self) -> bool

@@ -3,7 +3,7 @@
 ghost use Rattle.std.specs.Prelude.{◌≡◌, [], true, false};
 ghost use Rattle.git_msg.specs.Machine.HeldRequest.{asked_of};
 ghost use Rattle.git_host.specs.HostAnswers.{GoesOn, IsThrough, ended_as, is_admission, of_fetch_step, of_sizes_step, part_of, reported_as};
-ghost use Rattle.git_host.specs.HostAnswers.{line_as, progress_as};
+ghost use Rattle.git_host.specs.HostAnswers.{FailsFetch, asks_wanted, cut_where, line_as, progress_as};
 ghost use Rattle.git_host.specs.HostSessions.{nothing_for};
 
 use crate::admission::{Admission, AdmissionStep, WantRefReported};
@@ -42,8 +42,19 @@ pub(crate) enum AnswerStep {
     Refused(Kind),
 }
 
+/// What came of it that what is asked cannot be had.
+#[derive(Clone, Copy, Debug)]
+pub(crate) enum Failing {
+    // Nothing was asked. Nothing changed.
+    NotAsked,
+    // The packet was given that breaks the pack off.
+    Packet,
+    // The answer ends before its pack, by an error packet that is to be given. Nothing changed.
+    CutShort,
+}
+
 impl<A: Allocator + Copy> HostAnswer<A> {
-    ghost use Rattle.git_host.specs.HostAnswers.{IsAnswering, ReportsBy, StepsAnswer};
+    ghost use Rattle.git_host.specs.HostAnswers.{FailsBy, IsAnswering, ReportsBy, StepsAnswer, is_failure};
 
     /// The answer to this request, of which nothing was reported or given.
     pub(crate) fn new(alloc: A, request: Request<A>, format: Format) -> HostAnswer<A>
@@ -102,8 +113,9 @@ impl<A: Allocator + Copy> HostAnswer<A> {
         *self = settled(answer);
     }
 
-    /// Takes what the host reports, and gives its packet, if it has one.
+    /// Takes what the host reports, but for a failure, and gives its packet, if it has one.
     pub(crate) fn report(&mut self, report: Report<'_>, hold: &mut Hold) -> HostReported
+        requires { is_failure report ≡ false }
         ensures { ReportsBy report.entry self.old result hold.new.items self.new }
     {
         match report {
@@ -116,7 +128,7 @@ impl<A: Allocator + Copy> HostAnswer<A> {
             Report::Pack(bytes) => self.pack(bytes, hold),
             Report::Progress(bytes) => self.progress(bytes, hold),
             Report::PackEnd => self.pack_end(hold),
-            Report::PackFailed => self.pack_failed(hold),
+            Report::Failed => unreachable!(),
             Report::Reference(entry) => self.reference(entry, hold),
             Report::Unborn(target) => self.unborn(target, hold),
             Report::ReferencesEnd => self.references_end(hold),
@@ -222,13 +234,17 @@ impl<A: Allocator + Copy> HostAnswer<A> {
         packet_where(answer.pack_end(hold))
     }
 
-    fn pack_failed(&mut self, hold: &mut Hold) -> HostReported
-        ensures { ReportsBy Report.PackFailed self.old result hold.new.items self.new }
+    /// What is asked cannot be had: the packet that breaks a pack off is given. Where something else is asked, the answer is cut short.
+    pub(crate) fn fail(&mut self, hold: &mut Hold) -> Failing
+        ensures { FailsBy self.old result hold.new.items self.new }
     {
-        let HostAnswer::Fetch(answer) = self else {
-            return HostReported::NotAsked;
-        };
-        packet_where(answer.pack_failed(hold))
+        match self {
+            HostAnswer::Admission(admission) => cut_where(asks_wanted(admission.step())),
+            HostAnswer::Fetch(answer) => fail_fetch(answer, hold),
+            HostAnswer::References(_) => Failing::CutShort,
+            HostAnswer::Sizes(answer) => cut_where(answer.asks()),
+            HostAnswer::Whole => Failing::NotAsked,
+        }
     }
 
     fn reference(&mut self, entry: RefEntry, hold: &mut Hold) -> HostReported
@@ -284,6 +300,38 @@ fn settled<A: Allocator + Copy>(answer: HostAnswer<A>) -> HostAnswer<A>
         },
         answer => answer,
     }
+}
+
+// The pack cannot be had, or what is asked before it.
+fn fail_fetch<A: Allocator + Copy>(answer: &mut FetchAnswer<A>, hold: &mut Hold) -> Failing
+    ensures { FailsFetch answer.old result hold.new.items answer.new }
+{
+    if answer.asks_before_pack() {
+        return Failing::CutShort;
+    }
+    if answer.pack_failed(hold) {
+        return Failing::Packet;
+    }
+    Failing::NotAsked
+}
+
+fn cut_where(asked: bool) -> Failing
+    ensures { result ≡ cut_where asked }
+{
+    if asked {
+        return Failing::CutShort;
+    }
+    Failing::NotAsked
+}
+
+// Whether something is asked that a request wants.
+fn asks_wanted(step: AdmissionStep) -> bool
+    ensures { result ≡ asks_wanted step }
+{
+    matches!(
+        step,
+        AdmissionStep::AskWant(_) | AdmissionStep::AskWantRef(_)
+    )
 }
 
 fn of_fetch(step: Step) -> AnswerStep

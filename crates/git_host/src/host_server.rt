@@ -14,7 +14,7 @@ ghost use Rattle.git_pkt.specs.Packets.{spelling_of};
 ghost use Rattle.git_server.specs.Answers.{error_packet};
 ghost use Rattle.git_host.specs.HostServer.{IsAccepted, ended_by, first_phase, is_answering, is_asked, refused_by};
 
-use crate::host_answer::{AnswerStep, HostAnswer};
+use crate::host_answer::{AnswerStep, Failing, HostAnswer};
 use crate::report::{HostReported, HostStep, Report};
 use crate::request_at_hand::{RequestAtHand, request_answered};
 use git_msg::{Limits, Memory, Offer, ReadGot, Request, RequestStream, put_line};
@@ -56,12 +56,6 @@ pub struct HostServer<A: Allocator + Copy> {
 }
 
 impl<A: Allocator + Copy> HostServer<A> {
-    ghost use denote.Param.{number};
-    ghost use Rattle.std.specs.Borrow.{LendsSo, sem, u8, unit};
-    ghost use Rattle.std.specs.Prelude.{IfNone, IfSome, OnSome};
-    ghost use Rattle.arrayvec.specs.contracts.array_vec.ArrayVec.{the_row as array_vec_row};
-    ghost use Rattle.git_host.specs.contracts.host_server.HostServer.{the_row};
-    ghost use Rattle.git_host.specs.HostServer.{IsLentBy, IsUnlentBy, bytes_of};
     ghost use Rattle.git_host.specs.HostServer.{AcceptsHost, ClosesHost, Hosts, RefusesHost, ReportsHost, StepsHost, StopsHost};
     ghost use Rattle.git_host.specs.HostServer.{credit_of, outcome_of, reads_on, setting_of};
 
@@ -219,20 +213,14 @@ impl<A: Allocator + Copy> HostServer<A> {
         HostStep::Packet
     }
 
-    /// The buffer, which has the packet that was given last, until bytes are fed: none while a packet of the client is open, whose bytes it has then.
-    pub fn packet(&mut self) -> Option<&mut Hold>
-        ensures* lends { sem 𝓛 (LendsSo (the_row A.row A.Allocator) (array_vec_row u8 (number 65520) unit) self.entry result
-            (λ new hold. OnSome result (IsLentBy self.old hold new)) (λ new. IfNone result (IsUnlentBy self.old new))) }
-        ensures value { IfSome result (λ hold. hold.now.items ≡ bytes_of self.old) }
-    {
-        self.stream.lend()
-    }
-
     /// Takes what the host reports of its store, and gives its packet, if it has one. A report that is not asked for changes nothing.
     pub fn report(&mut self, report: Report<'_>) -> HostReported
         ensures reports { ReportsHost report.entry self.old result self.new }
         ensures credit { credit_of self.new ≤ credit_of self.old }
     {
+        if let Report::Failed = report {
+            return self.fail();
+        }
         let Phase::Answering(answer) = &mut self.phase else {
             return HostReported::NotAsked;
         };
@@ -242,6 +230,38 @@ impl<A: Allocator + Copy> HostServer<A> {
         let reported = answer.report(report, hold);
         let _ = hold.len();
         reported
+    }
+
+    // What is asked cannot be had: a packet of the pack's failure is given, or the error packet, which ends the session.
+    fn fail(&mut self) -> HostReported
+        ensures reports { ReportsHost Report.Failed self.old result self.new }
+        ensures credit { credit_of self.new ≤ credit_of self.old }
+    {
+        let flush = self.flush;
+        let Phase::Answering(answer) = &mut self.phase else {
+            return HostReported::NotAsked;
+        };
+        let Some(hold) = self.stream.lend() else {
+            return HostReported::NotAsked;
+        };
+        let failing = answer.fail(hold);
+        let _ = hold.len();
+        match failing {
+            Failing::NotAsked => HostReported::NotAsked,
+            Failing::Packet => HostReported::Packet,
+            Failing::CutShort => {
+                put_error(
+                    hold,
+                    Fault {
+                        kind: Kind::PackSource,
+                        offset: flush,
+                    },
+                );
+                let _ = hold.len();
+                self.phase = Phase::Ended(ended_by(Kind::PackSource, flush));
+                HostReported::Packet
+            }
+        }
     }
 
     /// The request that came is answered. Returns whether one was asked about; else nothing changed.
@@ -331,7 +351,7 @@ impl<A: Allocator + Copy> HostServer<A> {
     ghost use Rattle.git_host.specs.HostLookups.{asked_in, format_of, request_of};
 
     /// The bytes of the packet that was given last, until more of the client are fed.
-    pub fn last_packet(&self) -> &[u8]
+    pub fn packet(&self) -> &[u8]
         ensures value { result.now ≡ bytes_of self.now }
         ensures fits { length result.now ≤ 65520 }
     {

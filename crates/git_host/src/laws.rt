@@ -1,6 +1,6 @@
 //! What follows from the definitions of what a store reports.
 
-ghost use Rattle.std.specs.Prelude.{◌≡◌, ℕ, List, [], false, Option, map};
+ghost use Rattle.std.specs.Prelude.{◌≡◌, ◌≤◌, ℕ, List, [], ◌∷◌, true, false, Option, length, map, take};
 ghost use Rattle.git_names.specs.declared.object_format.Format.{Format};
 ghost use Rattle.git_pkt.specs.Packets.{Pkt};
 ghost use Rattle.git_msg.specs.Asked.{Asked, FetchAsked, LsRefsAsked, ObjectInfoAsked, fetch, ls_refs, object_info};
@@ -11,12 +11,16 @@ ghost use Rattle.git_host.specs.FetchFacts.{FetchFacts, IsFetchAnswerOf};
 ghost use Rattle.git_host.specs.RepositoryFacts.{AreOfRepository};
 ghost use Rattle.git_host.specs.ReferencesPlaces.{IsReferencesAnswerOf, ReferencesFacts};
 ghost use Rattle.git_host.specs.SizesPlaces.{IsSizesAnswerOf};
-ghost use Rattle.git_pkt.specs.Machine.Credit.{MakesAll};
+ghost use Rattle.git_pkt.specs.Machine.Credit.{MakesAll, Pays};
 ghost use Rattle.git_host.specs.HostSessions.{AreAnswersBy, Facts, HostSetting};
 ghost use Rattle.git_host.specs.HostedRepository.{AllOfRepository};
 ghost use Rattle.git_server.specs.Sessions.{AreAnswers};
-ghost use Rattle.git_host.specs.HostServer.{Hosts, credit_of};
-ghost use Rattle.git_host.specs.HostCalls.{HostCall, HostHeadline, Makes};
+ghost use Rattle.git_host.specs.HostServer.{AcceptsHost, ClosesHost, FeedsHost, Hosts, RefusesHost, ReportsHost, StepsHost};
+ghost use Rattle.git_host.specs.HostServer.{begun_in, bytes_of, credit_of, given_with};
+ghost use Rattle.git_host.specs.HostCalls.{HostCall, HostHeadline, Makes, accept, close, feed, given_at, next, nothing, refuse, report};
+ghost use Rattle.git_host.specs.declared.report.HostReported.{HostReported};
+ghost use Rattle.git_host.specs.declared.report.HostStep.{HostStep};
+ghost use Rattle.git_host.specs.declared.report.Report.{Report};
 
 use crate::host_server::HostServer;
 use std::alloc::Allocator;
@@ -45,6 +49,29 @@ pub fn sizes_answer_is_a_repositorys()
 pub fn host_headline<A: Allocator + Copy>(server: &HostServer<A>)
     ensures { (s : HostSetting) (calls : List HostCall) (before after : ℕ) (first : HostServer A) → Hosts s [] false [] [] first
         → credit_of first ≡ 0 → MakesAll Makes calls before first after server.now → HostHeadline s calls before after server.now }
+{}
+
+/// What the contract of each method ensures is a call of the headline, also where it returns false; and calls follow one another: so the
+/// headline is about any that a program makes.
+pub fn methods_make_calls<A: Allocator + Copy>()
+    ensures fed { (old new : HostServer A) (piece : List ℕ) (used before after : ℕ) → used ≤ length piece → FeedsHost (take used piece) old new
+        → Pays used before after (credit_of old) (credit_of new) → Makes (feed piece used (begun_in old.phase new.phase)) before old after new }
+    ensures closed { (old new : HostServer A) (steps : ℕ) → ClosesHost old true new → credit_of new ≤ credit_of old → Makes close steps old steps new }
+    ensures unclosed { (old new : HostServer A) (steps : ℕ) → ClosesHost old false new → Makes nothing steps old steps new }
+    ensures stepped { (old new : HostServer A) (step : HostStep) (steps : ℕ) → StepsHost old step new → credit_of new ≤ credit_of old
+        → Makes (next step (given_at step new)) steps old steps new }
+    ensures reported { (old new : HostServer A) (fact : Report) (what : HostReported) (steps : ℕ) → ReportsHost fact old what new
+        → credit_of new ≤ credit_of old → Makes (report fact what (given_with what new.stream)) steps old steps new }
+    ensures accepted { (old new : HostServer A) (steps : ℕ) → AcceptsHost old true new → credit_of new ≤ credit_of old
+        → Makes accept steps old steps new }
+    ensures unaccepted { (old new : HostServer A) (steps : ℕ) → AcceptsHost old false new → Makes nothing steps old steps new }
+    ensures refused { (old new : HostServer A) (text : List ℕ) (steps : ℕ) → RefusesHost text old true new → credit_of new ≤ credit_of old
+        → Makes (refuse text (bytes_of new)) steps old steps new }
+    ensures unrefused { (old new : HostServer A) (text : List ℕ) (steps : ℕ) → RefusesHost text old false new → credit_of new ≤ credit_of old
+        → Makes nothing steps old steps new }
+    ensures none { (server : HostServer A) (steps : ℕ) → MakesAll Makes [] steps server steps server }
+    ensures more { (call : HostCall) (calls : List HostCall) (before between after : ℕ) (first next last : HostServer A)
+        → Makes call before first between next → MakesAll Makes calls between next after last → MakesAll Makes (call ∷ calls) before first after last }
 {}
 
 /// If what was reported for each request of a session is what one repository answers, what was given for them are answers of that repository,

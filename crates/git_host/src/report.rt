@@ -31,8 +31,8 @@ pub enum Report<'a> {
     Progress(&'a [u8]),
     /// The pack has no more bytes.
     PackEnd,
-    /// The rest of the pack cannot be had: the answer breaks off, and the session ends.
-    PackFailed,
+    /// What is asked cannot be had: the answer breaks off, and the session ends.
+    Failed,
     /// A reference, which comes after those reported before it.
     Reference(RefEntry),
     /// `HEAD` is unborn, and points to this name: reported before any reference.

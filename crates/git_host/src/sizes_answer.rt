@@ -39,7 +39,7 @@ pub struct SizesAnswer<A: Allocator + Copy> {
 }
 
 impl<A: Allocator + Copy> SizesAnswer<A> {
-    ghost use Rattle.git_host.specs.SizesPlaces.{IsAsking, Sizes, StepsSizes, RepresentsSizes, sizes_asked};
+    ghost use Rattle.git_host.specs.SizesPlaces.{Asks, IsAsking, Sizes, StepsSizes, RepresentsSizes, sizes_asked};
 
     /// The answer to this request, of which nothing was given.
     pub fn new(request: ObjectInfo<A>) -> SizesAnswer<A>
@@ -78,6 +78,16 @@ impl<A: Allocator + Copy> SizesAnswer<A> {
                 }
             },
             SizesPlace::Whole => SizesStep::Whole,
+        }
+    }
+
+    // Whether a size is asked.
+    pub(crate) fn asks(&self) -> bool
+        ensures { Asks self.now result }
+    {
+        match self.place {
+            SizesPlace::Object(at) => at < self.request.oids().len(),
+            _ => false,
         }
     }
 

@@ -170,7 +170,7 @@ pub(crate) fn hand_out(server: &HostServer<Global>, used: usize, room: &mut [u8]
     ensures answer { result ≡ answering_packet used 0 (length (bytes_of server.now)) What.Packet }
     ensures room { room.new ≡ put_before (bytes_of server.now) room.old }
 {
-    let length = put_bytes(server.last_packet(), room);
+    let length = put_bytes(server.packet(), room);
     GitwireAnswer::of_packet(used, 0, length, What::Packet)
 }
 

@@ -234,17 +234,18 @@ pub extern "C" fn gitwire_host_size(
     report_in(alloc, host, Report::Size(size_given(has_size, size)), room)
 }
 
-/// The rest of the pack cannot be had: `Packet`, a text on the band of fatal errors, and the session is over.
+/// What is asked cannot be had: `Packet`, and the session is over. Where bytes of a pack are asked for the packet is a text on the band of
+/// fatal errors, and else an error packet.
 #[unsafe(no_mangle)]
 pub extern "C" fn gitwire_host_fail(
     alloc: Global,
     host: &mut GitwireHost,
     room: &mut [u8],
 ) -> GitwireAnswer
-    ensures { On (host_in host.old) (host_in host.new) (λ old new. ReportsInRoom Reported.PackFailed old room.old result room.new new)
+    ensures { On (host_in host.old) (host_in host.new) (λ old new. ReportsInRoom Reported.Failed old room.old result room.new new)
         (HasNone room.old result room.new) }
 {
-    report_in(alloc, host, Report::PackFailed, room)
+    report_in(alloc, host, Report::Failed, room)
 }
 
 // Takes what the host reports, and copies its packet to the front of the room, if it has one. `Packet`, `More`, `NotNow`, `OutOfOrder`,

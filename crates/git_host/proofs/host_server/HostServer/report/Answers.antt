@@ -5,8 +5,8 @@ use Rattle.git_host.specs.declared.host_server.Phase.TheVariants.{Answering}
 use Rattle.git_host.proofs.HostMoves.{not_asked, on_some, report_done, answering_credit, credit_falls, lent_credit}
 use Rattle.git_host.proofs.host_server.HostServer.report.Goals as goal
 
-pub returns-in_default-clause-reports : goal.returns-in_default-clause-reports
-returns-in_default-clause-reports g c = not_asked c.args.report c.args.self.now c.in_default.not-Answering
+pub returns-in_default-phase-clause-reports : goal.returns-in_default-phase-clause-reports
+returns-in_default-phase-clause-reports g c = not_asked c.args.report c.args.self.now c.in_default-phase.not-Answering
 
 pub returns-clause-reports : goal.returns-clause-reports
 returns-clause-reports g c s used over facts given h =

@@ -1,0 +1,181 @@
+-- What was given of an answer to a fetch is the front of a whole one.
+use Rattle.std.proofs.Common.{arith, ◌≡◌, ℕ, zero, suc, ◌+◌, ◌-◌, ◌<◌, ◌≤◌, Bool, true, false, List, [], ◌∷◌, ◌++◌, length, map, codes}
+use Rattle.std.proofs.Common.{refl, sym, ap, ◌∙◌, append_assoc, append-nil, length-append, subst}
+use Rattle.git_names.specs.ObjectName.{ObjectName}
+use Rattle.git_pkt.specs.Packets.{Pkt, delim}
+use Rattle.git_msg.specs.declared.Boundary.{Boundary}
+use Rattle.git_msg.specs.Asked.{FetchAsked, is_empty}
+use Rattle.git_server.specs.Packs.{whole}
+use Rattle.git_server.specs.FetchAnswers.{ack_packet, nak_or_acks, ready_lines, shallow_info}
+use Rattle.git_host.specs.FetchFacts.{FetchFacts, IsFetchAnswerOf, acknowledgments, before_pack, opening, picked, wanted_refs}
+use Rattle.git_host.specs.FetchPlaces.{AtDelimiter, AtHave, AtHeader, AtNak, AtPack, AtPackHeader, AtReady, AtShallow, AtShallowLine}
+use Rattle.git_host.specs.FetchPlaces.{AtWanted, AtWantedHeader, StandsAt, acks_header, after_boundary, after_haves, shallow_so_far, with_have}
+use Rattle.git_host.specs.declared.fetch_answer.Place.{Place}
+use Rattle.git_host.specs.declared.fetch_answer.Place.TheVariants.{Header, Have, Nak, Ready, Delimiter, Shallow, ShallowLine, WantedHeader, Wanted, WantedEnd}
+use Rattle.git_host.specs.declared.fetch_answer.Place.TheVariants.{PackHeader, Pack, Whole as AtEnd, Broken as AtLoss}
+use Rattle.git_host.proofs.FetchMoves.{SoFar, after_all_wanted, after_delimiter, after_header, after_lines, after_nak, after_name, after_no_line}
+use Rattle.git_host.proofs.FetchMoves.{after_not_common, after_pack, after_pack_header, after_shallow_line, after_unready, after_wanted_header}
+use Rattle.git_host.proofs.FetchMoves.{all_reported, item_there, opening_is, so_far_ends}
+
+-- the store has none of the objects that were not reported on yet
+abbrev pub absent_more : List Bool → FetchFacts → FetchFacts
+absent_more absent t = record t { has = t.has ++ absent }
+
+-- an answer that begins so
+pub record Completes (q : FetchAsked) (t : FetchFacts) (given : List Pkt) : Type 0 where
+  pub absent : List Bool
+  pub more : List Pkt
+  pub answer : IsFetchAnswerOf whole q (record t { has = t.has ++ absent }) (given ++ more)
+
+module _ (q : FetchAsked) (t : FetchFacts) (given : List Pkt) where
+  completed : IsFetchAnswerOf whole q t given → Completes q t given
+  completed h = record {
+    absent = [];
+    more = [];
+    answer = subst (λ (bs : List Bool). IsFetchAnswerOf whole q (record t { has = bs }) (given ++ [])) (sym (append-nil t.has))
+        (subst (IsFetchAnswerOf whole q t) (sym (append-nil given)) h);
+  }
+
+  -- by the next packet
+  by_packet : (packet : Pkt) → Completes q t (given ++ packet ∷ []) → Completes q t given
+  by_packet packet h = record {
+    absent = h.absent;
+    more = packet ∷ h.more;
+    answer = subst (IsFetchAnswerOf whole q (record t { has = t.has ++ h.absent })) (append_assoc given (packet ∷ []) h.more) h.answer;
+  }
+
+  -- or by one report more
+  by_absent : Completes q (with_have false t) given → Completes q t given
+  by_absent h = record {
+    absent = false ∷ h.absent;
+    more = h.more;
+    answer = subst (λ (bs : List Bool). IsFetchAnswerOf whole q (record t { has = bs }) (given ++ h.more))
+        (append_assoc t.has (false ∷ []) h.absent) h.answer;
+  }
+
+module _ (q : FetchAsked) (t : FetchFacts) (all : length t.wanted ≡ length q.want_refs) where
+  from_pack : (given : List Pkt) → AtPack q t given → Completes q t given
+  from_pack given h = by_packet q t given _ (completed q t _ (after_pack whole q t given all h))
+
+  from_pack_header : (given : List Pkt) → AtPackHeader q t given → Completes q t given
+  from_pack_header given h = by_packet q t given _ (from_pack _ (after_pack_header q t given h))
+
+  from_all_wanted : (given : List Pkt) → AtWanted (length q.want_refs) q t given → Completes q t given
+  from_all_wanted given h = by_packet q t given _ (from_pack_header _ (after_all_wanted q t given all h))
+
+  -- so many wanted references are left
+  from_wanted : (left next : ℕ) (given : List Pkt) → next + left ≡ length q.want_refs → AtWanted next q t given → Completes q t given
+  from_wanted zero next given count h =
+      let here : next ≡ length q.want_refs = omega (arith, count) in
+      from_all_wanted given (subst (λ (n : ℕ). AtWanted n q t given) here h)
+  from_wanted (suc left) next given count h =
+      let (name, named) = item_there q.want_refs next (omega (arith, count)) in
+      let (id, here) = item_there t.wanted next (omega (arith, count, all)) in
+      by_packet q t given _ (from_wanted left (next + 1) _ (omega (arith, count)) (after_name next q t given id name h named here))
+
+  from_wanted_header : (given : List Pkt) → AtWantedHeader q t given → Completes q t given
+  from_wanted_header given h =
+      by_packet q t given _ (from_wanted (length q.want_refs) 0 _ (omega arith) (after_wanted_header q t given h).1)
+
+  from_refs : (b : Bool) (given : List Pkt) → StandsAt (after_boundary b) q t given → Completes q t given
+  from_refs true given h = from_pack_header given h
+  from_refs false given h = from_wanted_header given h
+
+  from_shallow : (any : Bool) (given : List Pkt) → AtShallow any q t given → Completes q t given
+  from_shallow true given h = by_packet q t given _ (from_refs (is_empty q.want_refs) _ (after_lines q t given h))
+  from_shallow false given h = from_refs (is_empty q.want_refs) given (after_no_line q t given h)
+
+  from_ready : (given : List Pkt) → AtReady q t given → Completes q t given
+  from_ready given h = by_packet q t given _ (completed q t _ (after_unready q t given h))
+
+  from_haves : (any : Bool) (given : List Pkt) → StandsAt (after_haves any) q t given → Completes q t given
+  from_haves true given h = from_ready given h
+  from_haves false given h = by_packet q t given _ (from_ready _ (after_nak q t given h))
+
+-- so many objects of the client were not reported on
+from_have : (left next : ℕ) (any : Bool) (q : FetchAsked) (t : FetchFacts) (given : List Pkt) → length t.wanted ≡ length q.want_refs
+    → next + left ≡ length q.haves → SoFar next any q t given → Completes q t given
+from_have zero next any q t given all count h = from_haves q t all any given (all_reported next any q t given h (omega (arith, count)))
+from_have (suc left) next any q t given all count h =
+    let at : AtHave next any q t given = record {
+      negotiates = h.negotiates;
+      so_far = h.so_far;
+      more = omega (arith, count);
+      some = h.some;
+      given_is = h.given_is;
+      unready = h.unready;
+      after = h.after;
+    } in
+    by_absent q t given (from_have left (next + 1) any q (with_have false t) given all (omega (arith, count)) (after_not_common next any q t given at))
+
+so_far_at : (next : ℕ) (any : Bool) (q : FetchAsked) (t : FetchFacts) (given : List Pkt) → AtHave next any q t given → SoFar next any q t given
+so_far_at next any q t given h = record {
+  negotiates = h.negotiates;
+  so_far = h.so_far;
+  within = omega (arith, h.more);
+  some = h.some;
+  given_is = h.given_is;
+  unready = h.unready;
+  after = h.after;
+}
+
+-- at each place but that of a pack that was lost
+pub completes : (place : Place) (q : FetchAsked) (t : FetchFacts) (given : List Pkt) → length t.wanted ≡ length q.want_refs → (place ≡ AtLoss → ⊥)
+    → StandsAt place q t given → Completes q t given
+completes Header q t given all unlost h =
+    by_packet q t given _ (from_have (length q.haves) 0 false q t _ all (omega arith) (after_header q t given h))
+completes (Have next any) q t given all unlost h =
+    from_have (length q.haves - next) next any q t given all (omega (arith, h.more)) (so_far_at next any q t given h)
+completes Nak q t given all unlost h = from_haves q t all false given h
+completes Ready q t given all unlost h = from_ready q t all given h
+completes Delimiter q t given all unlost h = by_packet q t given _ (from_shallow q t all false _ (after_delimiter q t given h))
+completes (Shallow any) q t given all unlost h = from_shallow q t all any given h
+completes (ShallowLine line) q t given all unlost h = by_packet q t given _ (from_shallow q t all true _ (after_shallow_line q t given line h))
+completes WantedHeader q t given all unlost h = from_wanted_header q t all given h
+completes (Wanted next) q t given all unlost h = from_wanted q t all (length q.want_refs - next) next given (omega (arith, h.0)) h.1
+completes WantedEnd q t given all unlost h = from_all_wanted q t all given h
+completes PackHeader q t given all unlost h = from_pack_header q t all given h
+completes Pack q t given all unlost h = from_pack q t all given h
+completes AtEnd q t given all unlost h = completed q t given h
+completes AtLoss q t given all unlost h = absurd (unlost refl)
+
+-- ---- no more was given than what comes before the pack
+
+acks_fit : (ids : List ObjectName) → length (map ack_packet ids) ≤ length (nak_or_acks ids)
+acks_fit [] = omega arith
+acks_fit (id ∷ ids) = omega arith
+
+negotiated_fits : (q : FetchAsked) (t : FetchFacts) (given : List Pkt) → length given ≤ length (acknowledgments q t) → opening q t ≡ acknowledgments q t ++ ready_lines
+    → length given ≤ length (before_pack q t)
+negotiated_fits q t given fits opens =
+    omega (
+      arith,
+      fits,
+      ap length opens,
+      length-append (acknowledgments q t) ready_lines,
+      length-append (opening q t) (shallow_info t.boundary ++ wanted_refs t.wanted q.want_refs),
+    )
+
+pub have_fits : (next : ℕ) (any : Bool) (q : FetchAsked) (t : FetchFacts) (given : List Pkt) → AtHave next any q t given
+    → length given ≤ length (before_pack q t)
+have_fits next any q t given h =
+    negotiated_fits q t given (omega (arith, ap length h.given_is, acks_fit (picked t.has q.haves))) (opening_is q t h.negotiates)
+
+pub ready_fits : (q : FetchAsked) (t : FetchFacts) (given : List Pkt) → AtReady q t given → length given ≤ length (before_pack q t)
+ready_fits q t given h = negotiated_fits q t given (omega (arith, ap length h.given_is)) (opening_is q t h.negotiates)
+
+so_far_fits : (lines : List Boundary) → length (shallow_so_far lines) ≤ length (shallow_info lines)
+so_far_fits [] = omega arith
+so_far_fits (line ∷ lines) =
+    omega (arith, ap length (so_far_ends (line ∷ lines) refl), length-append (shallow_so_far (line ∷ lines)) (delim ∷ []))
+
+pub shallow_fits : (any : Bool) (q : FetchAsked) (t : FetchFacts) (given : List Pkt) → AtShallow any q t given → length given ≤ length (before_pack q t)
+shallow_fits any q t given h =
+    omega (
+      arith,
+      ap length h.given_is,
+      so_far_fits t.boundary,
+      length-append (opening q t) (shallow_so_far t.boundary),
+      length-append (opening q t) (shallow_info t.boundary ++ wanted_refs t.wanted q.want_refs),
+      length-append (shallow_info t.boundary) (wanted_refs t.wanted q.want_refs),
+    )

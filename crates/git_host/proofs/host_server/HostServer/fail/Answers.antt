@@ -1,0 +1,86 @@
+use Rattle.std.proofs.Common.{arith, ◌≤◌, List, ◌++◌, length, refl, subst, sym}
+use Rattle.git_pkt.specs.declared.fault.Kind.TheVariants.{PackSource}
+use Rattle.git_msg.specs.Machine.RequestStreams.{hold_of}
+use Rattle.git_server.specs.Answers.{error_packet}
+use Rattle.git_server.specs.declared.outcome.Outcome.{Outcome}
+use Rattle.git_host.specs.HostSessions.{Facts, IsHosted}
+use Rattle.git_host.specs.HostAnswers.{FailsBy}
+use Rattle.git_host.specs.HostServer.{HasReason, HostsIn, IsLost, ended_by, with_last}
+use Rattle.git_host.specs.declared.host_answer.Failing.{Failing}
+use Rattle.git_host.specs.declared.report.HostReported.TheVariants.{NotAsked}
+use Rattle.git_host.specs.declared.report.Report.TheVariants.{Failed}
+use Rattle.git_host.specs.declared.host_server.Phase.{Phase}
+use Rattle.git_host.specs.declared.host_server.Phase.TheVariants.{Answering}
+use Rattle.git_host.proofs.HostMoves.{answering_credit, credit_falls, cut_done, fail_packet, fail_unasked, lent_credit, lent_handed, not_asked, on_some}
+use Rattle.git_host.proofs.HostMoves.{packet_some, same_last}
+use Rattle.git_host.proofs.host_server.HostServer.fail.Goals as goal
+
+pub returns-in_default-clause-reports : goal.returns-in_default-clause-reports
+returns-in_default-clause-reports g c = not_asked Failed c.args.self.now c.in_default.not-Answering
+
+pub returns-in-NotAsked-clause-reports : goal.returns-in-NotAsked-clause-reports
+returns-in-NotAsked-clause-reports g c s used over facts given h =
+    let old = c.args.self.now in
+    let w = c.fail-failing.new.hold in
+    let lent = on_some c.lend.result c.in-Some.hold _ c.in-Some.is (c.lend.follows.holds w) in
+    let few : length w.items ≤ 65520 = omega (arith, c.len.ensures.value, c.len.ensures.fits) in
+    let stands = subst (λ (p : Phase g.row.A.Denot). HostsIn p s used over facts given old.stream old.flush) c.in-Answering.is h.stands in
+    let fails = subst (λ (x : Failing). FailsBy c.in-Answering.answer x w.items c.fail-failing.new.self) c.in-NotAsked.is c.fail-failing.ensures in
+    let (is, why) = fail_unasked s used over facts given old.flush old.stream (c.lend.follows.lender w) w lent few c.in-Answering.answer
+    c.fail-failing.new.self stands fails in (
+      record { offer = h.offer; limit = h.limit; stands = is },
+      tt,
+      subst (λ (p : Phase g.row.A.Denot). HasReason Failed p NotAsked) (sym c.in-Answering.is) why,
+      tt,
+    )
+
+pub returns-in-Packet-clause-reports : goal.returns-in-Packet-clause-reports
+returns-in-Packet-clause-reports g c s used over facts given h =
+    let old = c.args.self.now in
+    let w = c.fail-failing.new.hold in
+    let lent = on_some c.lend.result c.in-Some.hold _ c.in-Some.is (c.lend.follows.holds w) in
+    let few : length w.items ≤ 65520 = omega (arith, c.len.ensures.value, c.len.ensures.fits) in
+    let stands = subst (λ (p : Phase g.row.A.Denot). HostsIn p s used over facts given old.stream old.flush) c.in-Answering.is h.stands in
+    let fails = subst (λ (x : Failing). FailsBy c.in-Answering.answer x w.items c.fail-failing.new.self) c.in-Packet.is c.fail-failing.ensures in
+    let (is, handed, ends) = fail_packet s used over facts given old.flush old.stream (c.lend.follows.lender w) w lent few c.in-Answering.answer
+    c.fail-failing.new.self stands fails in
+    (record { offer = h.offer; limit = h.limit; stands = is }, handed, tt, ends)
+
+pub returns-in-CutShort-clause-reports : goal.returns-in-CutShort-clause-reports
+returns-in-CutShort-clause-reports g c s used over facts given h =
+    let old = c.args.self.now in
+    let w = c.put_error.new.hold in
+    let lent = on_some c.lend.result c.in-Some.hold _ c.in-Some.is (c.lend.follows.holds w) in
+    let few : length w.items ≤ 65520 = omega (arith, c.len-in-CutShort.ensures.value, c.len-in-CutShort.ensures.fits) in
+    let stands = subst (λ (p : Phase g.row.A.Denot). HostsIn p s used over facts given old.stream old.flush) c.in-Answering.is h.stands in
+    let cut = subst (λ (x : Failing). FailsBy c.in-Answering.answer x c.fail-failing.new.hold.items c.fail-failing.new.self) c.in-CutShort.is
+    c.fail-failing.ensures in
+    let hosted = cut_done s used over facts given old.flush old.stream (c.lend.follows.lender w) w lent few c.in-Answering.answer c.fail-failing.new.self
+    stands cut c.put_error.ensures in (
+      record {
+        offer = h.offer;
+        limit = h.limit;
+        stands = subst (λ (o : Outcome). IsHosted s used over (with_last (λ f. f) facts) (given ++ hold_of (c.lend.follows.lender w)) o)
+            (sym c.ended_by.ensures)
+            (subst (λ (fs : List Facts). IsHosted s used over fs (given ++ hold_of (c.lend.follows.lender w)) (ended_by PackSource old.flush))
+            (sym (same_last facts)) hosted);
+      },
+      lent_handed old.stream w (c.lend.follows.lender w) lent
+          (packet_some w.items (error_packet (record { kind = PackSource; offset = old.flush })) c.put_error.ensures) few,
+      tt,
+      subst IsLost (sym c.ended_by.ensures) refl,
+    )
+
+pub returns-in-NotAsked-clause-credit : goal.returns-in-NotAsked-clause-credit
+returns-in-NotAsked-clause-credit g c =
+    let w = c.fail-failing.new.hold in
+    let lent = on_some c.lend.result c.in-Some.hold _ c.in-Some.is (c.lend.follows.holds w) in
+    credit_falls (Answering c.fail-failing.new.self) c.args.self.now (c.lend.follows.lender w)
+    (answering_credit c.args.self.now c.in-Answering.answer c.in-Answering.is) (lent_credit c.args.self.now.stream w (c.lend.follows.lender w) lent)
+
+pub returns-in-Packet-clause-credit : goal.returns-in-Packet-clause-credit
+returns-in-Packet-clause-credit g c =
+    let w = c.fail-failing.new.hold in
+    let lent = on_some c.lend.result c.in-Some.hold _ c.in-Some.is (c.lend.follows.holds w) in
+    credit_falls (Answering c.fail-failing.new.self) c.args.self.now (c.lend.follows.lender w)
+    (answering_credit c.args.self.now c.in-Answering.answer c.in-Answering.is) (lent_credit c.args.self.now.stream w (c.lend.follows.lender w) lent)
