@@ -1,8 +1,13 @@
 /*
- * The answer to a request for references. All of them, or all branches or tags, come from `git show-ref`; a few that prefixes name come from
- * `git for-each-ref`, by patterns. The library leaves out what the request does not ask for.
+ * The answer to a request for references: all of them, all branches or tags, or those that a few patterns match, which are made of prefixes. The
+ * library leaves out what the request does not ask for.
  */
 #include "session.h"
+
+static bool begins(const char *text, const char *prefix)
+{
+	return strncmp(text, prefix, strlen(prefix)) == 0;
+}
 
 /* Gives a reference by its whole name; a target or a peeled object is empty where there is none. */
 static void answer_reference(const char *id, const char *name, const char *target, const char *peeled)
@@ -87,13 +92,16 @@ static void answer_lines(const struct texts *lines)
 	}
 }
 
-/* Whether this is a line of a reference, and not one by which Git reports that one is damaged: then it is reported, and there is no answer. */
+/*
+ * Whether this is a line of a reference. Others are what Git reports, in the words of the C locale: passed on, and where it passes over a reference
+ * that is damaged there is no answer.
+ */
 static bool is_reference(const char *line)
 {
 	if (begins_with_name(line) && strchr(strchr(line, ' ') + 1, ' ') != NULL)
 		return true;
 	fprintf(stderr, "%s\n", line);
-	if (strspn(line, "0123456789") != 2 || line[2] != ':') /* which begins a line of GIT_TRACE */
+	if (begins(line, "warning: ignoring ") || begins(line, "error: "))
 		fail("a reference is damaged");
 	return false;
 }
@@ -101,14 +109,15 @@ static bool is_reference(const char *line)
 /* The references that these patterns match, by `git for-each-ref`, which looks at no others. */
 static void answer_matching(const struct texts *patterns)
 {
-	const char *words[5 + 2 * PATTERNS + 1] = { "git", "for-each-ref", "--sort=refname", "--format=%(objectname) %(refname) %(symref)", "--" };
+	const char *words[7 + 2 * PATTERNS + 1] = { "env", "LC_ALL=C", "git", "for-each-ref", "--sort=refname",
+		"--format=%(objectname) %(refname) %(symref)", "--" };
 	struct texts lines = { 0 };
 	struct command listed;
 
 	if (patterns->length == 0)
 		return;
 	for (size_t i = 0; i < patterns->length; i++)
-		words[5 + i] = patterns->at[i];
+		words[7 + i] = patterns->at[i];
 	start_alone(&listed, TO_OUTPUT, words);
 	for (char *line; (line = next_line(&listed)) != NULL;) {
 		if (is_reference(line))
@@ -124,84 +133,95 @@ static void answer_matching(const struct texts *patterns)
 	clear_texts(&lines);
 }
 
-/* A reference of `git show-ref`, which prints what a tag is of on a line after it. */
+/* A reference of `git show-ref`, which prints what a tag is of on a line after it; and the first line after that, or NULL. */
 struct shown {
 	char id[GITWIRE_OBJECT_NAME_ROOM + 1], peeled[GITWIRE_OBJECT_NAME_ROOM + 1], name[LINE_ROOM];
+	char *next;
+	bool is_none;
 };
 
-/* Reads the next one and the first line after it, which `next` has, or nothing at the end. False where there is no more. */
-static bool read_shown(struct command *listed, struct shown *shown, char **next)
+static void read_shown(struct command *from, struct shown *shown)
 {
 	const char *name;
 	size_t length;
 
 	*shown->peeled = 0;
-	if (*next == NULL)
-		return false;
-	name = cut_line(*next, shown->id);
+	shown->is_none = shown->next == NULL;
+	if (shown->is_none)
+		return;
+	name = cut_line(shown->next, shown->id);
 	if ((length = strlen(name)) >= LINE_ROOM)
 		fail("a reference that no answer may have");
 	memcpy(shown->name, name, length + 1);
-	if ((*next = next_line(listed)) != NULL && strcmp(*next + strlen(*next) - strnlen(*next, 3), "^{}") == 0) {
-		cut_line(*next, shown->peeled);
-		*next = next_line(listed);
+	shown->next = next_line(from);
+	if (shown->next != NULL && strcmp(shown->next + strlen(shown->next) - strnlen(shown->next, 3), "^{}") == 0) {
+		cut_line(shown->next, shown->peeled);
+		shown->next = next_line(from);
 	}
-	return true;
-}
-
-/* The target of a reference, by lines `NAME TARGET` that rise as the names that are asked for do; empty where it has none. */
-static const char *target_in(struct command *symbolic, char **line, const char *name)
-{
-	int order = 1;
-
-	while (*line != NULL && (order = strncmp(*line, name, strcspn(*line, " "))) <= 0) {
-		size_t length = strcspn(*line, " ");
-
-		if (order == 0 && name[length] == 0 && (*line)[length] == ' ')
-			return *line + length + 1;
-		*line = next_line(symbolic);
-	}
-	return "";
 }
 
 /*
- * All references, or of them the branches, the tags, or both, by `git show-ref`: it has what a tag is of from the packed references, and fails of a
- * reference that is damaged. Where symbolic ones lead is what `git for-each-ref` prints meanwhile.
+ * What a reference of this object is of, if that is a tag. `git show-ref` prints references in their order but where the file of packed ones is in
+ * another, and may see one that has changed meanwhile: what it does not have here is looked up.
+ */
+static const char *peeled_in(struct command *from, struct shown *shown, const char *id, const char *name)
+{
+	static struct found found;
+
+	while (!shown->is_none && strcmp(shown->name, name) < 0)
+		read_shown(from, shown);
+	if (!shown->is_none && strcmp(shown->name, name) == 0 && strcmp(shown->id, id) == 0)
+		return shown->peeled;
+	if (!find(id, &found))
+		fail("a reference leads to no object");
+	if (strcmp(found.type, "tag") != 0)
+		return "";
+	if (!find_peeled(id, &found))
+		fail("a reference leads to no object");
+	return found.id;
+}
+
+/*
+ * All references, or of them the branches, the tags, or both: `git for-each-ref` has them in their order, and `git show-ref` what a tag is of,
+ * which it knows from the packed references. It fails of a reference that is damaged, where the other passes over it.
  */
 static void answer_all(bool heads, bool tags)
 {
-	const char *words[7] = { "git", "show-ref", "--head" }, *where[6] = { "git", "for-each-ref", "--format=%(refname) %(symref)" };
+	const char *list[7] = { "git", "for-each-ref", "--sort=refname", "--format=%(objectname) %(refname) %(symref)" };
+	const char *show[7] = { "git", "show-ref", "--head" };
 	static struct shown shown;
 	static char target[LINE_ROOM];
-	char name[sizeof space + 4], *next, *line = NULL;
-	size_t count = 3, places = 3;
-	struct command head, listed, symbolic;
-	bool is_empty, has_targets = gitwire_host_flag(&host, GITWIRE_FLAG_SYMREFS);
+	char name[sizeof space + 4], id[GITWIRE_OBJECT_NAME_ROOM + 1], *line, *reference;
+	size_t count = 4, shows = 3;
+	struct command head, listed, checked;
+	bool peels = gitwire_host_flag(&host, GITWIRE_FLAG_PEEL), is_empty;
 
-	if (gitwire_host_flag(&host, GITWIRE_FLAG_PEEL))
-		words[count++] = "-d";
+	if (peels)
+		show[shows++] = "-d";
 	if (heads)
-		words[count++] = "--heads", where[places++] = "refs/heads/";
+		list[count++] = "refs/heads/", show[shows++] = "--heads";
 	if (tags)
-		words[count++] = "--tags", where[places++] = "refs/tags/";
+		list[count++] = "refs/tags/", show[shows++] = "--tags";
 	start_head(&head, name, sizeof name);
-	start_alone(&listed, TO_ERRORS, words);
-	if (has_targets) {
-		start_alone(&symbolic, TO_ERRORS, where);
-		line = next_line(&symbolic);
-	}
+	start_alone(&checked, TO_ERRORS, show);
+	start_alone(&listed, TO_ERRORS, list);
 	receive_head(&head, target, sizeof target);
-	is_empty = (next = next_line(&listed)) == NULL;
-	if (is_empty || strcmp(next + strcspn(next, " "), " HEAD") != 0)
+	shown.next = next_line(&checked);
+	read_shown(&checked, &shown);
+	is_empty = shown.is_none;
+	if (is_empty || strcmp(shown.name, name) != 0)
 		answer_unborn(name, target);
-	while (read_shown(&listed, &shown, &next))
-		answer_reference(shown.id, shown.name, strcmp(shown.name, name) == 0 ? target : target_in(&symbolic, &line, shown.name), shown.peeled);
-	if (end(&listed) != (is_empty ? 1 : 0)) /* that there is none */
-		fail("git show-ref failed");
-	while (line != NULL)
-		line = next_line(&symbolic);
-	if (has_targets && end(&symbolic) != 0)
-		fail("git for-each-ref failed");
+	else
+		answer_reference(shown.id, name, target, shown.peeled);
+	while ((line = next_line(&listed)) != NULL) {
+		line = cut_line(line, id);
+		reference = strsep(&line, " ");
+		answer_reference(id, reference, line, peels ? peeled_in(&checked, &shown, id, reference) : "");
+	}
+	while (!shown.is_none)
+		read_shown(&checked, &shown);
+	if (end(&listed) != 0 || end(&checked) != (is_empty ? 1 : 0)) /* 1 is that there is none */
+		fail("the references cannot be read");
 }
 
 /* What a request asks for. */
@@ -211,11 +231,6 @@ struct asked {
 	bool whole;                  /* all branches or all tags */
 	struct texts patterns;
 };
-
-static bool begins(const char *text, const char *prefix)
-{
-	return strncmp(text, prefix, strlen(prefix)) == 0;
-}
 
 static void note_prefix(struct asked *asked, const char *prefix)
 {

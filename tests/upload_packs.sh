@@ -128,6 +128,23 @@ of_format() {
     esac
 }
 
+# A file of packed references that is in another order than it states, as Git's own tests write one: it is served all the same.
+case_upload_pack_lists_packed_references_in_any_order() {
+    local i id
+    configured history-sha1
+    id=$(git -C served rev-parse nested)
+    git -C served pack-refs --all
+    for i in {1..30}; do
+        printf '%s refs/tags/v-%s\n^%s\n' "$id" $i "$(git -C served rev-parse "$id^{}")"
+    done >> served/.git/packed-refs
+    run "$uploading" --stateless-rpc served < <(prefixes)
+    expect_status 0
+    git -C served for-each-ref --format='%(refname)' > wanted
+    sed -n 's/^....[0-9a-f]* \(refs[^ ]*\).*/\1/p' out > written
+    expect_same 'the references' wanted written
+    [ "$(grep -c "refs/tags/v-.* peeled:$(git -C served rev-parse "$id^{}")" out)" = 30 ] || differs 'a tag without what it is of' out
+}
+
 # References of each namespace are those of a repository of its own.
 case_upload_pack_serves_a_namespace() {
     local name
