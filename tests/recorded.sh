@@ -304,6 +304,40 @@ case_check_refuses_another_command() {
     expect_line 'standard error' "git2show: requests: Truncated at $(wc -c < requests)" err
 }
 
+# The texts of arguments count together, whether they are known or not: these come to a few bytes less than the limit, and then to more.
+case_check_counts_what_is_not_known() {
+    local line number
+    line=$(printf 'fff0x-word %s' "$(head -c 65508 /dev/zero | tr '\0' a)")
+    {
+        packet 'version 2'
+        packet fetch=x-word
+        printf 0000
+    } > responses
+    {
+        packet command=fetch
+        printf 0001
+        for number in {1..256}; do
+            printf '%s\n' "$line"
+        done
+    } > filled
+    {
+        cat filled
+        printf '%s\n' "$line"
+    } > requests
+    run git2show check requests responses
+    expect_status 1
+    expect_line 'standard error' "git2show: requests: TooMuchKept at $(wc -c < filled)" err
+    {
+        cat filled
+        for number in {1..120}; do
+            packet "have $(printf 'a%.0s' {1..40})"
+        done
+    } > requests
+    run git2show check requests responses
+    expect_status 1
+    expect_line 'standard error' "git2show: requests: TooMuchKept at $(($(wc -c < filled) + 119 * 50))" err
+}
+
 case_check_tells_an_error_of_the_server() {
     git init -q ours
     recorded -C ours fetch -q 'ext::record history-sha1' "$(printf 'f%.0s' {1..40})"

@@ -174,7 +174,8 @@ module _ {A : Type 0} {t : Terms} {limit : ℕ} where
     found_in = record { used = r.used; unused = waiting; asked = asked; left = left; rest = rest }
 
     -- that is what the requests ask within this limit
-    pub asks_within : AreAskedBy (advertised_by stream) (limit_of stream) r.used asked left rest → AreAskedBy (advertised_by stream) limit r.used asked left rest
+    pub asks_within : AreAskedBy (advertised_by stream) (limit_of stream) r.used asked left rest
+        → AreAskedBy (advertised_by stream) limit r.used asked left rest
     asks_within are_asked = rw r.limit_is at are_asked
 
   -- a request takes the reader a byte on, or more

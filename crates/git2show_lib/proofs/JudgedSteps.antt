@@ -1,18 +1,19 @@
 -- A reader of requests of another client, a packet at a time.
-use Rattle.std.proofs.Common.{◌≡◌, ◌≢◌, ◌⊎◌, ℕ, ◌+◌, ◌-◌, ◌<◌, ◌≤◌, Bool, true, false, List, [], ◌∷◌, ◌++◌, length, length-drop, take, drop, Option, Some, None}
+use Rattle.std.proofs.Common.{◌≡◌, ◌≢◌, ◌⊎◌, ℕ, ◌+◌, ◌-◌, ◌<◌, ◌≤◌, min, Bool, true, false, List, [], ◌∷◌, ◌++◌, length, take, drop, Option, Some, None}
+use Rattle.std.proofs.Common.{length-drop}
 use Rattle.std.proofs.Common.{refl, sym, ap, ◌∙◌, subst, append-nil, append_assoc, inl, inr, arith, codes, if◌then◌else◌}
 use Rattle.git_pkt.specs.Packets.{Pkt, flush, delim, resp_end, payload, text_of as line_of}
 use Rattle.git_pkt.specs.Splits.{Given, SpellsAll}
 use Rattle.git_pkt.specs.Machine.PacketReader.{Reads, ReadsOn, ShownByFeed, fault_of as packet_fault, is_open, passes_of, position_of}
 use Rattle.git_pkt.specs.declared.fault.Fault.{Fault}
-use Rattle.git_pkt.specs.declared.fault.Kind.TheVariants.{StreamTooLong, Truncated}
+use Rattle.git_pkt.specs.declared.fault.Kind.TheVariants.{StreamTooLong, TooMuchKept, Truncated}
 use Rattle.git_pkt.proofs.KnownRest.{sound_rest}
 use Rattle.git_pkt.proofs.Pieces.{joined, left_of}
 use Rattle.git_pkt.proofs.Streams.{one_split}
 use Rattle.git_msg.specs.Admission.{nothing_barred}
 use Rattle.git_msg.specs.Asked.{Asked}
 use Rattle.git_msg.specs.Machine.HeldRequest.{asked_of, kept_of}
-use Rattle.git_msg.specs.Machine.RequestReader.{Takes}
+use Rattle.git_msg.specs.Machine.RequestReader.{Takes, limit_in}
 use Rattle.git_msg.specs.Machine.RequestStreams.{IsLeftIn}
 use Rattle.git_msg.specs.Machine.StreamStages.{AreBegun, Brings, HasTaken, IsBrought, goes_on}
 use Rattle.git_msg.specs.declared.reader.RequestReader.{RequestReader}
@@ -22,7 +23,8 @@ use Rattle.git_msg.specs.declared.streams.Stage.TheVariants as OfRequests
 use Rattle.git_msg.proofs.Admission.{told_by_none}
 use Rattle.git_msg.proofs.PacketFaults.{told_of_packets}
 use Rattle.git_msg.proofs.StreamSteps.{left_begins, rest_behind, stopped_by}
-use Rattle.git2show_lib.specs.Others.{Advertised, AreCutOff, AreNoPacket, BeginWithOther, IsOtherBegun, first_place, given_as, is_other_capability, judged_line, judged_of}
+use Rattle.git2show_lib.specs.Others.{Advertised, AreCutOff, AreNoPacket, BeginWithOther, IsOtherBegun, first_place, given_as}
+use Rattle.git2show_lib.specs.Others.{is_other_capability, judged_line, judged_of}
 use Rattle.git2show_lib.specs.Others.{judged_packet, names_other, place_after, place_next}
 use Rattle.git2show_lib.specs.Machine.JudgedRequests.{AreQuestions, HasRead, IsBegun, IsLeft, IsOnward, IsQuestion, IsReady, IsRefused}
 use Rattle.git2show_lib.specs.Machine.JudgedRequests.{Leaves, ReadsBy, StepLeaves, advertised_by, asked_by, fault_in, got_as, got_passed}
@@ -35,7 +37,9 @@ use Rattle.git2show_lib.specs.declared.judged_requests.JudgedRequests.{JudgedReq
 use Rattle.git2show_lib.specs.declared.judged_requests.Stage.{Stage}
 use Rattle.git2show_lib.specs.declared.judged_requests.Stage.TheVariants.{Between, Within, Passing, Stopped, Failed as FailedStage}
 use Rattle.git2show_lib.specs.declared.others.Place.{Place}
-use Rattle.git2show_lib.proofs.OtherLines.{judged_snoc, none_snoc, place_snoc}
+use Rattle.git2show_lib.specs.Others.{counted_at, counted_of}
+use Rattle.git2show_lib.specs.Machine.JudgedRequests.{counted_for, kept_brought, limited_got}
+use Rattle.git2show_lib.proofs.OtherLines.{counted_snoc, judged_snoc, none_snoc, place_snoc}
 
 some_left : (left : List Given) (g : Given) → left ++ g ∷ [] ≢ []
 some_left [] g e = cc
@@ -97,7 +101,7 @@ module _ (by : Advertised) (limit : ℕ) (left : List Given) where
   left_refused rest before end earlier fault stage on h no_packet = at (left_begun before earlier stage on h) where
     at : IsBegun by limit left → IsRefused by limit left rest end fault
     at (inl begun) = inl (inr (inl (record { begun = begun; stops = no_packet.stops; not_the_end = no_packet.not_the_end })))
-    at (inr other) = inr (other, inl no_packet)
+    at (inr other) = inr (inl (other, inl no_packet))
 
   -- or the input ends after them, inside a request or a packet
   left_cut : (rest before : List ℕ) (end earlier : ℕ) (fault : Fault) (stage : Stage) → takes_bytes stage ≡ true → IsLeft stage by limit left before earlier
@@ -117,7 +121,7 @@ module _ (by : Advertised) (limit : ℕ) (left : List Given) where
     kind = cut.kind;
     at = cut.at;
   })))
-  left_cut rest before end earlier fault Passing on h cut inside = inr (h, inr cut)
+  left_cut rest before end earlier fault Passing on h cut inside = inr (inl (h, inr cut))
   left_cut rest before end earlier fault Stopped on h cut inside = absurd (cc)
   left_cut rest before end earlier fault (FailedStage other) on h cut inside = absurd (cc)
 
@@ -163,6 +167,13 @@ taken_other Passing text left other = absurd (other refl)
 taken_other Stopped text left other = refl
 taken_other (FailedStage fault) text left other = refl
 
+counted_other : (stage : Stage) (text : List ℕ) (left : List Given) → (stage ≡ Passing → ⊥) → counted_for stage text left ≡ counted_of text left
+counted_other Between text left other = refl
+counted_other Within text left other = refl
+counted_other Passing text left other = absurd (other refl)
+counted_other Stopped text left other = refl
+counted_other (FailedStage fault) text left other = refl
+
 -- ---- how what was read goes on
 
 module _ {A : Type 0} (old new : JudgedRequests A) (u : List ℕ) (wants : wants_input old ≡ true)
@@ -190,13 +201,18 @@ module _ {A : Type 0} (old new : JudgedRequests A) (u : List ℕ) (wants : wants
   taken_still : new.requests ≡ old.requests → Takes (taken_in old.stage (text_of new) h.left) new.requests
   taken_still same = subst (λ (r : RequestReader A). Takes (taken_in old.stage (text_of new) h.left) r) (sym same) taken_before
 
+  -- it has counted so much as kept
+  kept_before : old.kept ≡ counted_for old.stage (text_of new) h.left
+  kept_before = subst (λ (b : Advertised). old.kept ≡ counted_for old.stage b.text h.left) (sym by) (h.kept_is wants)
+
   -- all that was read, in the stage that was reached
   has_read : (packets left : List Given) (rest : List ℕ) (now : List (Option Asked)) (stage : Stage) → new.stage ≡ stage
       → Reads new.packets 0 (used ++ u) packets rest → AreQuestions (advertised_by new) (limit_of new) packets now left
       → IsLeft stage (advertised_by new) (limit_of new) left rest (length (used ++ u))
       → (takes_bytes stage ≡ true → new.place ≡ place_for stage left)
+      → (takes_bytes stage ≡ true → new.kept ≡ counted_for stage (text_of new) left)
       → (takes_bytes stage ≡ true → Takes (taken_in stage (text_of new) left) new.requests) → HasRead (used ++ u) now new
-  has_read packets left rest now stage is stream requests left_is place takes = record {
+  has_read packets left rest now stage is stream requests left_is place kept takes = record {
     packets = packets;
     left = left;
     rest = rest;
@@ -204,6 +220,7 @@ module _ {A : Type 0} (old new : JudgedRequests A) (u : List ℕ) (wants : wants
     requests = requests;
     left_is = subst (λ (s : Stage). IsLeft s (advertised_by new) (limit_of new) left rest (length (used ++ u))) (sym is) left_is;
     place_is = λ on. place (sym (ap takes_bytes is) ∙ on) ∙ ap (λ (s : Stage). place_for s left) (sym is);
+    kept_is = λ on. kept (sym (ap takes_bytes is) ∙ on) ∙ ap (λ (s : Stage). counted_for s (text_of new) left) (sym is);
     onward = λ on.
         subst (λ (s : Stage). Takes (taken_in s (text_of new) left) new.requests) (sym is) (takes (sym (ap takes_bytes is) ∙ on));
   }
@@ -215,17 +232,18 @@ module _ {A : Type 0} (old new : JudgedRequests A) (u : List ℕ) (wants : wants
   bytes_read : (rest : List ℕ) (stage : Stage) → new.stage ≡ stage → Reads new.packets 0 (used ++ u) (h.packets ++ []) rest
       → IsLeft stage (advertised_by new) (limit_of new) h.left rest (length (used ++ u))
       → (takes_bytes stage ≡ true → new.place ≡ place_for stage h.left)
+      → (takes_bytes stage ≡ true → new.kept ≡ counted_for stage (text_of new) h.left)
       → (takes_bytes stage ≡ true → Takes (taken_in stage (text_of new) h.left) new.requests) → HasRead (used ++ u) (asked ++ []) new
-  bytes_read rest stage is stream left_is place takes =
+  bytes_read rest stage is stream left_is place kept takes =
       none_more asked (has_read h.packets h.left rest asked stage is
-      (subst (λ (gs : List Given). Reads new.packets 0 (used ++ u) gs rest) (append-nil h.packets) stream) earlier_requests left_is place takes)
+      (subst (λ (gs : List Given). Reads new.packets 0 (used ++ u) gs rest) (append-nil h.packets) stream) earlier_requests left_is place kept takes)
 
   -- the bytes end no packet
-  pub open_read : new.requests ≡ old.requests → new.stage ≡ old.stage → new.place ≡ old.place → ReadsOn old.packets u [] new.packets
+  pub open_read : new.requests ≡ old.requests → new.stage ≡ old.stage → new.place ≡ old.place → new.kept ≡ old.kept → ReadsOn old.packets u [] new.packets
       → HasRead (used ++ u) (asked ++ []) new
-  open_read same is place reads =
+  open_read same is place kept reads =
       let (rest, stream) = reads 0 used h.packets h.rest h.reads in
-      bytes_read rest old.stage is stream (left_still rest) (λ on. place ∙ h.place_is wants) (λ on. taken_still same)
+      bytes_read rest old.stage is stream (left_still rest) (λ on. place ∙ h.place_is wants) (λ on. kept ∙ kept_before) (λ on. taken_still same)
 
   -- they are refused
   pub refused_read : (fault : Fault) → new.stage ≡ FailedStage fault → packet_fault new.packets ≡ Some fault → fault.kind ≢ Truncated
@@ -236,7 +254,7 @@ module _ {A : Type 0} (old new : JudgedRequests A) (u : List ℕ) (wants : wants
       record { stops = stopped_by new.packets (used ++ u) (h.packets ++ []) rest fault told stream; not_the_end = other } in
       bytes_read rest (FailedStage fault) is stream
       (left_refused (advertised_by new) (limit_of new) h.left rest h.rest (length (used ++ u)) (length used) fault old.stage wants left_before no_packet)
-      (λ on. absurd (cc)) (λ on. absurd (cc))
+      (λ on. absurd (cc)) (λ on. absurd (cc)) (λ on. absurd (cc))
 
   -- there are none, and the input ends
   pub cut_read : (fault : Fault) → new.stage ≡ FailedStage fault → fault.kind ≡ Truncated → packet_fault old.packets ≡ None
@@ -257,7 +275,7 @@ module _ {A : Type 0} (old new : JudgedRequests A) (u : List ℕ) (wants : wants
       bytes_read h.rest (FailedStage fault) is
       (subst (λ (l : List ℕ). Reads new.packets 0 (used ++ u) (h.packets ++ []) l) same.rest_is stream)
       (left_cut (advertised_by new) (limit_of new) h.left h.rest h.rest (length (used ++ u)) (length used) fault old.stage wants left_before cut inside)
-      (λ on. absurd (cc)) (λ on. absurd (cc))
+      (λ on. absurd (cc)) (λ on. absurd (cc)) (λ on. absurd (cc))
 
   module _ (g : Given) (reads : ReadsOn old.packets u (g ∷ []) new.packets) where
     requests_with : AreQuestions (advertised_by new) (limit_of new) (h.packets ++ g ∷ []) asked (h.left ++ g ∷ [])
@@ -265,8 +283,8 @@ module _ {A : Type 0} (old new : JudgedRequests A) (u : List ℕ) (wants : wants
 
     -- they end the first packet of a request that passes
     pub begun_read : old.stage ≡ Between → names_other (text_of new) g.packet ≡ true → new.stage ≡ Passing → new.place ≡ old.place
-        → new.requests ≡ old.requests → HasRead (used ++ u) (asked ++ []) new
-    begun_read was names is place same =
+        → new.kept ≡ old.kept → new.requests ≡ old.requests → HasRead (used ++ u) (asked ++ []) new
+    begun_read was names is place kept same =
         let (rest, stream) = reads 0 used h.packets h.rest h.reads in
         let nothing : h.left ≡ [] =
         subst (λ (s : Stage). IsLeft s (advertised_by new) (limit_of new) h.left h.rest (length used)) was left_before in
@@ -274,6 +292,9 @@ module _ {A : Type 0} (old new : JudgedRequests A) (u : List ℕ) (wants : wants
         none_more asked (has_read (h.packets ++ g ∷ []) (h.left ++ g ∷ []) rest asked Passing is stream requests_with
         (subst (λ (gs : List Given). IsOtherBegun (text_of new) (gs ++ g ∷ [])) (sym nothing) other)
         (λ on. place ∙ h.place_is wants ∙ ap (λ (s : Stage). place_for s h.left) was ∙ ap (λ (gs : List Given). place_after first_place gs) nothing)
+        (λ on.
+        kept ∙ kept_before ∙ ap (λ (s : Stage). counted_for s (text_of new) h.left) was
+        ∙ ap (λ (gs : List Given). counted_of (text_of new) gs) nothing)
         (λ on.
         subst (λ (gs : List Given). Takes gs new.requests)
         (ap (λ (s : Stage). taken_in s (text_of new) h.left) was ∙ ap (λ (gs : List Given). judged_of (text_of new) gs) nothing)
@@ -286,21 +307,22 @@ module _ {A : Type 0} (old new : JudgedRequests A) (u : List ℕ) (wants : wants
         not_flush (payload bytes) names e = absurd (cc)
 
     -- or a further one of it
-    going_read : old.stage ≡ Passing → g.packet ≢ flush → new.stage ≡ Passing → new.place ≡ old.place → new.requests ≡ old.requests
-        → HasRead (used ++ u) (asked ++ []) new
-    going_read was other is place same =
+    going_read : old.stage ≡ Passing → g.packet ≢ flush → new.stage ≡ Passing → new.place ≡ old.place → new.kept ≡ old.kept
+        → new.requests ≡ old.requests → HasRead (used ++ u) (asked ++ []) new
+    going_read was other is place kept same =
         let (rest, stream) = reads 0 used h.packets h.rest h.reads in
         let begun : IsOtherBegun (text_of new) h.left =
         subst (λ (s : Stage). IsLeft s (advertised_by new) (limit_of new) h.left h.rest (length used)) was left_before in
         none_more asked (has_read (h.packets ++ g ∷ []) (h.left ++ g ∷ []) rest asked Passing is stream requests_with
         (record { begins = begins_on (text_of new) h.left g begun.begins; goes_on = none_snoc flush h.left g begun.goes_on other })
         (λ on. place ∙ h.place_is wants ∙ ap (λ (s : Stage). place_for s h.left) was)
+        (λ on. kept ∙ kept_before ∙ ap (λ (s : Stage). counted_for s (text_of new) h.left) was)
         (λ on. subst (λ (s : Stage). Takes (taken_in s (text_of new) h.left) new.requests) was (taken_still same)))
 
     -- or its flush
-    ended_read : old.stage ≡ Passing → g.packet ≡ flush → new.stage ≡ Between → new.place ≡ old.place → new.requests ≡ old.requests
-        → HasRead (used ++ u) (asked ++ None ∷ []) new
-    ended_read was end is place same =
+    ended_read : old.stage ≡ Passing → g.packet ≡ flush → new.stage ≡ Between → new.place ≡ old.place → new.kept ≡ old.kept
+        → new.requests ≡ old.requests → HasRead (used ++ u) (asked ++ None ∷ []) new
+    ended_read was end is place kept same =
         let (rest, stream) = reads 0 used h.packets h.rest h.reads in
         let begun : IsOtherBegun (text_of new) h.left =
         subst (λ (s : Stage). IsLeft s (advertised_by new) (limit_of new) h.left h.rest (length used)) was left_before in
@@ -311,18 +333,21 @@ module _ {A : Type 0} (old new : JudgedRequests A) (u : List ℕ) (wants : wants
         }))
         refl
         (λ on. place ∙ h.place_is wants ∙ ap (λ (s : Stage). place_for s h.left) was)
+        (λ on. kept ∙ kept_before ∙ ap (λ (s : Stage). counted_for s (text_of new) h.left) was)
         (λ on. subst (λ (s : Stage). Takes (taken_in s (text_of new) h.left) new.requests) was (taken_still same))
 
   -- they end a packet of a request that passes
   pub passing_read : (p : Pkt) (offset : ℕ) → ReadsOn old.packets u (record { packet = p; offset = offset } ∷ []) new.packets → old.stage ≡ Passing
-      → new.stage ≡ stage_passed p → new.place ≡ old.place → new.requests ≡ old.requests → HasRead (used ++ u) (asked ++ asked_by (got_passed {A = A} p)) new
-  passing_read flush offset reads was is place same = ended_read (record { packet = flush; offset = offset }) reads was refl is place same
-  passing_read delim offset reads was is place same =
-      going_read (record { packet = delim; offset = offset }) reads was (λ e. cc) is place same
-  passing_read resp_end offset reads was is place same =
-      going_read (record { packet = resp_end; offset = offset }) reads was (λ e. cc) is place same
-  passing_read (payload bytes) offset reads was is place same =
-      going_read (record { packet = payload bytes; offset = offset }) reads was (λ e. cc) is place same
+      → new.stage ≡ stage_passed p → new.place ≡ old.place → new.kept ≡ old.kept → new.requests ≡ old.requests
+      → HasRead (used ++ u) (asked ++ asked_by (got_passed {A = A} p)) new
+  passing_read flush offset reads was is place kept same =
+      ended_read (record { packet = flush; offset = offset }) reads was refl is place kept same
+  passing_read delim offset reads was is place kept same =
+      going_read (record { packet = delim; offset = offset }) reads was (λ e. cc) is place kept same
+  passing_read resp_end offset reads was is place kept same =
+      going_read (record { packet = resp_end; offset = offset }) reads was (λ e. cc) is place kept same
+  passing_read (payload bytes) offset reads was is place kept same =
+      going_read (record { packet = payload bytes; offset = offset }) reads was (λ e. cc) is place kept same
 
   -- ---- a packet of any other request
 
@@ -347,16 +372,47 @@ module _ {A : Type 0} (old new : JudgedRequests A) (u : List ℕ) (wants : wants
         ∙ ap (λ (o : Option Pkt). judged_of (text_of new) h.left ++ given_as o g.offset)
         (ap (λ (p : Place). judged_packet (text_of new) p g.packet) (sym (h.place_is wants ∙ place_other old.stage h.left other)) ∙ is)
 
+    -- so much counts as kept with it
+    abbrev pub counts : ℕ
+    counts = old.kept + counted_at (text_of new) old.place g.packet
+
+    kept_now : old.kept ≡ counted_of (text_of new) h.left
+    kept_now = kept_before ∙ counted_other old.stage (text_of new) h.left other
+
+    counted_now : counted_of (text_of new) (h.left ++ g ∷ []) ≡ counts
+    counted_now =
+        counted_snoc (text_of new) first_place h.left g
+        ∙ ap (λ (n : ℕ). n + counted_at (text_of new) (place_after first_place h.left) g.packet) (sym kept_now)
+        ∙ ap (λ (p : Place). old.kept + counted_at (text_of new) p g.packet) (sym (h.place_is wants ∙ place_other old.stage h.left other))
+
+    -- with it more is kept than the limit
+    pub over_read : old.kept ≤ limit_of new → limit_of new < counts → new.stage ≡ FailedStage (record { kind = TooMuchKept; offset = g.offset })
+        → packet_fault new.packets ≡ None → is_open new.packets ≡ false → HasRead (used ++ u) (asked ++ []) new
+    over_read within over is sound shut =
+        let (rest, stream) = reads 0 used h.packets h.rest h.reads in
+        none_more asked (has_read (h.packets ++ g ∷ []) (h.left ++ g ∷ []) rest asked (FailedStage (record { kind = TooMuchKept; offset = g.offset }))
+        is stream (requests_with g reads) (inr (inr (record {
+          front = h.left;
+          last = g;
+          parts = refl;
+          begun = begun_now;
+          kept = subst (λ (n : ℕ). n ≤ limit_of new) kept_now within;
+          over = subst (λ (n : ℕ). limit_of new < n) (sym counted_now) over;
+          no_rest = rest_behind new.packets (used ++ u) (h.packets ++ g ∷ []) rest sound shut stream;
+          fault_is = refl;
+        }))) (λ on. absurd (cc)) (λ on. absurd (cc)) (λ on. absurd (cc)))
+
     -- it is passed over
-    pub passed_read : judged_packet (text_of new) old.place g.packet ≡ None → new.place ≡ place_next old.place g.packet → new.requests ≡ old.requests
-        → new.stage ≡ old.stage → HasRead (used ++ u) (asked ++ []) new
-    passed_read none place same is =
+    pub passed_read : judged_packet (text_of new) old.place g.packet ≡ None → new.place ≡ place_next old.place g.packet → new.kept ≡ counts
+        → new.requests ≡ old.requests → new.stage ≡ old.stage → HasRead (used ++ u) (asked ++ []) new
+    passed_read none place kept same is =
         let (rest, stream) = reads 0 used h.packets h.rest h.reads in
         let judged = judged_with None none ∙ append-nil (judged_of (text_of new) h.left) in
         let here = ap (λ (p : Place). judged_packet (text_of new) p g.packet) (sym (h.place_is wants ∙ place_other old.stage h.left other)) ∙ none in
         none_more asked (has_read (h.packets ++ g ∷ []) (h.left ++ g ∷ []) rest asked old.stage is stream (requests_with g reads)
         (left_passed (advertised_by new) (limit_of new) h.left g h.rest rest (length used) (length (used ++ u)) old.stage wants other left_before here judged)
         (λ on. placed place ∙ sym (place_other old.stage (h.left ++ g ∷ []) other))
+        (λ on. kept ∙ sym counted_now ∙ sym (counted_other old.stage (text_of new) (h.left ++ g ∷ []) other))
         (λ on.
         subst (λ (gs : List Given). Takes gs new.requests)
         (taken_other old.stage (text_of new) h.left other ∙ sym judged ∙ sym (taken_other old.stage (text_of new) (h.left ++ g ∷ []) other))
@@ -377,20 +433,15 @@ module _ {A : Type 0} (old new : JudgedRequests A) (u : List ℕ) (wants : wants
       brought got brings =
           subst (λ (gs : List Given). IsBrought nothing_barred gs got new.requests) (sym parts) (brings.brings (judged_of (text_of new) h.left) taken_now)
 
-      brought_read : (rest : List ℕ) → Reads new.packets 0 (used ++ u) (h.packets ++ g ∷ []) rest → rest ≡ [] → (got : ReadGot A)
-          → IsBrought nothing_barred all_judged got new.requests → new.stage ≡ stage_brought got
-          → new.place ≡ place_brought got (place_next old.place g.packet) → HasRead (used ++ u) (asked ++ asked_by (got_as got)) new
-      brought_read rest stream none More brings is place =
-          none_more asked (has_read (h.packets ++ g ∷ []) (h.left ++ g ∷ []) rest asked Within is stream (requests_with g reads)
-          (λ e. some_left (judged_of (text_of new) h.left) read_as (sym parts ∙ e), brings.1) (λ on. placed place) (λ on. brings.0))
-      brought_read rest stream none (Request request) brings is place =
-          has_read (h.packets ++ g ∷ []) [] rest (asked ++ Some (asked_of request) ∷ []) Between is stream
-          (one_more_question (advertised_by new) (limit_of new) (h.packets ++ g ∷ []) asked (h.left ++ g ∷ []) (Some (asked_of request))
-          (requests_with g reads) (kept_of request, brings.1)) refl (λ on. place) (λ on. brings.0)
-      brought_read rest stream none Stop brings is place =
+      stopped : (rest : List ℕ) → Reads new.packets 0 (used ++ u) (h.packets ++ g ∷ []) rest → rest ≡ []
+          → IsBrought nothing_barred all_judged Stop new.requests → new.stage ≡ Stopped → HasRead (used ++ u) (asked ++ []) new
+      stopped rest stream none brings is =
           none_more asked (has_read (h.packets ++ g ∷ []) (h.left ++ g ∷ []) rest asked Stopped is stream (requests_with g reads) (brings.1, none)
-          (λ on. absurd (cc)) (λ on. absurd (cc)))
-      brought_read rest stream none (Failed fault) brings is place =
+          (λ on. absurd (cc)) (λ on. absurd (cc)) (λ on. absurd (cc)))
+
+      refused : (rest : List ℕ) → Reads new.packets 0 (used ++ u) (h.packets ++ g ∷ []) rest → rest ≡ [] → (fault : Fault)
+          → IsBrought nothing_barred all_judged (Failed fault) new.requests → new.stage ≡ FailedStage fault → HasRead (used ++ u) (asked ++ []) new
+      refused rest stream none fault brings is =
           let told = told_by_none (advertised_by new).offer (limit_of new) all_judged fault brings in
           none_more asked (has_read (h.packets ++ g ∷ []) (h.left ++ g ∷ []) rest asked (FailedStage fault) is stream (requests_with g reads)
           (inl (inl (record {
@@ -400,14 +451,57 @@ module _ {A : Type 0} (old new : JudgedRequests A) (u : List ℕ) (wants : wants
             begun = begun_now;
             told = told;
             no_rest = none;
-          }))) (λ on. absurd (cc)) (λ on. absurd (cc)))
+          }))) (λ on. absurd (cc)) (λ on. absurd (cc)) (λ on. absurd (cc)))
 
-      pub packet_read : (got : ReadGot A) → Brings nothing_barred old.requests read_as got new.requests → new.stage ≡ stage_brought got
-          → new.place ≡ place_brought got (place_next old.place g.packet) → packet_fault new.packets ≡ None → is_open new.packets ≡ false
+      brought_read : (rest : List ℕ) → Reads new.packets 0 (used ++ u) (h.packets ++ g ∷ []) rest → rest ≡ [] → (got : ReadGot A)
+          → IsBrought nothing_barred all_judged got new.requests → (counts ≤ limit_of new) → (kept : ℕ) → kept ≡ counts → new.stage ≡ stage_brought got
+          → new.place ≡ place_brought got (place_next old.place g.packet) → new.kept ≡ kept_brought got kept
           → HasRead (used ++ u) (asked ++ asked_by (got_as got)) new
-      packet_read got brings is place sound shut =
+      brought_read rest stream none More brings within kept same is place counted =
+          none_more asked (has_read (h.packets ++ g ∷ []) (h.left ++ g ∷ []) rest asked Within is stream (requests_with g reads)
+          (λ e. some_left (judged_of (text_of new) h.left) read_as (sym parts ∙ e), brings.1) (λ on. placed place)
+          (λ on. counted ∙ same ∙ sym counted_now) (λ on. brings.0))
+      brought_read rest stream none (Request request) brings within kept same is place counted =
+          has_read (h.packets ++ g ∷ []) [] rest (asked ++ Some (asked_of request) ∷ []) Between is stream
+          (one_more_question (advertised_by new) (limit_of new) (h.packets ++ g ∷ []) asked (h.left ++ g ∷ []) (Some (asked_of request))
+          (requests_with g reads) ((kept_of request, brings.1), subst (λ (n : ℕ). n ≤ limit_of new) (sym counted_now) within)) refl (λ on. place)
+          (λ on. counted) (λ on. brings.0)
+      brought_read rest stream none Stop brings within kept same is place counted = stopped rest stream none brings is
+      brought_read rest stream none (Failed fault) brings within kept same is place counted = refused rest stream none fault brings is
+
+      pub packet_read : (got : ReadGot A) (over : Bool) → Brings nothing_barred old.requests read_as got new.requests → old.kept ≤ limit_of new
+          → (over ≡ true → limit_of new < counts) → (over ≡ false → counts ≤ limit_of new) → (kept : ℕ) → (over ≡ false → kept ≡ counts)
+          → new.stage ≡ stage_brought (limited_got over g.offset got)
+          → new.place ≡ place_brought (limited_got over g.offset got) (place_next old.place g.packet)
+          → new.kept ≡ kept_brought (limited_got over g.offset got) kept → packet_fault new.packets ≡ None → is_open new.packets ≡ false
+          → HasRead (used ++ u) (asked ++ asked_by (got_as (limited_got over g.offset got))) new
+      packet_read got false brings before more within kept same is place counted sound shut =
           let (rest, stream) = reads 0 used h.packets h.rest h.reads in
-          brought_read rest stream (rest_behind new.packets (used ++ u) (h.packets ++ g ∷ []) rest sound shut stream) got (brought got brings) is place
+          brought_read rest stream (rest_behind new.packets (used ++ u) (h.packets ++ g ∷ []) rest sound shut stream) got (brought got brings)
+          (within refl) kept (same refl) is place counted
+      packet_read More true brings before more within kept same is place counted sound shut = over_read before (more refl) is sound shut
+      packet_read (Request request) true brings before more within kept same is place counted sound shut = over_read before (more refl) is sound shut
+      packet_read Stop true brings before more within kept same is place counted sound shut =
+          let (rest, stream) = reads 0 used h.packets h.rest h.reads in
+          stopped rest stream (rest_behind new.packets (used ++ u) (h.packets ++ g ∷ []) rest sound shut stream) (brought Stop brings) is
+      packet_read (Failed fault) true brings before more within kept same is place counted sound shut =
+          let (rest, stream) = reads 0 used h.packets h.rest h.reads in
+          refused rest stream (rest_behind new.packets (used ++ u) (h.packets ++ g ∷ []) rest sound shut stream) fault (brought (Failed fault) brings) is
+
+-- ---- a sum that stops at the largest number, and the limit
+
+pub sum_within : (counts kept limit : ℕ) → kept ≡ min counts 18446744073709551615 → kept ≤ limit → limit ≤ 4294967295 → kept ≡ counts
+sum_within counts kept limit is within fits = grind arith
+
+pub sum_over : (counts kept limit : ℕ) → kept ≡ min counts 18446744073709551615 → limit < kept → limit < counts
+sum_over counts kept limit is over = grind arith
+
+-- what the same was brought by is the same
+pub same_place : {A : Type 0} (got other : ReadGot A) (next : Place) → got ≡ other → place_brought got next ≡ place_brought other next
+same_place {A} got other next same = ap (λ (o : ReadGot A). place_brought o next) same
+
+pub same_kept : {A : Type 0} (got other : ReadGot A) (next : ℕ) → got ≡ other → kept_brought got next ≡ kept_brought other next
+same_kept {A} got other next same = ap (λ (o : ReadGot A). kept_brought o next) same
 
 -- ---- how a reader is left after a packet
 
@@ -426,54 +520,72 @@ module _ {A : Type 0} where
   reads_behind (Failed fault) on = absurd (cc)
 
 module _ {A : Type 0} (old new : JudgedRequests A) (used : ℕ) (ready : IsReady old) (some : 0 < used)
-    (sound : packet_fault new.packets ≡ None) (gathers : passes_of new.packets ≡ false) where
+    (sound : packet_fault new.packets ≡ None) (gathers : passes_of new.packets ≡ false) (same_limit : new.limit ≡ old.limit) where
   -- it goes on with the reader inside as it was
-  ready_still : new.requests ≡ old.requests → takes_bytes new.stage ≡ true → IsReady new
-  ready_still same wants = record {
+  ready_still : new.requests ≡ old.requests → new.kept ≤ old.limit → takes_bytes new.stage ≡ true → IsReady new
+  ready_still same kept wants = record {
     wants = wants;
     gathers = gathers;
     sound = sound;
     open_ended = rw same ready.open_ended;
     ready = rw same ready.ready;
     taken = subst (λ (r : RequestReader A). HasTaken r) (sym same) ready.taken;
+    same_limit = same_limit ∙ ready.same_limit ∙ ap (λ (r : RequestReader A). limit_in r) (sym same);
+    within = subst (λ (n : ℕ). new.kept ≤ n) (sym same_limit) kept;
+    fits = subst (λ (n : ℕ). n ≤ 4294967295) (sym same_limit) ready.fits;
   }
 
-  pub goes_leaves : new.requests ≡ old.requests → takes_bytes new.stage ≡ true → StepLeaves {A = A} Got.More used new
-  goes_leaves same wants = (some, ready_still same wants)
+  pub goes_leaves : new.requests ≡ old.requests → new.kept ≤ old.limit → takes_bytes new.stage ≡ true → StepLeaves {A = A} Got.More used new
+  goes_leaves same kept wants = (some, ready_still same kept wants)
 
-  pub passed_leaves : new.requests ≡ old.requests → new.stage ≡ old.stage → StepLeaves {A = A} Got.More used new
-  passed_leaves same is = goes_leaves same (ap takes_bytes is ∙ ready.wants)
+  pub passed_leaves : new.requests ≡ old.requests → new.kept ≤ old.limit → new.stage ≡ old.stage → StepLeaves {A = A} Got.More used new
+  passed_leaves same kept is = goes_leaves same kept (ap takes_bytes is ∙ ready.wants)
 
   module _ (shut : is_open new.packets ≡ false) where
-    pub passing_leaves : (p : Pkt) → new.requests ≡ old.requests → new.stage ≡ stage_passed p → StepLeaves (got_passed {A = A} p) used new
-    passing_leaves flush same is =
-        record { some = some; onward = ready_still same (ap takes_bytes is); between = ap stage_is_between is; shut = shut }
-    passing_leaves delim same is = goes_leaves same (ap takes_bytes is)
-    passing_leaves resp_end same is = goes_leaves same (ap takes_bytes is)
-    passing_leaves (payload bytes) same is = goes_leaves same (ap takes_bytes is)
+    pub passing_leaves : (p : Pkt) → new.requests ≡ old.requests → new.kept ≤ old.limit → new.stage ≡ stage_passed p
+        → StepLeaves (got_passed {A = A} p) used new
+    passing_leaves flush same kept is =
+        record { some = some; onward = ready_still same kept (ap takes_bytes is); between = ap stage_is_between is; shut = shut }
+    passing_leaves delim same kept is = goes_leaves same kept (ap takes_bytes is)
+    passing_leaves resp_end same kept is = goes_leaves same kept (ap takes_bytes is)
+    passing_leaves (payload bytes) same kept is = goes_leaves same kept (ap takes_bytes is)
 
     module _ (g : Given) where
-      ready_behind : (got : ReadGot A) → goes_on got ≡ true → Brings nothing_barred old.requests g got new.requests → new.stage ≡ stage_brought got
-          → IsReady new
-      ready_behind got on brings is = record {
+      ready_behind : (got : ReadGot A) → goes_on got ≡ true → Brings nothing_barred old.requests g got new.requests → new.kept ≤ old.limit
+          → new.stage ≡ stage_brought got → IsReady new
+      ready_behind got on brings kept is = record {
         wants = ap takes_bytes is ∙ reads_behind got on;
         gathers = gathers;
         sound = sound;
         open_ended = brings.sound on;
         ready = brings.ready on;
         taken = taken_behind old.requests new.requests g got brings on ready.taken;
+        same_limit = same_limit ∙ ready.same_limit ∙ sym brings.limit;
+        within = subst (λ (n : ℕ). new.kept ≤ n) (sym same_limit) kept;
+        fits = subst (λ (n : ℕ). n ≤ 4294967295) (sym same_limit) ready.fits;
       }
 
-      pub packet_leaves : (got : ReadGot A) → Brings nothing_barred old.requests g got new.requests → new.stage ≡ stage_brought got
-          → StepLeaves (got_as got) used new
-      packet_leaves More brings is = (some, ready_behind More refl brings is)
-      packet_leaves (Request request) brings is =
+      pub packet_leaves : (got : ReadGot A) (over : Bool) (offset kept : ℕ) → Brings nothing_barred old.requests g got new.requests
+          → (over ≡ false → kept ≤ old.limit) → new.stage ≡ stage_brought (limited_got over offset got)
+          → new.kept ≡ kept_brought (limited_got over offset got) kept → StepLeaves (got_as (limited_got over offset got)) used new
+      packet_leaves More false offset kept brings within is counted =
+          (some, ready_behind More refl brings (subst (λ (n : ℕ). n ≤ old.limit) (sym counted) (within refl)) is)
+      packet_leaves (Request request) false offset kept brings within is counted =
           let (left, takes) = ready.taken in (
-            record { some = some; onward = ready_behind (Request request) refl brings is; between = ap stage_is_between is; shut = shut },
+            record {
+              some = some;
+              onward = ready_behind (Request request) refl brings (omega (arith, counted)) is;
+              between = ap stage_is_between is;
+              shut = shut;
+            },
             (brings.brings left takes).2,
           )
-      packet_leaves Stop brings is = (some, ap takes_bytes is, ap fault_in is)
-      packet_leaves (Failed fault) brings is = ap fault_in is
+      packet_leaves Stop false offset kept brings within is counted = (some, ap takes_bytes is, ap fault_in is)
+      packet_leaves (Failed fault) false offset kept brings within is counted = ap fault_in is
+      packet_leaves More true offset kept brings within is counted = ap fault_in is
+      packet_leaves (Request request) true offset kept brings within is counted = ap fault_in is
+      packet_leaves Stop true offset kept brings within is counted = (some, ap takes_bytes is, ap fault_in is)
+      packet_leaves (Failed fault) true offset kept brings within is counted = ap fault_in is
 
 -- a packet that passes brings no fault
 pub no_news : {A : Type 0} (p : Pkt) (fault : Fault) (used : ℕ) (piece : List ℕ) → got_passed {A = A} p ≡ Got.Failed fault → ShownByFeed fault used piece
@@ -493,13 +605,23 @@ fault_news old new g ready told brings fault used piece same =
       one_more = λ too_long. absurd (told_of_packets StreamTooLong tt _ _ (left ++ g ∷ []) told t too_long);
     })
 
-pub packet_news : {A : Type 0} (old : JudgedRequests A) (new : RequestReader A) (g : Given) (got : ReadGot A) → IsReady old
-    → Brings nothing_barred old.requests g got new → (fault : Fault) (used : ℕ) (piece : List ℕ) → got_as got ≡ Got.Failed fault
+-- nor is that of the limit
+pub limit_news : (offset : ℕ) (fault : Fault) (used : ℕ) (piece : List ℕ) → record { kind = TooMuchKept; offset = offset } ≡ fault
     → ShownByFeed fault used piece
-packet_news old new g More ready brings fault used piece is = absurd (cc)
-packet_news old new g (Request request) ready brings fault used piece is = absurd (cc)
-packet_news old new g Stop ready brings fault used piece is = absurd (cc)
-packet_news old new g (Failed told) ready brings fault used piece is = fault_news old new g ready told brings fault used piece (cc)
+limit_news offset fault used piece same =
+    subst (λ (f : Fault). ShownByFeed f used piece) same (record { not_the_end = λ e. cc; one_more = λ e. absurd (cc) })
+
+pub packet_news : {A : Type 0} (old : JudgedRequests A) (new : RequestReader A) (g : Given) (got : ReadGot A) (over : Bool) (offset : ℕ) → IsReady old
+    → Brings nothing_barred old.requests g got new → (fault : Fault) (used : ℕ) (piece : List ℕ)
+    → got_as (limited_got over offset got) ≡ Got.Failed fault → ShownByFeed fault used piece
+packet_news old new g More false offset ready brings fault used piece is = absurd (cc)
+packet_news old new g (Request request) false offset ready brings fault used piece is = absurd (cc)
+packet_news old new g Stop false offset ready brings fault used piece is = absurd (cc)
+packet_news old new g (Failed told) false offset ready brings fault used piece is = fault_news old new g ready told brings fault used piece (cc)
+packet_news old new g More true offset ready brings fault used piece is = limit_news offset fault used piece (cc)
+packet_news old new g (Request request) true offset ready brings fault used piece is = limit_news offset fault used piece (cc)
+packet_news old new g Stop true offset ready brings fault used piece is = absurd (cc)
+packet_news old new g (Failed told) true offset ready brings fault used piece is = fault_news old new g ready told brings fault used piece (cc)
 
 -- ---- a step over what is left of a piece
 

@@ -7,7 +7,7 @@ use Rattle.git_pkt.specs.Packets.{Pkt}
 use Rattle.git_pkt.specs.Splits.{Given}
 use Rattle.git_msg.specs.Texts.{IsCutAt}
 use Rattle.git_msg.proofs.TextParts.{cut_place}
-use Rattle.git2show_lib.specs.Others.{NoneIs, given_as, judged_in, judged_packet, line_kept, lines_kept, place_after, place_next}
+use Rattle.git2show_lib.specs.Others.{NoneIs, counted_at, counted_in, given_as, judged_in, judged_packet, line_kept, lines_kept, place_after, place_next}
 use Rattle.git2show_lib.specs.declared.others.Place.{Place}
 
 -- ---- lines
@@ -64,3 +64,8 @@ kept_snoc (h ∷ gs) g =
 pub none_snoc : (packet : Pkt) (gs : List Given) (g : Given) → NoneIs packet gs → g.packet ≢ packet → NoneIs packet (gs ++ g ∷ [])
 none_snoc packet [] g none other = (other, tt)
 none_snoc packet (h ∷ gs) g none other = (none.0, none_snoc packet gs g none.1 other)
+
+pub counted_snoc : (text : List ℕ) (place : Place) (gs : List Given) (g : Given)
+    → counted_in text place (gs ++ g ∷ []) ≡ counted_in text place gs + counted_at text (place_after place gs) g.packet
+counted_snoc text place [] g = omega arith
+counted_snoc text place (h ∷ gs) g = omega (arith, counted_snoc text (place_next place h.packet) gs g)

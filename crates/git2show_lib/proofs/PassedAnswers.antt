@@ -234,7 +234,8 @@ module _ {ending : Ending} {old : PacketReader} {waiting unused : List ℕ} {rea
     timely = timely fault.kind ended (drop b.used unused) b.shown.not_the_end (λ long. omega (arith, b.shown.one_more long, length-drop b.used unused));
   }
 
-module _ {ending : Ending} {r : PacketReader} {waiting : List ℕ} {before left after : Option (List ℕ)} (s : PassingSoFar ending r waiting [] (flow before left)) where
+module _ {ending : Ending} {r : PacketReader} {waiting : List ℕ} {before left after : Option (List ℕ)}
+    (s : PassingSoFar ending r waiting [] (flow before left)) where
   -- more bytes came
   came_more : (came : List ℕ) → Consumes left after came → PassingSoFar ending r waiting came (flow before after)
   came_more came read = record {
@@ -272,7 +273,8 @@ goes_on {ending} {r} s sound = record {
 
 -- a read failed, and a `?` answers the fault that it met
 pub read_failed : {ending : Ending} {r : PacketReader} {waiting : List ℕ} {before left : Option (List ℕ)} (after : Option (List ℕ))
-    (result : Result Passed RunFault) (fault : RunFault) (ended : Bool) (piece : List ℕ) → IsErrAnd result (λ e. e ≡ fault) → fault ≡ ReadFault → Keeps left after
+    (result : Result Passed RunFault) (fault : RunFault) (ended : Bool) (piece : List ℕ) → IsErrAnd result (λ e. e ≡ fault) → fault ≡ ReadFault
+    → Keeps left after
     → PassingSoFar ending r waiting [] (flow before left) → fault_of r ≡ None → PassesTo ending result ended waiting piece (flow before after)
 read_failed {ending} {waiting = waiting} {before} after result fault ended piece answered named kept s sound =
     at_fault result fault ReadFault (λ (x : Result Passed RunFault). PassesTo ending x ended waiting piece (flow before after)) named answered

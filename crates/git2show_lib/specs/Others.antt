@@ -1,6 +1,7 @@
 -- What a request of another client may have since its server advertised it, beside what this project knows: keys of capability lines, commands,
 -- and words of the values of `fetch` and `ls-refs`.
-use Rattle.std.specs.Prelude.{◌≡◌, ◌≢◌, ◌⊎◌, ℕ, ◌+◌, ◌-◌, ◌==◌, Bool, true, false, not, ◌&&◌, ◌||◌, Option, Some, None, List, [], ◌∷◌, ◌++◌, length, codes, if◌then◌else◌}
+use Rattle.std.specs.Prelude.{◌≡◌, ◌≢◌, ◌⊎◌, ℕ, ◌+◌, ◌-◌, ◌==◌, Bool, true, false, not, ◌&&◌, ◌||◌, Option, Some, None, List, [], ◌∷◌}
+use Rattle.std.specs.Prelude.{◌++◌, length, codes, if◌then◌else◌}
 use Rattle.std.specs.List.{before_first, list_any, list_all}
 use Rattle.std.specs.Str.{bytes_eq}
 use Rattle.git_pkt.specs.Packets.{Pkt, flush, delim, resp_end, payload, text_of}
@@ -174,6 +175,23 @@ judged_in text place (g ∷ gs) = given_as (judged_packet text place g.packet) g
 -- those of one request
 abbrev pub judged_of : List ℕ → List Given → List Given
 judged_of text packets = judged_in text first_place packets
+
+-- how many bytes of a packet of a request count as kept of it: those of the text of an argument, whether it is known or not, and of a
+-- capability line that is not known
+unfoldable pub counted_line : List ℕ → Place → List ℕ → ℕ
+counted_line text place line = if place.arguments || is_other_capability text line then length line else 0
+
+abbrev pub counted_at : List ℕ → Place → Pkt → ℕ
+counted_at text place (payload bytes) = counted_line text place (text_of bytes)
+counted_at text place packet = 0
+
+abbrev pub counted_in : List ℕ → Place → List Given → ℕ
+counted_in text place [] = 0
+counted_in text place (g ∷ gs) = counted_at text place g.packet + counted_in text (place_next place g.packet) gs
+
+-- those of the packets of one request
+abbrev pub counted_of : List ℕ → List Given → ℕ
+counted_of text packets = counted_in text first_place packets
 
 -- what a server advertised: what is offered by it, and its lines that have something which is not known
 pub record Advertised : Type 0 where

@@ -1,10 +1,11 @@
 //! Requests of another client, read from bytes that come in pieces, against all that its server advertised.
 
-ghost use Rattle.std.specs.Prelude.{◌≡◌, ◌<◌, ◌≤◌, [], length};
+ghost use Rattle.std.specs.Prelude.{◌≡◌, ◌<◌, ◌≤◌, [], length, true, false};
 ghost use Rattle.git_pkt.specs.Packets.{seen};
-ghost use Rattle.git2show_lib.specs.Machine.JudgedRequests.{got_as, got_passed, place_brought, stage_brought, stage_passed};
+ghost use Rattle.git2show_lib.specs.Machine.JudgedRequests.{got_as, got_passed, kept_brought, limited_got, place_brought, stage_brought};
+ghost use Rattle.git2show_lib.specs.Machine.JudgedRequests.{stage_passed};
 
-use crate::others::{Place, judged_packet, names_other};
+use crate::others::{Place, counted, judged_packet, names_other};
 use git_msg::{AdmitsAll, Limits, Offer, ReadGot, Request, RequestReader, take_packet};
 use git_names::Steps;
 use git_pkt::{Fault, Got, Kind, Packet, PacketReader};
@@ -69,6 +70,9 @@ pub(crate) struct JudgedRequests<A: Allocator + Copy> {
     advertised: Vec<u8, A>,
     place: Place,
     stage: Stage,
+    limit: u32,
+    // How many bytes count as kept of the request that has begun, within the limit.
+    kept: u64,
 }
 
 impl<A: Allocator + Copy> JudgedRequests<A> {
@@ -92,6 +96,8 @@ impl<A: Allocator + Copy> JudgedRequests<A> {
             advertised,
             place: Place::first(),
             stage: Stage::Between,
+            limit: limits.args,
+            kept: 0,
         }
     }
 
@@ -148,10 +154,8 @@ impl<A: Allocator + Copy> JudgedRequests<A> {
             Got::More => JudgedRead::more(used),
             Got::Failed(fault) => {
                 self.stage = Stage::Failed(fault);
-                JudgedRead {
-                    used,
-                    got: JudgedGot::Failed(fault),
-                }
+                let got = JudgedGot::Failed(fault);
+                JudgedRead { used, got }
             }
             Got::Packet(packet, offset) => {
                 if let Stage::Passing = self.stage {
@@ -167,19 +171,31 @@ impl<A: Allocator + Copy> JudgedRequests<A> {
                         return JudgedRead::more(used);
                     }
                 }
+                let more = counted(&self.advertised, self.place, packet) as u64;
+                let kept = self.kept.saturating_add(more);
+                let over = is_over(kept, self.limit);
                 let next = self.place.after(packet);
                 let Some(judged) = judged_packet(&self.advertised, self.place, packet) else {
+                    if over {
+                        let fault = too_much(offset);
+                        self.stage = Stage::Failed(fault);
+                        let got = JudgedGot::Failed(fault);
+                        return JudgedRead { used, got };
+                    }
                     self.place = next;
+                    self.kept = kept;
                     return JudgedRead::more(used);
                 };
-                let got = take_packet(
+                let taken = take_packet(
                     &mut self.requests,
                     &AdmitsAll,
                     judged,
                     offset,
                     &mut Steps::new(),
                 );
+                let got = limited(taken, over, offset);
                 self.place = place_brought(&got, next);
+                self.kept = kept_brought(&got, kept);
                 self.stage = stage_after(&got);
                 JudgedRead {
                     used,
@@ -187,6 +203,47 @@ impl<A: Allocator + Copy> JudgedRequests<A> {
                 }
             }
         }
+    }
+}
+
+/// Whether so many bytes are more than the limit.
+fn is_over(kept: u64, limit: u32) -> bool
+    ensures over { result ≡ true → limit < kept }
+    ensures within { result ≡ false → kept ≤ limit }
+{
+    kept > u64::from(limit)
+}
+
+/// The fault of a packet with which more is kept than the limit.
+fn too_much(offset: u64) -> Fault
+    ensures { result ≡ record { kind = Kind.TooMuchKept; offset = offset } }
+{
+    Fault {
+        kind: Kind::TooMuchKept,
+        offset,
+    }
+}
+
+/// What a packet brought, unless it passes the limit, which comes after all else that refuses it.
+fn limited<A: Allocator + Copy>(got: ReadGot<A>, over: bool, offset: u64) -> ReadGot<A>
+    ensures { result ≡ limited_got over offset got }
+{
+    if !over {
+        return got;
+    }
+    match got {
+        ReadGot::More | ReadGot::Request(_) => ReadGot::Failed(too_much(offset)),
+        got => got,
+    }
+}
+
+/// How many bytes count as kept after a packet that brought this: so many where the request goes on.
+fn kept_brought<A: Allocator + Copy>(got: &ReadGot<A>, kept: u64) -> u64
+    ensures { result ≡ kept_brought got.now kept }
+{
+    match got {
+        ReadGot::Request(_) => 0,
+        _ => kept,
     }
 }
 

@@ -5,7 +5,8 @@ ghost use Rattle.std.specs.Option.{option_copied};
 ghost use Rattle.git_pkt.specs.Packets.{seen};
 ghost use Rattle.git_msg.specs.Advertisement.{key_of, value_of};
 ghost use Rattle.git_msg.specs.Texts.{spaced_words};
-ghost use Rattle.git2show_lib.specs.Others.{command_at_line, command_named, first_place, has_word, is_advertised, is_allowed_key, is_allowed_value};
+ghost use Rattle.git2show_lib.specs.Others.{command_at_line, command_named, counted_at, counted_line, first_place, has_word, is_advertised};
+ghost use Rattle.git2show_lib.specs.Others.{is_allowed_key, is_allowed_value};
 ghost use Rattle.git2show_lib.specs.Others.{is_feature, is_own_key, is_own_word, is_other_argument, is_other_capability, is_other_command, is_other_line};
 ghost use Rattle.git2show_lib.specs.Others.{is_word_of_answers, is_word_of_objects, judged_line, judged_packet, line_has, names_other, place_at_line};
 ghost use Rattle.git2show_lib.specs.Others.{place_next, word_passes};
@@ -95,6 +96,26 @@ fn judged_line<'p>(advertised: &[u8], place: Place, payload: &'p [u8]) -> Option
         return Some(Packet::Payload(b"agent"));
     }
     Some(Packet::Payload(payload))
+}
+
+/// How many bytes of a packet count as kept of its request: those of the text of an argument, and of a capability line that is not known.
+pub(crate) fn counted(advertised: &[u8], place: Place, packet: Packet<'_>) -> usize
+    ensures { result ≡ counted_at advertised.now place (seen packet.entry) }
+{
+    match packet {
+        Packet::Payload(payload) => counted_line(advertised, place, text(payload)),
+        Packet::Flush | Packet::Delim | Packet::RespEnd => 0,
+    }
+}
+
+#[tactic(auto, unfolding(crate::specs::Others::counted_line))]
+fn counted_line(advertised: &[u8], place: Place, line: &[u8]) -> usize
+    ensures { result ≡ counted_line advertised.now place line.now }
+{
+    if place.arguments || is_other_capability(advertised, line) {
+        return line.len();
+    }
+    0
 }
 
 /// Whether the packet is a line that names a command which is not known, and was advertised.

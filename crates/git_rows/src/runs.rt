@@ -1,18 +1,19 @@
 //! Runs: the bytes of their streams, and what `show`, `check` and `play` result in.
 
 ghost use Rattle.std.specs.Prelude.{ℕ, ◌≡◌, ◌++◌, ◌∷◌, [], Err, List, None, Ok, Some, codes, false, true};
-ghost use Rattle.git2show_lib.specs.Others.{names_other};
+ghost use Rattle.git2show_lib.specs.Others.{IsOtherAnswer, counted_of, names_other};
 ghost use Rattle.git2show_lib.specs.Machine.CheckedStreams.{Checked, moved};
 ghost use Rattle.git2show_lib.specs.Machine.ShownStream.{Shows};
 ghost use Rattle.git_both_ends.specs.Plays.{Played};
 ghost use Rattle.git_msg.specs.Asked.{ls_refs};
 ghost use Rattle.git_msg.specs.Machine.HeldRequest.{asked_of};
 ghost use Rattle.git_msg.specs.declared.requests.Request.{Request};
-ghost use Rattle.git_pkt.specs.Packets.{payload};
+ghost use Rattle.git_client.specs.declared.events.Ending.TheVariants.{FlushOnly};
+ghost use Rattle.git_pkt.specs.Packets.{delim, payload};
 ghost use Rattle.git_pkt.specs.Streams.{AreRead, AreWritten, IsTimely, flow};
 ghost use Rattle.git_pkt.specs.declared.fault.Kind.TheVariants.{BadLength, StreamTooLong, Truncated};
 ghost use Rattle.git_pkt.specs.declared.fault.RunFault.TheVariants.{ReadFault, Refused};
-ghost use Rattle.git_rows.specs.Worked.{asked_with, fault_at};
+ghost use Rattle.git_rows.specs.Worked.{asked_with, at, fault_at};
 ghost use Rattle.git_rows.specs.WorkedConversations.{offer_bytes, terms};
 ghost use Rattle.git_rows.specs.WorkedRuns.{bare_state, offer_transcript, repo_state, standing};
 
@@ -55,10 +56,13 @@ pub fn streams_checked<A: Allocator + Copy>()
 /// A command that is not known and was advertised, and where a fault is reported after what passed for it.
 pub fn another_command()
     ensures named { names_other (codes "bundle-uri\n") (payload (codes "command=bundle-uri\n")) ≡ true }
+    ensures passes { IsOtherAnswer FlushOnly (codes "0006a\n0000") }
+    ensures counted { counted_of (codes "x-later\n") (at 0 (payload (codes "x-later=1")) ∷ at 13 delim ∷ at 17 (payload (codes "done\n")) ∷ []) ≡ 13 }
     ensures reported { moved 10 (fault_at BadLength 5) ≡ fault_at BadLength 15 }
     ensures none_passed { moved 0 (fault_at BadLength 5) ≡ fault_at BadLength 5 }
     ensures not_unadvertised { names_other (codes "other\n") (payload (codes "command=bundle-uri\n")) ≡ false }
     ensures not_known { names_other (codes "fetch=other\n") (payload (codes "command=fetch\n")) ≡ false }
+    ensures not_past_its_flush { ¬ IsOtherAnswer FlushOnly (codes "00000000") }
     ensures not_a_capability { names_other (codes "bundle-uri\n") (payload (codes "bundle-uri\n")) ≡ false }
 {}
 

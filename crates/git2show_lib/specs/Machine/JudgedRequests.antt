@@ -1,10 +1,10 @@
 -- Requests of another client in a stream of bytes, read against all that its server advertised, and what a reader of them represents.
-use Rattle.std.specs.Prelude.{◌≡◌, ◌⊎◌, ℕ, ◌<◌, Bool, true, false, List, [], ◌∷◌, ◌++◌, length, take, Option, Some, None, Result, Ok, Err}
+use Rattle.std.specs.Prelude.{◌≡◌, ◌⊎◌, ℕ, ◌<◌, ◌≤◌, Bool, true, false, List, [], ◌∷◌, ◌++◌, length, take, Option, Some, None, Result, Ok, Err}
 use Rattle.git_pkt.specs.Packets.{Pkt, flush}
 use Rattle.git_pkt.specs.Splits.{Given, Splits}
 use Rattle.git_pkt.specs.Machine.PacketReader.{Reads, ShownByFeed, fault_of as packet_fault, is_open, passes_of, position_of}
 use Rattle.git_pkt.specs.declared.fault.Fault.{Fault}
-use Rattle.git_pkt.specs.declared.fault.Kind.TheVariants.{Truncated}
+use Rattle.git_pkt.specs.declared.fault.Kind.TheVariants.{TooMuchKept, Truncated}
 use Rattle.git_msg.specs.Asked.{Asked}
 use Rattle.git_msg.specs.Machine.HeldRequest.{asked_of, format_of}
 use Rattle.git_msg.specs.Machine.RequestReader.{Takes, fault_of as reader_fault, is_waiting, limit_in, offer_of as offer_in}
@@ -14,19 +14,20 @@ use Rattle.git_msg.specs.declared.offers.Offer.{Offer}
 use Rattle.git_msg.specs.declared.streams.ReadGot.{ReadGot}
 use Rattle.git_msg.specs.declared.streams.ReadGot.TheVariants as OfReader
 use Rattle.git_msg.specs.declared.streams.Stage.TheVariants as OfRequests
-use Rattle.git2show_lib.specs.Others.{Advertised, BreakOff, IsOtherBegun, IsOtherRequest, first_place, judged_of, place_after}
+use Rattle.git2show_lib.specs.Others.{Advertised, BreakOff, IsOtherBegun, IsOtherRequest, counted_of, first_place, judged_of, place_after}
 use Rattle.git2show_lib.specs.declared.others.Place.{Place}
 use Rattle.git2show_lib.specs.declared.judged_requests.JudgedGot.{JudgedGot}
-use Rattle.git2show_lib.specs.declared.judged_requests.JudgedGot.TheVariants.{More, Request as RequestGot, Other as OtherGot, Stop as StopGot, Failed as FailedGot}
+use Rattle.git2show_lib.specs.declared.judged_requests.JudgedGot.TheVariants.{More, Request as RequestGot, Other as OtherGot}
+use Rattle.git2show_lib.specs.declared.judged_requests.JudgedGot.TheVariants.{Stop as StopGot, Failed as FailedGot}
 use Rattle.git2show_lib.specs.declared.judged_requests.JudgedRead.{JudgedRead}
 use Rattle.git2show_lib.specs.declared.judged_requests.JudgedRequests.{JudgedRequests}
 use Rattle.git2show_lib.specs.declared.judged_requests.Stage.{Stage}
 use Rattle.git2show_lib.specs.declared.judged_requests.Stage.TheVariants.{Between, Within, Passing, Stopped, Failed}
 
--- the packets are a whole request: one that asks for this, where each packet is read as what was advertised has it, or one for a command
--- that is not known
+-- the packets are a whole request: one that asks for this, where each packet is read as what was advertised has it, and of which no more
+-- counts as kept than the limit; or one for a command that is not known
 abbrev pub IsQuestion : Advertised → ℕ → List Given → Option Asked → Type 0
-IsQuestion by limit packets (Some q) = IsOne by.offer limit (judged_of by.text packets) q
+IsQuestion by limit packets (Some q) = IsOne by.offer limit (judged_of by.text packets) q × (counted_of by.text packets ≤ limit)
 IsQuestion by limit packets None = IsOtherRequest by.text packets
 
 -- the packets are whole requests, one after another, and then what is left
@@ -45,10 +46,22 @@ pub record AreAskedBy (by : Advertised) (limit : ℕ) (bytes : List ℕ) (asked 
 abbrev pub IsBegun : Advertised → ℕ → List Given → Type 0
 IsBegun by limit left = AreBegun by.offer limit (judged_of by.text left) ⊎ IsOtherBegun by.text left
 
+-- the last packet is the first with which more counts as kept than the limit; it is not refused otherwise, nor are those before it
+pub record IsOverLimit (by : Advertised) (limit : ℕ) (left : List Given) (rest : List ℕ) (fault : Fault) : Type 0 where
+  pub front : List Given
+  pub last : Given
+  pub parts : left ≡ front ++ last ∷ []
+  pub begun : AreBegun by.offer limit (judged_of by.text front)
+  pub kept : counted_of by.text front ≤ limit
+  pub over : limit < counted_of by.text left
+  pub no_rest : rest ≡ []
+  pub fault_is : fault ≡ record { kind = TooMuchKept; offset = last.offset }
+
 -- what is left after the whole requests is refused
 abbrev pub IsRefused : Advertised → ℕ → List Given → List ℕ → ℕ → Fault → Type 0
 IsRefused by limit left rest end fault =
-    IsRefusedAs by.offer limit (judged_of by.text left) rest end fault ⊎ (IsOtherBegun by.text left × BreakOff rest end fault)
+    IsRefusedAs by.offer limit (judged_of by.text left) rest end fault
+    ⊎ ((IsOtherBegun by.text left × BreakOff rest end fault) ⊎ IsOverLimit by limit left rest fault)
 
 -- ---- the stage of a reader
 
@@ -69,6 +82,11 @@ place_for stage left = place_after first_place left
 abbrev pub taken_in : Stage → List ℕ → List Given → List Given
 taken_in Passing text left = []
 taken_in stage text left = judged_of text left
+
+-- how many bytes count as kept of it
+abbrev pub counted_for : Stage → List ℕ → List Given → ℕ
+counted_for Passing text left = 0
+counted_for stage text left = counted_of text left
 
 -- the fault of a stage
 abbrev pub fault_in : Stage → Option Fault
@@ -103,6 +121,17 @@ module _ {A : Type 0} where
   stage_brought (OfReader.Request request) = Between
   stage_brought OfReader.Stop = Stopped
   stage_brought (OfReader.Failed fault) = Failed fault
+
+  -- what was brought by a packet with which more counts as kept than the limit
+  abbrev pub limited_got : Bool → ℕ → ReadGot A → ReadGot A
+  limited_got true offset OfReader.More = OfReader.Failed (record { kind = TooMuchKept; offset = offset })
+  limited_got true offset (OfReader.Request request) = OfReader.Failed (record { kind = TooMuchKept; offset = offset })
+  limited_got over offset got = got
+
+  -- how many bytes count as kept after it
+  abbrev pub kept_brought : ReadGot A → ℕ → ℕ
+  kept_brought (OfReader.Request request) next = 0
+  kept_brought got next = next
 
   -- where the next packet is
   abbrev pub place_brought : ReadGot A → Place → Place
@@ -160,6 +189,9 @@ module _ {A : Type 0} where
     pub open_ended : reader_fault s.requests ≡ None
     pub ready : is_waiting s.requests ≡ false
     pub taken : HasTaken s.requests
+    pub same_limit : s.limit ≡ limit_of s
+    pub within : s.kept ≤ s.limit
+    pub fits : s.limit ≤ 4294967295
 
   -- the reader has used these bytes, and handed out these requests
   pub record HasRead (used : List ℕ) (asked : List (Option Asked)) (s : JudgedRequests A) : Type 0 where
@@ -170,6 +202,7 @@ module _ {A : Type 0} where
     pub requests : AreQuestions (advertised_by s) (limit_of s) packets asked left
     pub left_is : IsLeft s.stage (advertised_by s) (limit_of s) left rest (length used)
     pub place_is : wants_input s ≡ true → s.place ≡ place_for s.stage left
+    pub kept_is : wants_input s ≡ true → s.kept ≡ counted_for s.stage (text_of s) left
     pub onward : wants_input s ≡ true → Takes (taken_in s.stage (text_of s) left) s.requests
 
   -- what was asked by an answer
