@@ -7,6 +7,8 @@ pub mod SizesMoves
 pub mod HostAnswerMoves
 pub mod FetchFronts
 pub mod AnswerFronts
+pub mod LentStreams
 pub mod HostMoves
+pub mod HostMemoryMoves
 pub mod HostCallMoves
 pub mod HostedAnswers
