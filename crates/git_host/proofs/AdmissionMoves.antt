@@ -1,5 +1,5 @@
 -- An admission from one report to the next.
-use Rattle.std.proofs.Common.{arith, ◌≡◌, ℕ, ◌+◌, ◌<◌, Bool, true, false, All, List, [], ◌∷◌, ◌++◌, length, map, take}
+use Rattle.std.proofs.Common.{arith, ◌≡◌, ℕ, ◌+◌, ◌<◌, ◌≤◌, Bool, true, false, All, List, [], ◌∷◌, ◌++◌, length, map, take}
 use Rattle.std.proofs.Common.{Option, Some, None, refl, sym, ap, ◌∙◌, subst, inl, inr}
 use Rattle.std.proofs.lemmas.List.{take_all}
 use Rattle.std.proofs.lemmas.List.Elements.{All-nil, All-push}
@@ -71,22 +71,28 @@ after_there step at format q a ids has more is h =
     (subst (λ (b : Bool). StandsAtStep (want_step (at + 1) q.wants q.want_refs) format q (with_want b a) ids) (sym is) (after_one at format q a ids h))
 
 pub after_want : (at : ℕ) (q : FetchAsked) (a : AdmissionFacts) (ids : List ObjectName) (has : Bool) → has ≡ false → AtWant at q a ids
-    → IsNotOurs q (with_want has a)
-after_want at q a ids has is h = record {
-  at = at;
-  within = h.within;
-  wants = ap (λ (l : List Bool). l ++ has ∷ []) h.so_far ∙ ap (λ (b : Bool). all_there (take at q.wants) ++ b ∷ []) is;
-  none_found = h.none_found;
-}
+    → (length ids ≤ length q.want_refs) × IsNotOurs q (with_want has a)
+after_want at q a ids has is h = (
+  omega (arith, ap length h.none_kept),
+  record {
+    at = at;
+    within = h.within;
+    wants = ap (λ (l : List Bool). l ++ has ∷ []) h.so_far ∙ ap (λ (b : Bool). all_there (take at q.wants) ++ b ∷ []) is;
+    none_found = h.none_found;
+  },
+)
 
 pub after_missing : (at : ℕ) (format : Format) (q : FetchAsked) (a : AdmissionFacts) (ids : List ObjectName) (id : Option ObjectName) → id ≡ None
-    → AtWantRef at format q a ids → IsUnknownRef q (with_found id a)
-after_missing at format q a ids id is h = record {
-  ids = ids;
-  there = h.there;
-  within = omega (arith, h.within, h.so_far);
-  found = ap (λ (l : List (Option ObjectName)). l ++ id ∷ []) h.found ∙ ap (λ (x : Option ObjectName). map Some ids ++ x ∷ []) is;
-}
+    → AtWantRef at format q a ids → (length ids ≤ length q.want_refs) × IsUnknownRef q (with_found id a)
+after_missing at format q a ids id is h = (
+  omega (arith, h.within, h.so_far),
+  record {
+    ids = ids;
+    there = h.there;
+    within = omega (arith, h.within, h.so_far);
+    found = ap (λ (l : List (Option ObjectName)). l ++ id ∷ []) h.found ∙ ap (λ (x : Option ObjectName). map Some ids ++ x ∷ []) is;
+  },
+)
 
 after_one_found : (at : ℕ) (format : Format) (q : FetchAsked) (a : AdmissionFacts) (ids : List ObjectName) (id : ObjectName)
     → id.format ≡ format → AtWantRef at format q a ids

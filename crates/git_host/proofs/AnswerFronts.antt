@@ -1,25 +1,25 @@
 -- What was given of an answer, of whichever command, is the front of a whole one.
-use Rattle.std.proofs.Common.{arith, ◌≡◌, ℕ, zero, suc, ◌+◌, ◌-◌, ◌<◌, ◌≤◌, Bool, true, false, ◌||◌, All, List, [], ◌∷◌, ◌++◌, length, map, take, drop, replicate}
+use Rattle.std.proofs.Common.{arith, ◌≡◌, ℕ, zero, suc, ◌+◌, ◌-◌, ◌<◌, ◌≤◌, Bool, true, false, ◌||◌, All, List, [], ◌∷◌, ◌++◌, length, map, take, drop}
+use Rattle.std.proofs.Common.{replicate}
 use Rattle.std.proofs.Common.{Option, Some, None, codes, refl, sym, ap, ◌∙◌, append_assoc, append-nil, length-append, subst, ◌⊎◌, inl, inr}
 use Rattle.std.proofs.lemmas.List.{length-replicate, map-append, take-append-drop}
 use Rattle.std.proofs.lemmas.List.Elements.{All-append, All-nil, All-replicate}
 use Rattle.git_names.specs.ObjectName.{ObjectName}
 use Rattle.git_names.specs.declared.object_format.Format.{Format}
 use Rattle.git_pkt.specs.Packets.{Pkt, flush}
-use Rattle.git_pkt.specs.declared.fault.Kind.{Kind}
 use Rattle.git_msg.specs.Asked.{Asked, FetchAsked, LsRefsAsked, ObjectInfoAsked, fetch, ls_refs, object_info, only_negotiates}
 use Rattle.git_msg.specs.WrittenRequest.{text_line}
 use Rattle.git_server.specs.FetchAnswers.{negotiates}
-use Rattle.git_server.specs.Packs.{whole, broken}
+use Rattle.git_server.specs.Packs.{whole}
 use Rattle.git_server.specs.Repository.{Entry}
 use Rattle.git_host.specs.Admissions.{AdmissionFacts, IsAdmitted, StandsAtStep, all_there, nothing_reported, step_of}
-use Rattle.git_host.specs.FetchFacts.{AreSoundFacts, FetchFacts, IsFetchAnswerOf, IsSoundFetchAnswer, before_pack, no_facts}
+use Rattle.git_host.specs.FetchFacts.{AreSoundFacts, FetchFacts, before_pack, no_facts}
 use Rattle.git_host.specs.FetchPlaces.{StandsAt, asked_of as fetch_of, format_of as fetch_format, is_before_pack, is_pack, place_by, step_at}
 use Rattle.git_host.specs.FetchPlaces.{step_of as fetch_step}
 use Rattle.git_host.specs.ReferencesPlaces.{IsReferencesAnswerOf, ReferencesFacts, RepresentsReferences, StandsAtReferences, no_references}
 use Rattle.git_host.specs.SizesPlaces.{Asks, AtObject, IsSizesAnswerOf, RepresentsSizes, StandsAtSizes, size_line, sizes_asked}
-use Rattle.git_host.specs.HostSessions.{Facts, IsAnswerBy, IsBeforePack, IsFront, IsFrontBy, IsSoFar, nothing_for, of_fetch, of_references, of_sizes}
-use Rattle.git_host.specs.HostAnswers.{FailsBy, FailsFetch, IsAnswering, IsAskedFor, IsCut, asks_wanted, cut_where, found_ids}
+use Rattle.git_host.specs.HostSessions.{Facts, IsAnswerBy, IsFront, IsFrontBy, IsSoFar, nothing_for, of_fetch, of_references, of_sizes}
+use Rattle.git_host.specs.HostAnswers.{FailsBy, FailsFetch, Terms, IsAnswering, IsAskedFor, IsCut, asks_wanted, cut_where, found_ids}
 use Rattle.git_host.specs.declared.admission.Admission.{Admission as AdmissionMachine}
 use Rattle.git_host.specs.declared.admission.AdmissionStep.{AdmissionStep}
 use Rattle.git_host.specs.declared.admission.AdmissionStep.TheVariants.{AskWant, AskWantRef, Admitted, Refused}
@@ -70,7 +70,10 @@ module _ (format : Format) (q : FetchAsked) where
       record {
         later = of_fetch (record { wants = all_there q.wants; found = map Some ids }) (absent_more c.absent (no_facts ids));
         grows = (
-          record { wants = wants; found = (map Some fresh, map-append Some kept fresh ∙ ap (λ (l : List (Option ObjectName)). l ++ map Some fresh) (sym found)) },
+          record {
+            wants = wants;
+            found = (map Some fresh, map-append Some kept fresh ∙ ap (λ (l : List (Option ObjectName)). l ++ map Some fresh) (sym found));
+          },
           record {
             has = (c.absent, refl);
             ready = λ is. absurd (cc);
@@ -118,7 +121,7 @@ module _ (format : Format) (q : FetchAsked) where
   admission_so_far (AskWantRef at) a kept t h is = inl (admission_front (AskWantRef at) a kept t refl h is)
   admission_so_far Admitted a kept t h is =
       inl (kept_so_far a kept t is h.found (with_kept a kept (subst (IsFront a.wants) h.there (no_more a.wants)) h.found (omega (arith, h.all)) h.of_format))
-  admission_so_far (Refused kind) a kept t h is = inr (inr (kind, h, refl))
+  admission_so_far (Refused kind) a kept t h is = inr (inr (kind, h.1, refl))
 
 -- ---- a fetch that is answered
 
@@ -311,80 +314,80 @@ module _ {A : Type 0} where
       let c = sizes_complete answer.place q sizes front (subst (λ (r : ObjectInfoAsked). StandsAtSizes answer.place r sizes front) same h) in
       record { later = of_sizes (sizes ++ c.unknown); grows = (c.unknown, refl); more = c.more; answer = c.answer }
 
-  pub answering_so_far : (format : Format) (answer : HostAnswer A) (q : Asked) (f : Facts) (front : List Pkt) → IsAnswering format answer q f front
-      → IsSoFar format q f front
-  answering_so_far format (Admission admission) (fetch q) (of_fetch a t) front h =
-      subst (λ (l : List Pkt). IsSoFar format (fetch q) (of_fetch a t) l) (sym h.none)
-      (admission_so_far format q admission.step a admission.wanted.items t
-      (subst (λ (m : Format). StandsAtStep admission.step m q a admission.wanted.items) h.format_is
+  pub answering_so_far : (m : Terms) (answer : HostAnswer A) (q : Asked) (f : Facts) (front : List Pkt) → IsAnswering m answer q f front
+      → IsSoFar m.format q f front
+  answering_so_far m (Admission admission) (fetch q) (of_fetch a t) front h =
+      subst (λ (l : List Pkt). IsSoFar m.format (fetch q) (of_fetch a t) l) (sym h.none)
+      (admission_so_far m.format q admission.step a admission.wanted.items t
+      (subst (λ (format : Format). StandsAtStep admission.step format q a admission.wanted.items) h.format_is
       (subst (λ (r : FetchAsked). StandsAtStep admission.step admission.format r a admission.wanted.items) h.asked h.represents)) h.facts)
-  answering_so_far format (Fetch answer) (fetch q) (of_fetch a t) front h =
-      fetch_so_far format q a t front h.admitted
-      (subst (λ (m : Format). AreSoundFacts m q t) h.format_is
+  answering_so_far m (Fetch answer) (fetch q) (of_fetch a t) front h =
+      fetch_so_far m.format q a t front h.admitted
+      (subst (λ (format : Format). AreSoundFacts format q t) h.format_is
       (subst (λ (r : FetchAsked). AreSoundFacts (fetch_format answer) r t) h.asked h.represents.sound))
       answer.place (subst (λ (r : FetchAsked). StandsAt answer.place r t front) h.asked h.represents.stands)
-  answering_so_far format (References answer) (ls_refs q) (of_references t) front h = inl (references_front answer format q t front h.0 h.1)
-  answering_so_far format (Sizes answer) (object_info q) (of_sizes sizes) front h = inl (sizes_front answer format q sizes front h.0 h.1)
-  answering_so_far format Whole q f front h = inl (whole_front format q f front h)
-  answering_so_far format (Admission admission) (fetch q) (of_references t) front h = absurd h
-  answering_so_far format (Admission admission) (fetch q) (of_sizes sizes) front h = absurd h
-  answering_so_far format (Admission admission) (ls_refs q) f front h = absurd h
-  answering_so_far format (Admission admission) (object_info q) f front h = absurd h
-  answering_so_far format (Fetch answer) (fetch q) (of_references t) front h = absurd h
-  answering_so_far format (Fetch answer) (fetch q) (of_sizes sizes) front h = absurd h
-  answering_so_far format (Fetch answer) (ls_refs q) f front h = absurd h
-  answering_so_far format (Fetch answer) (object_info q) f front h = absurd h
-  answering_so_far format (References answer) (ls_refs q) (of_fetch a t) front h = absurd h
-  answering_so_far format (References answer) (ls_refs q) (of_sizes sizes) front h = absurd h
-  answering_so_far format (References answer) (fetch q) f front h = absurd h
-  answering_so_far format (References answer) (object_info q) f front h = absurd h
-  answering_so_far format (Sizes answer) (object_info q) (of_references t) front h = absurd h
-  answering_so_far format (Sizes answer) (object_info q) (of_fetch a t) front h = absurd h
-  answering_so_far format (Sizes answer) (ls_refs q) f front h = absurd h
-  answering_so_far format (Sizes answer) (fetch q) f front h = absurd h
+  answering_so_far m (References answer) (ls_refs q) (of_references t) front h = inl (references_front answer m.format q t front h.format_is h.represents)
+  answering_so_far m (Sizes answer) (object_info q) (of_sizes sizes) front h = inl (sizes_front answer m.format q sizes front h.asked h.represents)
+  answering_so_far m Whole q f front h = inl (whole_front m.format q f front h)
+  answering_so_far m (Admission admission) (fetch q) (of_references t) front h = absurd h
+  answering_so_far m (Admission admission) (fetch q) (of_sizes sizes) front h = absurd h
+  answering_so_far m (Admission admission) (ls_refs q) f front h = absurd h
+  answering_so_far m (Admission admission) (object_info q) f front h = absurd h
+  answering_so_far m (Fetch answer) (fetch q) (of_references t) front h = absurd h
+  answering_so_far m (Fetch answer) (fetch q) (of_sizes sizes) front h = absurd h
+  answering_so_far m (Fetch answer) (ls_refs q) f front h = absurd h
+  answering_so_far m (Fetch answer) (object_info q) f front h = absurd h
+  answering_so_far m (References answer) (ls_refs q) (of_fetch a t) front h = absurd h
+  answering_so_far m (References answer) (ls_refs q) (of_sizes sizes) front h = absurd h
+  answering_so_far m (References answer) (fetch q) f front h = absurd h
+  answering_so_far m (References answer) (object_info q) f front h = absurd h
+  answering_so_far m (Sizes answer) (object_info q) (of_references t) front h = absurd h
+  answering_so_far m (Sizes answer) (object_info q) (of_fetch a t) front h = absurd h
+  answering_so_far m (Sizes answer) (ls_refs q) f front h = absurd h
+  answering_so_far m (Sizes answer) (fetch q) f front h = absurd h
 
   -- ---- what is asked cannot be had
 
   pub cut_admission : (a : AdmissionMachine A) → asks_wanted (step_of a) ≡ true → IsCut (Admission a)
-  cut_admission a asks format (fetch q) (of_fetch x t) front h = (
-    subst (λ (l : List Pkt). IsFrontBy format (fetch q) (of_fetch x t) l) (sym h.none)
-        (admission_front format q a.step x a.wanted.items t asks
-        (subst (λ (m : Format). StandsAtStep a.step m q x a.wanted.items) h.format_is
+  cut_admission a asks m (fetch q) (of_fetch x t) front h = (
+    subst (λ (l : List Pkt). IsFrontBy m.format (fetch q) (of_fetch x t) l) (sym h.none)
+        (admission_front m.format q a.step x a.wanted.items t asks
+        (subst (λ (format : Format). StandsAtStep a.step format q x a.wanted.items) h.format_is
         (subst (λ (r : FetchAsked). StandsAtStep a.step a.format r x a.wanted.items) h.asked h.represents)) h.facts),
     omega (arith, ap length h.none),
   )
-  cut_admission a asks format (fetch q) (of_references t) front h = absurd h
-  cut_admission a asks format (fetch q) (of_sizes sizes) front h = absurd h
-  cut_admission a asks format (ls_refs q) f front h = absurd h
-  cut_admission a asks format (object_info q) f front h = absurd h
+  cut_admission a asks m (fetch q) (of_references t) front h = absurd h
+  cut_admission a asks m (fetch q) (of_sizes sizes) front h = absurd h
+  cut_admission a asks m (ls_refs q) f front h = absurd h
+  cut_admission a asks m (object_info q) f front h = absurd h
 
   pub cut_fetch : (a : FetchAnswer A) → is_before_pack (fetch_step a) ≡ true → IsCut (Fetch a)
-  cut_fetch a asks format (fetch q) (of_fetch x t) front h =
+  cut_fetch a asks m (fetch q) (of_fetch x t) front h =
       let stands = subst (λ (r : FetchAsked). StandsAt a.place r t front) h.asked h.represents.stands in
       let (unlost, fits) = before_place a.place (only_negotiates (fetch_of a)) q t front asks stands in (
-        fetch_front format q x t front h.admitted
-            (subst (λ (m : Format). AreSoundFacts m q t) h.format_is
+        fetch_front m.format q x t front h.admitted
+            (subst (λ (format : Format). AreSoundFacts format q t) h.format_is
             (subst (λ (r : FetchAsked). AreSoundFacts (fetch_format a) r t) h.asked h.represents.sound)) a.place unlost stands,
         fits,
       )
-  cut_fetch a asks format (fetch q) (of_references t) front h = absurd h
-  cut_fetch a asks format (fetch q) (of_sizes sizes) front h = absurd h
-  cut_fetch a asks format (ls_refs q) f front h = absurd h
-  cut_fetch a asks format (object_info q) f front h = absurd h
+  cut_fetch a asks m (fetch q) (of_references t) front h = absurd h
+  cut_fetch a asks m (fetch q) (of_sizes sizes) front h = absurd h
+  cut_fetch a asks m (ls_refs q) f front h = absurd h
+  cut_fetch a asks m (object_info q) f front h = absurd h
 
   pub cut_references : (a : ReferencesAnswer A) → IsCut (References a)
-  cut_references a format (ls_refs q) (of_references t) front h = (references_front a format q t front h.0 h.1, tt)
-  cut_references a format (ls_refs q) (of_fetch x t) front h = absurd h
-  cut_references a format (ls_refs q) (of_sizes sizes) front h = absurd h
-  cut_references a format (fetch q) f front h = absurd h
-  cut_references a format (object_info q) f front h = absurd h
+  cut_references a m (ls_refs q) (of_references t) front h = (references_front a m.format q t front h.format_is h.represents, tt)
+  cut_references a m (ls_refs q) (of_fetch x t) front h = absurd h
+  cut_references a m (ls_refs q) (of_sizes sizes) front h = absurd h
+  cut_references a m (fetch q) f front h = absurd h
+  cut_references a m (object_info q) f front h = absurd h
 
   pub cut_sizes : (a : SizesAnswer A) → IsCut (Sizes a)
-  cut_sizes a format (object_info q) (of_sizes sizes) front h = (sizes_front a format q sizes front h.0 h.1, tt)
-  cut_sizes a format (object_info q) (of_references t) front h = absurd h
-  cut_sizes a format (object_info q) (of_fetch x t) front h = absurd h
-  cut_sizes a format (ls_refs q) f front h = absurd h
-  cut_sizes a format (fetch q) f front h = absurd h
+  cut_sizes a m (object_info q) (of_sizes sizes) front h = (sizes_front a m.format q sizes front h.asked h.represents, tt)
+  cut_sizes a m (object_info q) (of_references t) front h = absurd h
+  cut_sizes a m (object_info q) (of_fetch x t) front h = absurd h
+  cut_sizes a m (ls_refs q) f front h = absurd h
+  cut_sizes a m (fetch q) f front h = absurd h
 
   -- by whether something was asked
   cut_by : (answer : HostAnswer A) (asked : Bool) (bytes : List ℕ) → (asked ≡ true → IsCut answer) → (asked ≡ false → ¬ IsAskedFor Failed answer)

@@ -1,6 +1,6 @@
 -- What was given of an answer to a fetch is the front of a whole one.
-use Rattle.std.proofs.Common.{arith, ◌≡◌, ℕ, zero, suc, ◌+◌, ◌-◌, ◌<◌, ◌≤◌, Bool, true, false, List, [], ◌∷◌, ◌++◌, length, map, codes}
-use Rattle.std.proofs.Common.{refl, sym, ap, ◌∙◌, append_assoc, append-nil, length-append, subst}
+use Rattle.std.proofs.Common.{arith, ◌≡◌, ℕ, zero, suc, ◌+◌, ◌-◌, ◌≤◌, Bool, true, false, List, [], ◌∷◌, ◌++◌, length, map}
+use Rattle.std.proofs.Common.{refl, sym, ap, append_assoc, append-nil, length-append, subst}
 use Rattle.git_names.specs.ObjectName.{ObjectName}
 use Rattle.git_pkt.specs.Packets.{Pkt, delim}
 use Rattle.git_msg.specs.declared.Boundary.{Boundary}
@@ -8,8 +8,8 @@ use Rattle.git_msg.specs.Asked.{FetchAsked, is_empty}
 use Rattle.git_server.specs.Packs.{whole}
 use Rattle.git_server.specs.FetchAnswers.{ack_packet, nak_or_acks, ready_lines, shallow_info}
 use Rattle.git_host.specs.FetchFacts.{FetchFacts, IsFetchAnswerOf, acknowledgments, before_pack, opening, picked, wanted_refs}
-use Rattle.git_host.specs.FetchPlaces.{AtDelimiter, AtHave, AtHeader, AtNak, AtPack, AtPackHeader, AtReady, AtShallow, AtShallowLine}
-use Rattle.git_host.specs.FetchPlaces.{AtWanted, AtWantedHeader, StandsAt, acks_header, after_boundary, after_haves, shallow_so_far, with_have}
+use Rattle.git_host.specs.FetchPlaces.{AtHave, AtPack, AtPackHeader, AtReady, AtShallow}
+use Rattle.git_host.specs.FetchPlaces.{AtWanted, AtWantedHeader, StandsAt, after_boundary, after_haves, shallow_so_far, with_have}
 use Rattle.git_host.specs.declared.fetch_answer.Place.{Place}
 use Rattle.git_host.specs.declared.fetch_answer.Place.TheVariants.{Header, Have, Nak, Ready, Delimiter, Shallow, ShallowLine, WantedHeader, Wanted, WantedEnd}
 use Rattle.git_host.specs.declared.fetch_answer.Place.TheVariants.{PackHeader, Pack, Whole as AtEnd, Broken as AtLoss}
@@ -145,8 +145,8 @@ acks_fit : (ids : List ObjectName) → length (map ack_packet ids) ≤ length (n
 acks_fit [] = omega arith
 acks_fit (id ∷ ids) = omega arith
 
-negotiated_fits : (q : FetchAsked) (t : FetchFacts) (given : List Pkt) → length given ≤ length (acknowledgments q t) → opening q t ≡ acknowledgments q t ++ ready_lines
-    → length given ≤ length (before_pack q t)
+negotiated_fits : (q : FetchAsked) (t : FetchFacts) (given : List Pkt) → length given ≤ length (acknowledgments q t)
+    → opening q t ≡ acknowledgments q t ++ ready_lines → length given ≤ length (before_pack q t)
 negotiated_fits q t given fits opens =
     omega (
       arith,

@@ -21,14 +21,15 @@ use Rattle.git_host.specs.Admissions.{AdmissionFacts, IsAdmitted, Reports as Adm
 use Rattle.git_host.specs.Admissions.{with_found, with_want}
 use Rattle.git_host.specs.AdmittedAnswers.{Becomes, BecomesAnswer}
 use Rattle.git_host.specs.FetchFacts.{FetchFacts, IsSoundFetchAnswer, no_facts}
-use Rattle.git_host.specs.FetchPlaces.{EndsBoundary, IsToTheSame, Represents, ReportsAlone, ReportsAndGives, Steps, WhereAsked, asked_of as fetch_of, is_asked, is_boundary}
+use Rattle.git_host.specs.FetchPlaces.{EndsBoundary, IsToTheSame, Represents, ReportsAlone, ReportsAndGives, Steps, WhereAsked, asked_of as fetch_of}
+use Rattle.git_host.specs.FetchPlaces.{is_asked, is_boundary}
 use Rattle.git_host.specs.FetchPlaces.{ReportsLine, ReportsProgress, format_of as fetch_format, is_line_asked, is_pack, is_progress_asked}
 use Rattle.git_host.specs.FetchPlaces.{step_of as fetch_step, with_line, with_pack, with_progress}
-use Rattle.git_host.specs.ReferencesPlaces.{ReferencesFacts, Reports, ReportsHidden, ReportsOn, ReportsUnborn}
+use Rattle.git_host.specs.ReferencesPlaces.{IsToTheSame as IsToTheSameRefs, KeepsAs, ReferencesFacts, Reports, ReportsHidden, ReportsOn, ReportsUnborn}
 use Rattle.git_host.specs.ReferencesPlaces.{with_ref, with_unborn}
 use Rattle.git_host.specs.SizesPlaces.{GivesSize, IsAsking, IsSizesAnswerOf, RepresentsSizes, StepsSizes}
 use Rattle.git_host.specs.HostSessions.{Facts, IsAnswerBy, of_fetch, of_references, of_sizes}
-use Rattle.git_host.specs.HostAnswers.{EndsAs, GivesOn, GoesOn, IsAnswering, IsAskedFor, IsGiven, ReportsBy, StepsAnswer, ended_as}
+use Rattle.git_host.specs.HostAnswers.{EndsAs, IsWithinLimit, Terms, GivesOn, GoesOn, IsAnswering, IsAskedFor, IsGiven, ReportsBy, StepsAnswer, ended_as}
 use Rattle.git_host.specs.HostAnswers.{of_fetch_step, of_sizes_step, on_fetch, on_references, on_sizes, on_want_refs, on_wants, found_ids, part_of, part_of}
 use Rattle.git_host.specs.HostAnswers.{line_as, packet_where, progress_as, reported_as, taken_where, with_report}
 use Rattle.git_host.specs.declared.admission.Admission.{Admission as AdmissionMachine}
@@ -58,7 +59,8 @@ use Rattle.git_host.specs.declared.host_answer.AnswerStep.{AnswerStep}
 use Rattle.git_host.specs.declared.report.HostReported.{HostReported}
 use Rattle.git_host.specs.declared.report.HostReported.TheVariants.{Taken}
 use Rattle.git_host.specs.declared.report.Report.{Report}
-use Rattle.git_host.specs.declared.report.Report.TheVariants.{Want, WantRef, Boundary as LineOf, BoundaryEnd as EndsIt, Progress as ProgressOf, Reference, Unborn}
+use Rattle.git_host.specs.declared.report.Report.TheVariants.{Want, WantRef, Boundary as LineOf, BoundaryEnd as EndsIt, Progress as ProgressOf, Reference}
+use Rattle.git_host.specs.declared.report.Report.TheVariants.{Unborn}
 
 found_more : (found : List (Option ObjectName)) (id : ObjectName) → found_ids (found ++ Some id ∷ []) ≡ found_ids found ++ id ∷ []
 found_more [] id = refl
@@ -104,19 +106,19 @@ same_fetch (of_sizes sizes) = refl
 
 module _ {A : Type 0} where
   pub no_pack_goes : (old : HostAnswer A) (bytes : List ℕ) → bytes ≡ [] → GoesOn (on_fetch (with_pack (part_of bytes))) old old
-  no_pack_goes old bytes none format q f front h = subst (λ (x : Facts). IsAnswering format old q x front) (sym (no_pack bytes none f)) h
+  no_pack_goes old bytes none m q f front h = subst (λ (x : Facts). IsAnswering m old q x front) (sym (no_pack bytes none f)) h
 
   pub no_progress_goes : (old : HostAnswer A) (bytes : List ℕ) → bytes ≡ [] → GoesOn (on_fetch (with_progress (part_of bytes))) old old
-  no_progress_goes old bytes none format q f front h = subst (λ (x : Facts). IsAnswering format old q x front) (sym (no_progress bytes none f)) h
+  no_progress_goes old bytes none m q f front h = subst (λ (x : Facts). IsAnswering m old q x front) (sym (no_progress bytes none f)) h
 
   -- what no fact tells apart
   pub gives_same : (old new : HostAnswer A) (bytes : List ℕ) → GivesOn (on_fetch (λ t. t)) old bytes new → GivesOn (λ f. f) old bytes new
-  gives_same old new bytes gives format q f front h =
-      let (packet, held, is) = gives format q f front h in
-      (packet, held, subst (λ (x : Facts). IsAnswering format new q x (front ++ packet ∷ [])) (same_fetch f) is)
+  gives_same old new bytes gives m q f front h =
+      let (packet, held, is) = gives m q f front h in
+      (packet, held, subst (λ (x : Facts). IsAnswering m new q x (front ++ packet ∷ [])) (same_fetch f) is)
 
   pub goes_same : (old new : HostAnswer A) → GoesOn (on_fetch (λ t. t)) old new → GoesOn (λ f. f) old new
-  goes_same old new goes format q f front h = subst (λ (x : Facts). IsAnswering format new q x front) (same_fetch f) (goes format q f front h)
+  goes_same old new goes m q f front h = subst (λ (x : Facts). IsAnswering m new q x front) (same_fetch f) (goes m q f front h)
 
   -- ---- a fetch
   module _ (a b : FetchAnswer A) where
@@ -125,40 +127,42 @@ module _ {A : Type 0} where
 
     pub fetch_gives : (with : FetchFacts → FetchFacts) (bytes : List ℕ) → ((t : FetchFacts) → (with t).wanted ≡ t.wanted) → ReportsAndGives with a bytes b
         → GivesOn (on_fetch with) (Fetch a) bytes (Fetch b)
-    fetch_gives with bytes keeps gives format (fetch q) (of_fetch x t) front h =
+    fetch_gives with bytes keeps gives m (fetch q) (of_fetch x t) front h =
         let g = gives t front h.represents in (
           g.packet,
           g.held.spelled,
           record {
             asked = same_asked g.same ∙ h.asked;
             format_is = g.same.format ∙ h.format_is;
-            admitted = subst (λ (ids : List ObjectName). IsAdmitted format q x ids) (sym (keeps t)) h.admitted;
+            bounded = subst (IsWithinLimit m.limit) (sym g.same.request) h.bounded;
+            admitted = subst (λ (ids : List ObjectName). IsAdmitted m.format q x ids) (sym (keeps t)) h.admitted;
             represents = g.holds;
           },
         )
-    fetch_gives with bytes keeps gives format (fetch q) (of_references t) front h = absurd h
-    fetch_gives with bytes keeps gives format (fetch q) (of_sizes t) front h = absurd h
-    fetch_gives with bytes keeps gives format (ls_refs q) f front h = absurd h
-    fetch_gives with bytes keeps gives format (object_info q) f front h = absurd h
+    fetch_gives with bytes keeps gives m (fetch q) (of_references t) front h = absurd h
+    fetch_gives with bytes keeps gives m (fetch q) (of_sizes t) front h = absurd h
+    fetch_gives with bytes keeps gives m (ls_refs q) f front h = absurd h
+    fetch_gives with bytes keeps gives m (object_info q) f front h = absurd h
 
     pub fetch_goes : (with : FetchFacts → FetchFacts) → ((t : FetchFacts) → (with t).wanted ≡ t.wanted) → ReportsAlone with a b
         → GoesOn (on_fetch with) (Fetch a) (Fetch b)
-    fetch_goes with keeps goes format (fetch q) (of_fetch x t) front h =
+    fetch_goes with keeps goes m (fetch q) (of_fetch x t) front h =
         let (same, holds) = goes t front h.represents in
         record {
           asked = same_asked same ∙ h.asked;
           format_is = same.format ∙ h.format_is;
-          admitted = subst (λ (ids : List ObjectName). IsAdmitted format q x ids) (sym (keeps t)) h.admitted;
+          bounded = subst (IsWithinLimit m.limit) (sym same.request) h.bounded;
+          admitted = subst (λ (ids : List ObjectName). IsAdmitted m.format q x ids) (sym (keeps t)) h.admitted;
           represents = holds;
         }
-    fetch_goes with keeps goes format (fetch q) (of_references t) front h = absurd h
-    fetch_goes with keeps goes format (fetch q) (of_sizes t) front h = absurd h
-    fetch_goes with keeps goes format (ls_refs q) f front h = absurd h
-    fetch_goes with keeps goes format (object_info q) f front h = absurd h
+    fetch_goes with keeps goes m (fetch q) (of_references t) front h = absurd h
+    fetch_goes with keeps goes m (fetch q) (of_sizes t) front h = absurd h
+    fetch_goes with keeps goes m (ls_refs q) f front h = absurd h
+    fetch_goes with keeps goes m (object_info q) f front h = absurd h
 
     -- nothing changed
     fetch_same : b ≡ a → GoesOn (λ f. f) (Fetch a) (Fetch b)
-    fetch_same same format q f front h = subst (λ (x : FetchAnswer A). IsAnswering format (Fetch x) q f front) (sym same) h
+    fetch_same same m q f front h = subst (λ (x : FetchAnswer A). IsAnswering m (Fetch x) q f front) (sym same) h
 
     packet_by : (report : Report) (with : FetchFacts → FetchFacts) (bytes : List ℕ) (asked : Bool) → (IsAskedFor report (Fetch a) → asked ≡ true)
         → (ReportsAndGives with a bytes b → GivesOn (with_report report) (Fetch a) bytes (Fetch b)) → (asked ≡ true → EndsAs report (Fetch b))
@@ -234,14 +238,14 @@ module _ {A : Type 0} where
     fetch_given : (manner : Manner)
         → ((t : FetchFacts) (given : List Pkt) → Represents t given a → IsSoundFetchAnswer manner (fetch_format a) (fetch_of a) t given)
         → IsGiven manner (Fetch a)
-    fetch_given manner given format (fetch q) (of_fetch x t) front h =
-        fetch_by manner format q x t front h.admitted
-        (subst (λ (asked : FetchAsked). IsSoundFetchAnswer manner format asked t front) h.asked
-        (subst (λ (m : Format). IsSoundFetchAnswer manner m (fetch_of a) t front) h.format_is (given t front h.represents)))
-    fetch_given manner given format (fetch q) (of_references t) front h = absurd h
-    fetch_given manner given format (fetch q) (of_sizes t) front h = absurd h
-    fetch_given manner given format (ls_refs q) f front h = absurd h
-    fetch_given manner given format (object_info q) f front h = absurd h
+    fetch_given manner given m (fetch q) (of_fetch x t) front h =
+        fetch_by manner m.format q x t front h.admitted
+        (subst (λ (asked : FetchAsked). IsSoundFetchAnswer manner m.format asked t front) h.asked
+        (subst (λ (format : Format). IsSoundFetchAnswer manner format (fetch_of a) t front) h.format_is (given t front h.represents)))
+    fetch_given manner given m (fetch q) (of_references t) front h = absurd h
+    fetch_given manner given m (fetch q) (of_sizes t) front h = absurd h
+    fetch_given manner given m (ls_refs q) f front h = absurd h
+    fetch_given manner given m (object_info q) f front h = absurd h
 
     -- the next step of a fetch
     pub fetch_steps : (step : Step) (bytes : List ℕ) → step ≡ fetch_step a → Steps a step bytes b
@@ -262,26 +266,33 @@ module _ {A : Type 0} where
 
   -- ---- references
   module _ (a b : ReferencesAnswer A) where
-    references_give : (with : ReferencesFacts → ReferencesFacts) (bytes : List ℕ) → b.format ≡ a.format → ReportsOn with a bytes b
-        → GivesOn (on_references with) (References a) bytes (References b)
-    references_give with bytes same gives format (ls_refs q) (of_references t) front h =
-        let (packet, held, holds) = gives q t front h.1 in
-        (packet, held.spelled, (same ∙ h.0, holds))
-    references_give with bytes same gives format (ls_refs q) (of_fetch x t) front h = absurd h
-    references_give with bytes same gives format (ls_refs q) (of_sizes t) front h = absurd h
-    references_give with bytes same gives format (fetch q) f front h = absurd h
-    references_give with bytes same gives format (object_info q) f front h = absurd h
+    listing_bounded : (m : Terms) → KeepsAs a.listing b → IsWithinLimit m.limit a.listing → IsWithinLimit m.limit b.listing
+    listing_bounded m keeps h = record {
+      covered = omega (arith, keeps.kept, keeps.stored, h.covered);
+      within = omega (arith, keeps.kept, h.within);
+    }
 
-    references_go : (with : ReferencesFacts → ReferencesFacts) → b.format ≡ a.format → ReportsHidden with a b
+    references_give : (with : ReferencesFacts → ReferencesFacts) (bytes : List ℕ) → IsToTheSameRefs a b → ReportsOn with a bytes b
+        → GivesOn (on_references with) (References a) bytes (References b)
+    references_give with bytes same gives m (ls_refs q) (of_references t) front h =
+        let (packet, held, holds) = gives q t front h.represents in
+        (packet, held.spelled, record { format_is = same.format ∙ h.format_is; bounded = listing_bounded m same.keeps h.bounded; represents = holds })
+    references_give with bytes same gives m (ls_refs q) (of_fetch x t) front h = absurd h
+    references_give with bytes same gives m (ls_refs q) (of_sizes t) front h = absurd h
+    references_give with bytes same gives m (fetch q) f front h = absurd h
+    references_give with bytes same gives m (object_info q) f front h = absurd h
+
+    references_go : (with : ReferencesFacts → ReferencesFacts) → IsToTheSameRefs a b → ReportsHidden with a b
         → GoesOn (on_references with) (References a) (References b)
-    references_go with same goes format (ls_refs q) (of_references t) front h = (same ∙ h.0, goes q t front h.1)
-    references_go with same goes format (ls_refs q) (of_fetch x t) front h = absurd h
-    references_go with same goes format (ls_refs q) (of_sizes t) front h = absurd h
-    references_go with same goes format (fetch q) f front h = absurd h
-    references_go with same goes format (object_info q) f front h = absurd h
+    references_go with same goes m (ls_refs q) (of_references t) front h =
+        record { format_is = same.format ∙ h.format_is; bounded = listing_bounded m same.keeps h.bounded; represents = goes q t front h.represents }
+    references_go with same goes m (ls_refs q) (of_fetch x t) front h = absurd h
+    references_go with same goes m (ls_refs q) (of_sizes t) front h = absurd h
+    references_go with same goes m (fetch q) f front h = absurd h
+    references_go with same goes m (object_info q) f front h = absurd h
 
     references_same : b ≡ a → GoesOn (λ f. f) (References a) (References b)
-    references_same same format q f front h = subst (λ (x : ReferencesAnswer A). IsAnswering format (References x) q f front) (sym same) h
+    references_same same m q f front h = subst (λ (x : ReferencesAnswer A). IsAnswering m (References x) q f front) (sym same) h
 
     reference_by : (entry : Entry) (reported : Reported) (bytes : List ℕ) → Reports entry a reported bytes b
         → ReportsBy (Reference entry) (References a) (reported_as reported) bytes (References b)
@@ -317,16 +328,23 @@ module _ {A : Type 0} where
   module _ (a b : SizesAnswer A) where
     sizes_give : (with : List (Option ℕ) → List (Option ℕ)) (bytes : List ℕ) → GivesSize with a bytes b
         → GivesOn (on_sizes with) (Sizes a) bytes (Sizes b)
-    sizes_give with bytes gives format (object_info q) (of_sizes sizes) front h =
-        let (packet, held, holds) = gives.gives sizes front h.1 in
-        (packet, held.spelled, (gives.same ∙ h.0, holds))
-    sizes_give with bytes gives format (object_info q) (of_fetch x t) front h = absurd h
-    sizes_give with bytes gives format (object_info q) (of_references t) front h = absurd h
-    sizes_give with bytes gives format (fetch q) f front h = absurd h
-    sizes_give with bytes gives format (ls_refs q) f front h = absurd h
+    sizes_give with bytes gives m (object_info q) (of_sizes sizes) front h =
+        let (packet, held, holds) = gives.gives sizes front h.represents in (
+          packet,
+          held.spelled,
+          record {
+            asked = ap (λ (r : Kept ObjectInfoAsked). r.asked) gives.same ∙ h.asked;
+            bounded = subst (IsWithinLimit m.limit) (sym gives.same) h.bounded;
+            represents = holds;
+          },
+        )
+    sizes_give with bytes gives m (object_info q) (of_fetch x t) front h = absurd h
+    sizes_give with bytes gives m (object_info q) (of_references t) front h = absurd h
+    sizes_give with bytes gives m (fetch q) f front h = absurd h
+    sizes_give with bytes gives m (ls_refs q) f front h = absurd h
 
     sizes_same : b ≡ a → GoesOn (λ f. f) (Sizes a) (Sizes b)
-    sizes_same same format q f front h = subst (λ (x : SizesAnswer A). IsAnswering format (Sizes x) q f front) (sym same) h
+    sizes_same same m q f front h = subst (λ (x : SizesAnswer A). IsAnswering m (Sizes x) q f front) (sym same) h
 
     same_sizes : (f : Facts) → on_sizes (λ sizes. sizes) f ≡ f
     same_sizes (of_fetch x t) = refl
@@ -335,18 +353,18 @@ module _ {A : Type 0} where
 
     sizes_whole : ((sizes : List (Option ℕ)) (given : List Pkt) → RepresentsSizes sizes given a → IsSizesAnswerOf a.request.asked sizes given)
         → IsGiven whole (Sizes a)
-    sizes_whole given format (object_info q) (of_sizes sizes) front h =
-        subst (λ (asked : ObjectInfoAsked). IsSizesAnswerOf asked sizes front) h.0 (given sizes front h.1)
-    sizes_whole given format (object_info q) (of_fetch x t) front h = absurd h
-    sizes_whole given format (object_info q) (of_references t) front h = absurd h
-    sizes_whole given format (fetch q) f front h = absurd h
-    sizes_whole given format (ls_refs q) f front h = absurd h
+    sizes_whole given m (object_info q) (of_sizes sizes) front h =
+        subst (λ (asked : ObjectInfoAsked). IsSizesAnswerOf asked sizes front) h.asked (given sizes front h.represents)
+    sizes_whole given m (object_info q) (of_fetch x t) front h = absurd h
+    sizes_whole given m (object_info q) (of_references t) front h = absurd h
+    sizes_whole given m (fetch q) f front h = absurd h
+    sizes_whole given m (ls_refs q) f front h = absurd h
 
     pub sizes_steps : (step : SizesStep) (bytes : List ℕ) → StepsSizes a step bytes b → StepsAnswer (Sizes a) (of_sizes_step step) bytes (Sizes b)
     sizes_steps SizesPacket bytes gives =
-        λ format q f front h.
-        let (packet, held, is) = sizes_give (λ sizes. sizes) bytes gives format q f front h in
-        (packet, held, subst (λ (x : Facts). IsAnswering format (Sizes b) q x (front ++ packet ∷ [])) (same_sizes f) is)
+        λ m q f front h.
+        let (packet, held, is) = sizes_give (λ sizes. sizes) bytes gives m q f front h in
+        (packet, held, subst (λ (x : Facts). IsAnswering m (Sizes b) q x (front ++ packet ∷ [])) (same_sizes f) is)
     sizes_steps (AskSize at) bytes done = (sizes_same done.0, subst (λ (x : SizesAnswer A). IsAsking x at) (sym done.0) done.1)
     sizes_steps SizesWhole bytes done = sizes_whole done.1
 
@@ -359,43 +377,46 @@ module _ {A : Type 0} where
   -- ---- an admission
   module _ (a b : AdmissionMachine A) where
     unchanged : b ≡ a → GoesOn (λ f. f) (Admission a) (Admission b)
-    unchanged same format q f front h = subst (λ (x : AdmissionMachine A). IsAnswering format (Admission x) q f front) (sym same) h
+    unchanged same m q f front h = subst (λ (x : AdmissionMachine A). IsAnswering m (Admission x) q f front) (sym same) h
 
     want_goes : (has : Bool) → AdmissionReports (with_want has) a b → GoesOn (on_wants has) (Admission a) (Admission b)
-    want_goes has done format (fetch q) (of_fetch x t) front h =
+    want_goes has done m (fetch q) (of_fetch x t) front h =
         record {
-          asked = done.asked ∙ h.asked;
+          asked = ap (λ (r : Kept FetchAsked). r.asked) done.request ∙ h.asked;
           format_is = done.format ∙ h.format_is;
+          bounded = subst (IsWithinLimit m.limit) (sym done.request) h.bounded;
           represents = done.represents x h.represents;
           facts = h.facts;
           none = h.none;
         }
-    want_goes has done format (fetch q) (of_references t) front h = absurd h
-    want_goes has done format (fetch q) (of_sizes t) front h = absurd h
-    want_goes has done format (ls_refs q) f front h = absurd h
-    want_goes has done format (object_info q) f front h = absurd h
+    want_goes has done m (fetch q) (of_references t) front h = absurd h
+    want_goes has done m (fetch q) (of_sizes t) front h = absurd h
+    want_goes has done m (ls_refs q) f front h = absurd h
+    want_goes has done m (object_info q) f front h = absurd h
 
     want_ref_goes : (id : Option ObjectName) → AdmissionReports (with_found id) a b → GoesOn (on_want_refs id) (Admission a) (Admission b)
-    want_ref_goes (Some id) done format (fetch q) (of_fetch x t) front h =
+    want_ref_goes (Some id) done m (fetch q) (of_fetch x t) front h =
         record {
-          asked = done.asked ∙ h.asked;
+          asked = ap (λ (r : Kept FetchAsked). r.asked) done.request ∙ h.asked;
           format_is = done.format ∙ h.format_is;
+          bounded = subst (IsWithinLimit m.limit) (sym done.request) h.bounded;
           represents = done.represents x h.represents;
           facts = ap (λ (s : FetchFacts). record s { wanted = s.wanted ++ id ∷ [] }) h.facts ∙ ap no_facts (sym (found_more x.found id));
           none = h.none;
         }
-    want_ref_goes None done format (fetch q) (of_fetch x t) front h =
+    want_ref_goes None done m (fetch q) (of_fetch x t) front h =
         record {
-          asked = done.asked ∙ h.asked;
+          asked = ap (λ (r : Kept FetchAsked). r.asked) done.request ∙ h.asked;
           format_is = done.format ∙ h.format_is;
+          bounded = subst (IsWithinLimit m.limit) (sym done.request) h.bounded;
           represents = done.represents x h.represents;
           facts = h.facts ∙ ap no_facts (sym (found_less x.found));
           none = h.none;
         }
-    want_ref_goes id done format (fetch q) (of_references t) front h = absurd h
-    want_ref_goes id done format (fetch q) (of_sizes t) front h = absurd h
-    want_ref_goes id done format (ls_refs q) f front h = absurd h
-    want_ref_goes id done format (object_info q) f front h = absurd h
+    want_ref_goes id done m (fetch q) (of_references t) front h = absurd h
+    want_ref_goes id done m (fetch q) (of_sizes t) front h = absurd h
+    want_ref_goes id done m (ls_refs q) f front h = absurd h
+    want_ref_goes id done m (object_info q) f front h = absurd h
 
     want_by : (has asked : Bool) (bytes : List ℕ) → ReportsWant has a asked b
         → ReportsBy (Want has) (Admission a) (taken_where asked) bytes (Admission b)
@@ -417,23 +438,24 @@ module _ {A : Type 0} where
 
   -- an admission that is through becomes the answer
   pub admitted_goes : (a : AdmissionMachine A) (answer : FetchAnswer A) → BecomesAnswer a answer → GoesOn (λ f. f) (Admission a) (Fetch answer)
-  admitted_goes a answer done format (fetch q) (of_fetch x t) front h =
+  admitted_goes a answer done m (fetch q) (of_fetch x t) front h =
       let through = done.admitted x h.represents in
       let ids = a.wanted.items in
       let is : t ≡ no_facts ids = h.facts ∙ ap no_facts (ap found_ids through.found ∙ all_found ids) in
       record {
-        asked = done.asked ∙ h.asked;
+        asked = ap (λ (r : Kept FetchAsked). r.asked) done.request ∙ h.asked;
         format_is = done.format ∙ h.format_is;
-        admitted = subst (λ (s : FetchFacts). IsAdmitted format q x s.wanted) (sym is)
-            (subst (λ (m : Format). IsAdmitted m q x ids) h.format_is
+        bounded = subst (IsWithinLimit m.limit) (sym done.request) h.bounded;
+        admitted = subst (λ (s : FetchFacts). IsAdmitted m.format q x s.wanted) (sym is)
+            (subst (λ (format : Format). IsAdmitted format q x ids) h.format_is
             (subst (λ (r : FetchAsked). IsAdmitted a.format r x ids) h.asked through));
         represents = subst (λ (s : FetchFacts). Represents s front answer) (sym is)
             (subst (λ (l : List Pkt). Represents (no_facts ids) l answer) (sym h.none) (done.represents x h.represents));
       }
-  admitted_goes a answer done format (fetch q) (of_references t) front h = absurd h
-  admitted_goes a answer done format (fetch q) (of_sizes t) front h = absurd h
-  admitted_goes a answer done format (ls_refs q) f front h = absurd h
-  admitted_goes a answer done format (object_info q) f front h = absurd h
+  admitted_goes a answer done m (fetch q) (of_references t) front h = absurd h
+  admitted_goes a answer done m (fetch q) (of_sizes t) front h = absurd h
+  admitted_goes a answer done m (ls_refs q) f front h = absurd h
+  admitted_goes a answer done m (object_info q) f front h = absurd h
 
   pub admitted_by : (a : AdmissionMachine A) (answer : FetchAnswer A) (r : Result (FetchAnswer A) (AdmissionMachine A)) (old : HostAnswer A)
       → old ≡ Admission a → r ≡ Ok answer → Becomes a r → GoesOn (λ f. f) old (Fetch answer)

@@ -1,5 +1,5 @@
 -- A host's server after any calls.
-use Rattle.std.proofs.Common.{arith, ◌≡◌, ℕ, Bool, true, false, List, [], ◌∷◌, ◌++◌, length, take, Some, refl, sym, ap, ◌∙◌, subst}
+use Rattle.std.proofs.Common.{arith, ◌≡◌, ◌≤◌, ℕ, Bool, true, false, List, [], ◌∷◌, ◌++◌, length, take, Some, refl, sym, ap, ◌∙◌, subst}
 use Rattle.std.proofs.Common.{append_assoc, append-nil}
 use Rattle.std.proofs.lemmas.List.{length-take-le}
 use Rattle.git_pkt.specs.Machine.Credit.{ArePaid, MakesAll}
@@ -14,12 +14,13 @@ use Rattle.git_msg.specs.Machine.RequestStreams.{IsLeftIn, limit_of, offer_of}
 use Rattle.git_msg.specs.Machine.StreamStages.{AreBegun, takes_bytes}
 use Rattle.git_server.specs.declared.outcome.Outcome.{Outcome}
 use Rattle.git_msg.specs.Asked.{Asked}
-use Rattle.git_msg.specs.Machine.HeldRequest.{asked_of}
+use Rattle.git_msg.specs.Machine.HeldRequest.{holding_of}
 use Rattle.git_host.specs.HostAnswers.{IsAnswering}
 use Rattle.git_host.specs.HostLookups.{at_hand}
 use Rattle.git_host.specs.HostSessions.{AtLast, Facts, HostSetting, IsSoFar, IsUnderWay, IsWaiting, nothing_for}
-use Rattle.git_host.specs.HostServer.{AreHandedOut, Hosts, HostsIn, IsReading, IsUntouched, credit_of, outcome_in}
-use Rattle.git_host.specs.HostCalls.{AllHandOut, HandsOut, HostCall, HostHeadline, Makes, accept, close, feed, given_by, given_in, feeds_by, next, over_after, over_with}
+use Rattle.git_host.specs.HostServer.{AreHandedOut, Hosts, HostsIn, IsReading, IsUntouched, bytes_of, credit_of, outcome_in, terms_of}
+use Rattle.git_host.specs.HostCalls.{AllHandOut, HandsOut, HostCall, HostHeadline, Makes, accept, close, feed, given_by, given_in, feeds_by, next}
+use Rattle.git_host.specs.HostCalls.{over_after, over_with}
 use Rattle.git_host.specs.HostCalls.{nothing, refuse, report, reported_after, reported_with, used_by, used_in}
 use Rattle.git_host.specs.declared.host_server.HostServer.{HostServer}
 use Rattle.git_host.specs.declared.host_server.Phase.{Phase}
@@ -28,7 +29,9 @@ use Rattle.git_host.specs.declared.report.HostStep.TheVariants.{Packet, NeedInpu
 use Rattle.git_host.specs.declared.report.HostReported.TheVariants.{Packet as WasGiven, Taken, Hidden, NotAsked, MixedFormats, Unsorted, HeadTwice}
 use Rattle.git_host.specs.declared.report.HostReported.TheVariants.{NotShallow, OutOfMemory}
 use Rattle.git_host.proofs.AnswerFronts.{answering_so_far, start_so_far}
-use Rattle.git_host.proofs.HostMoves.{as_asked, is_reading_now, last_goes, same_last}
+use Rattle.git_host.proofs.HostMemoryMoves.{host_bounded, host_holds}
+use Rattle.git_host.proofs.HostMoves.{as_asked, is_reading_now}
+use Rattle.git_host.proofs.LentStreams.{last_goes, same_last}
 
 module _ {A : Type 0} where
   -- nothing more used, or nothing more given
@@ -181,7 +184,7 @@ under_way s used over facts given (Whole request) stream flush asked is h = reco
   goes_on = h.reads.goes_on;
   are_asked = h.are_asked;
   last = subst (λ (fs : List Facts). AtLast s h.asked fs given (IsSoFar s.offer.format)) (same_last facts)
-      (last_goes s h.asked facts given (IsUntouched (asked_of request)) (IsSoFar s.offer.format) (λ f. f) h.last
+      (last_goes s h.asked facts given (IsUntouched s.limit (holding_of request)) (IsSoFar s.offer.format) (λ f. f) h.last
       (λ q f front x. subst (λ (g : Facts). IsSoFar s.offer.format q g front) (sym x.nothing)
       (subst (IsSoFar s.offer.format q (nothing_for q)) (sym x.none) (start_so_far s.offer.format q))));
 }
@@ -190,8 +193,8 @@ under_way s used over facts given (Answering answer) stream flush asked is h = r
   goes_on = h.reads.goes_on;
   are_asked = h.are_asked;
   last = subst (λ (fs : List Facts). AtLast s h.asked fs given (IsSoFar s.offer.format)) (same_last facts)
-      (last_goes s h.asked facts given (IsAnswering s.offer.format answer) (IsSoFar s.offer.format) (λ f. f) h.last
-      (λ q f front x. answering_so_far s.offer.format answer q f front x));
+      (last_goes s h.asked facts given (IsAnswering (terms_of s) answer) (IsSoFar s.offer.format) (λ f. f) h.last
+      (λ q f front x. answering_so_far (terms_of s) answer q f front x));
 }
 under_way s used over facts given Advertising stream flush asked is h = absurd (cc)
 under_way s used over facts given Reading stream flush asked is h = absurd (cc)
@@ -199,13 +202,19 @@ under_way s used over facts given (Refusing fault) stream flush asked is h = abs
 under_way s used over facts given (Ended outcome) stream flush asked is h = absurd (cc)
 
 pub after_calls : {A : Type 0} (s : HostSetting) (calls : List HostCall) (before after : ℕ) (first last : HostServer A) → Hosts s [] false [] [] first
-    → credit_of first ≡ 0 → MakesAll Makes calls before first after last → HostHeadline s calls before after last
-after_calls s calls before after first last fresh no_credit made =
+    → credit_of first ≡ 0 → MakesAll Makes calls before first after last → length (bytes_of last) ≤ 65520 → HostHeadline s calls before after last
+after_calls s calls before after first last fresh no_credit made fits =
     let h = any_calls s calls before first after last made [] false [] [] fresh in
+    let (stored, kept, objects) = host_bounded s (used_in calls) (over_after false calls) (reported_after [] calls) (given_in calls) last h in
     let paid = all_paid Makes credit_of used_by feeds_by paid_by calls before first after last made in
     record {
       rises = paid.rises;
       steps = omega (arith, paid.within, no_credit);
+      hold = fits;
+      stored = stored;
+      kept = kept;
+      objects = objects;
+      held = host_holds s (used_in calls) (over_after false calls) (reported_after [] calls) (given_in calls) last h fits;
       gives = all_packets s calls before first after last made [] false [] [] fresh;
       ends = λ outcome is. subst (λ (p : Phase _). HostsIn p s (used_in calls) (over_after false calls) (reported_after [] calls) (given_in calls)
           last.stream last.flush) (ended_is last.phase outcome is) h.stands;

@@ -1,11 +1,10 @@
 -- A host's server from one moment to the next.
 use Rattle.std.proofs.Common.{arith, ◌≡◌, ◌≢◌, ℕ, ◌-◌, ◌*◌, ◌≤◌, Bool, true, false, if◌then◌else◌, List, [], ◌∷◌, ◌++◌, length, Option, Some, None, Err}
 use Rattle.std.proofs.Common.{refl, sym, ap, ◌∙◌, subst}
-use Rattle.std.proofs.Common.{append_assoc, append-nil, length-append, inl, inr, take}
+use Rattle.std.proofs.Common.{append-nil, length-append, inl, inr, take}
 use Rattle.std.specs.Prelude.{OnSome}
 use Rattle.arrayvec.specs.ArrayVec.{ArrayVec}
-use Rattle.git_pkt.specs.Digits.{digits_of}
-use Rattle.git_pkt.specs.Packets.{Pkt, body_of, length_field, spelling_of}
+use Rattle.git_pkt.specs.Packets.{Pkt, spelling_of}
 use Rattle.git_pkt.specs.Splits.{Given, SpellsAll}
 use Rattle.git_pkt.specs.Machine.ReaderState.{come_in, is_open_in}
 use Rattle.git_pkt.specs.Machine.Credit.{credit_of as packet_credit}
@@ -13,28 +12,25 @@ use Rattle.git_pkt.specs.declared.reader.State.{State}
 use Rattle.git_pkt.specs.declared.reader.State.TheVariants.{Between as NotOpen, Gathering, Passing, Failed as Failing}
 use Rattle.git_msg.specs.Machine.RequestStreams.{credit_of as stream_credit}
 use Rattle.git_host.specs.HostServer.{credit_in, credit_of, first_phase}
-use Rattle.git_pkt.specs.Machine.LentHold.{with_hold, with_hold_by}
-use Rattle.git_pkt.specs.Machine.PacketReader.{Reads, bytes_held, fault_of as packet_fault, held_of, is_open}
+use Rattle.git_pkt.specs.Machine.LentHold.{with_hold_by}
+use Rattle.git_pkt.specs.Machine.PacketReader.{Reads, fault_of as packet_fault, is_open}
 use Rattle.git_pkt.specs.declared.reader.PacketReader.{PacketReader}
 use Rattle.git_pkt.specs.declared.fault.Fault.{Fault}
 use Rattle.git_pkt.specs.declared.fault.Kind.{Kind}
 use Rattle.git_pkt.specs.declared.fault.Kind.TheVariants.{NotOurs, UnknownRef, PackSource, RemoteError}
-use Rattle.git_pkt.proofs.LentHolds.{lent_reads}
 use Rattle.git_pkt.proofs.KnownRest.{some_inside, sound_rest}
 use Rattle.git_msg.specs.declared.requests.Request.{Request}
 use Rattle.git_msg.specs.Asked.{Asked, fetch, ls_refs, object_info}
-use Rattle.git_msg.specs.Machine.HeldRequest.{asked_of}
-use Rattle.git_msg.specs.Machine.RequestReader.{Takes, fault_of as reader_fault, is_waiting, kept_so_far, limit_in, offer_of as offer_in}
+use Rattle.git_msg.specs.Machine.HeldRequest.{asked_of, holding_of, kept_of, stored_of}
 use Rattle.git_msg.specs.Machine.StreamStages.{fault_in, stage_is_between, takes_bytes}
 use Rattle.git_msg.specs.declared.limits.Limits.{Limits}
 use Rattle.git_msg.specs.Machine.RequestStreams.{Closes, EndsWith, Feeds as StreamFeeds, Leaves, asked_by}
 use Rattle.git_msg.specs.declared.streams.ReadGot.{ReadGot}
 use Rattle.git_msg.specs.declared.streams.ReadGot.TheVariants.{More, Request as RequestGot, Stop as StopGot, Failed as FailedGot}
 use Rattle.git_msg.specs.declared.streams.ReadRequest.{ReadRequest}
-use Rattle.git_msg.specs.Machine.RequestStreams.{AreAsked, HasRead, IsAtTheEnd, IsLeftIn, IsLent, IsOne, IsRefusedAs, ReadsOnward, bytes_used, hold_of}
+use Rattle.git_msg.specs.Machine.RequestStreams.{AreAsked, HasRead, IsAtTheEnd, IsLeftIn, IsLent, IsOne, IsRefusedAs, bytes_used, hold_of}
 use Rattle.git_msg.specs.Machine.RequestStreams.{is_within_packet, limit_of, offer_of, wants_input}
 use Rattle.git_msg.specs.WholeRequests.{AreRequests}
-use Rattle.git_msg.specs.declared.reader.RequestReader.{RequestReader}
 use Rattle.git_msg.specs.declared.streams.RequestStream.{RequestStream}
 use Rattle.git_msg.specs.declared.streams.Stage.{Stage}
 use Rattle.git_msg.specs.declared.streams.Stage.TheVariants.{Between, Within, Stopped, Failed}
@@ -43,13 +39,14 @@ use Rattle.git_msg.proofs.StreamEnds.{all_whole}
 use Rattle.git_server.specs.Packs.{whole, broken}
 use Rattle.git_server.specs.Answers.{advertisement_of, error_packet, refusal_by, spelled}
 use Rattle.git_server.specs.declared.outcome.Outcome.TheVariants.{Flush, Refused}
-use Rattle.git_server.proofs.Sent.{spelled_one}
 use Rattle.git_host.specs.HostSessions.{AllAnswered, AreAnswersBy, AtLast, Facts, HostSetting, IsAnswerBy, IsHosted, IsLacking, IsTailBy, ShowsWhere, StopsBy}
 use Rattle.git_host.specs.HostSessions.{advertised, nothing_for, of_fetch, of_references, of_sizes, refusal_packet}
-use Rattle.git_host.specs.HostServer.{AreHandedOut, Hosts, HostsIn, IsAdvertising, IsAtRequest, IsReading, IsRefusing, IsUntouched, ReadsOn}
-use Rattle.git_host.specs.HostServer.{EndsHost, IsAccepted, IsGivenWith, ReportsHost, StopsHost, HasReason, is_asked, begun_in, is_answering, ended_by, reads_on}
+use Rattle.git_host.specs.HostServer.{AreHandedOut, terms_of, Hosts, HostsIn, IsAdvertising, IsAtRequest, IsReading, IsRefusing, IsUntouched}
+use Rattle.git_host.specs.HostServer.{EndsHost, IsAccepted, IsGivenWith, ReportsHost, StopsHost, HasReason, is_asked, begun_in, is_answering, ended_by}
+use Rattle.git_host.specs.HostServer.{reads_on}
 use Rattle.git_host.specs.HostServer.{given_with, is_reading, refused_by, with_last}
-use Rattle.git_host.specs.HostAnswers.{FailsBy, GivesOn, GoesOn, IsAnswering, IsCut, IsGiven, LacksIt, ReportsBy, with_hidden, with_report, with_reported}
+use Rattle.git_host.specs.HostAnswers.{FailsBy, IsBegun, IsWithinLimit, GivesOn, GoesOn, IsAnswering, IsCut, IsGiven, LacksIt, ReportsBy, with_hidden}
+use Rattle.git_host.specs.HostAnswers.{with_report, with_reported}
 use Rattle.git_host.specs.declared.host_answer.HostAnswer.{HostAnswer}
 use Rattle.git_host.specs.declared.host_server.HostServer.{HostServer}
 use Rattle.git_host.specs.declared.host_answer.Failing.TheVariants.{NotAsked as FailingUnasked, Packet as FailingPacket}
@@ -61,193 +58,8 @@ use Rattle.git_host.specs.declared.report.HostReported.TheVariants.{NotShallow, 
 use Rattle.git_host.specs.declared.host_server.Phase.{Phase}
 use Rattle.git_host.specs.declared.host_server.Phase.TheVariants.{Advertising, Reading, Asked as Whole, Answering, Refusing, Ended}
 use Rattle.git_names.specs.declared.object_format.Format.{Format}
-
--- ---- the last request
-
-pub last_on : (with : Facts → Facts) (fs : List Facts) (f : Facts) → with_last with (fs ++ f ∷ []) ≡ fs ++ with f ∷ []
-last_on with [] f = refl
-last_on with (g ∷ []) f = refl
-last_on with (g ∷ h ∷ fs) f = ap (λ (l : List Facts). g ∷ l) (last_on with (h ∷ fs) f)
-
-pub same_last : (fs : List Facts) → with_last (λ f. f) fs ≡ fs
-same_last [] = refl
-same_last (f ∷ []) = refl
-same_last (f ∷ g ∷ fs) = ap (λ (l : List Facts). f ∷ l) (same_last (g ∷ fs))
-
--- an answer more
-answers_more : (format : Format) (qs : List Asked) (fs : List Facts) (packets : List Pkt) (q : Asked) (f : Facts) (answer : List Pkt)
-    → AreAnswersBy format qs fs packets → IsAnswerBy whole format q f answer → AreAnswersBy format (qs ++ q ∷ []) (fs ++ f ∷ []) (packets ++ answer)
-answers_more format [] [] packets q f answer h is = (answer, [], ap (λ (l : List Pkt). l ++ answer) h ∙ sym (append-nil answer), is, refl)
-answers_more format (p ∷ ps) (u ∷ us) packets q f answer (first, more, cut, one, rest) is =
-    (first, more ++ answer, ap (λ (l : List Pkt). l ++ answer) cut ∙ append_assoc first more answer, one, answers_more format ps us more q f answer rest is)
-answers_more format [] (u ∷ us) packets q f answer h is = absurd h
-answers_more format (p ∷ ps) [] packets q f answer h is = absurd h
-
-module _ (s : HostSetting) (asked : List Asked) (reported : List Facts) (given : List ℕ) where
-  pub last_begun : (q : Asked) (P : Asked → Facts → List Pkt → Type 0) → AllAnswered s asked reported given → P q (nothing_for q) []
-      → AtLast s (asked ++ q ∷ []) (reported ++ nothing_for q ∷ []) given P
-  last_begun q P h is = record {
-    earlier = asked;
-    earlier_reported = reported;
-    q = q;
-    f = nothing_for q;
-    answers = h.answers;
-    front = [];
-    asked_is = refl;
-    reported_is = refl;
-    answered = h.answered;
-    last = is;
-    given_is = h.given_is ∙ ap (λ (l : List Pkt). spelled (advertised s ++ l)) (sym (append-nil h.answers));
-  }
-
-  module _ (P Q : Asked → Facts → List Pkt → Type 0) where
-    pub last_goes : (with : Facts → Facts) → AtLast s asked reported given P → ((q : Asked) (f : Facts) (front : List Pkt) → P q f front → Q q (with f) front)
-        → AtLast s asked (with_last with reported) given Q
-    last_goes with h goes = record {
-      earlier = h.earlier;
-      earlier_reported = h.earlier_reported;
-      q = h.q;
-      f = with h.f;
-      answers = h.answers;
-      front = h.front;
-      asked_is = h.asked_is;
-      reported_is = ap (with_last with) h.reported_is ∙ last_on with h.earlier_reported h.f;
-      answered = h.answered;
-      last = goes h.q h.f h.front h.last;
-      given_is = h.given_is;
-    }
-
-    pub last_gives : (with : Facts → Facts) (bytes : List ℕ) → AtLast s asked reported given P
-        → ((q : Asked) (f : Facts) (front : List Pkt) → P q f front
-        → (packet : Pkt) × (bytes ≡ spelling_of packet) × Q q (with f) (front ++ packet ∷ []))
-        → AtLast s asked (with_last with reported) (given ++ bytes) Q
-    last_gives with bytes h gives =
-        let (packet, held, is) = gives h.q h.f h.front h.last in
-        record {
-          earlier = h.earlier;
-          earlier_reported = h.earlier_reported;
-          q = h.q;
-          f = with h.f;
-          answers = h.answers;
-          front = h.front ++ packet ∷ [];
-          asked_is = h.asked_is;
-          reported_is = ap (with_last with) h.reported_is ∙ last_on with h.earlier_reported h.f;
-          answered = h.answered;
-          last = is;
-          given_is = ap (λ (l : List ℕ). l ++ bytes) h.given_is ∙ ap (λ (b : List ℕ). spelled (advertised s ++ (h.answers ++ h.front)) ++ b) held
-              ∙ sym (spelled_one (advertised s ++ (h.answers ++ h.front)) packet)
-              ∙ ap spelled (append_assoc (advertised s) (h.answers ++ h.front) (packet ∷ [])
-              ∙ ap (λ (l : List Pkt). advertised s ++ l) (append_assoc h.answers h.front (packet ∷ [])));
-        }
-
-    pub last_whole : AtLast s asked reported given P → ((q : Asked) (f : Facts) (front : List Pkt) → P q f front → IsAnswerBy whole s.offer.format q f front)
-        → AllAnswered s asked reported given
-    last_whole h is =
-        let all = answers_more s.offer.format h.earlier h.earlier_reported h.answers h.q h.f h.front h.answered (is h.q h.f h.front h.last) in
-        record {
-          answers = h.answers ++ h.front;
-          answered = subst (λ (qs : List Asked). AreAnswersBy s.offer.format qs reported (h.answers ++ h.front)) (sym h.asked_is)
-              (subst (λ (fs : List Facts). AreAnswersBy s.offer.format (h.earlier ++ h.q ∷ []) fs (h.answers ++ h.front)) (sym h.reported_is) all);
-          given_is = h.given_is;
-        }
-
--- ---- a stream whose hold was lent
-
--- a packet is written in four bytes at least
-pub packet_some : (bytes : List ℕ) (packet : Pkt) → bytes ≡ spelling_of packet → 4 ≤ length bytes
-packet_some bytes packet is = omega (arith, ap length is, length-append (digits_of (length_field packet)) (body_of packet))
-
-some_packets : (packets : List Pkt) → packets ≢ [] → 4 ≤ length (spelled packets)
-some_packets [] some = absurd (some refl)
-some_packets (packet ∷ packets) some =
-    omega (arith, packet_some (spelling_of packet) packet refl, length-append (spelling_of packet) (spelled packets))
-
-some_advertised : (offer : Offer) → advertisement_of offer ≢ []
-some_advertised offer is = cc
-
-fault_lent : (r : PacketReader) (hold : ArrayVec ℕ) (b : Bool) (e : is_open_in r.state ≡ b) → packet_fault (with_hold_by r hold b e) ≡ packet_fault r
-fault_lent r hold true e = refl
-fault_lent r hold false e = refl
-
-held_lent : (r : PacketReader) (hold : ArrayVec ℕ) (b : Bool) (e : is_open_in r.state ≡ b) → b ≡ false → held_of (with_hold_by r hold b e) ≡ hold.items
-held_lent r hold true e shut = absurd (cc)
-held_lent r hold false e shut = refl
-
-shut_lent : (r : PacketReader) (hold : ArrayVec ℕ) (b : Bool) (e : is_open_in r.state ≡ b) → b ≡ false → is_open (with_hold_by r hold b e) ≡ false
-shut_lent r hold true e shut = absurd (cc)
-shut_lent r hold false e shut = e
-
-module _ {A : Type 0} (old : RequestStream A) (hold : ArrayVec ℕ) (new : RequestStream A) (lent : IsLent old hold new) where
-  pub lent_bytes : hold_of new ≡ hold.items
-  lent_bytes = ap held_of lent.packets ∙ held_lent old.packets hold (is_open_in old.packets.state) refl lent.between
-
-  pub lent_handed : 4 ≤ length hold.items → length hold.items ≤ 65520 → AreHandedOut (hold_of new)
-  lent_handed some fits = record { some = omega (arith, some, ap length lent_bytes); fits = omega (arith, fits, ap length lent_bytes) }
-
-  pub lent_between : is_within_packet new ≡ false
-  lent_between = ap is_open lent.packets ∙ shut_lent old.packets hold (is_open_in old.packets.state) refl lent.between
-
-  lent_onward : (left : List Given) → ReadsOnward left old → ReadsOnward left new
-  lent_onward left h = record {
-    sound = ap packet_fault lent.packets ∙ fault_lent old.packets hold (is_open_in old.packets.state) refl ∙ h.sound;
-    takes = subst (λ (r : RequestReader A). Takes left r) (sym lent.requests) h.takes;
-    open_ended = ap reader_fault lent.requests ∙ h.open_ended;
-    ready = ap is_waiting lent.requests ∙ h.ready;
-  }
-
-  lent_fits : length hold.items ≤ 65520 → bytes_held (with_hold old.packets hold) ≤ 65520
-  lent_fits few = subst (λ (l : List ℕ). length l ≤ 65520) (sym (held_lent old.packets hold (is_open_in old.packets.state) refl lent.between)) few
-
-  pub lent_read : length hold.items ≤ 65520 → (used : List ℕ) (asked : List Asked) → HasRead used asked old → HasRead used asked new
-  lent_read fits used asked h = record {
-    packets = h.packets;
-    left = h.left;
-    rest = h.rest;
-    reads = subst (λ (r : PacketReader). Reads r 0 used h.packets h.rest) (sym lent.packets)
-        (lent_reads old.packets hold (lent_fits fits) lent.between 0 used h.packets h.rest h.reads);
-    requests = subst (λ (r : RequestReader A). AreRequests (IsOne (offer_in r) (limit_in r)) h.packets asked h.left) (sym lent.requests) h.requests;
-    left_is = subst (λ (g : Stage). IsLeftIn g (offer_of new) (limit_of new) h.left h.rest (length used)) (sym lent.stage)
-        (subst (λ (r : RequestReader A). IsLeftIn old.stage (offer_in r) (limit_in r) h.left h.rest (length used)) (sym lent.requests) h.left_is);
-    onward = λ on. lent_onward h.left (h.onward (sym (ap takes_bytes lent.stage) ∙ on));
-    within = subst (λ (r : RequestReader A). kept_so_far r ≤ limit_in r) (sym lent.requests) h.within;
-  }
-
-  pub lent_reads_on : length hold.items ≤ 65520 → (s : HostSetting) (used : List ℕ) (over : Bool) (asked : List Asked) → ReadsOn s used over asked old
-      → ReadsOn s used over asked new
-  lent_reads_on fits s used over asked h = record {
-    reads = lent_read fits used asked h.reads;
-    wants = ap takes_bytes lent.stage ∙ h.wants;
-    offer = ap offer_in lent.requests ∙ h.offer;
-    limit = ap limit_in lent.requests ∙ h.limit;
-    goes_on = h.goes_on;
-  }
-
-  -- at a request
-  module _ (fits : length hold.items ≤ 65520) (s : HostSetting) (used : List ℕ) (over : Bool) (reported : List Facts) (given : List ℕ) (flush : ℕ)
-      (P Q : Asked → Facts → List Pkt → Type 0) (h : IsAtRequest s used over reported given old flush P) where
-    pub request_goes : (with : Facts → Facts) → ((q : Asked) (f : Facts) (front : List Pkt) → P q f front → Q q (with f) front)
-        → IsAtRequest s used over (with_last with reported) given new flush Q
-    request_goes with goes = record {
-      asked = h.asked;
-      reads = lent_reads_on fits s used over h.asked h.reads;
-      between = lent_between;
-      are_asked = h.are_asked;
-      at = h.at;
-      last = last_goes s h.asked reported given P Q with h.last goes;
-    }
-
-    pub request_gives : (with : Facts → Facts) → ((q : Asked) (f : Facts) (front : List Pkt) → P q f front
-        → (packet : Pkt) × (hold.items ≡ spelling_of packet) × Q q (with f) (front ++ packet ∷ []))
-        → IsAtRequest s used over (with_last with reported) (given ++ hold_of new) new flush Q
-    request_gives with gives = record {
-      asked = h.asked;
-      reads = lent_reads_on fits s used over h.asked h.reads;
-      between = lent_between;
-      are_asked = h.are_asked;
-      at = h.at;
-      last = subst (λ (bytes : List ℕ). AtLast s h.asked (with_last with reported) (given ++ bytes) Q) (sym lent_bytes)
-          (last_gives s h.asked reported given P Q with hold.items h.last gives);
-    }
+use Rattle.git_host.proofs.LentStreams.{last_begun, last_gives, last_goes, last_whole, lent_bytes, lent_handed, lent_reads_on, packet_some, request_gives}
+use Rattle.git_host.proofs.LentStreams.{request_goes, same_last, some_advertised, some_packets}
 
 -- ---- what bytes bring
 
@@ -378,8 +190,9 @@ module _ {A : Type 0} (s : HostSetting) (used : List ℕ) (over : Bool) (reporte
   pub request_came : (asked : List Asked) (request : Request A) (flush : ℕ) → AllAnswered s asked reported given → over ≡ false
       → HasRead used (asked ++ asked_of request ∷ []) stream → offer_of stream ≡ s.offer → limit_of stream ≡ s.limit
       → stage_is_between stream.stage ≡ true → is_within_packet stream ≡ false → flush ≡ bytes_used stream - 4 → IsAtTheEnd used request stream
-      → IsAtRequest s used over (reported ++ nothing_for (asked_of request) ∷ []) given stream flush (IsUntouched (asked_of request))
-  request_came asked request flush all goes_on h offer limit between shut is ends =
+      → IsWithinLimit s.limit (holding_of request)
+      → IsAtRequest s used over (reported ++ nothing_for (asked_of request) ∷ []) given stream flush (IsUntouched s.limit (holding_of request))
+  request_came asked request flush all goes_on h offer limit between shut is ends bounded =
       let q = asked_of request in
       let long : 4 ≤ length used = four_bytes 0 used (ends.before ++ ends.own) []
       (subst (λ (own : List Given). ends.before ++ own ≢ []) (sym ends.asks.whole) (not_none ends.before ends.asks.front ends.asks.last))
@@ -398,7 +211,8 @@ module _ {A : Type 0} (s : HostSetting) (used : List ℕ) (over : Bool) (reporte
         are_asked = subst (λ (o : Offer). AreAsked o s.limit used (asked ++ q ∷ []) [] []) offer
             (subst (λ (n : ℕ). AreAsked (offer_of stream) n used (asked ++ q ∷ []) [] []) limit (all_asked stream used (asked ++ q ∷ []) h between shut));
         at = omega (arith, is, counted, long);
-        last = last_begun s asked reported given q (IsUntouched q) all (record { same = refl; nothing = refl; none = refl });
+        last = last_begun s asked reported given q (IsUntouched s.limit (holding_of request)) all
+            (record { same = refl; bounded = bounded; nothing = refl; none = refl });
       }
 
   -- the advertisement was given
@@ -488,29 +302,29 @@ not_asked report old other s used over facts given h = (
 
 module _ {A : Type 0} (s : HostSetting) (used : List ℕ) (over : Bool) (facts : List Facts) (given : List ℕ) (flush : ℕ) (old new : RequestStream A)
     (hold : ArrayVec ℕ) (lent : IsLent old hold new) (fits : length hold.items ≤ 65520) (a b : HostAnswer A)
-    (h : IsAtRequest s used over facts given old flush (IsAnswering s.offer.format a)) where
+    (h : IsAtRequest s used over facts given old flush (IsAnswering (terms_of s) a)) where
   pub answer_gives : (with : Facts → Facts) → GivesOn with a hold.items b
-      → IsAtRequest s used over (with_last with facts) (given ++ hold_of new) new flush (IsAnswering s.offer.format b)
-  answer_gives with gives = request_gives old hold new lent fits s used over facts given flush (IsAnswering s.offer.format a) (IsAnswering s.offer.format b)
-      h with (gives s.offer.format)
+      → IsAtRequest s used over (with_last with facts) (given ++ hold_of new) new flush (IsAnswering (terms_of s) b)
+  answer_gives with gives = request_gives old hold new lent fits s used over facts given flush (IsAnswering (terms_of s) a) (IsAnswering (terms_of s) b)
+      h with (gives (terms_of s))
 
   pub answer_goes : (with : Facts → Facts) → GoesOn with a b
-      → IsAtRequest s used over (with_last with facts) given new flush (IsAnswering s.offer.format b)
-  answer_goes with goes = request_goes old hold new lent fits s used over facts given flush (IsAnswering s.offer.format a) (IsAnswering s.offer.format b)
-      h with (goes s.offer.format)
+      → IsAtRequest s used over (with_last with facts) given new flush (IsAnswering (terms_of s) b)
+  answer_goes with goes = request_goes old hold new lent fits s used over facts given flush (IsAnswering (terms_of s) a) (IsAnswering (terms_of s) b)
+      h with (goes (terms_of s))
 
   goes_to : (with : Facts → Facts) → GoesOn with a b
-      → IsAtRequest s used over (with_last with facts) (given ++ []) new flush (IsAnswering s.offer.format b)
-  goes_to with goes = subst (λ (bytes : List ℕ). IsAtRequest s used over (with_last with facts) bytes new flush (IsAnswering s.offer.format b))
+      → IsAtRequest s used over (with_last with facts) (given ++ []) new flush (IsAnswering (terms_of s) b)
+  goes_to with goes = subst (λ (bytes : List ℕ). IsAtRequest s used over (with_last with facts) bytes new flush (IsAnswering (terms_of s) b))
       (sym (append-nil given)) (answer_goes with goes)
 
   handed_out : (with : Facts → Facts) → GivesOn with a hold.items b → AreHandedOut (hold_of new)
   handed_out with gives =
-      let (packet, held, is) = gives s.offer.format h.last.q h.last.f h.last.front h.last.last in
+      let (packet, held, is) = gives (terms_of s) h.last.q h.last.f h.last.front h.last.last in
       lent_handed old hold new lent (packet_some hold.items packet held) fits
 
   pub report_done : (report : Report) (r : HostReported) → ReportsBy report a r hold.items b
-      → IsAtRequest s used over (with_last (with_reported r report) facts) (given ++ given_with r new) new flush (IsAnswering s.offer.format b)
+      → IsAtRequest s used over (with_last (with_reported r report) facts) (given ++ given_with r new) new flush (IsAnswering (terms_of s) b)
       × IsGivenWith r new × HasReason report (Answering a) r × EndsHost report r (Answering b)
   report_done report WasGiven done = (answer_gives (with_report report) done.0, handed_out (with_report report) done.0, tt, done.1)
   report_done report Taken goes = (goes_to (with_report report) goes, tt, tt, tt)
@@ -524,30 +338,30 @@ module _ {A : Type 0} (s : HostSetting) (used : List ℕ) (over : Bool) (facts :
 
   -- a packet of the answer
   pub packet_done : GivesOn (λ f. f) a hold.items b
-      → IsAtRequest s used over facts (given ++ hold_of new) new flush (IsAnswering s.offer.format b) × AreHandedOut (hold_of new)
+      → IsAtRequest s used over facts (given ++ hold_of new) new flush (IsAnswering (terms_of s) b) × AreHandedOut (hold_of new)
   packet_done gives = (
-    subst (λ (fs : List Facts). IsAtRequest s used over fs (given ++ hold_of new) new flush (IsAnswering s.offer.format b))
+    subst (λ (fs : List Facts). IsAtRequest s used over fs (given ++ hold_of new) new flush (IsAnswering (terms_of s) b))
         (same_last facts) (answer_gives (λ f. f) gives),
     handed_out (λ f. f) gives,
   )
 
   -- or something that it needs
-  pub need_done : GoesOn (λ f. f) a b → IsAtRequest s used over facts given new flush (IsAnswering s.offer.format b)
-  need_done goes = subst (λ (fs : List Facts). IsAtRequest s used over fs given new flush (IsAnswering s.offer.format b)) (same_last facts)
+  pub need_done : GoesOn (λ f. f) a b → IsAtRequest s used over facts given new flush (IsAnswering (terms_of s) b)
+  need_done goes = subst (λ (fs : List Facts). IsAtRequest s used over fs given new flush (IsAnswering (terms_of s) b)) (same_last facts)
       (answer_goes (λ f. f) goes)
 
   -- the answer is whole, or broke off, or the store lacks what is asked for
-  same_done : IsAtRequest s used over facts given new flush (IsAnswering s.offer.format a)
-  same_done = subst (λ (fs : List Facts). IsAtRequest s used over fs given new flush (IsAnswering s.offer.format a)) (same_last facts)
-      (request_goes old hold new lent fits s used over facts given flush (IsAnswering s.offer.format a) (IsAnswering s.offer.format a) h (λ f. f)
+  same_done : IsAtRequest s used over facts given new flush (IsAnswering (terms_of s) a)
+  same_done = subst (λ (fs : List Facts). IsAtRequest s used over fs given new flush (IsAnswering (terms_of s) a)) (same_last facts)
+      (request_goes old hold new lent fits s used over facts given flush (IsAnswering (terms_of s) a) (IsAnswering (terms_of s) a) h (λ f. f)
       (λ q f front x. x))
 
   pub whole_done : IsGiven whole a → IsReading s used over facts given new
-  whole_done is = request_whole s used over facts given new flush (IsAnswering s.offer.format a) same_done (is s.offer.format)
+  whole_done is = request_whole s used over facts given new flush (IsAnswering (terms_of s) a) same_done (is (terms_of s))
 
   pub broken_done : IsGiven broken a → IsHosted s used over facts given (ended_by PackSource flush)
-  broken_done is = request_refused s used over facts given new flush (IsAnswering s.offer.format a) same_done PackSource
-      (λ q f front x. inl (is s.offer.format q f front x))
+  broken_done is = request_refused s used over facts given new flush (IsAnswering (terms_of s) a) same_done PackSource
+      (λ q f front x. inl (is (terms_of s) q f front x))
 
   pub lacking_done : (kind : Kind) → LacksIt kind a → hold.items ≡ spelling_of (error_packet (record { kind = kind; offset = flush }))
       → IsHosted s used over facts (given ++ hold_of new) (ended_by kind flush)
@@ -561,8 +375,8 @@ module _ {A : Type 0} (s : HostSetting) (used : List ℕ) (over : Bool) (facts :
           at = h.at;
           last = subst (λ (bytes : List ℕ). AtLast s h.asked facts (given ++ bytes) (IsTailBy kind s.offer.format fault)) (sym (lent_bytes old hold new lent))
               (subst (λ (fs : List Facts). AtLast s h.asked fs (given ++ hold.items) (IsTailBy kind s.offer.format fault)) (same_last facts)
-              (last_gives s h.asked facts given (IsAnswering s.offer.format a) (IsTailBy kind s.offer.format fault) (λ f. f) hold.items h.last
-              (λ q f front x. let (lack, none) = lacks s.offer.format q f front x in
+              (last_gives s h.asked facts given (IsAnswering (terms_of s) a) (IsTailBy kind s.offer.format fault) (λ f. f) hold.items h.last
+              (λ q f front x. let (lack, none) = lacks (terms_of s) q f front x in
               (error_packet fault, written, lacking_tail kind s.offer.format fault q f front lack none))));
         },
       )
@@ -581,31 +395,31 @@ module _ {A : Type 0} (s : HostSetting) (used : List ℕ) (over : Bool) (facts :
           last = subst (λ (bytes : List ℕ). AtLast s h.asked facts (given ++ bytes) (IsTailBy PackSource s.offer.format fault))
               (sym (lent_bytes old hold new lent))
               (subst (λ (fs : List Facts). AtLast s h.asked fs (given ++ hold.items) (IsTailBy PackSource s.offer.format fault)) (same_last facts)
-              (last_gives s h.asked facts given (IsAnswering s.offer.format a) (IsTailBy PackSource s.offer.format fault) (λ f. f) hold.items h.last
-              (λ q f front x. let (begins, before) = cut s.offer.format q f front x in
+              (last_gives s h.asked facts given (IsAnswering (terms_of s) a) (IsTailBy PackSource s.offer.format fault) (λ f. f) hold.items h.last
+              (λ q f front x. let (begins, before) = cut (terms_of s) q f front x in
               (error_packet fault, written, inr (record { front = front; begins = begins; before = before; packets_are = refl })))));
         },
       )
 
   -- nothing was asked
   pub fail_unasked : FailsBy a FailingUnasked hold.items b
-      → IsAtRequest s used over (with_last (with_reported NotAsked Failed) facts) (given ++ []) new flush (IsAnswering s.offer.format b)
+      → IsAtRequest s used over (with_last (with_reported NotAsked Failed) facts) (given ++ []) new flush (IsAnswering (terms_of s) b)
       × HasReason Failed (Answering a) NotAsked
   fail_unasked done = (
-    goes_to (λ f. f) (λ format q f front x. subst (λ (o : HostAnswer A). IsAnswering format o q f front) (sym done.0) x),
+    goes_to (λ f. f) (λ m q f front x. subst (λ (o : HostAnswer A). IsAnswering m o q f front) (sym done.0) x),
     done.1,
   )
 
   -- the pack breaks off
   pub fail_packet : FailsBy a FailingPacket hold.items b
-      → IsAtRequest s used over (with_last (with_reported WasGiven Failed) facts) (given ++ hold_of new) new flush (IsAnswering s.offer.format b)
+      → IsAtRequest s used over (with_last (with_reported WasGiven Failed) facts) (given ++ hold_of new) new flush (IsAnswering (terms_of s) b)
       × AreHandedOut (hold_of new) × EndsHost Failed WasGiven (Answering b)
   fail_packet done = (answer_gives (λ f. f) done.0, handed_out (λ f. f) done.0, done.1)
 
 -- the host refused the request that came by a text
 pub text_refuses : {A : Type 0} (s : HostSetting) (used : List ℕ) (over : Bool) (facts : List Facts) (given : List ℕ) (flush : ℕ) (old new : RequestStream A)
     (hold : ArrayVec ℕ) (lent : IsLent old hold new) (request : Request A) (text : List ℕ)
-    → IsAtRequest s used over facts given old flush (IsUntouched (asked_of request)) → hold.items ≡ spelling_of (refusal_packet text)
+    → IsAtRequest s used over facts given old flush (IsUntouched s.limit (holding_of request)) → hold.items ≡ spelling_of (refusal_packet text)
     → IsHosted s used over facts (given ++ hold_of new) (ended_by NotOurs flush)
 text_refuses s used over facts given flush old new hold lent request text h written =
     let fault : Fault = record { kind = NotOurs; offset = flush } in
@@ -617,7 +431,7 @@ text_refuses s used over facts given flush old new hold lent request text h writ
         at = h.at;
         last = subst (λ (bytes : List ℕ). AtLast s h.asked facts (given ++ bytes) (IsTailBy NotOurs s.offer.format fault)) (sym (lent_bytes old hold new lent))
             (subst (λ (fs : List Facts). AtLast s h.asked fs (given ++ hold.items) (IsTailBy NotOurs s.offer.format fault)) (same_last facts)
-            (last_gives s h.asked facts given (IsUntouched (asked_of request)) (IsTailBy NotOurs s.offer.format fault) (λ f. f) hold.items h.last
+            (last_gives s h.asked facts given (IsUntouched s.limit (holding_of request)) (IsTailBy NotOurs s.offer.format fault) (λ f. f) hold.items h.last
             (λ q f front x. (
               refusal_packet text,
               written,
@@ -626,28 +440,28 @@ text_refuses s used over facts given flush old new hold lent request text h writ
       },
     )
 
-touched : {A : Type 0} (format : Format) (request : Request A) (answer : HostAnswer A) (q : Asked) (f : Facts) (front : List Pkt)
-    → IsUntouched (asked_of request) q f front
-    → IsAnswering format answer (asked_of request) (nothing_for (asked_of request)) [] → IsAnswering format answer q f front
-touched format request answer q f front h begins =
-    subst (λ (x : Asked). IsAnswering format answer x f front) h.same
-    (subst (λ (x : Facts). IsAnswering format answer (asked_of request) x front) (ap nothing_for h.same ∙ sym h.nothing)
-    (subst (λ (x : List Pkt). IsAnswering format answer (asked_of request) (nothing_for (asked_of request)) x) (sym h.none) begins))
+touched : {A : Type 0} (s : HostSetting) (request : Request A) (answer : HostAnswer A) (q : Asked) (f : Facts) (front : List Pkt)
+    → IsUntouched s.limit (holding_of request) q f front → IsBegun s.offer.format request answer → IsAnswering (terms_of s) answer q f front
+touched s request answer q f front h begins =
+    subst (λ (x : Asked). IsAnswering (terms_of s) answer x f front) h.same
+    (subst (λ (x : Facts). IsAnswering (terms_of s) answer (asked_of request) x front) (ap nothing_for h.same ∙ sym h.nothing)
+    (subst (λ (x : List Pkt). IsAnswering (terms_of s) answer (asked_of request) (nothing_for (asked_of request)) x) (sym h.none)
+    (begins (terms_of s) refl h.bounded)))
 
 -- the request that came is answered from now on
 pub accepts : {A : Type 0} (s : HostSetting) (used : List ℕ) (over : Bool) (facts : List Facts) (given : List ℕ) (flush : ℕ) (stream : RequestStream A)
-    (request : Request A) (answer : HostAnswer A) → IsAnswering s.offer.format answer (asked_of request) (nothing_for (asked_of request)) []
-    → IsAtRequest s used over facts given stream flush (IsUntouched (asked_of request))
-    → IsAtRequest s used over facts given stream flush (IsAnswering s.offer.format answer)
+    (request : Request A) (answer : HostAnswer A) → IsBegun s.offer.format request answer
+    → IsAtRequest s used over facts given stream flush (IsUntouched s.limit (holding_of request))
+    → IsAtRequest s used over facts given stream flush (IsAnswering (terms_of s) answer)
 accepts s used over facts given flush stream request answer begins h = record {
   asked = h.asked;
   reads = h.reads;
   between = h.between;
   are_asked = h.are_asked;
   at = h.at;
-  last = subst (λ (fs : List Facts). AtLast s h.asked fs given (IsAnswering s.offer.format answer)) (same_last facts)
-      (last_goes s h.asked facts given (IsUntouched (asked_of request)) (IsAnswering s.offer.format answer) (λ f. f) h.last
-      (λ q f front x. touched s.offer.format request answer q f front x begins));
+  last = subst (λ (fs : List Facts). AtLast s h.asked fs given (IsAnswering (terms_of s) answer)) (same_last facts)
+      (last_goes s h.asked facts given (IsUntouched s.limit (holding_of request)) (IsAnswering (terms_of s) answer) (λ f. f) h.last
+      (λ q f front x. touched s request answer q f front x begins));
 }
 
 -- ---- what bytes bring to a server that reads
@@ -677,14 +491,16 @@ module _ {A : Type 0} (s : HostSetting) (so_far : List ℕ) (over : Bool) (repor
     all = none_begun;
   }
 
-  pub brought_request : (request : Request A) (flush : ℕ) → read.got ≡ RequestGot request → flush ≡ bytes_used new - 4
-      → IsAtRequest s (so_far ++ take read.used piece) over (reported ++ nothing_for (asked_of request) ∷ []) given new flush (IsUntouched (asked_of request))
-  brought_request request flush is at =
+  pub brought_request : (request : Request A) (flush : ℕ) → read.got ≡ RequestGot request → flush ≡ bytes_used new - 4 → stored_of request ≤ kept_of request
+      → IsAtRequest s (so_far ++ take read.used piece) over (reported ++ nothing_for (asked_of request) ∷ []) given new flush
+      (IsUntouched s.limit (holding_of request))
+  brought_request request flush is at covered =
       let leaves = subst (λ (got : ReadGot A). Leaves got read.used piece old new) is feeds.leaves in
       request_came s (so_far ++ take read.used piece) over reported given new h.asked request flush h.all h.reads.goes_on
       (subst (λ (got : ReadGot A). HasRead (so_far ++ take read.used piece) (h.asked ++ asked_by got) new) is reads_now)
       (feeds.offer ∙ h.reads.offer) (feeds.limit ∙ h.reads.limit) leaves.1 leaves.2 at
       (subst (λ (got : ReadGot A). EndsWith got (so_far ++ take read.used piece) new) is (feeds.counts so_far h.asked h.reads.reads))
+      (record { covered = covered; within = omega (arith, leaves.4, feeds.limit, h.reads.limit) })
 
   pub brought_stop : read.got ≡ StopGot → IsHosted s (so_far ++ take read.used piece) over (reported ++ []) given Flush
   brought_stop is =
@@ -742,6 +558,7 @@ module _ {A : Type 0} (mid new : HostServer A) (fault : Fault) (stopped : StopsH
   stopped_hosts s used over reported given offer limit stops = record {
     offer = stopped.offer ∙ offer;
     limit = ap (λ (l : Limits). l.args) stopped.limits ∙ limit;
+    reads_within = stopped.within ∙ ap (λ (l : Limits). l.args) stopped.limits ∙ limit;
     stands = subst (λ (p : Phase A). HostsIn p s used over reported given new.stream new.flush) (sym stopped.phase)
         (refused_phase fault.kind fault s used over reported given new.stream new.flush refl (new_between new.stream stopped.anew stopped.wants) stops);
   }

@@ -7,7 +7,9 @@ pub mod SizesMoves
 pub mod HostAnswerMoves
 pub mod FetchFronts
 pub mod AnswerFronts
+pub mod LentStreams
 pub mod HostMoves
 pub mod FeedMoves
+pub mod HostMemoryMoves
 pub mod HostCallMoves
 pub mod HostedAnswers

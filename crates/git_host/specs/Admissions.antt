@@ -1,11 +1,12 @@
 -- What a store reports of what a fetch asks for, before its answer, and how far an admission has come.
-use Rattle.std.specs.Prelude.{◌≡◌, ◌≢◌, ℕ, ◌<◌, Bool, true, false, All, List, [], ◌∷◌, ◌++◌, length, map, take, slice_get}
+use Rattle.std.specs.Prelude.{◌≡◌, ◌≢◌, ℕ, ◌<◌, ◌≤◌, Bool, true, false, All, List, [], ◌∷◌, ◌++◌, length, map, take, slice_get}
 use Rattle.std.specs.Prelude.{Option, Some, None, Result, Ok, Err}
 use Rattle.git_names.specs.ObjectName.{ObjectName}
 use Rattle.git_names.specs.declared.object_format.Format.{Format}
 use Rattle.git_pkt.specs.declared.fault.Kind.{Kind}
 use Rattle.git_pkt.specs.declared.fault.Kind.TheVariants.{NotOurs, UnknownRef}
 use Rattle.git_msg.specs.Asked.{FetchAsked}
+use Rattle.git_msg.specs.Kept.{Kept}
 use Rattle.git_host.specs.declared.admission.AdmissionStep.{AdmissionStep}
 use Rattle.git_host.specs.declared.admission.AdmissionStep.TheVariants.{AskWant, AskWantRef, Admitted, Refused}
 use Rattle.git_host.specs.declared.admission.WantRefReported.{WantRefReported}
@@ -70,7 +71,7 @@ abbrev pub StandsAtStep : AdmissionStep → Format → FetchAsked → AdmissionF
 StandsAtStep (AskWant at) format q a ids = AtWant at q a ids
 StandsAtStep (AskWantRef at) format q a ids = AtWantRef at format q a ids
 StandsAtStep Admitted format q a ids = IsAdmitted format q a ids
-StandsAtStep (Refused kind) format q a ids = IsRefusedBy kind q a
+StandsAtStep (Refused kind) format q a ids = (length ids ≤ length q.want_refs) × IsRefusedBy kind q a
 
 -- the first step if there is a value, else the second
 abbrev pub step_by : {X : Type 0} → Option X → AdmissionStep → AdmissionStep → AdmissionStep
@@ -101,6 +102,9 @@ is_want_ref (AskWantRef at) = true
 is_want_ref step = false
 
 module _ {A : Type 0} where
+  abbrev pub request_of : Admission A → Kept FetchAsked
+  request_of admission = admission.request
+
   abbrev pub asked_of : Admission A → FetchAsked
   asked_of admission = admission.request.asked
 
@@ -120,7 +124,7 @@ module _ {A : Type 0} where
 
   -- the facts become these
   pub record Reports (with : AdmissionFacts → AdmissionFacts) (old new : Admission A) : Type 0 where
-    pub asked : asked_of new ≡ asked_of old
+    pub request : request_of new ≡ request_of old
     pub format : format_of new ≡ format_of old
     pub represents : (a : AdmissionFacts) → RepresentsAdmission a old → RepresentsAdmission (with a) new
 

@@ -4,6 +4,7 @@ use Rattle.git_names.specs.declared.object_format.Format.{Format}
 use Rattle.git_pkt.specs.Packets.{Pkt, body_of, longest_payload, spelling_of}
 use Rattle.git_msg.specs.declared.Boundary.{Boundary}
 use Rattle.git_msg.specs.Asked.{FetchAsked, fetch, is_empty, no_progress_of, only_negotiates}
+use Rattle.git_msg.specs.Kept.{Kept}
 use Rattle.git_msg.specs.WrittenRequest.{text_line}
 use Rattle.git_server.specs.Packs.{whole, broken, packfile_header}
 use Rattle.git_server.specs.FetchAnswers.{ack_packet, boundary_packet, negotiates, shallow_info}
@@ -174,7 +175,11 @@ pub record Holds (bytes : List ℕ) (packet : Pkt) : Type 0 where
   pub fits : length (body_of packet) ≤ longest_payload
 
 module _ {A : Type 0} where
-  -- what the request asks for
+  -- the request, as it is kept
+  abbrev pub request_of : FetchAnswer A → Kept FetchAsked
+  request_of answer = answer.request
+
+  -- what it asks for
   abbrev pub asked_of : FetchAnswer A → FetchAsked
   asked_of answer = answer.request.asked
 

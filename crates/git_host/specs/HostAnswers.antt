@@ -1,23 +1,27 @@
 -- How far the answer to the request at hand has come, by what was reported and what was given; and what a report does.
-use Rattle.std.specs.Prelude.{◌≡◌, ◌≢◌, ℕ, Bool, true, false, ◌||◌, List, [], ◌∷◌, ◌++◌, take, Option, Some, None}
+use Rattle.std.specs.Prelude.{◌≡◌, ◌≢◌, ℕ, ◌≤◌, Bool, true, false, ◌||◌, List, [], ◌∷◌, ◌++◌, take, Option, Some, None}
 use Rattle.git_names.specs.ObjectName.{ObjectName}
 use Rattle.git_names.specs.declared.object_format.Format.{Format}
 use Rattle.git_names.specs.NameBytes.{name_bytes}
 use Rattle.git_pkt.specs.Packets.{Pkt, spelling_of}
 use Rattle.git_pkt.specs.declared.fault.Kind.{Kind}
-use Rattle.git_msg.specs.Asked.{Asked, FetchAsked, fetch, ls_refs, object_info}
+use Rattle.git_msg.specs.declared.requests.Request.{Request}
+use Rattle.git_msg.specs.Kept.{Kept}
+use Rattle.git_msg.specs.Machine.HeldRequest.{asked_of as request_asked, holding_of}
+use Rattle.git_msg.specs.Asked.{Asked, FetchAsked, LsRefsAsked, ObjectInfoAsked, fetch, ls_refs, object_info}
 use Rattle.git_server.specs.Packs.{Manner, whole, broken}
 use Rattle.git_server.specs.Objects.{object_of}
 use Rattle.git_server.specs.Repository.{IsUnshallowOf}
 use Rattle.git_host.specs.Admissions.{AdmissionFacts, IsAdmitted, IsOfOtherFormat, RepresentsAdmission, asked_of, format_of, is_want, is_want_ref, step_of}
 use Rattle.git_host.specs.Admissions.{with_found, with_want}
 use Rattle.git_host.specs.FetchFacts.{FetchFacts, no_facts}
-use Rattle.git_host.specs.FetchPlaces.{ReportsAndGives, Represents, is_before_pack, is_boundary, is_have, is_pack, is_ready_asked, with_have, with_line, with_pack, with_progress, with_ready}
+use Rattle.git_host.specs.FetchPlaces.{ReportsAndGives, Represents, is_before_pack, is_boundary, is_have, is_pack, is_ready_asked, with_have, with_line}
+use Rattle.git_host.specs.FetchPlaces.{with_pack, with_progress, with_ready}
 use Rattle.git_host.specs.FetchPlaces.{WantsNoProgress, asked_of as fetch_of, format_of as fetch_format, step_of as fetch_step}
 use Rattle.git_host.specs.ReferencesPlaces.{HasBegun, IsUnsoundAfter, ReferencesFacts, RepresentsReferences, is_whole, with_ref, with_unborn}
 use Rattle.git_host.specs.ReferencesPlaces.{format_of as references_format}
 use Rattle.git_host.specs.SizesPlaces.{IsAsking, RepresentsSizes, sizes_asked}
-use Rattle.git_host.specs.HostSessions.{Facts, IsAnswerBy, IsBeforePack, IsFrontBy, IsLacking, of_fetch, of_references, of_sizes}
+use Rattle.git_host.specs.HostSessions.{Facts, IsAnswerBy, IsBeforePack, IsFrontBy, IsLacking, nothing_for, of_fetch, of_references, of_sizes}
 use Rattle.git_host.specs.declared.admission.Admission.{Admission as AdmissionMachine}
 use Rattle.git_host.specs.declared.admission.AdmissionStep.{AdmissionStep}
 use Rattle.git_host.specs.declared.admission.AdmissionStep.TheVariants.{AskWant, AskWantRef, Admitted}
@@ -31,10 +35,12 @@ use Rattle.git_host.specs.declared.fetch_answer.FetchAnswer.{FetchAnswer}
 use Rattle.git_host.specs.declared.fetch_answer.Step.{Step}
 use Rattle.git_host.specs.declared.fetch_answer.Step.TheVariants.{AskHave, AskReady, AskBoundary, AskPack}
 use Rattle.git_host.specs.declared.fetch_answer.Step.TheVariants.{Packet as FetchPacket, Whole as FetchWhole, Broken as FetchBroken}
+use Rattle.git_host.specs.declared.references_answer.ReferencesAnswer.{ReferencesAnswer}
 use Rattle.git_host.specs.declared.references_answer.Reported.{Reported}
 use Rattle.git_host.specs.declared.references_answer.Reported.TheVariants.{Packet as ReferencePacket, Hidden as ReferenceHidden, Unsorted as ReferenceUnsorted}
 use Rattle.git_host.specs.declared.references_answer.Reported.TheVariants.{MixedFormats as ReferenceMixed, HeadTwice as ReferenceTwice}
 use Rattle.git_host.specs.declared.references_answer.Reported.TheVariants.{NotAsked as ReferenceNotAsked}
+use Rattle.git_host.specs.declared.sizes_answer.SizesAnswer.{SizesAnswer}
 use Rattle.git_host.specs.declared.sizes_answer.SizesStep.{SizesStep}
 use Rattle.git_host.specs.declared.sizes_answer.SizesStep.TheVariants.{AskSize, Packet as SizesPacket, Whole as SizesWhole}
 use Rattle.git_host.specs.declared.host_answer.HostAnswer.{HostAnswer}
@@ -188,31 +194,60 @@ of_sizes_step SizesPacket = GivesPacket
 of_sizes_step (AskSize at) = Needs (NeedSize at)
 of_sizes_step SizesWhole = AllGiven
 
+-- what the answers of a session rest on: the format of object names, and how many bytes of arguments a request may have
+pub record Terms : Type 0 where
+  pub format : Format
+  pub limit : ℕ
+
+-- no more is stored of the request than is counted of its lines, and no more is counted than the limit has
+pub record IsWithinLimit {Q : Type 0} (limit : ℕ) (request : Kept Q) : Type 0 where
+  pub covered : request.stored ≤ request.kept
+  pub within : request.kept ≤ limit
+
 module _ {A : Type 0} where
   -- an admission stands so: it is not through, nothing was reported for the answer but the objects of wanted references, and no packet was given
-  pub record IsAdmitting (format : Format) (q : FetchAsked) (a : AdmissionFacts) (t : FetchFacts) (front : List Pkt)
+  pub record IsAdmitting (m : Terms) (q : FetchAsked) (a : AdmissionFacts) (t : FetchFacts) (front : List Pkt)
       (admission : AdmissionMachine A) : Type 0 where
     pub asked : asked_of admission ≡ q
-    pub format_is : format_of admission ≡ format
+    pub format_is : format_of admission ≡ m.format
+    pub bounded : IsWithinLimit m.limit admission.request
     pub represents : RepresentsAdmission a admission
     pub facts : t ≡ no_facts (found_ids a.found)
     pub none : front ≡ []
 
   -- an answer to a fetch that was admitted
-  pub record IsFetching (format : Format) (q : FetchAsked) (a : AdmissionFacts) (t : FetchFacts) (front : List Pkt) (answer : FetchAnswer A) : Type 0 where
+  pub record IsFetching (m : Terms) (q : FetchAsked) (a : AdmissionFacts) (t : FetchFacts) (front : List Pkt) (answer : FetchAnswer A) : Type 0 where
     pub asked : fetch_of answer ≡ q
-    pub format_is : fetch_format answer ≡ format
-    pub admitted : IsAdmitted format q a t.wanted
+    pub format_is : fetch_format answer ≡ m.format
+    pub bounded : IsWithinLimit m.limit answer.request
+    pub admitted : IsAdmitted m.format q a t.wanted
     pub represents : Represents t front answer
 
+  -- an answer for references
+  pub record IsListing (m : Terms) (q : LsRefsAsked) (t : ReferencesFacts) (front : List Pkt) (answer : ReferencesAnswer A) : Type 0 where
+    pub format_is : references_format answer ≡ m.format
+    pub bounded : IsWithinLimit m.limit answer.listing
+    pub represents : RepresentsReferences q t front answer
+
+  -- an answer about sizes
+  pub record IsSizing (m : Terms) (q : ObjectInfoAsked) (sizes : List (Option ℕ)) (front : List Pkt) (answer : SizesAnswer A) : Type 0 where
+    pub asked : sizes_asked answer ≡ q
+    pub bounded : IsWithinLimit m.limit answer.request
+    pub represents : RepresentsSizes sizes front answer
+
   -- for the request this was reported, and these packets were given
-  abbrev pub IsAnswering : Format → HostAnswer A → Asked → Facts → List Pkt → Type 0
-  IsAnswering format (Admission admission) (fetch q) (of_fetch a t) front = IsAdmitting format q a t front admission
-  IsAnswering format (Fetch answer) (fetch q) (of_fetch a t) front = IsFetching format q a t front answer
-  IsAnswering format (References answer) (ls_refs q) (of_references t) front = (references_format answer ≡ format) × RepresentsReferences q t front answer
-  IsAnswering format (Sizes answer) (object_info q) (of_sizes sizes) front = (sizes_asked answer ≡ q) × RepresentsSizes sizes front answer
-  IsAnswering format Whole q f front = IsAnswerBy whole format q f front
-  IsAnswering format _ _ _ _ = ⊥
+  abbrev pub IsAnswering : Terms → HostAnswer A → Asked → Facts → List Pkt → Type 0
+  IsAnswering m (Admission admission) (fetch q) (of_fetch a t) front = IsAdmitting m q a t front admission
+  IsAnswering m (Fetch answer) (fetch q) (of_fetch a t) front = IsFetching m q a t front answer
+  IsAnswering m (References answer) (ls_refs q) (of_references t) front = IsListing m q t front answer
+  IsAnswering m (Sizes answer) (object_info q) (of_sizes sizes) front = IsSizing m q sizes front answer
+  IsAnswering m Whole q f front = IsAnswerBy whole m.format q f front
+  IsAnswering m _ _ _ _ = ⊥
+
+  -- an answer to the request begins, of which nothing was reported or given
+  abbrev pub IsBegun : Format → Request A → HostAnswer A → Type 0
+  IsBegun format request answer = (m : Terms) → m.format ≡ format → IsWithinLimit m.limit (holding_of request)
+      → IsAnswering m answer (request_asked request) (nothing_for (request_asked request)) []
 
   abbrev pub is_admission : HostAnswer A → Bool
   is_admission (Admission admission) = true
@@ -225,21 +260,21 @@ module _ {A : Type 0} where
 
   -- what was reported becomes this, and these bytes are the next packet
   abbrev pub GivesOn : (Facts → Facts) → HostAnswer A → List ℕ → HostAnswer A → Type 0
-  GivesOn with old bytes new = (format : Format) (q : Asked) (f : Facts) (front : List Pkt) → IsAnswering format old q f front
-      → (packet : Pkt) × (bytes ≡ spelling_of packet) × IsAnswering format new q (with f) (front ++ packet ∷ [])
+  GivesOn with old bytes new = (m : Terms) (q : Asked) (f : Facts) (front : List Pkt) → IsAnswering m old q f front
+      → (packet : Pkt) × (bytes ≡ spelling_of packet) × IsAnswering m new q (with f) (front ++ packet ∷ [])
 
   -- what was reported becomes this, and no packet is given
   abbrev pub GoesOn : (Facts → Facts) → HostAnswer A → HostAnswer A → Type 0
-  GoesOn with old new = (format : Format) (q : Asked) (f : Facts) (front : List Pkt) → IsAnswering format old q f front
-      → IsAnswering format new q (with f) front
+  GoesOn with old new = (m : Terms) (q : Asked) (f : Facts) (front : List Pkt) → IsAnswering m old q f front
+      → IsAnswering m new q (with f) front
 
   -- what was given is an answer, whole or broken off
   abbrev pub IsGiven : Manner → HostAnswer A → Type 0
-  IsGiven manner old = (format : Format) (q : Asked) (f : Facts) (front : List Pkt) → IsAnswering format old q f front → IsAnswerBy manner format q f front
+  IsGiven manner old = (m : Terms) (q : Asked) (f : Facts) (front : List Pkt) → IsAnswering m old q f front → IsAnswerBy manner m.format q f front
 
   -- the store lacks what is asked for, and nothing was given
   abbrev pub LacksIt : Kind → HostAnswer A → Type 0
-  LacksIt kind old = (format : Format) (q : Asked) (f : Facts) (front : List Pkt) → IsAnswering format old q f front → IsLacking kind q f × (front ≡ [])
+  LacksIt kind old = (m : Terms) (q : Asked) (f : Facts) (front : List Pkt) → IsAnswering m old q f front → IsLacking kind q f × (front ≡ [])
 
   -- this is what the answer needs
   abbrev pub IsNeeded : Need → HostAnswer A → Type 0
@@ -309,8 +344,8 @@ module _ {A : Type 0} where
 
   -- what was given is the front of an answer, before its pack
   abbrev pub IsCut : HostAnswer A → Type 0
-  IsCut old = (format : Format) (q : Asked) (f : Facts) (front : List Pkt) → IsAnswering format old q f front
-      → IsFrontBy format q f front × IsBeforePack q f front
+  IsCut old = (m : Terms) (q : Asked) (f : Facts) (front : List Pkt) → IsAnswering m old q f front
+      → IsFrontBy m.format q f front × IsBeforePack q f front
 
   -- what it does that what is asked cannot be had, by what came of it
   abbrev pub FailsBy : HostAnswer A → Failing → List ℕ → HostAnswer A → Type 0

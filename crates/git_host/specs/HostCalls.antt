@@ -4,6 +4,7 @@ use Rattle.git_pkt.specs.Machine.Credit.{Pays}
 use Rattle.git_server.specs.declared.outcome.Outcome.{Outcome}
 use Rattle.git_msg.specs.Asked.{Asked}
 use Rattle.git_host.specs.HostLookups.{request_of}
+use Rattle.git_host.specs.HostMemory.{bytes_held, kept_by, last_by, objects_by, stored_by, wanted_by}
 use Rattle.git_host.specs.HostSessions.{Facts, HostSetting, IsHosted, IsUnderWay, IsWaiting}
 use Rattle.git_host.specs.HostAnswers.{with_reported}
 use Rattle.git_host.specs.HostServer.{AcceptsHost, AreHandedOut, ClosesHost, FeedsHost, RefusesHost, ReportsHost, Stays, StepsHost}
@@ -119,6 +120,16 @@ module _ {A : Type 0} where
     -- the calls took no more than 64 steps for each byte used and for each call of `feed`, and none set the counter back
     pub rises : before ≤ after
     pub steps : after ≤ before + 64 * (length (used_in calls) + feeds_in calls)
+    -- its one buffer has no more bytes than the longest packet
+    pub hold : length (bytes_of server) ≤ 65520
+    -- of the request that is asked about or answered no more is stored than is counted of its lines, and no more is counted than the limit has
+    pub stored : stored_by server ≤ kept_by server
+    pub kept : kept_by server ≤ s.limit
+    -- and no more objects are kept than it wants references
+    pub objects : objects_by server ≤ wanted_by server
+    -- all its bytes are those of the buffer, of a request that is read and of one that is answered, 33 for each wanted reference, and those of the
+    -- reference that was reported last
+    pub held : bytes_held server ≤ 65520 + 2 * s.limit + 33 * wanted_by server + last_by server
     -- each packet has bytes, and no more than the longest
     pub gives : AllHandOut calls
     -- if the session has ended, what was given is what the input calls for by what was reported of each request, and it ended so

@@ -8,7 +8,8 @@ use Rattle.git_pkt.specs.declared.fault.Kind.TheVariants.{NotOurs, PackSource, R
 use Rattle.git_msg.specs.declared.offers.Offer.{Offer}
 use Rattle.git_msg.specs.declared.streams.RequestStream.{RequestStream}
 use Rattle.git_msg.specs.Asked.{Asked}
-use Rattle.git_msg.specs.Machine.HeldRequest.{asked_of}
+use Rattle.git_msg.specs.Kept.{Kept}
+use Rattle.git_msg.specs.Machine.HeldRequest.{asked_of, holding_of}
 use Rattle.git_msg.specs.Memory.{FaultNeedsRefusal}
 use Rattle.git_msg.specs.Machine.RequestStreams.{AreAsked, HasRead, hold_of, is_within_packet, limit_of, offer_of, wants_input}
 use Rattle.git_msg.specs.Machine.RequestStreams.{credit_of as stream_credit}
@@ -16,7 +17,7 @@ use Rattle.git_server.specs.Answers.{error_packet}
 use Rattle.git_server.specs.declared.outcome.Outcome.{Outcome}
 use Rattle.git_server.specs.declared.outcome.Outcome.TheVariants.{Refused}
 use Rattle.git_host.specs.HostSessions.{AllAnswered, AtLast, Facts, HostSetting, IsHosted, StopsBy, nothing_for, refusal_packet, tail_of}
-use Rattle.git_host.specs.HostAnswers.{EndsAs, IsAnswering, IsNeeded, IsReason, IsUnwanted, with_reported}
+use Rattle.git_host.specs.HostAnswers.{EndsAs, IsAnswering, IsBegun, IsNeeded, IsWithinLimit, Terms, IsReason, IsUnwanted, with_reported}
 use Rattle.git_host.specs.declared.host_server.Phase.{Phase}
 use Rattle.git_host.specs.declared.host_server.Phase.TheVariants.{Advertising, Reading, Asked as Whole, Answering, Refusing, Ended}
 use Rattle.git_host.specs.declared.host_server.HostServer.{HostServer}
@@ -51,9 +52,14 @@ pub record AreHandedOut (bytes : List ℕ) : Type 0 where
   pub some : 4 ≤ length bytes
   pub fits : length bytes ≤ 65520
 
+-- what its answers rest on
+abbrev pub terms_of : HostSetting → Terms
+terms_of s = record { format = s.offer.format; limit = s.limit }
+
 -- a request that has come, for which nothing was reported or given
-pub record IsUntouched (asked : Asked) (q : Asked) (f : Facts) (front : List Pkt) : Type 0 where
-  pub same : asked ≡ q
+pub record IsUntouched (limit : ℕ) (request : Kept Asked) (q : Asked) (f : Facts) (front : List Pkt) : Type 0 where
+  pub same : request.asked ≡ q
+  pub bounded : IsWithinLimit limit request
   pub nothing : f ≡ nothing_for q
   pub none : front ≡ []
 
@@ -101,9 +107,10 @@ module _ {A : Type 0} where
   abbrev pub HostsIn : Phase A → HostSetting → List ℕ → Bool → List Facts → List ℕ → RequestStream A → ℕ → Type 0
   HostsIn Advertising s used over reported given stream flush = IsAdvertising s used over reported given stream
   HostsIn Reading s used over reported given stream flush = IsReading s used over reported given stream
-  HostsIn (Whole request) s used over reported given stream flush = IsAtRequest s used over reported given stream flush (IsUntouched (asked_of request))
+  HostsIn (Whole request) s used over reported given stream flush =
+      IsAtRequest s used over reported given stream flush (IsUntouched s.limit (holding_of request))
   HostsIn (Answering answer) s used over reported given stream flush =
-      IsAtRequest s used over reported given stream flush (IsAnswering s.offer.format answer)
+      IsAtRequest s used over reported given stream flush (IsAnswering (terms_of s) answer)
   HostsIn (Refusing fault) s used over reported given stream flush = IsRefusing s used over reported given stream fault
   HostsIn (Ended outcome) s used over reported given stream flush = IsHosted s used over reported given outcome
 
@@ -111,6 +118,7 @@ module _ {A : Type 0} where
   pub record Hosts (s : HostSetting) (used : List ℕ) (over : Bool) (reported : List Facts) (given : List ℕ) (server : HostServer A) : Type 0 where
     pub offer : server.offer ≡ s.offer
     pub limit : server.limits.args ≡ s.limit
+    pub reads_within : limit_of server.stream ≡ s.limit
     pub stands : HostsIn server.phase s used over reported given server.stream server.flush
 
   -- the bytes of the packet that was given last
@@ -195,6 +203,7 @@ module _ {A : Type 0} where
     pub phase : new.phase ≡ refused_by fault.kind fault
     pub anew : HasRead [] [] new.stream
     pub wants : wants_input new.stream ≡ true
+    pub within : limit_of new.stream ≡ new.limits.args
 
   -- what `close` does
   abbrev pub ClosesHost : HostServer A → Bool → HostServer A → Type 0
@@ -264,7 +273,7 @@ module _ {A : Type 0} where
 
   -- the request is answered from now on; any other phase stays
   abbrev pub IsAccepted : Format → Phase A → Phase A → Type 0
-  IsAccepted format (Whole request) (Answering answer) = IsAnswering format answer (asked_of request) (nothing_for (asked_of request)) []
+  IsAccepted format (Whole request) (Answering answer) = IsBegun format request answer
   IsAccepted format (Whole request) new = ⊥
   IsAccepted format old new = new ≡ old
 

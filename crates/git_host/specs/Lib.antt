@@ -9,5 +9,6 @@ pub mod HostSessions
 pub mod HostAnswers
 pub mod HostServer
 pub mod HostLookups
+pub mod HostMemory
 pub mod HostCalls
 pub mod HostedRepository

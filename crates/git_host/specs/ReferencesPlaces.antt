@@ -1,10 +1,11 @@
 -- How far an answer for references has come, by what was reported and what was given.
-use Rattle.std.specs.Prelude.{◌≡◌, ◌≢◌, ℕ, Bool, true, false, All, List, [], ◌∷◌, ◌++◌, codes, map, Option, Some, None, IsSome}
+use Rattle.std.specs.Prelude.{◌≡◌, ◌≢◌, ℕ, ◌≤◌, Bool, true, false, All, List, [], ◌∷◌, ◌++◌, codes, map, Option, Some, None, IsSome}
 use Rattle.std.specs.Option.{ForSome}
 use Rattle.std.specs.Str.{bytes_eq}
 use Rattle.git_names.specs.declared.object_format.Format.{Format}
 use Rattle.git_pkt.specs.Packets.{Pkt}
 use Rattle.git_msg.specs.Asked.{LsRefsAsked}
+use Rattle.git_msg.specs.Kept.{Kept}
 use Rattle.git_msg.specs.Prefixes.{ShowAlike}
 use Rattle.git_server.specs.Answers.{reference_packet, reference_packets, shown_refs, unborn_packets}
 use Rattle.git_server.specs.Repository.{Entry, IsNamed, IsOfFormat, IsRising, IsUnbornHead, comes_before}
@@ -116,6 +117,16 @@ module _ {A : Type 0} where
     pub alike : IsAlike q answer.listing.asked
     pub stands : StandsAtReferences answer.place answer.format q t answer.last given
 
+  -- no more is kept of this request than of the other
+  pub record KeepsAs (request : Kept LsRefsAsked) (answer : ReferencesAnswer A) : Type 0 where
+    pub kept : answer.listing.kept ≡ request.kept
+    pub stored : answer.listing.stored ≤ request.stored
+
+  -- the answer is to the same request, whose prefixes may have been put in order
+  pub record IsToTheSame (old new : ReferencesAnswer A) : Type 0 where
+    pub format : format_of new ≡ format_of old
+    pub keeps : KeepsAs old.listing new
+
   -- the answer is new
   abbrev pub Starts : LsRefsAsked → ReferencesAnswer A → Type 0
   Starts q answer = RepresentsReferences q no_references [] answer
@@ -137,19 +148,19 @@ module _ {A : Type 0} where
 
   -- what the report of a reference does
   abbrev pub Reports : Entry → ReferencesAnswer A → Reported → List ℕ → ReferencesAnswer A → Type 0
-  Reports entry old Packet bytes new = (format_of new ≡ format_of old) × ReportsOn (with_ref entry) old bytes new
-  Reports entry old Hidden bytes new = (format_of new ≡ format_of old) × ReportsHidden (with_ref entry) old new
+  Reports entry old Packet bytes new = IsToTheSame old new × ReportsOn (with_ref entry) old bytes new
+  Reports entry old Hidden bytes new = IsToTheSame old new × ReportsHidden (with_ref entry) old new
   Reports entry old NotAsked bytes new = (new ≡ old) × is_whole old
   Reports entry old unsound bytes new = (new ≡ old) × IsUnsoundAfter entry old
 
   -- what the report of an unborn `HEAD` does
   abbrev pub ReportsUnborn : List ℕ → ReferencesAnswer A → Reported → List ℕ → ReferencesAnswer A → Type 0
-  ReportsUnborn target old Packet bytes new = (format_of new ≡ format_of old) × ReportsOn (with_unborn target) old bytes new
-  ReportsUnborn target old Hidden bytes new = (format_of new ≡ format_of old) × ReportsHidden (with_unborn target) old new
+  ReportsUnborn target old Packet bytes new = IsToTheSame old new × ReportsOn (with_unborn target) old bytes new
+  ReportsUnborn target old Hidden bytes new = IsToTheSame old new × ReportsHidden (with_unborn target) old new
   ReportsUnborn target old NotAsked bytes new = (new ≡ old) × HasBegun old
   ReportsUnborn target old other bytes new = ⊥
 
   -- what the end does
   abbrev pub Ends : ReferencesAnswer A → Bool → List ℕ → ReferencesAnswer A → Type 0
-  Ends old true bytes new = (format_of new ≡ format_of old) × ReportsOn (λ t. t) old bytes new × is_whole new
+  Ends old true bytes new = IsToTheSame old new × ReportsOn (λ t. t) old bytes new × is_whole new
   Ends old false bytes new = (new ≡ old) × is_whole old

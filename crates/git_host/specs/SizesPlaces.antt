@@ -3,6 +3,7 @@ use Rattle.std.specs.Prelude.{◌≡◌, ℕ, ◌<◌, ◌≤◌, Bool, true, fa
 use Rattle.git_names.specs.ObjectName.{ObjectName}
 use Rattle.git_pkt.specs.Packets.{Pkt, flush}
 use Rattle.git_msg.specs.Asked.{ObjectInfoAsked}
+use Rattle.git_msg.specs.Kept.{Kept}
 use Rattle.git_msg.specs.ResponseLines.{info_text}
 use Rattle.git_msg.specs.WrittenRequest.{text_line}
 use Rattle.git_host.specs.FetchPlaces.{Holds}
@@ -37,6 +38,9 @@ StandsAtSizes (Object at) q sizes given = AtObject at q sizes given
 StandsAtSizes Whole q sizes given = IsSizesAnswerOf q sizes given
 
 module _ {A : Type 0} where
+  abbrev pub sizes_request : SizesAnswer A → Kept ObjectInfoAsked
+  sizes_request answer = answer.request
+
   abbrev pub sizes_asked : SizesAnswer A → ObjectInfoAsked
   sizes_asked answer = answer.request.asked
 
@@ -55,7 +59,7 @@ module _ {A : Type 0} where
 
   -- the sizes become these, and these bytes are the next packet
   pub record GivesSize (with : List (Option ℕ) → List (Option ℕ)) (old : SizesAnswer A) (bytes : List ℕ) (new : SizesAnswer A) : Type 0 where
-    pub same : sizes_asked new ≡ sizes_asked old
+    pub same : sizes_request new ≡ sizes_request old
     pub gives : (sizes : List (Option ℕ)) (given : List Pkt) → RepresentsSizes sizes given old
         → (packet : Pkt) × Holds bytes packet × RepresentsSizes (with sizes) (given ++ packet ∷ []) new
 

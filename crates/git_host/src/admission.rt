@@ -52,13 +52,13 @@ pub struct Admission<A: Allocator + Copy> {
 
 impl<A: Allocator + Copy> Admission<A> {
     ghost use Rattle.git_host.specs.Admissions.{IsAdmitted, ReportsWant, ReportsWantRef, RepresentsAdmission};
-    ghost use Rattle.git_host.specs.Admissions.{asked_of, format_of, nothing_reported, step_of, wanted_by, AdmissionFacts};
+    ghost use Rattle.git_host.specs.Admissions.{asked_of, format_of, nothing_reported, request_of, step_of, wanted_by, AdmissionFacts};
     ghost use Rattle.git_host.specs.AdmittedAnswers.{Becomes};
 
     /// The admission of this request, whose object names have this format. It keeps the objects of wanted references in memory from
     /// `alloc`.
     pub fn new(alloc: A, request: Fetch<A>, format: Format) -> Admission<A>
-        ensures asked { asked_of result ≡ request.asked }
+        ensures request { request_of result ≡ request }
         ensures format { format_of result ≡ format }
         ensures represents { RepresentsAdmission nothing_reported result }
     {

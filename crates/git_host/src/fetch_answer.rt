@@ -122,7 +122,7 @@ pub struct FetchAnswer<A: Allocator + Copy> {
 
 impl<A: Allocator + Copy> FetchAnswer<A> {
     ghost use Rattle.git_host.specs.FetchPlaces.{EndsBoundary, Steps, Represents, ReportsAlone, ReportsAndGives, WhereAsked};
-    ghost use Rattle.git_host.specs.FetchPlaces.{ReportsLine, ReportsProgress, asked_of, format_of, is_line_at, place_of, step_of};
+    ghost use Rattle.git_host.specs.FetchPlaces.{ReportsLine, ReportsProgress, asked_of, format_of, is_line_at, place_of, request_of, step_of};
     ghost use Rattle.git_host.specs.FetchPlaces.{is_before_pack, is_boundary, is_asked, is_have, is_line_asked, is_pack, is_progress_asked, is_ready_asked};
     ghost use Rattle.git_host.specs.FetchPlaces.{with_have, with_pack, with_ready};
     ghost use Rattle.git_host.specs.FetchFacts.{no_facts};
@@ -131,7 +131,7 @@ impl<A: Allocator + Copy> FetchAnswer<A> {
     /// points to the object at the same place.
     pub fn new(request: Fetch<A>, wanted: Vec<Oid, A>, format: Format) -> FetchAnswer<A>
         requires { length wanted.items ≡ length request.asked.want_refs }
-        ensures asked { asked_of result ≡ request.asked }
+        ensures request { request_of result ≡ request }
         ensures format { format_of result ≡ format }
         ensures represents { Represents (no_facts wanted.items) [] result }
     {
@@ -140,7 +140,7 @@ impl<A: Allocator + Copy> FetchAnswer<A> {
 
     // The same, where the caller knows how many objects there are by what was reported.
     pub(crate) fn begin(request: Fetch<A>, wanted: Vec<Oid, A>, format: Format) -> FetchAnswer<A>
-        ensures asked { asked_of result ≡ request.asked }
+        ensures request { request_of result ≡ request }
         ensures format { format_of result ≡ format }
         ensures represents { length wanted.items ≡ length request.asked.want_refs → Represents (no_facts wanted.items) [] result }
     {

@@ -1,10 +1,8 @@
 //! The answer to the request at hand, of whichever command: it is asked for what it needs, one thing after another.
 
-ghost use Rattle.std.specs.Prelude.{◌≡◌, [], true, false};
-ghost use Rattle.git_msg.specs.Machine.HeldRequest.{asked_of};
+ghost use Rattle.std.specs.Prelude.{◌≡◌, true, false};
 ghost use Rattle.git_host.specs.HostAnswers.{GoesOn, IsThrough, ended_as, is_admission, of_fetch_step, of_sizes_step, part_of, reported_as};
 ghost use Rattle.git_host.specs.HostAnswers.{FailsFetch, asks_wanted, cut_where, line_as, progress_as};
-ghost use Rattle.git_host.specs.HostSessions.{nothing_for};
 
 use crate::admission::{Admission, AdmissionStep, WantRefReported};
 use crate::fetch_answer::{BoundaryEnd, BoundaryReported, FetchAnswer, ProgressReported, Step};
@@ -54,11 +52,11 @@ pub(crate) enum Failing {
 }
 
 impl<A: Allocator + Copy> HostAnswer<A> {
-    ghost use Rattle.git_host.specs.HostAnswers.{FailsBy, IsAnswering, ReportsBy, StepsAnswer, is_failure};
+    ghost use Rattle.git_host.specs.HostAnswers.{FailsBy, IsBegun, ReportsBy, StepsAnswer, is_failure};
 
     /// The answer to this request, of which nothing was reported or given.
     pub(crate) fn new(alloc: A, request: Request<A>, format: Format) -> HostAnswer<A>
-        ensures { IsAnswering format result (asked_of request) (nothing_for (asked_of request)) [] }
+        ensures { IsBegun format request result }
     {
         match request {
             Request::LsRefs(request) => {

@@ -21,7 +21,7 @@ use git_msg::{Limits, Memory, Offer, ReadGot, Request, RequestStream, put_line};
 use git_names::{Format, Steps};
 use git_pkt::{Fault, Hold, Kind};
 use git_server::{Outcome, put_advertisement};
-use std::alloc::Allocator;
+use std::alloc::{Allocator, Global};
 use std::mem;
 
 /// The most bytes that the text of a refusal may have.
@@ -328,6 +328,7 @@ impl<A: Memory + Copy> HostServer<A> {
         match read.got {
             ReadGot::More => used,
             ReadGot::Request(request) => {
+                let _ = request.kept();
                 self.flush = self.stream.position().saturating_sub(4);
                 self.phase = Phase::Asked(request);
                 used
@@ -376,6 +377,11 @@ impl<A: Allocator + Copy> HostServer<A> {
         }
     }
 }
+
+// The most that a `HostServer` is with the usual allocator, beside what lies behind its pointers: 65 KiB. Its buffer is 65,520 bytes of it.
+const MOST_SIZE: usize = 66_560;
+
+const _: () = prove!(size_of::<HostServer<Global>>() <= MOST_SIZE);
 
 // Where a session begins.
 fn first_phase<A: Allocator + Copy>(advertise: bool) -> Phase<A>

@@ -17,6 +17,7 @@ ghost use Rattle.git_host.specs.HostedRepository.{AllOfRepository};
 ghost use Rattle.git_server.specs.Sessions.{AreAnswers};
 ghost use Rattle.git_host.specs.HostServer.{AcceptsHost, ClosesHost, FeedsHost, Hosts, RefusesHost, ReportsHost, StepsHost};
 ghost use Rattle.git_host.specs.HostServer.{begun_in, bytes_of, credit_of, given_with};
+ghost use Rattle.git_host.specs.HostMemory.{bytes_held, bytes_held_by_fields};
 ghost use Rattle.git_host.specs.HostCalls.{HostCall, HostHeadline, Makes, accept, close, feed, given_at, next, nothing, refuse, report};
 ghost use Rattle.git_host.specs.declared.report.HostReported.{HostReported};
 ghost use Rattle.git_host.specs.declared.report.HostStep.{HostStep};
@@ -43,12 +44,21 @@ pub fn sizes_answer_is_a_repositorys()
         → IsSizesAnswerOf q sizes packets → IsAnswerAs whole repo (object_info q) packets }
 {}
 
-/// However the input is cut, after any calls of a host's server that was new before them it has taken at most 64 steps for each byte used and each
-/// call of `feed`. If the session has ended, its output is the session that its whole input calls for by what was reported of each request, and
-/// the first malformed packet was refused at its offset by name. It waits for input only where each request was answered.
+/// However the input is cut, after any calls of a host's server that was new before them it holds at most 65,520 buffered bytes, twice its limit
+/// of kept arguments, 33 bytes for each reference that the request at hand wants, and the names of the reference that was reported last; and it
+/// has taken at most 64 steps for each byte used and each call of `feed`. If the session has ended, its output is the session that its whole
+/// input calls for by what was reported of each request, and the first malformed packet was refused at its offset by name. It waits for
+/// input only where each request was answered, and while one is answered it has given the front of an answer.
 pub fn host_headline<A: Allocator + Copy>(server: &HostServer<A>)
     ensures { (s : HostSetting) (calls : List HostCall) (before after : ℕ) (first : HostServer A) → Hosts s [] false [] [] first
         → credit_of first ≡ 0 → MakesAll Makes calls before first after server.now → HostHeadline s calls before after server.now }
+{
+    let _ = server.packet();
+}
+
+/// What is counted of a host's server is what its fields have. A field more has to be named here.
+pub fn all_fields_are_counted<A: Allocator + Copy>()
+    ensures { (server : HostServer A) → bytes_held_by_fields server ≡ bytes_held server }
 {}
 
 /// What the contract of each method ensures is a call of the headline, also where it returns false; and calls follow one another: so the

@@ -56,11 +56,12 @@ pub struct ReferencesAnswer<A: Allocator + Copy> {
 impl<A: Allocator + Copy> ReferencesAnswer<A> {
     ghost use Rattle.git_msg.specs.Asked.{ls_refs};
     ghost use Rattle.git_host.specs.HostLookups.{references_asked};
-    ghost use Rattle.git_host.specs.ReferencesPlaces.{Ends, Reports, ReportsUnborn, Starts, format_of, last_reported, refuses_head};
+    ghost use Rattle.git_host.specs.ReferencesPlaces.{Ends, KeepsAs, Reports, ReportsUnborn, Starts, format_of, last_reported, refuses_head};
 
     /// The answer to this request, of which nothing was reported.
     pub fn new(request: LsRefs<A>, format: Format) -> ReferencesAnswer<A>
         ensures starts { Starts request.asked result }
+        ensures keeps { KeepsAs request result }
         ensures format { format_of result ≡ format }
     {
         let mut listing = Listing::new(request);

@@ -39,11 +39,11 @@ pub struct SizesAnswer<A: Allocator + Copy> {
 }
 
 impl<A: Allocator + Copy> SizesAnswer<A> {
-    ghost use Rattle.git_host.specs.SizesPlaces.{Asks, IsAsking, Sizes, StepsSizes, RepresentsSizes, sizes_asked};
+    ghost use Rattle.git_host.specs.SizesPlaces.{Asks, IsAsking, Sizes, StepsSizes, RepresentsSizes, sizes_asked, sizes_request};
 
     /// The answer to this request, of which nothing was given.
     pub fn new(request: ObjectInfo<A>) -> SizesAnswer<A>
-        ensures asked { sizes_asked result ≡ request.asked }
+        ensures request { sizes_request result ≡ request }
         ensures represents { RepresentsSizes [] [] result }
     {
         SizesAnswer {

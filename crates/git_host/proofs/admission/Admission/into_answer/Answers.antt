@@ -10,7 +10,7 @@ returns-in-Admitted g c =
     λ a h. subst (λ (s : AdmissionStep). StandsAtStep s old.format old.request.asked a old.wanted.items) c.in-Admitted.is h in (
       c.in-Admitted.is,
       record {
-        asked = c.begin.ensures.asked;
+        request = c.begin.ensures.request;
         format = c.begin.ensures.format;
         admitted = admitted;
         represents = λ a h. c.begin.ensures.represents (admitted a h).all;

@@ -11,7 +11,7 @@ returns g c =
     let ids = old.wanted.items in (
       ap is_want c.in-AskWant.is,
       record {
-        asked = refl;
+        request = refl;
         format = refl;
         represents = λ a h.
             let at = subst (λ (s : AdmissionStep). StandsAtStep s old.format q a ids) c.in-AskWant.is h in
@@ -26,7 +26,7 @@ returns-then-not-has g c =
     let ids = old.wanted.items in (
       ap is_want c.in-AskWant.is,
       record {
-        asked = refl;
+        request = refl;
         format = refl;
         represents = λ a h.
             let at = subst (λ (s : AdmissionStep). StandsAtStep s old.format q a ids) c.in-AskWant.is h in

@@ -14,7 +14,7 @@ returns-in-Ok g c =
     let ids = old.wanted.items in (
       ap is_want_ref c.in-AskWantRef.is,
       record {
-        asked = refl;
+        request = refl;
         format = refl;
         represents = λ a h.
             let at = subst (λ (s : AdmissionStep). StandsAtStep s old.format q a ids) c.in-AskWantRef.is h in

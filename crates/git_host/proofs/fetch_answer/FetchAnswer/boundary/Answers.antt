@@ -1,6 +1,5 @@
 use Rattle.std.proofs.Common.{rules, ◌≡◌, ◌++◌, ◌∷◌, [], ◌∙◌, ap, codes, refl, subst, sym, Bool, List}
 use Rattle.git_names.specs.ObjectName.{ObjectName}
-use Rattle.git_names.specs.declared.object_format.Format.{Format}
 use Rattle.git_msg.specs.WrittenRequest.{text_line}
 use Rattle.git_msg.specs.ResponseLines.{boundary_text}
 use Rattle.git_server.specs.FetchAnswers.{boundary_packet}

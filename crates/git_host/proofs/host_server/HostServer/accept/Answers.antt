@@ -8,7 +8,7 @@ returns-clause-accepts g c =
     let (answered, hosts) = accepted_hosts c.args.self.now c.replace-phase.result c.accepted.result c.replace-phase.ensures.value asked c.accepted.ensures in (
       asked,
       answered,
-      λ s used over reported given h. record { offer = h.offer; limit = h.limit; stands = hosts s used over reported given h },
+      λ s used over reported given h. record { offer = h.offer; limit = h.limit; reads_within = h.reads_within; stands = hosts s used over reported given h },
     )
 
 pub returns-clause-credit : goal.returns-clause-credit

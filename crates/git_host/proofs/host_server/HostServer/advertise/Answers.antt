@@ -4,7 +4,8 @@ use Rattle.git_host.specs.declared.host_server.Phase.{Phase}
 use Rattle.git_msg.specs.declared.offers.Offer.{Offer}
 use Rattle.git_server.specs.Answers.{advertisement_of, spelled}
 use Rattle.git_host.specs.declared.host_server.Phase.TheVariants.{Reading}
-use Rattle.git_host.proofs.HostMoves.{advertised_now, on_some, advertising_credit, credit_falls, lent_credit}
+use Rattle.git_host.proofs.HostMoves.{advertised_now, advertising_credit, credit_falls, lent_credit, on_some}
+use Rattle.git_host.proofs.LentStreams.{lent_within}
 use Rattle.git_host.proofs.host_server.HostServer.advertise.Goals as goal
 
 pub returns-clause-steps : goal.returns-clause-steps
@@ -16,7 +17,7 @@ returns-clause-steps g c s used over reported given h =
     let (is, handed) = advertised_now s used over reported given (c.lend.follows.lender w) old.stream w lent
     (omega (arith, c.len.ensures.value, c.len.ensures.fits))
     (c.put_advertisement.ensures.written ∙ ap (λ (o : Offer). spelled (advertisement_of o)) h.offer) stands in
-    (record { offer = h.offer; limit = h.limit; stands = is }, handed)
+    (record { offer = h.offer; limit = h.limit; reads_within = lent_within old.stream w (c.lend.follows.lender w) lent s h.reads_within; stands = is }, handed)
 
 pub returns-clause-credit : goal.returns-clause-credit
 returns-clause-credit g c =

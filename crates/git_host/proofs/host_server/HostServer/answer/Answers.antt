@@ -8,8 +8,10 @@ use Rattle.git_host.specs.HostServer.{HostsIn}
 use Rattle.git_host.specs.declared.host_answer.AnswerStep.{AnswerStep}
 use Rattle.git_host.specs.declared.host_server.Phase.{Phase}
 use Rattle.git_host.specs.declared.host_server.Phase.TheVariants.{Answering, Reading}
-use Rattle.git_host.proofs.HostMoves.{answering_no, broken_done, lacking_done, need_done, on_some, packet_done, whole_done, answering_credit, credit_falls}
-use Rattle.git_host.proofs.HostMoves.{lent_credit, lent_handed, packet_some}
+use Rattle.git_host.proofs.HostMoves.{answering_credit, answering_no, broken_done, credit_falls, lacking_done, need_done, on_some, packet_done, whole_done}
+use Rattle.git_host.proofs.LentStreams.{lent_within}
+use Rattle.git_host.proofs.HostMoves.{lent_credit}
+use Rattle.git_host.proofs.LentStreams.{lent_handed, packet_some}
 use Rattle.git_host.proofs.host_server.HostServer.answer.Goals as goal
 
 pub returns-in_default-clause-steps : goal.returns-in_default-clause-steps
@@ -26,7 +28,7 @@ returns-in-Packet-clause-steps g c s used over reported given h =
     c.next-step.ensures in
     let (is, handed) = packet_done s used over reported given old.flush old.stream
     (c.lend.follows.lender w) w lent few c.in-Answering.answer c.next-step.new.self stands steps in
-    (record { offer = h.offer; limit = h.limit; stands = is }, handed)
+    (record { offer = h.offer; limit = h.limit; reads_within = lent_within old.stream w (c.lend.follows.lender w) lent s h.reads_within; stands = is }, handed)
 
 pub returns-in-Need-clause-steps : goal.returns-in-Need-clause-steps
 returns-in-Need-clause-steps g c s used over reported given h =
@@ -40,6 +42,7 @@ returns-in-Need-clause-steps g c s used over reported given h =
       record {
         offer = h.offer;
         limit = h.limit;
+        reads_within = lent_within old.stream w (c.lend.follows.lender w) lent s h.reads_within;
         stands = need_done s used over reported given old.flush old.stream
             (c.lend.follows.lender w) w lent few c.in-Answering.answer c.next-step.new.self stands steps.0;
       },
@@ -58,6 +61,7 @@ returns-in-Whole-clause-steps g c s used over reported given h =
       record {
         offer = h.offer;
         limit = h.limit;
+        reads_within = lent_within old.stream w (c.lend.follows.lender w) lent s h.reads_within;
         stands = whole_done s used over reported given old.flush old.stream
             (c.lend.follows.lender w) w lent few c.in-Answering.answer c.next-step.new.self stands steps;
       },
@@ -76,6 +80,7 @@ returns-in-Broken-clause-steps g c s used over reported given h =
       record {
         offer = h.offer;
         limit = h.limit;
+        reads_within = lent_within old.stream w (c.lend.follows.lender w) lent s h.reads_within;
         stands = subst (λ (o : Outcome). IsHosted s used over reported given o) (sym c.ended_by-outcome.ensures)
             (broken_done s used over reported given old.flush old.stream
             (c.lend.follows.lender w) w lent few c.in-Answering.answer c.next-step.new.self stands steps);
@@ -95,11 +100,13 @@ returns-in-Refused-clause-steps g c s used over reported given h =
       record {
         offer = h.offer;
         limit = h.limit;
+        reads_within = lent_within old.stream w (c.lend.follows.lender w) lent s h.reads_within;
         stands = subst (λ (o : Outcome). IsHosted s used over reported (given ++ hold_of (c.lend.follows.lender w)) o) (sym c.ended_by.ensures)
             (lacking_done s used over reported given old.flush old.stream
             (c.lend.follows.lender w) w lent few c.in-Answering.answer c.next-step.new.self stands c.in-Refused.kind steps c.put_error.ensures);
       },
-      lent_handed old.stream w (c.lend.follows.lender w) lent (packet_some w.items (error_packet (record { kind = c.in-Refused.kind; offset = old.flush })) c.put_error.ensures) few,
+      lent_handed old.stream w (c.lend.follows.lender w) lent
+          (packet_some w.items (error_packet (record { kind = c.in-Refused.kind; offset = old.flush })) c.put_error.ensures) few,
     )
 
 pub returns-in-Packet-clause-credit : goal.returns-in-Packet-clause-credit

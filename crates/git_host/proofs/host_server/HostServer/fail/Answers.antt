@@ -11,8 +11,9 @@ use Rattle.git_host.specs.declared.report.HostReported.TheVariants.{NotAsked}
 use Rattle.git_host.specs.declared.report.Report.TheVariants.{Failed}
 use Rattle.git_host.specs.declared.host_server.Phase.{Phase}
 use Rattle.git_host.specs.declared.host_server.Phase.TheVariants.{Answering}
-use Rattle.git_host.proofs.HostMoves.{answering_credit, credit_falls, cut_done, fail_packet, fail_unasked, lent_credit, lent_handed, not_asked, on_some}
-use Rattle.git_host.proofs.HostMoves.{packet_some, same_last}
+use Rattle.git_host.proofs.HostMoves.{answering_credit, credit_falls, cut_done, fail_packet, fail_unasked, lent_credit, not_asked, on_some}
+use Rattle.git_host.proofs.LentStreams.{lent_handed, lent_within}
+use Rattle.git_host.proofs.LentStreams.{packet_some, same_last}
 use Rattle.git_host.proofs.host_server.HostServer.fail.Goals as goal
 
 pub returns-in_default-clause-reports : goal.returns-in_default-clause-reports
@@ -28,7 +29,7 @@ returns-in-NotAsked-clause-reports g c s used over facts given h =
     let fails = subst (λ (x : Failing). FailsBy c.in-Answering.answer x w.items c.fail-failing.new.self) c.in-NotAsked.is c.fail-failing.ensures in
     let (is, why) = fail_unasked s used over facts given old.flush old.stream (c.lend.follows.lender w) w lent few c.in-Answering.answer
     c.fail-failing.new.self stands fails in (
-      record { offer = h.offer; limit = h.limit; stands = is },
+      record { offer = h.offer; limit = h.limit; reads_within = lent_within old.stream w (c.lend.follows.lender w) lent s h.reads_within; stands = is },
       tt,
       subst (λ (p : Phase g.row.A.Denot). HasReason Failed p NotAsked) (sym c.in-Answering.is) why,
       tt,
@@ -44,7 +45,8 @@ returns-in-Packet-clause-reports g c s used over facts given h =
     let fails = subst (λ (x : Failing). FailsBy c.in-Answering.answer x w.items c.fail-failing.new.self) c.in-Packet.is c.fail-failing.ensures in
     let (is, handed, ends) = fail_packet s used over facts given old.flush old.stream (c.lend.follows.lender w) w lent few c.in-Answering.answer
     c.fail-failing.new.self stands fails in
-    (record { offer = h.offer; limit = h.limit; stands = is }, handed, tt, ends)
+    let within = lent_within old.stream w (c.lend.follows.lender w) lent s h.reads_within in
+    (record { offer = h.offer; limit = h.limit; reads_within = within; stands = is }, handed, tt, ends)
 
 pub returns-in-CutShort-clause-reports : goal.returns-in-CutShort-clause-reports
 returns-in-CutShort-clause-reports g c s used over facts given h =
@@ -60,6 +62,7 @@ returns-in-CutShort-clause-reports g c s used over facts given h =
       record {
         offer = h.offer;
         limit = h.limit;
+        reads_within = lent_within old.stream w (c.lend.follows.lender w) lent s h.reads_within;
         stands = subst (λ (o : Outcome). IsHosted s used over (with_last (λ f. f) facts) (given ++ hold_of (c.lend.follows.lender w)) o)
             (sym c.ended_by.ensures)
             (subst (λ (fs : List Facts). IsHosted s used over fs (given ++ hold_of (c.lend.follows.lender w)) (ended_by PackSource old.flush))

@@ -1,5 +1,6 @@
-use Rattle.std.proofs.Common.{arith, inl, inr, List, [], ◌++◌, subst, sym, take, ◌∙◌}
+use Rattle.std.proofs.Common.{arith, ◌≤◌, inl, inr, List, [], ◌++◌, subst, sym, take, ◌∙◌}
 use Rattle.git_msg.specs.declared.requests.Request.{Request}
+use Rattle.git_msg.specs.Machine.HeldRequest.{kept_of, stored_of}
 use Rattle.git_server.specs.declared.outcome.Outcome.TheVariants.{Flush}
 use Rattle.git_host.specs.HostSessions.{Facts}
 use Rattle.git_host.specs.HostServer.{Hosts, HostsIn, begun_in}
@@ -20,6 +21,7 @@ returns-in-More-clause-feeds g c s so_far over reported given h =
     (sym reading) (record {
       offer = h.offer;
       limit = h.limit;
+      reads_within = c.feed-read.ensures.feeds.limit ∙ h.reads_within;
       stands = brought_more s so_far over reported given old.stream c.feed-read.new.self
           c.args.piece.now c.feed-read.result c.feed-read.ensures.feeds stands c.in-More.is;
     })
@@ -40,9 +42,11 @@ returns-in-Request-clause-feeds g c s so_far over reported given h =
     (record {
       offer = h.offer;
       limit = h.limit;
+      reads_within = c.feed-read.ensures.feeds.limit ∙ h.reads_within;
       stands = brought_request s so_far over reported given old.stream c.feed-read.new.self c.args.piece.now c.feed-read.result
           c.feed-read.ensures.feeds stands request flush c.in-Request.is
-          (omega (arith, c.saturating_sub-self.ensures, c.position.ensures));
+          (omega (arith, c.saturating_sub-self.ensures, c.position.ensures))
+          (subst (λ (r : Request g.row.A.Denot). stored_of r ≤ kept_of r) c.in-Request.request-is c.kept.ensures.stored);
     }))
 
 pub returns-in-Stop-clause-feeds : goal.returns-in-Stop-clause-feeds
@@ -56,6 +60,7 @@ returns-in-Stop-clause-feeds g c s so_far over reported given h =
     (record {
       offer = h.offer;
       limit = h.limit;
+      reads_within = c.feed-read.ensures.feeds.limit ∙ h.reads_within;
       stands = brought_stop s so_far over reported given old.stream c.feed-read.new.self c.args.piece.now
           c.feed-read.result c.feed-read.ensures.feeds stands c.in-Stop.is;
     })

@@ -2,7 +2,8 @@ use Rattle.std.proofs.Common.{arith, sym, subst}
 use Rattle.git_host.specs.HostServer.{HostsIn, HasReason}
 use Rattle.git_host.specs.declared.host_server.Phase.{Phase}
 use Rattle.git_host.specs.declared.host_server.Phase.TheVariants.{Answering}
-use Rattle.git_host.proofs.HostMoves.{not_asked, on_some, report_done, answering_credit, credit_falls, lent_credit}
+use Rattle.git_host.proofs.HostMoves.{answering_credit, credit_falls, lent_credit, not_asked, on_some, report_done}
+use Rattle.git_host.proofs.LentStreams.{lent_within}
 use Rattle.git_host.proofs.host_server.HostServer.report.Goals as goal
 
 pub returns-in_default-phase-clause-reports : goal.returns-in_default-phase-clause-reports
@@ -17,7 +18,7 @@ returns-clause-reports g c s used over facts given h =
     let (is, handed, why, ends) = report_done s used over facts given old.flush old.stream (c.lend.follows.lender w) w lent
     (omega (arith, c.len.ensures.value, c.len.ensures.fits)) c.in-Answering.answer c.report-reported.new.self stands c.args.report c.report-reported.result
     c.report-reported.ensures in (
-      record { offer = h.offer; limit = h.limit; stands = is },
+      record { offer = h.offer; limit = h.limit; reads_within = lent_within old.stream w (c.lend.follows.lender w) lent s h.reads_within; stands = is },
       handed,
       subst (λ (p : Phase g.row.A.Denot). HasReason c.args.report p c.report-reported.result) (sym c.in-Answering.is) why,
       ends,

@@ -2,6 +2,7 @@ use Rattle.std.proofs.Common.{arith, subst}
 use Rattle.git_host.specs.HostServer.{HostsIn}
 use Rattle.git_host.specs.declared.host_server.Phase.{Phase}
 use Rattle.git_host.proofs.HostMoves.{fault_reported, on_some}
+use Rattle.git_host.proofs.LentStreams.{lent_within}
 use Rattle.git_host.proofs.host_server.HostServer.report_fault.Goals as goal
 
 pub returns-clause-steps : goal.returns-clause-steps
@@ -12,4 +13,4 @@ returns-clause-steps g c s used over reported given h =
     let stands = subst (λ (p : Phase g.row.A.Denot). HostsIn p s used over reported given old.stream old.flush) c.requires h.stands in
     let (is, handed) = fault_reported s used over reported given (c.lend.follows.lender w) old.stream w c.args.fault lent
     (omega (arith, c.len.ensures.value, c.len.ensures.fits)) c.put_error.ensures stands in
-    (record { offer = h.offer; limit = h.limit; stands = is }, handed)
+    (record { offer = h.offer; limit = h.limit; reads_within = lent_within old.stream w (c.lend.follows.lender w) lent s h.reads_within; stands = is }, handed)

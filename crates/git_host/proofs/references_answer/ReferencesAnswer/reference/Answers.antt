@@ -41,7 +41,7 @@ returns-then-not-comes_next g c = (
 
 pub returns-then-not-shows : goal.returns-then-not-shows
 returns-then-not-shows g c = (
-  refl,
+  record { format = refl; keeps = record { kept = c.put_in_order.ensures.same.kept; stored = c.put_in_order.ensures.same.stored } },
   λ q t given h.
       let old = c.args.self.now in
       let entry = c.args.entry in
@@ -63,7 +63,7 @@ returns-then-not-shows g c = (
 
 pub returns : goal.returns
 returns g c = (
-  refl,
+  record { format = refl; keeps = record { kept = c.put_in_order.ensures.same.kept; stored = c.put_in_order.ensures.same.stored } },
   λ q t given h.
       let old = c.args.self.now in
       let entry = c.args.entry in

@@ -10,7 +10,7 @@ returns-in_default g c = (refl, c.in_default.not-First)
 
 pub returns-then-not-asks_for_unborn : goal.returns-then-not-asks_for_unborn
 returns-then-not-asks_for_unborn g c = (
-  refl,
+  record { format = refl; keeps = record { kept = c.put_in_order.ensures.same.kept; stored = c.put_in_order.ensures.same.stored } },
   λ q t given h.
       let old = c.args.self.now in
       let alike = ordered_alike q old.listing c.put_in_order.new.self h.alike c.put_in_order.ensures.same in
@@ -27,7 +27,7 @@ returns-then-not-asks_for_unborn g c = (
 
 pub returns : goal.returns
 returns g c = (
-  refl,
+  record { format = refl; keeps = record { kept = c.put_in_order.ensures.same.kept; stored = c.put_in_order.ensures.same.stored } },
   λ q t given h.
       let old = c.args.self.now in
       let alike = ordered_alike q old.listing c.put_in_order.new.self h.alike c.put_in_order.ensures.same in
