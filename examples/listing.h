@@ -9,6 +9,10 @@ static bool begins(const char *text, const char *prefix)
 	return strncmp(text, prefix, strlen(prefix)) == 0;
 }
 
+/* The objects of references that this session has listed: they were there. A clone wants just these, and does not have them looked up again. */
+enum { MOST_LISTED = 16384 };
+static struct names listed_objects;
+
 /* Gives a reference by its whole name; a target or a peeled object is empty where there is none. */
 static void answer_reference(const char *id, const char *name, const char *target, const char *peeled)
 {
@@ -23,6 +27,8 @@ static void answer_reference(const char *id, const char *name, const char *targe
 	if (answer.kind == GITWIRE_FAILED || answer.kind == GITWIRE_OUT_OF_ORDER)
 		fail("a reference that no answer may have");
 	give(answer);
+	if (listed_objects.length < MOST_LISTED)
+		add_name(&listed_objects, id);
 }
 
 /* `HEAD` that leads to no object, with what it is to lead to. */

@@ -17,13 +17,13 @@ struct names {
 	size_t room;    /* of the table, a power of two */
 };
 
-/* Where in the table the name is, or would be. */
+/* Where in the table the name is, or would be. Its first digits suffice for that. */
 static size_t *find_place(const struct names *names, const char *digits)
 {
 	uint64_t hash = 14695981039346656037u;
 	size_t at;
 
-	for (const char *digit = digits; *digit != 0; digit++)
+	for (const char *digit = digits; *digit != 0 && digit < digits + 16; digit++)
 		hash = (hash ^ (uint8_t)*digit) * 1099511628211u;
 	for (at = hash & (names->room - 1); names->places[at] != 0; at = (at + 1) & (names->room - 1))
 		if (strcmp(names->at[names->places[at] - 1].digits, digits) == 0)

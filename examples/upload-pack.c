@@ -25,13 +25,13 @@
 /* Looks up the objects of a list of the request, and adds those that are there. Returns the first that is not there, or NULL. */
 static const char *find_listed(uint8_t list, const char *type, struct names *into)
 {
-	static struct names listed;
+	static struct names asked;
 	const char *name;
 
-	clear_names(&listed);
+	clear_names(&asked);
 	for (size_t i = 0; (name = item(list, i)) != NULL; i++)
-		add_name(&listed, name);
-	return find_all(&listed, "", type, into);
+		add_name(type == NULL && has_name(&listed_objects, name) ? into : &asked, name);
+	return find_all(&asked, "", type, into);
 }
 
 /* The wanted references as lines `ID NAME`, and the object of `HEAD`, which is empty where there is none. */

@@ -34,7 +34,7 @@ case_upload_pack_reports_a_command_that_is_killed() {
     done
     for bytes in 0 1; do
         write_failing cat-file $bytes
-        fails_to_clone "git cat-file was killed after $bytes lines" history-sha1 "$room/uploading-badly"
+        fails_to_clone "git cat-file was killed after $bytes lines" history-sha1 "$room/uploading-badly" --depth 1
     done
     write_failing rev-list 30
     fails_to_clone 'git rev-list was killed' history-sha1 "$room/uploading-badly" --shallow-since=2000-01-01
