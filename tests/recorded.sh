@@ -239,11 +239,11 @@ write_another_command() {
         packet ls-refs
         packet bundle-uri
         printf 0000
-        printf 0000%s "$1"
+        printf 0000%s "${1-}"
         packet bundle.version=1
         packet bundle.mode=all
-        printf 0000%s "$1"
-        printf 0000%s "$1"
+        printf 0000%s "${1-}"
+        printf 0000%s "${1-}"
     } > responses
     printf '%s\n' 'capability ls-refs' 'capability bundle-uri' offered 'request ls-refs' 'end 0 0' 'request ls-refs' 'end 0 0' > wanted
     : > empty
