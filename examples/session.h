@@ -55,10 +55,7 @@ static void give_following(void)
 		give(next);
 }
 
-/*
- * What is asked cannot be had: the session is over. The client receives that before a request is accepted and within a pack; elsewhere it sees
- * that the server hangs up.
- */
+/* What is asked cannot be had: the session is over. The client receives that wherever something is asked, and before a request is accepted. */
 static _Noreturn void fail(const char *what)
 {
 	static const uint8_t reason[] = "the repository cannot be read";

@@ -37,7 +37,7 @@ use Rattle.git_msg.specs.declared.streams.Stage.TheVariants.{Between, Within, St
 use Rattle.git_msg.specs.declared.offers.Offer.{Offer}
 use Rattle.git_msg.proofs.StreamEnds.{all_whole}
 use Rattle.git_server.specs.Packs.{whole, broken}
-use Rattle.git_server.specs.Answers.{advertisement_of, error_packet, refusal_by, spelled}
+use Rattle.git_server.specs.Answers.{AllFit, advertisement_of, error_packet, refusal_by, spelled}
 use Rattle.git_server.specs.declared.outcome.Outcome.TheVariants.{Flush, Refused}
 use Rattle.git_host.specs.HostSessions.{AllAnswered, AreAnswersBy, AtLast, Facts, HostSetting, IsAnswerBy, IsHosted, IsLacking, IsTailBy, ShowsWhere, StopsBy}
 use Rattle.git_host.specs.HostSessions.{advertised, nothing_for, of_fetch, of_references, of_sizes, refusal_packet}
@@ -58,7 +58,8 @@ use Rattle.git_host.specs.declared.report.HostReported.TheVariants.{NotShallow, 
 use Rattle.git_host.specs.declared.host_server.Phase.{Phase}
 use Rattle.git_host.specs.declared.host_server.Phase.TheVariants.{Advertising, Reading, Asked as Whole, Answering, Refusing, Ended}
 use Rattle.git_names.specs.declared.object_format.Format.{Format}
-use Rattle.git_host.proofs.LentStreams.{last_begun, last_gives, last_goes, last_whole, lent_bytes, lent_handed, lent_reads_on, packet_some, request_gives}
+use Rattle.git_host.proofs.LentStreams.{all_fit, last_begun, last_gives, last_goes, last_whole, lent_bytes, lent_handed, lent_reads_on, packet_fits}
+use Rattle.git_host.proofs.LentStreams.{packet_some, request_gives}
 use Rattle.git_host.proofs.LentStreams.{request_goes, same_last, some_advertised, some_packets}
 
 -- ---- what bytes bring
@@ -154,6 +155,7 @@ module _ {A : Type 0} (stream : RequestStream A) (used : List ℕ) (asked : List
           before = given;
           stops = record { asked = asked; left = h.left; rest = h.rest; are_asked = as_asked s offer limit; ends = (goes_on, stop.0, stop.1); all = all };
           given_is = sym (append-nil given);
+          fit = tt;
         })
 
 none_left : (p : ℕ) (gs : List Given) (rest : List ℕ) → SpellsAll p [] gs rest → rest ≡ []
@@ -178,6 +180,7 @@ refused_phase RemoteError fault s used over reported given stream flush is betwe
   before = given;
   stops = stops;
   given_is = sym (append-nil given) ∙ ap (λ (k : Kind). given ++ spelled (refusal_by k fault)) (sym is);
+  fit = subst (λ (k : Kind). AllFit (refusal_by k fault)) (sym is) tt;
 })
 refused_phase kind fault s used over reported given stream flush is between stops = record {
   between = between;
@@ -228,6 +231,9 @@ module _ {A : Type 0} (s : HostSetting) (used : List ℕ) (over : Bool) (reporte
         answered = subst (λ (fs : List Facts). AreAnswersBy s.offer.format [] fs []) (sym h.none_reported) refl;
         given_is = ap (λ (l : List ℕ). l ++ hold_of stream) h.none_given ∙ lent_bytes old hold stream lent ∙ written
             ∙ ap spelled (ap (λ (b : Bool). if b then advertisement_of s.offer else []) (sym h.advertises) ∙ sym (append-nil (advertised s)));
+        fit = subst AllFit
+            (ap (λ (b : Bool). if b then advertisement_of s.offer else []) (sym h.advertises) ∙ sym (append-nil (advertised s)))
+            (all_fit (advertisement_of s.offer) (omega (arith, fits, ap length written)));
       };
     },
     lent_handed old hold stream lent (omega (arith, ap length written, some_packets (advertisement_of s.offer) (some_advertised s.offer))) fits,
@@ -243,6 +249,7 @@ module _ {A : Type 0} (s : HostSetting) (used : List ℕ) (over : Bool) (reporte
       stops = h.stops;
       given_is = ap (λ (l : List ℕ). given ++ l) (lent_bytes old hold stream lent ∙ written
           ∙ sym (append-nil (spelling_of (error_packet fault))) ∙ ap spelled (sym h.tail));
+      fit = subst AllFit (sym h.tail) (packet_fits hold.items (error_packet fault) written fits, tt);
     }),
     lent_handed old hold stream lent (packet_some hold.items (error_packet fault) written) fits,
   )
@@ -375,7 +382,7 @@ module _ {A : Type 0} (s : HostSetting) (used : List ℕ) (over : Bool) (facts :
           at = h.at;
           last = subst (λ (bytes : List ℕ). AtLast s h.asked facts (given ++ bytes) (IsTailBy kind s.offer.format fault)) (sym (lent_bytes old hold new lent))
               (subst (λ (fs : List Facts). AtLast s h.asked fs (given ++ hold.items) (IsTailBy kind s.offer.format fault)) (same_last facts)
-              (last_gives s h.asked facts given (IsAnswering (terms_of s) a) (IsTailBy kind s.offer.format fault) (λ f. f) hold.items h.last
+              (last_gives s h.asked facts given (IsAnswering (terms_of s) a) (IsTailBy kind s.offer.format fault) (λ f. f) hold.items fits h.last
               (λ q f front x. let (lack, none) = lacks (terms_of s) q f front x in
               (error_packet fault, written, lacking_tail kind s.offer.format fault q f front lack none))));
         },
@@ -395,7 +402,7 @@ module _ {A : Type 0} (s : HostSetting) (used : List ℕ) (over : Bool) (facts :
           last = subst (λ (bytes : List ℕ). AtLast s h.asked facts (given ++ bytes) (IsTailBy PackSource s.offer.format fault))
               (sym (lent_bytes old hold new lent))
               (subst (λ (fs : List Facts). AtLast s h.asked fs (given ++ hold.items) (IsTailBy PackSource s.offer.format fault)) (same_last facts)
-              (last_gives s h.asked facts given (IsAnswering (terms_of s) a) (IsTailBy PackSource s.offer.format fault) (λ f. f) hold.items h.last
+              (last_gives s h.asked facts given (IsAnswering (terms_of s) a) (IsTailBy PackSource s.offer.format fault) (λ f. f) hold.items fits h.last
               (λ q f front x. let (begins, before) = cut (terms_of s) q f front x in
               (error_packet fault, written, inr (record { front = front; begins = begins; before = before; packets_are = refl })))));
         },
@@ -418,10 +425,10 @@ module _ {A : Type 0} (s : HostSetting) (used : List ℕ) (over : Bool) (facts :
 
 -- the host refused the request that came by a text
 pub text_refuses : {A : Type 0} (s : HostSetting) (used : List ℕ) (over : Bool) (facts : List Facts) (given : List ℕ) (flush : ℕ) (old new : RequestStream A)
-    (hold : ArrayVec ℕ) (lent : IsLent old hold new) (request : Request A) (text : List ℕ)
+    (hold : ArrayVec ℕ) (lent : IsLent old hold new) (fits : length hold.items ≤ 65520) (request : Request A) (text : List ℕ)
     → IsAtRequest s used over facts given old flush (IsUntouched s.limit (holding_of request)) → hold.items ≡ spelling_of (refusal_packet text)
     → IsHosted s used over facts (given ++ hold_of new) (ended_by NotOurs flush)
-text_refuses s used over facts given flush old new hold lent request text h written =
+text_refuses s used over facts given flush old new hold lent fits request text h written =
     let fault : Fault = record { kind = NotOurs; offset = flush } in
     inr (
       h.reads.goes_on,
@@ -431,7 +438,7 @@ text_refuses s used over facts given flush old new hold lent request text h writ
         at = h.at;
         last = subst (λ (bytes : List ℕ). AtLast s h.asked facts (given ++ bytes) (IsTailBy NotOurs s.offer.format fault)) (sym (lent_bytes old hold new lent))
             (subst (λ (fs : List Facts). AtLast s h.asked fs (given ++ hold.items) (IsTailBy NotOurs s.offer.format fault)) (same_last facts)
-            (last_gives s h.asked facts given (IsUntouched s.limit (holding_of request)) (IsTailBy NotOurs s.offer.format fault) (λ f. f) hold.items h.last
+            (last_gives s h.asked facts given (IsUntouched s.limit (holding_of request)) (IsTailBy NotOurs s.offer.format fault) (λ f. f) hold.items fits h.last
             (λ q f front x. (
               refusal_packet text,
               written,
@@ -619,12 +626,13 @@ accepted_hosts old replaced new same is begins =
 
 -- a request that the host refuses by a text
 pub refuses_hosts : {A : Type 0} (s : HostSetting) (used : List ℕ) (over : Bool) (facts : List Facts) (given : List ℕ) (old : HostServer A)
-    (new : RequestStream A) (hold : ArrayVec ℕ) (lent : IsLent old.stream hold new) (text : List ℕ) → is_asked old.phase ≡ true
+    (new : RequestStream A) (hold : ArrayVec ℕ) (lent : IsLent old.stream hold new) (fits : length hold.items ≤ 65520) (text : List ℕ)
+    → is_asked old.phase ≡ true
     → hold.items ≡ spelling_of (refusal_packet text) → Hosts s used over facts given old
     → IsHosted s used over facts (given ++ hold_of new) (ended_by NotOurs old.flush)
-refuses_hosts s used over facts given old new hold lent text is written h =
+refuses_hosts s used over facts given old new hold lent fits text is written h =
     let (request, phase) = asked_is old.phase is in
-    text_refuses s used over facts given old.flush old.stream new hold lent request text
+    text_refuses s used over facts given old.flush old.stream new hold lent fits request text
     (subst (λ (p : Phase _). HostsIn p s used over facts given old.stream old.flush) phase h.stands) written
 
 -- ---- what the bytes of an open packet leave for its steps

@@ -4,7 +4,7 @@ use Rattle.std.proofs.Common.{refl, sym, ap, ◌∙◌, subst}
 use Rattle.std.proofs.Common.{append_assoc, append-nil, length-append}
 use Rattle.arrayvec.specs.ArrayVec.{ArrayVec}
 use Rattle.git_pkt.specs.Digits.{digits_of}
-use Rattle.git_pkt.specs.Packets.{Pkt, body_of, length_field, spelling_of}
+use Rattle.git_pkt.specs.Packets.{Pkt, body_of, length_field, longest_payload, spelling_of}
 use Rattle.git_pkt.specs.Splits.{Given}
 use Rattle.git_pkt.specs.Machine.ReaderState.{is_open_in}
 use Rattle.git_pkt.specs.Machine.LentHold.{with_hold, with_hold_by}
@@ -22,13 +22,29 @@ use Rattle.git_msg.specs.declared.streams.RequestStream.{RequestStream}
 use Rattle.git_msg.specs.declared.streams.Stage.{Stage}
 use Rattle.git_msg.specs.declared.offers.Offer.{Offer}
 use Rattle.git_server.specs.Packs.{whole}
-use Rattle.git_server.specs.Answers.{advertisement_of, spelled}
-use Rattle.git_server.proofs.Sent.{spelled_one}
+use Rattle.git_server.specs.Answers.{AllFit, advertisement_of, spelled}
+use Rattle.git_server.proofs.Sent.{fit_more, spelled_one}
 use Rattle.git_host.specs.HostSessions.{AllAnswered, AreAnswersBy, AtLast, Facts, HostSetting, IsAnswerBy}
 use Rattle.git_host.specs.HostSessions.{advertised, nothing_for}
 use Rattle.git_host.specs.HostServer.{AreHandedOut, IsAtRequest, ReadsOn}
 use Rattle.git_host.specs.HostServer.{with_last}
 use Rattle.git_names.specs.declared.object_format.Format.{Format}
+
+-- ---- one packet
+
+-- a packet is written in four bytes at least
+pub packet_some : (bytes : List ℕ) (packet : Pkt) → bytes ≡ spelling_of packet → 4 ≤ length bytes
+packet_some bytes packet is = omega (arith, ap length is, length-append (digits_of (length_field packet)) (body_of packet))
+
+-- its payload fits if its bytes do
+pub packet_fits : (bytes : List ℕ) (packet : Pkt) → bytes ≡ spelling_of packet → length bytes ≤ 65520 → length (body_of packet) ≤ longest_payload
+packet_fits bytes packet is few = omega (arith, few, ap length is, length-append (digits_of (length_field packet)) (body_of packet))
+
+pub all_fit : (packets : List Pkt) → length (spelled packets) ≤ 65520 → AllFit packets
+all_fit [] few = tt
+all_fit (packet ∷ packets) few =
+    let long = length-append (spelling_of packet) (spelled packets) in
+    (packet_fits (spelling_of packet) packet refl (omega (arith, few, long)), all_fit packets (omega (arith, few, long)))
 
 -- ---- the last request
 
@@ -66,6 +82,7 @@ module _ (s : HostSetting) (asked : List Asked) (reported : List Facts) (given :
     answered = h.answered;
     last = is;
     given_is = h.given_is ∙ ap (λ (l : List Pkt). spelled (advertised s ++ l)) (sym (append-nil h.answers));
+    fit = subst (λ (l : List Pkt). AllFit (advertised s ++ l)) (sym (append-nil h.answers)) h.fit;
   }
 
   module _ (P Q : Asked → Facts → List Pkt → Type 0) where
@@ -83,14 +100,17 @@ module _ (s : HostSetting) (asked : List Asked) (reported : List Facts) (given :
       answered = h.answered;
       last = goes h.q h.f h.front h.last;
       given_is = h.given_is;
+      fit = h.fit;
     }
 
-    pub last_gives : (with : Facts → Facts) (bytes : List ℕ) → AtLast s asked reported given P
+    pub last_gives : (with : Facts → Facts) (bytes : List ℕ) → length bytes ≤ 65520 → AtLast s asked reported given P
         → ((q : Asked) (f : Facts) (front : List Pkt) → P q f front
         → (packet : Pkt) × (bytes ≡ spelling_of packet) × Q q (with f) (front ++ packet ∷ []))
         → AtLast s asked (with_last with reported) (given ++ bytes) Q
-    last_gives with bytes h gives =
+    last_gives with bytes few h gives =
         let (packet, held, is) = gives h.q h.f h.front h.last in
+        let one_more = append_assoc (advertised s) (h.answers ++ h.front) (packet ∷ [])
+        ∙ ap (λ (l : List Pkt). advertised s ++ l) (append_assoc h.answers h.front (packet ∷ [])) in
         record {
           earlier = h.earlier;
           earlier_reported = h.earlier_reported;
@@ -103,9 +123,8 @@ module _ (s : HostSetting) (asked : List Asked) (reported : List Facts) (given :
           answered = h.answered;
           last = is;
           given_is = ap (λ (l : List ℕ). l ++ bytes) h.given_is ∙ ap (λ (b : List ℕ). spelled (advertised s ++ (h.answers ++ h.front)) ++ b) held
-              ∙ sym (spelled_one (advertised s ++ (h.answers ++ h.front)) packet)
-              ∙ ap spelled (append_assoc (advertised s) (h.answers ++ h.front) (packet ∷ [])
-              ∙ ap (λ (l : List Pkt). advertised s ++ l) (append_assoc h.answers h.front (packet ∷ [])));
+              ∙ sym (spelled_one (advertised s ++ (h.answers ++ h.front)) packet) ∙ ap spelled one_more;
+          fit = subst AllFit one_more (fit_more (advertised s ++ (h.answers ++ h.front)) packet h.fit (packet_fits bytes packet held few));
         }
 
     pub last_whole : AtLast s asked reported given P → ((q : Asked) (f : Facts) (front : List Pkt) → P q f front → IsAnswerBy whole s.offer.format q f front)
@@ -117,13 +136,10 @@ module _ (s : HostSetting) (asked : List Asked) (reported : List Facts) (given :
           answered = subst (λ (qs : List Asked). AreAnswersBy s.offer.format qs reported (h.answers ++ h.front)) (sym h.asked_is)
               (subst (λ (fs : List Facts). AreAnswersBy s.offer.format (h.earlier ++ h.q ∷ []) fs (h.answers ++ h.front)) (sym h.reported_is) all);
           given_is = h.given_is;
+          fit = h.fit;
         }
 
 -- ---- a stream whose hold was lent
-
--- a packet is written in four bytes at least
-pub packet_some : (bytes : List ℕ) (packet : Pkt) → bytes ≡ spelling_of packet → 4 ≤ length bytes
-packet_some bytes packet is = omega (arith, ap length is, length-append (digits_of (length_field packet)) (body_of packet))
 
 pub some_packets : (packets : List Pkt) → packets ≢ [] → 4 ≤ length (spelled packets)
 some_packets [] some = absurd (some refl)
@@ -217,5 +233,5 @@ module _ {A : Type 0} (old : RequestStream A) (hold : ArrayVec ℕ) (new : Reque
       are_asked = h.are_asked;
       at = h.at;
       last = subst (λ (bytes : List ℕ). AtLast s h.asked (with_last with reported) (given ++ bytes) Q) (sym lent_bytes)
-          (last_gives s h.asked reported given P Q with hold.items h.last gives);
+          (last_gives s h.asked reported given P Q with hold.items fits h.last gives);
     }

@@ -46,7 +46,7 @@ no_progress : (part more : List ℕ) → 0 < length part → [] ≡ part ++ more
 no_progress [] more some cut = omega (arith, some)
 no_progress (b ∷ bs) more some cut = cc
 
-parts_are_bands : (pack : List ℕ) (parts : List Pkt) → AreParts pack [] parts → AreBands OnPack pack parts
+pub parts_are_bands : (pack : List ℕ) (parts : List Pkt) → AreParts pack [] parts → AreBands OnPack pack parts
 parts_are_bands pack [] h = h.0
 parts_are_bands pack (p ∷ ps) (inl h) = (h.part, h.more, h.cut, h.some, h.fits, h.is, parts_are_bands h.more ps h.rest)
 parts_are_bands pack (p ∷ ps) (inr h) = absurd (no_progress h.part h.more h.some h.cut)

@@ -15,7 +15,7 @@ use Rattle.git_msg.specs.WrittenRequest.{text_line}
 use Rattle.git_msg.specs.Machine.RequestStreams.{AreAsked, IsRefusedAs}
 use Rattle.git_msg.specs.Machine.StreamStages.{AreBegun}
 use Rattle.git_server.specs.Packs.{Manner, whole, broken}
-use Rattle.git_server.specs.Answers.{advertisement_of, error_packet, refusal_by, spelled}
+use Rattle.git_server.specs.Answers.{AllFit, advertisement_of, error_packet, refusal_by, spelled}
 use Rattle.git_server.specs.declared.outcome.Outcome.{Outcome}
 use Rattle.git_server.specs.declared.outcome.Outcome.TheVariants.{Flush, Closed, Refused}
 use Rattle.git_host.specs.Admissions.{AdmissionFacts, IsAdmitted, IsRefusedBy, nothing_reported}
@@ -64,6 +64,7 @@ pub record AllAnswered (s : HostSetting) (asked : List Asked) (reported : List F
   pub answers : List Pkt
   pub answered : AreAnswersBy s.offer.format asked reported answers
   pub given_is : given ≡ spelled (advertised s ++ answers)
+  pub fit : AllFit (advertised s ++ answers)
 
 -- each request but the last was answered, and P holds of the last one, of what was reported for it and of the packets given for it
 pub record AtLast (s : HostSetting) (asked : List Asked) (reported : List Facts) (given : List ℕ) (P : Asked → Facts → List Pkt → Type 0) : Type 0 where
@@ -78,6 +79,7 @@ pub record AtLast (s : HostSetting) (asked : List Asked) (reported : List Facts)
   pub answered : AreAnswersBy s.offer.format earlier earlier_reported answers
   pub last : P q f front
   pub given_is : given ≡ spelled (advertised s ++ (answers ++ front))
+  pub fit : AllFit (advertised s ++ (answers ++ front))
 
 -- ---- how a session ends
 
@@ -192,6 +194,7 @@ pub record EndsByBytes (s : HostSetting) (used : List ℕ) (over : Bool) (report
   pub before : List ℕ
   pub stops : StopsBy s used over reported before outcome
   pub given_is : given ≡ before ++ spelled (tail_of outcome)
+  pub fit : AllFit (tail_of outcome)
 
 -- or because the host refused the last request
 abbrev pub EndsByHost : HostSetting → List ℕ → Bool → List Facts → List ℕ → Outcome → Type 0

@@ -1,20 +1,23 @@
 //! What follows from the definitions of what a store reports.
 
-ghost use Rattle.std.specs.Prelude.{◌≡◌, ◌≤◌, ℕ, List, [], ◌∷◌, true, false, Option, length, map, take};
+ghost use Rattle.std.specs.Prelude.{◌≡◌, ◌≤◌, ℕ, Bool, List, [], ◌∷◌, true, false, Option, length, map, take};
 ghost use Rattle.git_names.specs.declared.object_format.Format.{Format};
 ghost use Rattle.git_pkt.specs.Packets.{Pkt};
-ghost use Rattle.git_msg.specs.Asked.{Asked, FetchAsked, LsRefsAsked, ObjectInfoAsked, fetch, ls_refs, object_info};
+ghost use Rattle.git_pkt.specs.Bands.{AreBands};
+ghost use Rattle.git_pkt.specs.declared.band.Band.TheVariants as Band;
+ghost use Rattle.git_msg.specs.Asked.{Asked, FetchAsked, LsRefsAsked, ObjectInfoAsked, fetch, ls_refs, no_progress_of, object_info};
 ghost use Rattle.git_server.specs.Packs.{Manner, whole};
 ghost use Rattle.git_server.specs.Repository.{Repository};
 ghost use Rattle.git_server.specs.Answers.{IsAnswerAs};
-ghost use Rattle.git_host.specs.FetchFacts.{FetchFacts, IsFetchAnswerOf};
+ghost use Rattle.git_host.specs.FetchFacts.{FetchFacts, HasPack, IsFetchAnswerOf, IsSoundFetchAnswer};
 ghost use Rattle.git_host.specs.RepositoryFacts.{AreOfRepository};
 ghost use Rattle.git_host.specs.ReferencesPlaces.{IsReferencesAnswerOf, ReferencesFacts};
 ghost use Rattle.git_host.specs.SizesPlaces.{IsSizesAnswerOf};
 ghost use Rattle.git_pkt.specs.Machine.Credit.{MakesAll, Pays};
-ghost use Rattle.git_host.specs.HostSessions.{AreAnswersBy, Facts, HostSetting};
-ghost use Rattle.git_host.specs.HostedRepository.{AllOfRepository};
-ghost use Rattle.git_server.specs.Sessions.{AreAnswers};
+ghost use Rattle.git_host.specs.HostSessions.{AreAnswersBy, Facts, HostSetting, IsHosted};
+ghost use Rattle.git_host.specs.HostedRepository.{AllOfRepository, EndsWell, IsReportedBy, over_repository};
+ghost use Rattle.git_server.specs.Sessions.{AreAnswers, IsSession};
+ghost use Rattle.git_server.specs.declared.outcome.Outcome.{Outcome};
 ghost use Rattle.git_host.specs.HostServer.{AcceptsHost, ClosesHost, FeedsHost, Hosts, RefusesHost, ReportsHost, StepsHost};
 ghost use Rattle.git_host.specs.HostServer.{begun_in, bytes_of, credit_of, given_with};
 ghost use Rattle.git_host.specs.HostMemory.{bytes_held, bytes_held_by_fields};
@@ -42,6 +45,12 @@ pub fn references_answer_is_a_repositorys()
 pub fn sizes_answer_is_a_repositorys()
     ensures { (repo : Repository) (q : ObjectInfoAsked) (sizes : List (Option ℕ)) (packets : List Pkt) → sizes ≡ map repo.object_size q.oids
         → IsSizesAnswerOf q sizes packets → IsAnswerAs whole repo (object_info q) packets }
+{}
+
+/// Where a request wants no progress, what is given after the header of the pack has bytes of the pack alone, on its band.
+pub fn no_progress_is_given()
+    ensures { (manner : Manner) (format : Format) (q : FetchAsked) (t : FetchFacts) (packets : List Pkt) → IsSoundFetchAnswer manner format q t packets
+        → no_progress_of (fetch q) ≡ true → (pack : HasPack manner q t packets) → AreBands Band.Pack t.pack pack.parts }
 {}
 
 /// However the input is cut, after any calls of a host's server that was new before them it holds at most 65,520 buffered bytes, twice its limit
@@ -89,4 +98,12 @@ pub fn methods_make_calls<A: Allocator + Copy>()
 pub fn session_answers_are_a_repositorys()
     ensures { (format : Format) (repo : Repository) (asked : List Asked) (reported : List Facts) (packets : List Pkt)
         → AllOfRepository repo asked reported → AreAnswersBy format asked reported packets → AreAnswers repo asked packets }
+{}
+
+/// And if the session ended well, by the flush of a client that leaves or since the input ended between two requests, it is a session of a server
+/// over that repository: for the same bytes, with the same output.
+pub fn session_is_a_repositorys()
+    ensures { (s : HostSetting) (repo : Repository) (failures : ℕ) (used : List ℕ) (over : Bool) (reported : List Facts) (given : List ℕ)
+        (outcome : Outcome) → IsReportedBy s repo used reported → EndsWell outcome → IsHosted s used over reported given outcome
+        → IsSession (over_repository s repo failures) used over given outcome }
 {}

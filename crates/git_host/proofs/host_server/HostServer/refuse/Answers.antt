@@ -24,6 +24,7 @@ returns-clause-refuses g c =
             limit = h.limit;
             reads_within = lent_within old.stream w new lent s h.reads_within;
             stands = subst (λ (o : Outcome). IsHosted s used over reported (given ++ hold_of new) o) (sym c.ended_by.ensures)
-                (refuses_hosts s used over reported given old new w lent c.args.text.now asked c.put_line.ensures.written h);
+                (refuses_hosts s used over reported given old new w lent (omega (arith, c.len.ensures.value, c.len.ensures.fits))
+                c.args.text.now asked c.put_line.ensures.written h);
           },
     )
