@@ -1,4 +1,4 @@
--- Packets as whole requests, one after another, by any notion of one request.
+-- Packets as whole requests, one after another, for any notion of one request.
 use Rattle.std.specs.Prelude.{◌≡◌, List, [], ◌∷◌, ◌++◌}
 use Rattle.git_pkt.specs.Splits.{Given}
 use Rattle.git_msg.specs.Asked.{Asked}

@@ -35,7 +35,7 @@ pub enum Argument<'a> {
     Symrefs,
     /// `peel`: send the object that an annotated tag peels to.
     Peel,
-    /// `unborn`: send what `HEAD` points to, even if that has no commit yet.
+    /// `unborn`: send what `HEAD` points to if that has no commit yet.
     Unborn,
     /// `ref-prefix`: show references whose name begins with this text, of at most 32,000 bytes.
     RefPrefix(&'a [u8]),

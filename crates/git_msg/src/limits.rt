@@ -7,7 +7,7 @@ use git_pkt::Kind;
 /// How many bytes a request may keep.
 #[derive(Clone, Copy, Debug)]
 pub struct Limits {
-    /// The maximum length of the texts of its argument lines, all of them together: not above 1,073,741,824 bytes.
+    /// The maximum length of the texts of its argument lines, all of them together; at most 1,073,741,824 bytes.
     pub args: u32,
     ghost in_range: { args ≤ most_limit },
 }
@@ -16,7 +16,7 @@ impl Limits {
     /// The default limit: 16,777,216 bytes.
     pub const USUAL: u32 = 16_777_216;
 
-    /// The default limit alone.
+    /// The default limit, and no other.
     pub const DEFAULT: Limits = Limits {
         args: Limits::USUAL,
     };

@@ -77,7 +77,7 @@ impl<A: Allocator + Copy> Listing<A> {
         self.request.peel()
     }
 
-    /// Whether to show what `HEAD` points to even if that has no commit yet.
+    /// Whether to show, too, what `HEAD` points to if that has no commit yet.
     pub fn unborn(&self) -> bool
         ensures { result ≡ self.now.asked.unborn }
     {

@@ -29,7 +29,7 @@ pub struct ReferencePlaces {
     // The name begins after the word for the object and one space.
     pub(crate) name_length: usize,
     pub(crate) target: Option<Part>,
-    /// For an annotated tag, the object that it peels to, if the line names it.
+    /// For an annotated tag, the object that it peels to, if given.
     pub peeled: Option<Oid>,
 }
 

@@ -19,9 +19,9 @@ pub struct Reference<'a> {
     pub id: Option<Oid>,
     /// Its name.
     pub name: &'a [u8],
-    /// For a symbolic reference, the name of the reference that it points to, if it is known.
+    /// For a symbolic reference, the name of the reference that it points to, if given.
     pub target: Option<&'a [u8]>,
-    /// For an annotated tag, the object that it peels to, if it is known.
+    /// For an annotated tag, the object that it peels to, if given.
     pub peeled: Option<Oid>,
 }
 
