@@ -1,4 +1,4 @@
--- What is kept of a request, within a limit on the bytes of its argument lines.
+-- A request as it is kept, within a limit on the bytes of its argument lines.
 use Rattle.std.specs.Prelude.{◌≡◌, ◌⊎◌, ℕ, ◌+◌, ◌<◌, ◌≤◌}
 use Rattle.git_names.specs.declared.object_format.Format.{Format}
 use Rattle.git_pkt.specs.declared.fault.Kind.{Kind}
@@ -15,7 +15,7 @@ pub record Kept (Q : Type 0) : Type 0 where
   pub limit : ℕ
   pub stored : ℕ
 
--- what is kept of a request of one command, as what is kept of any request
+-- a kept request of one command, as a kept request of any command
 abbrev pub kept_as : {Q : Type 0} → (Q → Asked) → Kept Q → Kept Asked
 kept_as make q = record { format = q.format; asked = make q.asked; kept = q.kept; limit = q.limit; stored = q.stored }
 

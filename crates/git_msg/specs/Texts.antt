@@ -7,12 +7,12 @@ use Rattle.git_names.specs.RefName.{Lacks}
 abbrev pub parts_of : ℕ → List ℕ → List (List ℕ)
 parts_of byte text = slice_split (λ c. c == byte) text
 
--- the parts of what is left of a text, if something is left
+-- the parts of the rest of a text, if there is a rest
 abbrev pub parts_left : ℕ → Option (List ℕ) → List (List ℕ)
 parts_left byte None = []
 parts_left byte (Some text) = parts_of byte text
 
--- how many bytes are left, and one more, if something is left
+-- how many bytes the rest has, and one more, if there is a rest
 abbrev pub bytes_left : Option (List ℕ) → ℕ
 bytes_left None = 0
 bytes_left (Some text) = length text + 1

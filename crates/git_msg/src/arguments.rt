@@ -24,7 +24,7 @@ pub enum Command {
     LsRefs,
     /// `fetch`: a pack of the wanted objects, as `git clone` requests it.
     Fetch,
-    /// `object-info`: what is known of objects, without the objects themselves.
+    /// `object-info`: facts about objects, without the objects themselves.
     ObjectInfo,
 }
 

@@ -220,7 +220,7 @@ pub fn one_first_fault()
 /// the format is that of the reader; each argument is allowed in such a request; the reader advertises the command and the
 /// features that the arguments need (as `shallow` for `deepen`: a reader that does not advertise it refuses the line); the
 /// texts of its lines are within the limit; and nothing refuses the request at its end, as it refuses a fetch without a
-/// want. For SHA-256 the advertisement has to contain the format.
+/// want. For SHA-256, `object-format` has to be advertised.
 pub fn written_request_reads_back()
     ensures { (offer : Offer) (limit : ℕ) (caps : Caps) (asked : Asked) (packets : List Given)
         → IsFormatMeant offer.format caps.object_format → takes_command offer (command_asked asked) ≡ true

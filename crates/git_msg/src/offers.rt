@@ -23,7 +23,8 @@ const LONGEST_FORMAT: usize = 6;
 // The maximum length of the word for a feature of `fetch`.
 const LONGEST_FEATURE: usize = 13;
 
-/// What a server advertises to a client, beside `agent` and the commands `ls-refs` and `fetch`, which every offer has.
+/// The content of a server's advertisement to a client, beside `agent` and the commands `ls-refs` and `fetch`, which every
+/// offer has.
 #[derive(Clone, Copy, Debug, PartialEq, Eq)]
 pub struct Offer {
     /// The format of the object names in requests and answers.
@@ -80,8 +81,8 @@ impl Offer {
     }
 }
 
-/// What the lines of an advertisement contained, as far as this project knows it. Other keys and words are ignored, and
-/// repeated lines add up.
+/// The content of an advertisement's lines, as far as this project knows it. Other keys and words are ignored, and repeated
+/// lines add up.
 #[derive(Clone, Copy, Debug, Default, PartialEq, Eq)]
 pub struct Caps {
     /// The key `agent`.

@@ -20,8 +20,8 @@ use git_pkt::Kind;
 use std::alloc::{AllocError, Allocator};
 use std::cmp::Ordering;
 
-/// Byte strings in one vector, each followed by its length in two bytes, and the place where each ends. So a text is found
-/// from its end alone, and the ends may be in any order.
+/// Byte strings in one vector, each followed by its length in two bytes, and the list of the places where they end. So a
+/// text is found from its end alone, and the ends may be in any order.
 #[derive(Drop)]
 pub(crate) struct Texts<A: Allocator + Copy> {
     bytes: Vec<u8, A>,

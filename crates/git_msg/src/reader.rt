@@ -44,7 +44,7 @@ pub struct RequestReader<A: Allocator + Copy> {
     begun: bool,
     command: Option<Command>,
     has_format: bool,
-    // What is kept so far, together with its limit.
+    // The request as it is kept so far, with its limit.
     request: Request<A>,
     ghost bounded: { IsBounded request },
 }

@@ -1,4 +1,4 @@
--- What is wrong with the rest of a stream, if anything.
+-- The fault of a stream's rest, if it has one.
 use Rattle.std.specs.Prelude.{◌≡◌, ◌≢◌, ℕ, ◌+◌, ◌<◌, ◌≤◌, List, length, take, slice_index}
 use Rattle.git_names.specs.Digits.{IsHexDigit}
 use Rattle.git_pkt.specs.Digits.{HasDigits, digits_value}

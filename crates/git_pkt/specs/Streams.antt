@@ -1,4 +1,4 @@
--- What a run does to the bytes of its streams, however many streams it has.
+-- The effect of a run on the bytes of its streams, however many streams it has.
 use Rattle.std.specs.Prelude.{◌≡◌, ℕ, ◌<◌, Bool, true, false, List, [], ◌∷◌, ◌++◌, length, Option, Result, Err}
 use Rattle.std.specs.Io.KnownBytes.{Appends, Consumes}
 use Rattle.git_pkt.specs.declared.fault.Kind.{Kind}

@@ -16,7 +16,7 @@ pub const BAND_HEAD: usize = 5;
 /// How many blank bytes are appended to a hold at a time.
 const BLANKS: usize = 1024;
 
-/// What the bytes of a packet are, inside a packfile section.
+/// The kind of a packet's bytes, inside a packfile section.
 #[derive(Clone, Copy, Debug, PartialEq, Eq, Hash)]
 pub enum Band {
     /// 1: bytes of the pack.

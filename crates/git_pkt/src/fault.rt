@@ -57,7 +57,7 @@ pub enum Kind {
     WrongFormat,
     /// The request's command has no such argument line.
     UnknownArgument,
-    /// The request's arguments exceed the limit on what is kept.
+    /// The request's arguments exceed the limit on the bytes that are kept.
     TooMuchKept,
     /// A packet of this kind is not allowed here.
     UnexpectedPacket,

@@ -15,7 +15,7 @@ pub(crate) enum Progress {
     Failed(Fault),
 }
 
-/// What one step over a chunk did.
+/// The result of one step over a chunk.
 #[derive(Clone, Copy, Debug)]
 pub(crate) struct Step {
     pub(crate) used: usize,
@@ -41,7 +41,7 @@ pub(crate) enum BandProgress {
     Failed(Fault),
 }
 
-/// What one step over a chunk did in such a section.
+/// The result of one step over a chunk in such a section.
 #[derive(Clone, Copy, Debug)]
 pub(crate) struct BandStep {
     pub(crate) used: usize,

@@ -41,7 +41,7 @@ use git_names::{Steps, digit_value};
 /// The last position of a stream.
 const LAST_POSITION: u64 = 9_223_372_036_854_775_807;
 
-/// What one call of [`PacketReader::feed`] did.
+/// The result of one call of [`PacketReader::feed`].
 #[derive(Clone, Copy, Debug)]
 pub struct Fed<'a> {
     /// How many bytes of the chunk were used.
@@ -61,7 +61,7 @@ pub enum Got<'a> {
     Failed(Fault),
 }
 
-/// What one call of [`PacketReader::feed_band`] did.
+/// The result of one call of [`PacketReader::feed_band`].
 #[derive(Clone, Copy, Debug)]
 pub struct BandFed<'a> {
     /// How many bytes of the chunk were used.

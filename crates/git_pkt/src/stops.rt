@@ -1,4 +1,4 @@
-//! Readers and writers that stop at a call, for tests of what runs over them.
+//! Readers and writers that stop at a call, to test the code that runs over them.
 ghost use Rattle.std.specs.Prelude.{◌≡◌, ◌-◌, ◌<◌, IsErr};
 ghost use Rattle.std.specs.Io.{ReadsAtMost, WritesAtMost};
 ghost use Rattle.std.specs.Io.KnownBytes.{Keeps, ReadConsumes, WriteAppends};

@@ -12,7 +12,7 @@ use Rattle.git_msg.specs.Checks.{Check, check, Refuses, Passes}
 use Rattle.git_msg.specs.Kept.{Kept, kept_as, IsNew, KeepsArgument}
 
 module _ {A : Type 0} where
-  -- what is kept of the request
+  -- the request as it is kept
   abbrev pub holding_of : Request A → Kept Asked
   holding_of (OfLsRefs q) = kept_as ls_refs q
   holding_of (OfFetch q) = kept_as fetch q

@@ -29,7 +29,7 @@ module _ {A : Type 0} where
   with_line object_format r = record r { begun = true; has_format = true }
   with_line _ r = record r { begun = true }
 
-  -- the reader at the beginning of a request, which is kept where the other keeps it
+  -- the reader at the beginning of a request, with the other reader's kept request
   abbrev pub restarted : RequestReader A → RequestReader A → RequestReader A
   restarted next r = record r { part = Capabilities; begun = false; command = None; has_format = false; request = next.request; bounded = next.bounded }
 

@@ -57,7 +57,7 @@ pub record IsCutOff (offer : Offer) (limit : ℕ) (left : List Given) (rest : Li
   pub kind : fault.kind ≡ Truncated
   pub at : fault.offset + length rest ≡ end
 
--- the refusal of what is left after the whole requests
+-- the refusal of the packets and bytes after the whole requests
 abbrev pub IsRefusedAs : Offer → ℕ → List Given → List ℕ → ℕ → Fault → Type 0
 IsRefusedAs offer limit left rest end fault =
     IsRefusedLast offer limit left rest fault ⊎ (IsRefusedRest offer limit left rest end fault ⊎ IsCutOff offer limit left rest end fault)

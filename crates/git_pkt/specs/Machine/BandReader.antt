@@ -93,7 +93,7 @@ CountsBand old used (Part band bytes) new = open_length new ≤ open_length old 
 CountsBand old used (Packet p offset) new = (length (body_of (seen p)) + 4 ≤ open_length old + used) × (open_length new ≡ 0)
 CountsBand old used (Failed f) new = open_length new ≡ 0
 
--- what a call of `feed_band` does
+-- the effect of a call of `feed_band`
 pub record FeedsBand (old : PacketReader) (piece : List ℕ) (fed : BandFed) (new : PacketReader) : Type 0 where
   pub reads : ReadsBandsOn old (take fed.used piece) (told_by fed.got) (part_of fed.got) new
   pub tells : TellsBand fed.got fed.used piece new
@@ -150,7 +150,7 @@ Comes (PartCame part) old piece used new = Passes part.band part.count old piece
 Comes WholePacket old piece used new = IsHeldWhole old piece used new
 Comes (FailedStep f) old piece used new = StopsReading f old piece used new
 
--- what a step does
+-- the effect of a step
 pub record BandMoves (old : PacketReader) (piece : List ℕ) (used : ℕ) (progress : BandProgress) (new : PacketReader) : Type 0 where
   pub passes : MayPass new
   pub rises : open_length new ≤ open_length old + used

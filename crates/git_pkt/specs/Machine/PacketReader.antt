@@ -125,7 +125,7 @@ Counts old used More new = open_length new ≡ open_length old + used
 Counts old used (Packet p offset) new = (length (body_of (seen p)) + 4 ≡ open_length old + used) × (open_length new ≡ 0)
 Counts old used (Failed f) new = open_length new ≡ 0
 
--- what a call of `feed` does
+-- the effect of a call of `feed`
 pub record Feeds (old : PacketReader) (piece : List ℕ) (fed : Fed) (new : PacketReader) : Type 0 where
   pub reads : ReadsOn old (take fed.used piece) (given_by fed.got) new
   pub tells : Tells fed.got fed.used piece new

@@ -1,4 +1,4 @@
--- How a clause sees a `Told`, and what its calls change in that.
+-- How a clause sees a `Told`, and how its calls change that.
 use Rattle.std.specs.Prelude.{◌≡◌, ℕ, ◌==◌, Bool, false, not, ◌&&◌, List, length, Result, Ok, Err}
 use Rattle.git_pkt.specs.declared.told.Told.{Told}
 
