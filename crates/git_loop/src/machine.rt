@@ -10,8 +10,8 @@
 //!     |  ^                                                                         |  ^
 //!     +--+ next: Packet                                                            +--+ next: Packet
 //!
-//!  In Waiting it needs input; in Ending and Finished it is done with it. A machine may also come from Giving to Ending by `next`
-//!  alone, as a server does that cannot read its pack any further.
+//!  In Waiting it needs input; in Ending and Finished it is done with it. A machine may also go from Giving to Ending by `next`
+//!  alone, as a server does when it cannot read its pack any further.
 //! ```
 
 ghost use Rattle.std.specs.Prelude.{◌≡◌, ◌≤◌, ◌<◌, ◌⊎◌, ℕ, List, [], ◌++◌, length, take};

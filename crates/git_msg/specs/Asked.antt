@@ -19,7 +19,7 @@ use Rattle.git_msg.specs.Texts.{last_of}
 abbrev pub is_word : Word → Word → Bool
 is_word word other = bytes_eq (row word).keyword (row other).keyword
 
--- whether the argument is of the word
+-- whether the argument has the word
 abbrev pub is_of : Word → Arg → Bool
 is_of word arg = is_word word arg.word
 
@@ -74,7 +74,7 @@ pub record FetchAsked : Type 0 where
   pub deepen_nots : List (List ℕ)
   pub want_refs : List (List ℕ)
 
--- what an object-info request asks for: the sizes of objects, in the order of their lines
+-- what an object-info request asks for: whether sizes, and the objects in the order of their lines
 pub record ObjectInfoAsked : Type 0 where
   pub size : Bool
   pub oids : List ObjectName
@@ -127,7 +127,7 @@ asked_by ObjectInfo args = object_info (object_info_by args)
 abbrev pub nothing_asked : Command → Asked
 nothing_asked command = asked_by command []
 
--- a list with a value after it, if there is one
+-- a list followed by a value, if there is one
 abbrev pub and_then : {X : Type 0} → List X → Option X → List X
 and_then xs None = xs
 and_then xs (Some x) = xs ++ x ∷ []

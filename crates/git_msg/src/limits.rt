@@ -16,7 +16,7 @@ impl Limits {
     /// The default limit: 16,777,216 bytes.
     pub const USUAL: u32 = 16_777_216;
 
-    /// The default limit, and no other.
+    /// Limits that consist of the default limit alone.
     pub const DEFAULT: Limits = Limits {
         args: Limits::USUAL,
     };
@@ -51,7 +51,7 @@ impl Budget {
         self.kept
     }
 
-    /// How many they may have.
+    /// How many bytes they may have.
     pub(crate) fn limits(&self) -> Limits
         ensures { result.args ≡ self.now.limit }
     {

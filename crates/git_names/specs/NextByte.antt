@@ -15,7 +15,7 @@ pub record IsAllowed (byte : ℕ) : Type 0 where
   pub no_tilde : byte ≢ 126
   pub no_delete : byte ≢ 127
 
--- no rule is about the byte
+-- no rule mentions the byte
 pub record IsPlain (byte : ℕ) : Type 0 where
   pub allowed : IsAllowed byte
   pub no_slash : byte ≢ 47

@@ -35,7 +35,7 @@ pub fn no_object_name_begins_another()
         → IsObjectName format text a → IsObjectName format (text ++ more) b → more ≡ [] }
 {}
 
-/// An object name is digits: no byte of it ends a word or a line.
+/// An object name consists of digits: no byte of it ends a word or a line.
 pub fn object_name_is_digits()
     ensures { (format : ObjectFormat) (text : List ℕ) (id : ObjectName) → IsObjectName format text id
         → (k : ℕ) → k < length text → IsHexDigit (slice_index text k) }

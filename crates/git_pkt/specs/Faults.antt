@@ -6,7 +6,7 @@ use Rattle.git_pkt.specs.declared.fault.Fault.{Fault}
 use Rattle.git_pkt.specs.declared.fault.Kind.{Kind}
 use Rattle.git_pkt.specs.declared.fault.Kind.TheVariants.{BadDigit, BadLength, TooLong, Truncated, StreamTooLong}
 
--- the first byte of the four that is no digit is at k
+-- k is the index of the first of the four bytes that is no digit
 pub record FirstBadDigit (rest : List ℕ) (k : ℕ) : Type 0 where
   pub among : k < 4
   pub there : k < length rest

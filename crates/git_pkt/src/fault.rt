@@ -17,7 +17,7 @@ const LONGEST_TEXT: usize = 41;
 /// gitprotocol-v2(5), gitprotocol-pack(5) and git-check-ref-format(1).
 #[derive(Clone, Copy, Debug, PartialEq, Eq)]
 pub enum Kind {
-    /// A byte of a packet's length is no hexadecimal digit.
+    /// A byte of a packet's length is not a hexadecimal digit.
     BadDigit,
     /// The length digits are `0003`, which no packet has.
     BadLength,
@@ -31,7 +31,7 @@ pub enum Kind {
     NoBand,
     /// A packet of the packfile section has a band byte other than 1, 2 and 3.
     BadBand,
-    /// A line is no capability line.
+    /// A line is not a capability line.
     BadCapability,
     /// This end does not know the request's command.
     UnknownCommand,

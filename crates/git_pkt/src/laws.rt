@@ -59,7 +59,7 @@ pub fn faulty_rest_begins_no_packet()
     ensures { (p : ℕ) (rest more : List ℕ) (fault : Fault) → RestFault p rest fault → NoneBegins (rest ++ more) }
 {}
 
-/// More bytes leave a fault as it is.
+/// A fault stays as it is when more bytes come.
 pub fn fault_stays()
     ensures { (p : ℕ) (rest more : List ℕ) (fault : Fault) → RestFault p rest fault → RestFault p (rest ++ more) fault }
 {}

@@ -38,7 +38,7 @@ module _ {A : Type 0} where
   abbrev pub stored_of : Request A → ℕ
   stored_of q = (holding_of q).stored
 
-  -- how many they may have
+  -- how many bytes they may have
   abbrev pub limit_of : Request A → ℕ
   limit_of q = (holding_of q).limit
 

@@ -110,7 +110,7 @@ module _ {A : Type 0} where
     pub is_text : IsArgumentText r.offer lines (text_of bytes) arg
     pub long_is : long ≡ length (text_of bytes)
 
-  -- the packets are lines, and the reader is after them
+  -- the packets are lines, and the reader has taken them
   pub record StandsBehind (packets : List Given) (In : List Line → RequestReader A → Type 0) (r : RequestReader A) : Type 0 where
     pub lines : List Line
     pub taken : AreLines r.offer (limit_in r) [] packets lines

@@ -170,7 +170,7 @@ module _ {A : Type 0} where
     pub splits : Splits 0 bytes (before ++ own) []
     pub asks : Asks (offer_of s) (limit_of s) own (asked_of request) (kept_of request)
 
-  -- a request that is handed out is the last in the bytes
+  -- a request that is handed out is at the end of the bytes
   abbrev pub EndsWith : ReadGot A → List ℕ → RequestStream A → Type 0
   EndsWith (RequestGot request) bytes s = IsAtTheEnd bytes request s
   EndsWith got bytes s = Unit {0}

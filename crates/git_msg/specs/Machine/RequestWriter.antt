@@ -36,7 +36,7 @@ module _ {A : Type 0} where
   abbrev pub left_to_write : RequestWriter → Request A → List Pkt
   left_to_write w request = lines_left w (format_of request) (asked_of request)
 
--- the hold is the first packet that was left, and the others are left
+-- the hold is the first of the packets that were left, and the others are left
 pub record PutsFirst (before after : List Pkt) (held : List ℕ) : Type 0 where
   pub packet : Pkt
   pub first : before ≡ packet ∷ after

@@ -33,7 +33,7 @@ pub record GoesByBands (start : ℕ) (bytes : List ℕ) (given : List Given) (re
   pub joins : passed_by_all passed ++ passed_by_rest later ≡ passed_by_rest rest ++ parts
   pub held : (g : Given) → told ≡ g ∷ [] → (before : List ℕ) × (bytes ++ used ≡ before ++ held_of new)
 
--- whatever the stream was so far
+-- the same, whatever the stream was so far
 abbrev pub ReadsBandsOn : PacketReader → List ℕ → List Given → List OnBand → PacketReader → Type 0
 ReadsBandsOn old used told parts new =
     (start : ℕ) (bytes : List ℕ) (given : List Given) (rest : List ℕ) → Reads old start bytes given rest

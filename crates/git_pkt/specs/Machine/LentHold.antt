@@ -34,6 +34,6 @@ with_hold_by r w false e = record r {
 abbrev pub with_hold : PacketReader → ArrayVec ℕ → PacketReader
 with_hold r w = with_hold_by r w (is_open_in r.state) refl
 
--- once the borrow ends, the reader's hold is what was left in it
+-- once the borrow ends, the reader's hold is what the borrower left in it
 abbrev pub LendsHold : MutBor PacketReader → MutBor (ArrayVec ℕ) → Fml
 LendsHold r hold = Lends the_row (array_vec_row u8 (number 65520) unit) r hold (with_hold r.now)

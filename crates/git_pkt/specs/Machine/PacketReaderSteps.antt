@@ -11,7 +11,7 @@ use Rattle.git_pkt.specs.declared.reader.PacketReader.{PacketReader}
 use Rattle.git_pkt.specs.declared.progress.Progress.{Progress}
 use Rattle.git_pkt.specs.declared.progress.Progress.TheVariants.{Open, Whole, Failed}
 
--- the rest goes on
+-- the rest stays open
 pub record StaysOpen (rest : List ℕ) (new : PacketReader) : Type 0 where
   pub no_fault : fault_of new ≡ None
   pub gathers : passes_of new ≡ false
