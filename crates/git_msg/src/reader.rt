@@ -256,8 +256,8 @@ impl<A: Memory + Copy> RequestReader<A> {
     ghost use Rattle.git_msg.specs.Memory.{NeedsRefusal};
 
     /// Makes the argument that [`RequestReader::take`] returned last a part of the request, which then counts the bytes that
-    /// the argument's text had on the wire. The fault names its packet: `TooMuchKept` if so many bytes exceed the limit, or
-    /// else `OutOfMemory` if there is no memory for its value.
+    /// the argument's text had on the wire. The fault names its packet: `TooMuchKept` if so many more bytes would exceed the
+    /// limit, or else `OutOfMemory` if there is no memory for its value.
     pub fn keep(&mut self, argument: Argument<'_>, steps: &mut Steps) -> Result<(), Fault>
         requires waits { is_waiting self.old ≡ true }
         requires named { HasName (shown argument) }
