@@ -1,4 +1,4 @@
--- What one loop over any machine does: it reads, feeds the machine, and writes what the machine gives.
+-- One loop over any machine: it reads, feeds the machine, and writes what the machine gives.
 use Rattle.std.specs.Prelude.{◌≡◌, ◌≢◌, ◌⊎◌, ◌≤◌, ℕ, Bool, true, false, List, [], ◌∷◌, ◌++◌, length, Result, Ok, Err}
 use Rattle.git_pkt.specs.Streams.{Flow, WrittenAs}
 use Rattle.git_pkt.specs.declared.fault.RunFault.{RunFault}
@@ -18,20 +18,20 @@ pub record GivesPacket {M : Type 0} (Reaches : StateRelation M) (Lends : M → L
 
 -- ---- some calls, and what they wrote
 
--- these bytes were used, and what was given for them was written; if a write failed, a front of it
+-- these bytes were used, and the output for them was written; if a write failed, a prefix of it
 pub record Writes {M : Type 0} (Reaches : StateRelation M) (broken : Bool) (old new : M) (bytes : List ℕ) (writer : Flow) : Type 0 where
   pub given : List ℕ
   pub written : WrittenAs broken writer given
   pub reaches : Reaches old bytes given new
 
--- a front of the bytes was used, and what was given for it was written
+-- a prefix of the bytes was used, and the output for it was written
 pub record WritesPart {M : Type 0} (Reaches : StateRelation M) (broken : Bool) (old new : M) (bytes : List ℕ) (writer : Flow) : Type 0 where
   pub used : List ℕ
   pub unused : List ℕ
   pub parts : bytes ≡ used ++ unused
   pub writes : Writes Reaches broken old new used writer
 
--- the machine has finished with a front of the bytes; if it stopped short, a byte is left
+-- the machine has finished with a prefix of the bytes; if it stopped short, a byte is left
 pub record WritesEnd {M : Type 0} (Reaches : StateRelation M) (stopped_short : Type 0) (old new : M) (bytes : List ℕ) (writer : Flow)
     : Type 0 where
   pub part : WritesPart Reaches false old new bytes writer
@@ -42,14 +42,14 @@ abbrev pub IsAt : Bool → Type 0 → Type 0 → Type 0
 IsAt true needs_input finished = finished
 IsAt false needs_input finished = needs_input
 
--- if it needs input, all the bytes were used; if it has finished, a front of them
+-- if it needs input, all the bytes were used; if it has finished, a prefix of them
 abbrev pub WritesChunk : {M : Type 0} → Bool → StateRelation M → Type 0 → M → M → List ℕ → Flow → Type 0
 WritesChunk true Reaches stopped_short old new bytes writer = WritesEnd Reaches stopped_short old new bytes writer
 WritesChunk false Reaches stopped_short old new bytes writer = Writes Reaches false old new bytes writer
 
 -- ---- a run
 
--- the input ended on the way: what the machine gave before that, and after it
+-- the input ended on the way: the machine's output before that, and after it
 pub record ReachesThroughClose {M : Type 0} (Reaches : StateRelation M) (Closes : M → M → Type 0) (old : M) (used given : List ℕ) (new : M)
     : Type 0 where
   pub fed : M
@@ -61,12 +61,12 @@ pub record ReachesThroughClose {M : Type 0} (Reaches : StateRelation M) (Closes 
   pub closes : Closes fed closed
   pub after : Reaches closed [] given_after new
 
--- from where to where a run led its machine, with the end of the input or without it
+-- a run led its machine from the one state to the other, with the end of the input or without it
 abbrev pub RunReaches : {M : Type 0} → Bool → StateRelation M → (M → M → Type 0) → M → List ℕ → List ℕ → M → Type 0
 RunReaches true Reaches Closes old used given new = ReachesThroughClose Reaches Closes old used given new
 RunReaches false Reaches Closes old used given new = Reaches old used given new
 
--- what a run's clauses say of its machine: after the run, and, of its having stopped short, before the run
+-- the facts about its machine that a run's clauses state: those after the run, and whether it had stopped short before the run
 pub record RunStates : Type 1 where
   pub needs_input : Type 0
   pub finished : Type 0
@@ -84,7 +84,7 @@ pub record IsWaiting (states : RunStates) (unused : List ℕ) (closed : Bool) : 
   pub all : unused ≡ []
   pub still_open : closed ≡ false
 
--- what each result of a run means. After `ReadLimit` there were at least as many bytes as reads.
+-- the meaning of each result of a run. After `ReadLimit` there were at least as many bytes as reads.
 abbrev pub EndsRun : Result (Unit {0}) RunFault → RunStates → ℕ → List ℕ → List ℕ → Bool → Type 0
 EndsRun (Ok done) states turns used unused closed = HasFinished states unused
 EndsRun (Err ReadFault) states turns used unused closed = IsWaiting states unused closed
@@ -92,8 +92,8 @@ EndsRun (Err ReadLimit) states turns used unused closed = IsWaiting states unuse
 EndsRun (Err WriteFault) states turns used unused closed = Unit {0}
 EndsRun (Err (Refused fault)) states turns used unused closed = ⊥
 
--- what the bytes read and written have to do with the machine: it used a front of those read, and what it gave was written. If its
--- input was closed, all was used, and the reader had reported the end.
+-- how the bytes read and written relate to the machine: it used a prefix of those read, and its output was written. If its
+-- input was closed, all bytes were used, and the reader had reported the end.
 pub record Ran {M : Type 0} (Reaches : StateRelation M) (Closes : M → M → Type 0) (old new : M) (states : RunStates)
     (result : Result (Unit {0}) RunFault) (ended : Bool) (turns : ℕ) (read written : List (List ℕ)) : Type 0 where
   pub used : List ℕ

@@ -1,4 +1,4 @@
-//! One loop over any machine: it reads, feeds the machine, and writes what that gives.
+//! One loop over any machine: it reads, feeds the machine, and writes the packets that the machine gives.
 
 ghost use Rattle.std.specs.Prelude.{◌≡◌, ◌≤◌, ◌<◌, ◌||◌, [], ◌∷◌, length, true, false, IsTrue, IfOk, IfErr, OnErr, OnOk, is_err};
 ghost use Rattle.git_pkt.specs.Machine.Told.{inner_of, reads_of, has_failed, has_ended, has_wasted, IsNew};
@@ -10,7 +10,7 @@ use crate::machine::{Machine, Next};
 use git_pkt::{RunFault, Told, flush, receive, send};
 use std::io::{Read, Write};
 
-// Writes the packets that the machine gives before it needs input or has finished. Returns whether it has finished.
+// Writes the packets that the machine gives until it needs input or has finished. Returns whether it has finished.
 fn drain<M: Machine, W: Write>(machine: &mut M, writer: &mut Told<W>) -> Result<bool, RunFault>
     ensures ok { OnOk result (Writes M.reaches false machine.old machine.new []
         (flow (W.contents (inner_of writer.old)) (W.contents (inner_of writer.new)))) }
@@ -31,8 +31,8 @@ fn drain<M: Machine, W: Write>(machine: &mut M, writer: &mut Told<W>) -> Result<
     }
 }
 
-// Feeds the chunk, and writes what the machine gives for it. Returns whether the machine has finished; it may have left bytes
-// unused then.
+// Feeds the chunk, and writes the packets that the machine gives for it. Returns whether the machine has finished; then it
+// may have left bytes unused.
 fn feed_all<M: Machine, W: Write>(
     machine: &mut M,
     writer: &mut Told<W>,
@@ -57,12 +57,12 @@ fn feed_all<M: Machine, W: Write>(
     Ok(false)
 }
 
-/// Runs a machine, from where it is, over a reader and a writer, until it has finished. At most `turns` reads are made, each into the
-/// whole buffer, which may not be empty. The writer is flushed before each read and at the end.
+/// Runs a machine, from its current state, over a reader and a writer, until it has finished. Makes at most `turns` reads,
+/// each into the whole buffer, which may not be empty. Flushes the writer before each read and at the end.
 ///
-/// `ReadFault` if a read fails, `WriteFault` if a write or a flush does, and `ReadLimit` if one more read than `turns` would be needed.
-/// After `ReadFault` and `ReadLimit` the machine needs input, and may be run again over another reader. After `WriteFault` it is spent,
-/// since it may have given more than was written.
+/// Returns `ReadFault` if a read fails, `WriteFault` if a write or a flush fails, and `ReadLimit` if one more read than
+/// `turns` would be needed. After `ReadFault` and `ReadLimit` the machine needs input, and may be run again over another
+/// reader. After `WriteFault` it cannot be run again, since it may have given more than was written.
 pub fn run<M: Machine, R: Read, W: Write>(
     machine: &mut M,
     reader: &mut Told<R>,

@@ -1,4 +1,4 @@
--- Arguments that are well formed and refused all the same, by what may refuse one: a server's repository, or nothing.
+-- Well-formed arguments that are refused all the same. A server's repository may refuse one, or nothing does.
 use Rattle.std.specs.Prelude.{◌≡◌, ◌⊎◌, ℕ, true, All, Option, Some, None, List, [], ◌∷◌, ◌++◌}
 use Rattle.git_pkt.specs.Packets.{Pkt, payload, text_of}
 use Rattle.git_pkt.specs.Splits.{Given}
@@ -9,15 +9,15 @@ use Rattle.git_msg.specs.Arguments.{Arg}
 use Rattle.git_msg.specs.Lines.{Line, arguments_of, has_delimiter, IsArgumentText}
 use Rattle.git_msg.specs.Requests.{AreLines, IsTold}
 
--- by which name an argument is refused where none is
+-- the refusal of an argument if nothing refuses any: none
 abbrev pub nothing_barred : Arg → Option Kind
 nothing_barred arg = None
 
--- the argument is refused by no name
+-- nothing refuses the argument
 abbrev pub IsAdmitted : (Arg → Option Kind) → Arg → Type 0
 IsAdmitted barred arg = barred arg ≡ None
 
--- nor is any argument of these lines
+-- nothing refuses any argument of these lines
 abbrev pub AreAdmitted : (Arg → Option Kind) → List Line → Type 0
 AreAdmitted barred lines = All (IsAdmitted barred) (arguments_of lines)
 
@@ -40,12 +40,12 @@ pub record IsBarredAtLast (offer : Offer) (limit : ℕ) (barred : Arg → Option
   pub is_barred : IsBarred offer barred lines last.packet kind
   pub at : offset ≡ last.offset
 
--- the last of the packets is no argument that is refused so
+-- the last of the packets is no such argument
 abbrev pub IsUnbarred : Offer → ℕ → (Arg → Option Kind) → List Given → Type 0
 IsUnbarred offer limit barred packets = (kind : Kind) (offset : ℕ) → ¬ IsBarredAtLast offer limit barred packets kind offset
 
--- a fault of these packets: what the last, an argument, is refused for so, which comes before the limit and before want
--- of memory, or else what a reader of requests reports
+-- a fault of these packets: the refusal of the last one, an argument, which comes before the limit and before lack of
+-- memory; or otherwise what a reader of requests reports
 abbrev pub IsToldFor : Offer → ℕ → (Arg → Option Kind) → List Given → Fault → Type 0
 IsToldFor offer limit barred packets fault =
     IsBarredAtLast offer limit barred packets fault.kind fault.offset

@@ -1,4 +1,4 @@
--- What the lines of a capability advertisement contain, all of them together.
+-- The content of the lines of a capability advertisement, all of them together.
 use Rattle.std.specs.Prelude.{ℕ, ◌==◌, Bool, true, false, not, ◌&&◌, ◌||◌, List, [], codes}
 use Rattle.std.specs.List.{list_any, before_first, after_first}
 use Rattle.std.specs.Str.{bytes_eq}
@@ -11,16 +11,16 @@ use Rattle.git_msg.specs.declared.arguments.Command.TheVariants.{LsRefs, Fetch, 
 use Rattle.git_msg.specs.declared.offers.Caps.{Caps}
 use Rattle.git_msg.specs.declared.offers.Offer.{Offer}
 
--- the text of a packet, where it has one
+-- the text of a packet, if it has one
 abbrev pub text_in : Pkt → List ℕ
 text_in (payload bytes) = text_of bytes
 text_in _ = []
 
--- what a line has before its first `=`, or all of it
+-- the bytes of a line before its first `=`, or all of them
 abbrev pub key_of : List ℕ → List ℕ
 key_of line = before_first (λ c. c == 61) line
 
--- what a line has after its first `=`, or nothing
+-- the bytes of a line after its first `=`, or nothing
 abbrev pub value_of : List ℕ → List ℕ
 value_of line = after_first (λ c. c == 61) line
 
@@ -31,7 +31,7 @@ key_in p = key_of (text_in p)
 abbrev pub value_in : Pkt → List ℕ
 value_in p = value_of (text_in p)
 
--- A test of a capability line is one of its key, its value and the words of its value.
+-- A test of a capability line takes its key, its value and the words of its value.
 
 -- the line has this key
 abbrev pub has_key : List ℕ → List ℕ → List ℕ → List (List ℕ) → Bool
@@ -45,8 +45,8 @@ has_value of wanted key value words = bytes_eq key of && bytes_eq value wanted
 abbrev pub has_word : List ℕ → List ℕ → List ℕ → List ℕ → List (List ℕ) → Bool
 has_word of wanted key value words = bytes_eq key of && list_any (λ w. bytes_eq w wanted) words
 
--- what is noted of each thing, by its flag and whether some line passes its test. This is the table of all keys, and of the
--- features of each command
+-- what is noted for each flag, depending on the flag and on whether some line passes its test. This is the table of all
+-- keys, and of the features of each command
 abbrev pub noted_by : ((List ℕ → List ℕ → List (List ℕ) → Bool) → Bool) → ((Caps → Bool) → Bool → Bool) → Caps
 noted_by some_line noted = record {
   agent = noted (λ caps. caps.agent) (some_line (has_key (codes "agent")));
@@ -64,24 +64,24 @@ noted_by some_line noted = record {
   sha256 = noted (λ caps. caps.sha256) (some_line (has_value (codes "object-format") (codes "sha256")));
 }
 
--- what an advertisement of these packets notes: each thing that some line of it names
+-- what an advertisement of these packets contains: each thing that some line of it names
 abbrev pub noted_of : List Pkt → Caps
 noted_of packets = noted_by (λ passes. list_any (λ p. passes (key_in p) (value_in p) (spaced_words (value_in p))) packets) (λ flag named. named)
 
--- what is noted when a line comes too that has this key, this value and these words in it
+-- what is noted after one more line, with this key, this value and these words in the value
 abbrev pub noted_after : Caps → List ℕ → List ℕ → List (List ℕ) → Caps
 noted_after caps key value words = noted_by (λ passes. passes key value words) (λ flag named. named || flag caps)
 
--- what is noted when a line with this key and value comes too
+-- what is noted after one more line, with this key and value
 abbrev pub noted_with : Caps → List ℕ → List ℕ → Caps
 noted_with caps key value = noted_after caps key value (spaced_words value)
 
--- object names of this format are spoken: a line names the format, or none names any and it is SHA-1
+-- object names of this format are spoken: a line names the format, or no line names any and it is SHA-1
 abbrev pub is_spoken : Caps → Format → Bool
 is_spoken caps Sha1 = caps.sha1 || not caps.object_format
 is_spoken caps Sha256 = caps.sha256
 
--- requests of this command are taken
+-- requests of this command are accepted
 abbrev pub offers_command : Caps → Command → Bool
 offers_command caps LsRefs = caps.ls_refs
 offers_command caps Fetch = caps.fetch
@@ -92,7 +92,7 @@ abbrev pub takes_command : Offer → Command → Bool
 takes_command offer ObjectInfo = offer.object_info
 takes_command offer command = true
 
--- the offer of each thing whose flag, where it is noted, passes
+-- an offer of each thing whose flag in the noted capabilities passes
 abbrev pub offer_where : ((Caps → Bool) → Bool) → Format → Offer
 offer_where passes format = record {
   format = format;
@@ -105,14 +105,14 @@ offer_where passes format = record {
   server_option = passes (λ caps. caps.server_option);
 }
 
--- what is offered by one who offers everything
+-- the offer of a server that advertises everything
 abbrev pub everything : Format → Offer
 everything = offer_where (λ flag. true)
 
--- what is offered by one who offers no feature
+-- the offer of a server that advertises no feature
 abbrev pub nothing : Format → Offer
 nothing = offer_where (λ flag. false)
 
--- what is offered to a side that speaks this format
+-- the offer to a client that speaks this format
 abbrev pub noted_offer : Caps → Format → Offer
 noted_offer caps = offer_where (λ flag. flag caps)

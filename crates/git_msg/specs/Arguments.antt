@@ -1,4 +1,4 @@
--- The argument lines of requests, by gitprotocol-v2(5).
+-- The argument lines of requests, as in gitprotocol-v2(5).
 use Rattle.std.specs.Prelude.{◌≡◌, ◌≢◌, ◌⊎◌, ℕ, ◌+◌, ◌<◌, ◌≤◌, Bool, true, false, List, [], ◌∷◌, ◌++◌, length, map, codes, decimal, if◌then◌else◌}
 use Rattle.git_names.specs.ObjectName.{ObjectName, IsObjectName, IsNoObjectName, IsOid, hex_of}
 use Rattle.git_names.specs.RefName.{IsRefName}
@@ -16,7 +16,7 @@ use Rattle.git_msg.specs.Flags.{IsNoFlagOf, all_flags, always, flag_row}
 use Rattle.git_msg.specs.Numbers.{IsNumber}
 use Rattle.git_msg.specs.Texts.{Follows, BeginsWithNone}
 
--- a word at the head of an argument's line: a flag, or what comes before a value
+-- a word at the head of an argument's line: a flag, or the word before a value
 pub data Word : Type 0 where
   of_flag : Flag → Word
   ref_prefix : Word
@@ -40,8 +40,8 @@ pub data Shape : Type 0 where
   kept_text : Shape
   reference_name : Shape
 
--- what is known of a word: its text, with a space where a value follows; the command that has it, what follows it, and where the feature
--- that it needs is offered
+-- the row of a word: its text, with a space at its end if a value follows; the command that has it; what follows it; and
+-- whether an offer has the feature that it needs
 pub record Row : Type 0 where
   pub keyword : List ℕ
   pub command : Command
@@ -65,11 +65,11 @@ row deepen_not = entry (codes "deepen-not ") Fetch kept_text (λ offer. offer.sh
 row want_ref = entry (codes "want-ref ") Fetch reference_name (λ offer. offer.ref_in_want)
 row object_id = entry (codes "oid ") ObjectInfo object_name always
 
--- its words before a value
+-- the words before a value
 abbrev pub value_words : List Word
 value_words = ref_prefix ∷ want ∷ have ∷ filter_spec ∷ shallow ∷ deepen ∷ deepen_since ∷ deepen_not ∷ want_ref ∷ object_id ∷ []
 
--- all of its words
+-- all words
 abbrev pub words : List Word
 words = map of_flag all_flags ++ value_words
 
@@ -97,7 +97,7 @@ with_number word number = record { word = word; value = number_value number }
 abbrev pub with_text : Word → List ℕ → Arg
 with_text word text = record { word = word; value = text_value text }
 
--- the argument that a borrowed one shows
+-- the argument that a borrowed argument shows
 abbrev pub shown : Argument → Arg
 shown Argument.Symrefs = alone (of_flag Flag.Symrefs)
 shown Argument.Peel = alone (of_flag Flag.Peel)
@@ -126,7 +126,7 @@ abbrev pub TakesValue : Word → Type 0
 TakesValue (of_flag flag) = ⊥
 TakesValue word = Unit {0}
 
--- the command's key, as it is after `command=`
+-- the command's key, as it stands after `command=`
 abbrev pub name_of : Command → List ℕ
 name_of LsRefs = codes "ls-refs"
 name_of Fetch = codes "fetch"
@@ -136,11 +136,11 @@ name_of ObjectInfo = codes "object-info"
 abbrev pub command_with : Arg → Command
 command_with arg = (row arg.word).command
 
--- the most bytes that a text which is kept may have
+-- the maximum length of a text that is kept
 abbrev pub most_text : ℕ
 most_text = 32000
 
--- the depth of a shallow history: of so many commits
+-- the depth of a shallow history, in commits
 abbrev pub IsDepth : ℕ → Type 0
 IsDepth depth = (1 ≤ depth) × (depth ≤ 2147483647)
 
@@ -153,23 +153,23 @@ pub record IsNumberIn (InRange : ℕ → Type 0) (text : List ℕ) (number : ℕ
   pub is_number : IsNumber text number
   pub in_range : InRange number
 
--- no such number
+-- there is no such number
 abbrev pub IsNoNumberIn : (ℕ → Type 0) → List ℕ → Type 0
 IsNoNumberIn InRange text = (number : ℕ) → ¬ IsNumberIn InRange text number
 
--- a text that is kept and not looked into
+-- a text that is kept but not parsed
 abbrev pub IsKeptText : List ℕ → Type 0
 IsKeptText text = (1 ≤ length text) × (length text ≤ most_text)
 
--- a text that is too short for that, or too long
+-- a text that is too short to be kept, or too long
 abbrev pub IsNoKeptText : List ℕ → Type 0
 IsNoKeptText text = (length text < 1) ⊎ (most_text < length text)
 
--- the most that a limit on the bytes of kept texts may be
+-- the maximum of a limit on the bytes of kept texts
 abbrev pub most_limit : ℕ
 most_limit = 1073741824
 
--- the line is the word with this value, which is allowed there
+-- the line is the word with this value, and the value is allowed there
 abbrev pub SaysValue : Shape → List ℕ → Format → List ℕ → Value → Type 0
 SaysValue flag_word word format line no_value = line ≡ word
 SaysValue object_name word format line (id_value id) = Follows word (λ name. IsObjectName format name id) line
@@ -180,7 +180,7 @@ SaysValue kept_text word format line (text_value kept) = (line ≡ word ++ kept)
 SaysValue reference_name word format line (text_value name) = (line ≡ word ++ name) × IsRefName name
 SaysValue _ word format line _ = ⊥
 
--- the text contains this argument, and its value is one that is allowed there
+-- the text contains this argument, and its value is allowed there
 abbrev pub SaysArgument : Format → List ℕ → Arg → Type 0
 SaysArgument format text arg = SaysValue (row arg.word).shape (row arg.word).keyword format text arg.value
 
@@ -204,7 +204,7 @@ MayFollow kept_text format (text_value kept) = IsKeptText kept
 MayFollow reference_name format (text_value name) = IsRefName name
 MayFollow _ format _ = ⊥
 
--- or it may not
+-- the value is not allowed there
 abbrev pub MayNotFollow : Shape → Format → Value → Type 0
 MayNotFollow object_name format (id_value id) = id.format ≢ format
 MayNotFollow depth_number format (number_value depth) = ¬ IsDepth depth
@@ -214,7 +214,7 @@ MayNotFollow kept_text format (text_value kept) = IsNoKeptText kept
 MayNotFollow reference_name format (text_value name) = ¬ IsRefName name
 MayNotFollow _ format _ = ⊥
 
--- by which name a value is refused
+-- the name by which a value is refused
 abbrev pub refusal_of : Shape → Kind
 refusal_of flag_word = UnknownArgument
 refusal_of object_name = BadObjectName
@@ -228,16 +228,16 @@ refusal_of kept_text = BadLine
 abbrev pub IsInRange : Format → Arg → Type 0
 IsInRange format arg = MayFollow (row arg.word).shape format arg.value
 
--- by which name it may not
+-- the argument's value is not allowed there, and is refused by this name
 abbrev pub IsOutOfRange : Format → Arg → Kind → Type 0
 IsOutOfRange format arg kind = MayNotFollow (row arg.word).shape format arg.value × (kind ≡ refusal_of (row arg.word).shape)
 
--- a value that is to be a reference name is one
+-- if a value has to be a reference name, it is one
 abbrev pub IsNamed : Shape → Value → Type 0
 IsNamed reference_name (text_value name) = IsRefName name
 IsNamed _ _ = Unit {0}
 
--- a reference that is asked for by name has a name that it may have
+-- if the argument requests a reference by name, that is a reference name
 abbrev pub HasName : Arg → Type 0
 HasName arg = IsNamed (row arg.word).shape arg.value
 
@@ -245,12 +245,12 @@ HasName arg = IsNamed (row arg.word).shape arg.value
 abbrev pub IsValue : Command → Format → Arg → Type 0
 IsValue command format arg = (command_with arg ≡ command) × IsInRange format arg
 
--- by which name the argument is refused there: that of another command is judged before its value
+-- the name by which the argument is refused there: an argument of another command is refused before its value is judged
 abbrev pub IsValueFault : Command → Format → Arg → Kind → Type 0
 IsValueFault command format arg kind =
     ((command_with arg ≢ command) × (kind ≡ UnknownArgument)) ⊎ ((command_with arg ≡ command) × IsOutOfRange format arg kind)
 
--- whether the feature that the argument needs is offered
+-- whether the feature that the argument needs is advertised
 abbrev pub is_offered : Offer → Arg → Bool
 is_offered offer arg = (row arg.word).offered offer
 
@@ -271,11 +271,11 @@ keywords_among command [] = []
 keywords_among command (word ∷ others) =
     if is_command (row word).command command then (row word).keyword ∷ keywords_among command others else keywords_among command others
 
--- what comes before a value in the command's arguments
+-- the keywords of the command's arguments that have a value
 abbrev pub keywords_of : Command → List (List ℕ)
 keywords_of command = keywords_among command value_words
 
--- what follows the word is no value that is allowed there
+-- the text after the word is no value that is allowed there
 abbrev pub IsNoValue : Shape → Format → List ℕ → Type 0
 IsNoValue flag_word format value = ⊥
 IsNoValue object_name format name = IsNoObjectName format name
@@ -285,13 +285,13 @@ IsNoValue prefix_text format prefix = most_text < length prefix
 IsNoValue kept_text format kept = IsNoKeptText kept
 IsNoValue reference_name format name = ¬ IsRefName name
 
--- by which name a text that begins with this word of the command is refused for its value
+-- the name by which a text that begins with this word of the command is refused for its value
 pub record IsRowFault (command : Command) (format : Format) (word : Word) (text : List ℕ) (kind : Kind) : Type 0 where
   pub of : (row word).command ≡ command
   pub follows : Follows (row word).keyword (IsNoValue (row word).shape format) text
   pub named : kind ≡ refusal_of (row word).shape
 
--- the text begins with no word of the command that a value follows, or with one whose value is not allowed there
+-- the text begins with none of the command's words before a value, or with one whose value is not allowed there
 abbrev pub IsNoValueOf : Command → Format → List ℕ → Kind → Type 0
 IsNoValueOf command format text kind =
     (BeginsWithNone (keywords_of command) text × (kind ≡ UnknownArgument)) ⊎ ((word : Word) × IsRowFault command format word text kind)
@@ -300,18 +300,18 @@ IsNoValueOf command format text kind =
 abbrev pub IsNoArgument : Command → List ℕ → Type 0
 IsNoArgument command text = IsNoFlagOf command text × BeginsWithNone (keywords_of command) text
 
--- the text is no argument of the command, or one whose value is not allowed there
+-- the text is no argument of the command, or its value is not allowed there
 abbrev pub IsTextFault : Command → Format → List ℕ → Kind → Type 0
 IsTextFault command format text kind =
     (IsNoArgument command text × (kind ≡ UnknownArgument)) ⊎ ((word : Word) × IsRowFault command format word text kind)
 
--- the text is an argument of the command that needs a feature which is not offered
+-- the text is an argument of the command, but needs a feature that is not advertised
 pub record IsUnoffered (command : Command) (offer : Offer) (text : List ℕ) : Type 0 where
   pub arg : Arg
   pub is_argument : IsArgument command offer.format text arg
   pub unoffered : is_offered offer arg ≡ false
 
--- the text is no argument of the command, or one whose value is not allowed there, or one that was not offered
+-- the text is no argument of the command, or its value is not allowed there, or it was not advertised
 abbrev pub IsArgumentFault : Command → Offer → List ℕ → Kind → Type 0
 IsArgumentFault command offer text kind =
     (IsNoArgument command text × (kind ≡ UnknownArgument))
@@ -328,7 +328,7 @@ written_value (text_value text) = text
 abbrev pub written_text : Arg → List ℕ
 written_text arg = (row arg.word).keyword ++ written_value arg.value
 
--- how many bytes are stored of a value: 33 of an object name, and of a text its own, two for its length and four for the place where it ends
+-- how many bytes are stored for a value: 33 for an object name; for a text its own, two for its length and four for the place where it ends
 abbrev pub stored_value : Value → ℕ
 stored_value no_value = 0
 stored_value (id_value id) = 33
@@ -338,13 +338,13 @@ stored_value (text_value text) = length text + 6
 abbrev pub stored_in : Arg → ℕ
 stored_in arg = stored_value arg.value
 
--- a value for which memory is taken
+-- a value that memory is taken for
 abbrev pub ValueTakesMemory : Value → Type 0
 ValueTakesMemory no_value = ⊥
 ValueTakesMemory (id_value id) = Unit {0}
 ValueTakesMemory (number_value number) = ⊥
 ValueTakesMemory (text_value text) = Unit {0}
 
--- the argument has a value for which memory is taken
+-- the argument has a value that memory is taken for
 abbrev pub TakesMemory : Arg → Type 0
 TakesMemory arg = ValueTakesMemory arg.value

@@ -15,11 +15,11 @@ use Rattle.git_msg.specs.Arguments.{Arg, Value, alone, with_id, with_number, wit
 use Rattle.git_msg.specs.Arguments.{IsValue, is_offered, written_text}
 use Rattle.git_msg.specs.Texts.{last_of}
 
--- whether two words are one
+-- whether two words are the same
 abbrev pub is_word : Word → Word → Bool
 is_word word other = bytes_eq (row word).keyword (row other).keyword
 
--- whether the argument is of the word
+-- whether the argument has the word
 abbrev pub is_of : Word → Arg → Bool
 is_of word arg = is_word word arg.word
 
@@ -43,7 +43,7 @@ is_flag_of flag arg = is_of (of_flag flag) arg
 abbrev pub flag_among : List Arg → Flag → Bool
 flag_among args flag = list_any (is_flag_of flag) args
 
--- the argument's value, where it is of the word
+-- the argument's value, if it is of the word
 abbrev pub id_in : Word → Arg → Option ObjectName
 id_in word arg = if is_of word arg then id_of arg.value else None
 
@@ -60,7 +60,7 @@ pub record LsRefsAsked : Type 0 where
   pub unborn : Bool
   pub ref_prefixes : List (List ℕ)
 
--- what a fetch request asks for: each list in the order of its lines, and of two depths or two times the last
+-- what a fetch request asks for: each list in the order of its lines; of several depths or times, the last
 pub record FetchAsked : Type 0 where
   pub wants : List ObjectName
   pub haves : List ObjectName
@@ -74,7 +74,7 @@ pub record FetchAsked : Type 0 where
   pub deepen_nots : List (List ℕ)
   pub want_refs : List (List ℕ)
 
--- what an object-info request asks for: the sizes of objects, in the order of their lines
+-- what an object-info request asks for: whether sizes, and the objects in the order of their lines
 pub record ObjectInfoAsked : Type 0 where
   pub size : Bool
   pub oids : List ObjectName
@@ -91,7 +91,7 @@ command_asked (ls_refs q) = LsRefs
 command_asked (fetch q) = Fetch
 command_asked (object_info q) = ObjectInfo
 
--- what the arguments ask for: each list is the values of its kind in their order, and a flag is set where one sets it
+-- what the arguments ask for: each list is the values of its kind in order, and a flag is set if an argument sets it
 abbrev pub ls_refs_by : List Arg → LsRefsAsked
 ls_refs_by args = record {
   symrefs = flag_among args Flag.Symrefs;
@@ -127,17 +127,17 @@ asked_by ObjectInfo args = object_info (object_info_by args)
 abbrev pub nothing_asked : Command → Asked
 nothing_asked command = asked_by command []
 
--- a list with a value after it, if there is one
+-- a list followed by a value, if there is one
 abbrev pub and_then : {X : Type 0} → List X → Option X → List X
 and_then xs None = xs
 and_then xs (Some x) = xs ++ x ∷ []
 
--- of two values the later, where it is given
+-- of two values, the later one if it is given
 abbrev pub later : {X : Type 0} → Option X → Option X → Option X
 later first None = first
 later first (Some x) = Some x
 
--- what ls-refs is asked for with one more argument after the others; that of another command changes nothing
+-- what an ls-refs request asks for with one more argument after the others; an argument of another command changes nothing
 abbrev pub with_ls_refs : LsRefsAsked → Arg → LsRefsAsked
 with_ls_refs q arg = record {
   symrefs = is_flag_of Flag.Symrefs arg || q.symrefs;
@@ -146,7 +146,7 @@ with_ls_refs q arg = record {
   ref_prefixes = and_then q.ref_prefixes (text_in ref_prefix arg);
 }
 
--- what fetch is asked for with one more argument after the others
+-- what a fetch request asks for with one more argument after the others
 abbrev pub with_fetch : FetchAsked → Arg → FetchAsked
 with_fetch q arg = record {
   wants = and_then q.wants (id_in want arg);
@@ -162,17 +162,17 @@ with_fetch q arg = record {
   want_refs = and_then q.want_refs (text_in want_ref arg);
 }
 
--- what object-info is asked for with one more argument after the others
+-- what an object-info request asks for with one more argument after the others
 abbrev pub with_object_info : ObjectInfoAsked → Arg → ObjectInfoAsked
 with_object_info q arg = record { size = is_flag_of Flag.Size arg || q.size; oids = and_then q.oids (id_in object_id arg) }
 
--- what is asked for with one more argument after the others
+-- what a request asks for with one more argument after the others
 abbrev pub with_argument : Asked → Arg → Asked
 with_argument (ls_refs q) arg = ls_refs (with_ls_refs q arg)
 with_argument (fetch q) arg = fetch (with_fetch q arg)
 with_argument (object_info q) arg = object_info (with_object_info q arg)
 
--- whether the request has the flag; one of another command it has not
+-- whether the request has the flag; it has no flag of another command
 abbrev pub has_flag : Flag → Asked → Bool
 has_flag Flag.Peel (ls_refs q) = q.peel
 has_flag Flag.Symrefs (ls_refs q) = q.symrefs
@@ -227,17 +227,17 @@ abbrev pub wants_of : Asked → List ObjectName
 wants_of (fetch q) = q.wants
 wants_of _ = []
 
--- the objects that a client has, by the `have` lines of a fetch request
+-- the objects that a client has, from the `have` lines of a fetch request
 abbrev pub haves_of : Asked → List ObjectName
 haves_of (fetch q) = q.haves
 haves_of _ = []
 
--- which objects a fetch request wants to be left out, each as a filter-spec
+-- which objects a fetch request leaves out, each as a filter-spec
 abbrev pub filters_of : Asked → List (List ℕ)
 filters_of (fetch q) = q.filters
 filters_of _ = []
 
--- the commits that are shallow at the client, by the `shallow` lines of a fetch request
+-- the commits that are shallow at the client, from the `shallow` lines of a fetch request
 abbrev pub shallows_of : Asked → List ObjectName
 shallows_of (fetch q) = q.shallows
 shallows_of _ = []
@@ -267,7 +267,7 @@ abbrev pub oids_of : Asked → List ObjectName
 oids_of (object_info q) = q.oids
 oids_of _ = []
 
--- whether a fetch request negotiates alone: it has `wait-for-done`, by which no pack is sent before `done`, and not `done`
+-- whether a fetch request negotiates alone: it has `wait-for-done`, so that no pack is sent before `done`, and does not have `done`
 abbrev pub only_negotiates : FetchAsked → Bool
 only_negotiates q = wait_for_done_of (fetch q) && not q.done
 
@@ -275,7 +275,7 @@ only_negotiates q = wait_for_done_of (fetch q) && not q.done
 abbrev pub HasWants : FetchAsked → Type 0
 HasWants q = (0 < length q.wants + length q.want_refs) ⊎ (only_negotiates q ≡ true)
 
--- whether a value was given
+-- whether there is a value
 abbrev pub is_given : {X : Type 0} → Option X → Bool
 is_given (Some x) = true
 is_given None = false
@@ -284,11 +284,11 @@ abbrev pub is_empty : {X : Type 0} → List X → Bool
 is_empty [] = true
 is_empty (x ∷ xs) = false
 
--- whether a fetch request cuts the history off by a depth and by something else, which exclude each other
+-- whether a fetch request cuts the history off both by a depth and by something else, which exclude each other
 abbrev pub has_deepen_conflict : FetchAsked → Bool
 has_deepen_conflict q = is_given q.deepen && (is_given q.deepen_since || not (is_empty q.deepen_nots))
 
--- a flag's argument, where it is set
+-- the argument of a flag, if it is set
 abbrev pub where_asked : Bool → Flag → List Arg
 where_asked true flag = alone (of_flag flag) ∷ []
 where_asked false flag = []
@@ -297,17 +297,17 @@ where_asked false flag = []
 abbrev pub flag_arguments : (Flag → Bool) → List Flag → List (List Arg)
 flag_arguments test flags = map (λ flag. where_asked (test flag) flag) flags
 
--- a number's argument, where it is given
+-- the argument of a number, if there is one
 abbrev pub where_given : Word → Option ℕ → List Arg
 where_given word None = []
 where_given word (Some number) = with_number word number ∷ []
 
--- what comes one after the other, and then others
+-- the lists one after another, and then the others
 abbrev pub joined : List (List Arg) → List Arg → List Arg
 joined [] others = others
 joined (args ∷ lists) others = args ++ joined lists others
 
--- what a fetch wants and has, in the order in which it is written
+-- the objects that a fetch wants and has, in the order in which they are written
 abbrev pub objects_in : FetchAsked → List (List Arg)
 objects_in q = map (with_id want) q.wants ∷ map (with_text want_ref) q.want_refs ∷ map (with_id have) q.haves ∷ []
 
@@ -334,18 +334,18 @@ arguments_in (ls_refs q) = joined (flags_in q) (map (with_text ref_prefix) q.ref
 arguments_in (fetch q) = joined (packs_in q) (joined (shallows_in q) (object_arguments q))
 arguments_in (object_info q) = joined (where_asked q.size Flag.Size ∷ []) (map (with_id object_id) q.oids)
 
--- how many bytes the texts of the lines of these arguments have, as they are written
+-- how many bytes the texts of these arguments' lines have when they are written
 abbrev pub bytes_of : List Arg → ℕ
 bytes_of args = sum_by (λ arg. length (written_text arg)) args
 
--- how many bytes the texts of a request's argument lines have, as they are written
+-- how many bytes the texts of a request's argument lines have when they are written
 abbrev pub written_bytes : Asked → ℕ
 written_bytes asked = bytes_of (arguments_in asked)
 
--- each of the request's arguments is allowed there, where its object names have this format
+-- each of the request's arguments is allowed there, if its object names have this format
 abbrev pub HasValues : Format → Asked → Type 0
 HasValues format asked = All (IsValue (command_asked asked) format) (arguments_in asked)
 
--- the features that the request's arguments need are offered
+-- the features that the request's arguments need are advertised
 abbrev pub AreOffered : Offer → Asked → Type 0
 AreOffered offer asked = All (λ arg. is_offered offer arg ≡ true) (arguments_in asked)

@@ -1,17 +1,17 @@
--- The order of refusals, as a list of checks of which the first that fails is the refusal.
+-- The order of refusals, as a list of checks: the first check that fails is the refusal.
 use Rattle.std.specs.Prelude.{◌≡◌, ◌⊎◌, List, [], ◌∷◌}
 use Rattle.git_pkt.specs.declared.fault.Kind.{Kind}
 
--- what refuses by which name, and what passes
+-- a check: what it refuses, by which name, and what passes it
 pub record Check : Type 1 where
   pub refuses : Kind → Type 0
   pub passes : Type 0
 
--- passes where P holds, and refuses by one name where Q does
+-- passes if P holds, and refuses by one name if Q holds
 abbrev pub check : Type 0 → Type 0 → Kind → Check
 check P Q name = record { refuses = λ kind. Q × (kind ≡ name); passes = P }
 
--- refuses where Q holds
+-- refuses if Q holds
 abbrev pub unless : Type 0 → Kind → Check
 unless Q name = check (¬ Q) Q name
 

@@ -7,7 +7,7 @@ use Rattle.git_msg.specs.declared.flags.Flag.{Flag}
 use Rattle.git_msg.specs.declared.flags.FlagSet.{FlagSet}
 use Rattle.git_msg.specs.declared.offers.Offer.{Offer}
 
--- what is known of a flag: its text, the command that has it, and where the feature that it needs is offered
+-- the row of a flag: its text, the command that has it, and whether an offer has the feature that it needs
 pub record FlagRow : Type 0 where
   pub text : List ℕ
   pub command : Command
@@ -33,7 +33,7 @@ flag_row Flag.Symrefs = flag_entry (codes "symrefs") LsRefs always
 flag_row Flag.Unborn = flag_entry (codes "unborn") LsRefs (λ offer. offer.unborn)
 flag_row Flag.Size = flag_entry (codes "size") ObjectInfo always
 
--- the flags of a fetch that are written before its other arguments, in their order
+-- the flags of a fetch that are written before its other arguments, in order
 abbrev pub pack_flags : List Flag
 pack_flags = Flag.ThinPack ∷ Flag.NoProgress ∷ Flag.IncludeTag ∷ Flag.OfsDelta ∷ Flag.WaitForDone ∷ []
 
@@ -47,7 +47,7 @@ flags_of ObjectInfo = Flag.Size ∷ []
 abbrev pub all_flags : List Flag
 all_flags = flags_of Fetch ++ (flags_of LsRefs ++ flags_of ObjectInfo)
 
--- whether two flags are one
+-- whether two flags are the same
 abbrev pub is_flag : Flag → Flag → Bool
 is_flag flag other = bytes_eq (flag_row flag).text (flag_row other).text
 
@@ -55,7 +55,7 @@ is_flag flag other = bytes_eq (flag_row flag).text (flag_row other).text
 abbrev pub IsNoFlagOf : Command → List ℕ → Type 0
 IsNoFlagOf command text = (flag : Flag) → (flag_row flag).command ≡ command → text ≢ (flag_row flag).text
 
--- for each of these flags whether it is set
+-- for each of these flags, whether it is set
 abbrev pub Flags : List Flag → Type 0
 Flags [] = Unit {0}
 Flags (flag ∷ flags) = Bool × Flags flags
@@ -69,7 +69,7 @@ abbrev pub is_set : (flags : List Flag) → Flags flags → Flag → Bool
 is_set [] set flag = false
 is_set (first ∷ others) set flag = if is_flag first flag then set.0 else is_set others set.1 flag
 
--- the place of a flag in a list
+-- the index of a flag in a list
 abbrev pub place_among : List Flag → Flag → ℕ
 place_among [] flag = 0
 place_among (first ∷ others) flag = if is_flag first flag then 0 else place_among others flag + 1
@@ -77,6 +77,6 @@ place_among (first ∷ others) flag = if is_flag first flag then 0 else place_am
 abbrev pub place_of : Flag → ℕ
 place_of flag = place_among all_flags flag
 
--- whether the flag is set where a request is kept
+-- whether the flag is set in the set that a request keeps
 abbrev pub is_held : FlagSet → Flag → Bool
 is_held held flag = get_or held.set (place_of flag) false

@@ -1,4 +1,4 @@
--- What is kept of a request, within a limit on the bytes of its argument lines.
+-- A request as it is kept, within a limit on the bytes of its argument lines.
 use Rattle.std.specs.Prelude.{◌≡◌, ◌⊎◌, ℕ, ◌+◌, ◌<◌, ◌≤◌}
 use Rattle.git_names.specs.declared.object_format.Format.{Format}
 use Rattle.git_pkt.specs.declared.fault.Kind.{Kind}
@@ -7,7 +7,7 @@ use Rattle.git_msg.specs.declared.arguments.Command.{Command}
 use Rattle.git_msg.specs.Arguments.{Arg, most_limit, stored_in, TakesMemory}
 use Rattle.git_msg.specs.Asked.{Asked, command_asked, nothing_asked, with_argument, written_bytes, HasValues}
 
--- the format, what is asked for, how many bytes the texts of the lines had and may have, and how many are stored of their values
+-- the format, what is asked for, how many bytes the texts of the lines had and may have, and how many bytes are stored of their values
 pub record Kept (Q : Type 0) : Type 0 where
   pub format : Format
   pub asked : Q
@@ -15,21 +15,21 @@ pub record Kept (Q : Type 0) : Type 0 where
   pub limit : ℕ
   pub stored : ℕ
 
--- what is kept of a request of one command, as what is kept of a request
+-- a kept request of one command, as a kept request of any command
 abbrev pub kept_as : {Q : Type 0} → (Q → Asked) → Kept Q → Kept Asked
 kept_as make q = record { format = q.format; asked = make q.asked; kept = q.kept; limit = q.limit; stored = q.stored }
 
--- each argument is allowed in such a request, and the texts of their lines as they are written have no more bytes than are counted
+-- each argument is allowed in such a request, and at least as many bytes are counted as the texts of their lines have when they are written
 pub record IsCounted (format : Format) (asked : Asked) (kept : ℕ) : Type 0 where
   pub values : HasValues format asked
   pub written : written_bytes asked ≤ kept
 
--- and no more bytes are stored of their values than are counted
+-- and at least as many bytes are counted as are stored of their values
 pub record IsCovered (format : Format) (asked : Asked) (kept stored : ℕ) : Type 0 where
   pub counted : IsCounted format asked kept
   pub covered : stored ≤ kept
 
--- and no more bytes are counted than the limit has
+-- and the bytes counted are within the limit
 pub record IsWithin (q : Kept Asked) : Type 0 where
   pub counted : IsCounted q.format q.asked q.kept
   pub covered : q.stored ≤ q.kept
@@ -54,7 +54,7 @@ pub record KeepsArgument (old : Kept Asked) (arg : Arg) (long : ℕ) (new : Kept
   pub format : new.format ≡ old.format
   pub limit : new.limit ≡ old.limit
 
--- the argument was not added to the others, for a fault of this name
+-- the argument was not added to the others, because of a fault of this name
 abbrev pub IsUnkept : Kept Asked → Arg → ℕ → Kind → Type 0
 IsUnkept old arg long kind =
     ((old.limit < old.kept + long) × (kind ≡ TooMuchKept))

@@ -1,4 +1,4 @@
--- The packets of a request as lines, each after the lines before it, and what refuses a packet.
+-- The packets of a request as lines, each after the lines before it, and the reasons to refuse a packet.
 use Rattle.std.specs.Prelude.{◌≡◌, ◌≢◌, ℕ, ◌+◌, ◌<◌, ◌≤◌, Bool, true, false, Option, Some, None, List, [], ◌∷◌, ◌++◌, length, codes, sum_by, if◌then◌else◌}
 use Rattle.std.specs.List.{list_any, filter_map}
 use Rattle.std.specs.Str.{bytes_eq}
@@ -70,7 +70,7 @@ kept_in = sum_by long_of
 abbrev pub has_format : List Line → Bool
 has_format = list_any is_object_format
 
--- the delimiter is among the lines, so what follows are arguments
+-- the delimiter is among the lines, so arguments follow
 abbrev pub has_delimiter : List Line → Bool
 has_delimiter = list_any is_delimiter
 
@@ -105,15 +105,15 @@ IsAnyCapability text = (word : List ℕ) × (value : Option (List ℕ)) × IsCap
 abbrev pub NamesCommand : Option (List ℕ) → Type 0
 NamesCommand value = (c : Command) × (value ≡ Some (name_of c))
 
--- a command that the value names is in the offer
+-- if the value names a command, that is in the offer
 abbrev pub NamesTaken : Offer → Option (List ℕ) → Type 0
 NamesTaken offer value = (c : Command) → value ≡ Some (name_of c) → takes_command offer c ≡ true
 
--- the value names a command that is not
+-- the value names a command that is not in the offer
 abbrev pub NamesUntaken : Offer → Option (List ℕ) → Type 0
 NamesUntaken offer value = (c : Command) × (value ≡ Some (name_of c)) × (takes_command offer c ≡ false)
 
--- what refuses a capability line, by its key; `first` means that no command line came before
+-- the checks of a capability line, by its key; `first` means that no command line came before it
 abbrev pub key_checks : Offer → Bool → Key → Option (List ℕ) → List Check
 key_checks offer first CommandKey value =
     check (first ≡ true) (first ≡ false) TwoCommands ∷ check (NamesCommand value) (¬ NamesCommand value) UnknownCommand
@@ -132,7 +132,7 @@ by_key offer first text = record {
   passes = (key : Key) × (value : Option (List ℕ)) × HasKey text key value × Passes (key_checks offer first key value);
 }
 
--- what refuses a text of the capability part
+-- the checks of a text of the capability part
 abbrev pub capability_checks : Offer → Bool → List ℕ → List Check
 capability_checks offer first text =
     unless (IsErrorText text) RemoteError ∷ check (IsAnyCapability text) (IsNoCapability text) BadCapability
@@ -155,7 +155,7 @@ pub record IsCapabilityLine (offer : Offer) (first : Bool) (text : List ℕ) (li
   pub allowed : Passes (key_checks offer first key value)
   pub line_is : IsLineOf key value line
 
--- without a line that names one, SHA-1 is meant
+-- if no line names a format, SHA-1 is meant
 abbrev pub IsFormatMeant : Format → Bool → Type 0
 IsFormatMeant Sha1 said = Unit {0}
 IsFormatMeant Sha256 said = said ≡ true
@@ -164,24 +164,24 @@ abbrev pub IsOtherFormatMeant : Format → Bool → Type 0
 IsOtherFormatMeant Sha1 said = ⊥
 IsOtherFormatMeant Sha256 said = said ≡ false
 
--- what refuses the end of the capability part
+-- the checks at the end of the capability part
 abbrev pub part_checks : Offer → List Command → Bool → List Check
 part_checks offer commands said =
     check (is_none commands ≡ false) (is_none commands ≡ true) NoCommand
     ∷ check (IsFormatMeant offer.format said) (IsOtherFormatMeant offer.format said) WrongFormat ∷ []
 
--- what refuses a text of the argument part, however much is kept
+-- the checks of a text of the argument part, however much is kept
 abbrev pub text_checks : Command → Offer → List ℕ → List Check
 text_checks c offer text =
     unless (IsErrorText text) RemoteError
     ∷ record { refuses = IsArgumentFault c offer text; passes = (arg : Arg) × ReadsAs c offer text arg } ∷ []
 
--- what refuses an argument line: its text, and then the limit
+-- the checks of an argument line: its text, and then the limit
 abbrev pub argument_checks : Offer → ℕ → Command → ℕ → List ℕ → List Check
 argument_checks offer limit c kept text =
     text_checks c offer text ++ check (kept + length text ≤ limit) (limit < kept + length text) TooMuchKept ∷ []
 
--- the text is this argument; whether it can be kept is another matter
+-- the text is this argument, whether or not it can be kept
 pub record IsArgumentText (offer : Offer) (before : List Line) (text : List ℕ) (arg : Arg) : Type 0 where
   pub no_error : ¬ IsErrorText text
   pub of : Command
@@ -200,7 +200,7 @@ pub record IsArgumentRefused (offer : Offer) (limit : ℕ) (before : List Line) 
   pub asked : commands_of before ≡ of ∷ []
   pub refuses : Refuses (argument_checks offer limit of (kept_in before) text) kind
 
--- what refuses a request at its flush, by what it asks for
+-- the checks of a request at its flush, by what it asks for
 abbrev pub end_checks : Asked → List Check
 end_checks (ls_refs q) = []
 end_checks (fetch q) =
@@ -214,8 +214,7 @@ at_end lines = record {
   passes = (c : Command) × (commands_of lines ≡ c ∷ []) × Passes (end_checks (asked_by c (arguments_of lines)));
 }
 
--- what refuses the flush after these lines: what is judged at the end of the capability part was judged at the
--- delimiter, if there was one
+-- the checks of the flush after these lines: the end of the capability part was judged at the delimiter, if there was one
 abbrev pub flush_checks_in : Bool → Offer → List Line → List Check
 flush_checks_in true offer lines = at_end lines ∷ []
 flush_checks_in false offer lines = part_checks offer (commands_of lines) (has_format lines) ++ at_end lines ∷ []

@@ -1,4 +1,4 @@
--- The state and the calls of what reads, keeps and writes requests. No definition beside this folder cites them.
+-- The state and the calls of the parts that read, keep and write requests. No definition outside this folder cites them.
 pub mod HeldRequest
 pub mod HeldTexts
 pub mod Insides

@@ -1,7 +1,7 @@
 -- Numbers in decimal digits.
 use Rattle.std.specs.Prelude.{◌≡◌, ◌≢◌, ℕ, ◌+◌, ◌-◌, ◌*◌, ◌^◌, ◌≤◌, List, [], ◌∷◌, length, All}
 
--- the value of decimal digits: each counts ten times as much as the one after it
+-- the value of decimal digits: each counts ten times as much as the next one
 abbrev pub decimal_value : List ℕ → ℕ
 decimal_value [] = 0
 decimal_value (digit ∷ digits) = (digit - 48) * 10 ^ length digits + decimal_value digits

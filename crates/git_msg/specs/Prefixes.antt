@@ -1,4 +1,4 @@
--- Prefixes in an order in which they are found by halves.
+-- Prefixes in an order that allows binary search.
 use Rattle.std.specs.Prelude.{◌≡◌, ◌≤◌, ◌<◌, ℕ, Bool, ◌||◌, List, [], ◌∷◌, true, false, nat_eq, length, slice_index_or}
 use Rattle.std.specs.List.{list_any, starts_with, AllPairs, dedup}
 use Rattle.std.specs.List.Sorted.{IsPermutation}
@@ -40,19 +40,19 @@ Precedes a b = (goes_before a b ≡ true) × (begins b a ≡ false)
 abbrev pub IsOrdered : List (List ℕ) → Type 0
 IsOrdered ps = AllPairs Precedes ps
 
--- the texts before this place do not come after the name, and the others do
+-- the texts before this index do not come after the name, and the others do
 pub record SplitsAt (ps : List (List ℕ)) (name : List ℕ) (i : ℕ) : Type 0 where
   pub bound : i ≤ length ps
   pub before : (k : ℕ) (d : List ℕ) → k < i → goes_before (slice_index_or ps k d) name ≡ true
   pub after : (k : ℕ) (d : List ℕ) → i ≤ k → k < length ps → goes_before (slice_index_or ps k d) name ≡ false
 
--- the same texts in another order, of which those that begin with the last one kept are dropped
+-- the same texts in another order, without those that begin with the last one kept
 pub record Prunes (ps qs : List (List ℕ)) : Type 0 where
   pub moved : List (List ℕ)
   pub same : IsPermutation ps moved
   pub kept : qs ≡ dedup begins moved
 
--- the same request, but for the order of its prefixes and those that others begin
+-- the same request, with prefixes that show the same names
 pub record OrdersPrefixes (old new : Kept LsRefsAsked) : Type 0 where
   pub symrefs : new.asked.symrefs ≡ old.asked.symrefs
   pub peel : new.asked.peel ≡ old.asked.peel

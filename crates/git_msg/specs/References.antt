@@ -1,4 +1,4 @@
--- Reference lines, as answers to ls-refs have them.
+-- Reference lines, as in the answers to ls-refs.
 use Rattle.std.specs.Prelude.{◌≡◌, ◌≢◌, ℕ, ◌+◌, ◌≤◌, IfSome, Option, Some, None, List, [], ◌∷◌, ◌++◌, length, take, drop, codes, if◌then◌else◌}
 use Rattle.std.specs.List.{filter_map}
 use Rattle.std.specs.Str.{bytes_eq}
@@ -15,7 +15,7 @@ use Rattle.git_msg.specs.declared.references.Reference.{Reference}
 use Rattle.git_msg.specs.Texts.{Follows, last_of, spaced_words}
 use Rattle.git_msg.specs.Checks.{Check, check, Refuses, Passes}
 
--- a reference, wherever its texts lie: without an object where it is unborn, as `HEAD` is while its branch has no commit
+-- a reference, wherever its texts lie: without an object if it is unborn, as `HEAD` is while its branch has no commit
 pub record Ref : Type 0 where
   pub id : Option ObjectName
   pub name : List ℕ
@@ -34,25 +34,25 @@ abbrev pub id_text : Option ObjectName → List ℕ
 id_text None = codes "unborn"
 id_text (Some id) = hex_of id
 
--- how many bytes that has
+-- the length of that word
 abbrev pub id_length : Option ObjectName → ℕ
 id_length None = length (codes "unborn")
 id_length (Some id) = digits_of id.format
 
--- the word is this object name, or is `unborn` where there is none
+-- the word is this object name, or `unborn` if there is none
 abbrev pub IsIdText : Format → List ℕ → Option ObjectName → Type 0
 IsIdText format word None = word ≡ codes "unborn"
 IsIdText format word (Some id) = IsObjectName format word id
 
--- the word is neither
+-- the word is neither an object name nor `unborn`
 abbrev pub IsNoIdText : Format → List ℕ → Type 0
 IsNoIdText format word = (word ≢ codes "unborn") × IsNoObjectName format word
 
--- the part of the text that has this place
+-- the part of the text at this place
 abbrev pub part_of : List ℕ → Part → List ℕ
 part_of text part = take part.length (drop part.start text)
 
--- the reference of which the text has the parts at these places
+-- the reference whose parts lie in the text at these places
 abbrev pub reference_at : ReferencePlaces → List ℕ → Ref
 reference_at places text = record {
   id = places.id;
@@ -61,29 +61,29 @@ reference_at places text = record {
   peeled = places.peeled;
 }
 
--- the place is one of a text of so many bytes
+-- the place lies within a text of so many bytes
 abbrev pub PartFits : ℕ → Option Part → Type 0
 PartFits count part = IfSome part (λ p. p.start + p.length ≤ count)
 
--- the places are those of a text of so many bytes
+-- the places lie within a text of so many bytes
 pub record FitsIn (places : ReferencePlaces) (count : ℕ) : Type 0 where
   pub name : id_length places.id + 1 + places.name_length ≤ count
   pub target : PartFits count places.target
 
--- what comes after the word, where the text begins with it
+-- the text after the word, if it begins with the word
 abbrev pub value_behind : List ℕ → List ℕ → Option (List ℕ)
 value_behind word text = if bytes_eq (take (length word) text) word then Some (drop (length word) text) else None
 
--- the texts that attributes of this key have
+-- the texts of the attributes with this key
 abbrev pub values_of : List ℕ → List (List ℕ) → List (List ℕ)
 values_of key attributes = filter_map (value_behind key) attributes
 
--- what an attribute has to be
+-- the rules for an attribute
 pub record IsAttribute (format : Format) (word : List ℕ) : Type 0 where
   pub target : (value : List ℕ) → word ≡ codes "symref-target:" ++ value → IsRefName value
   pub peeled : (value : List ℕ) → word ≡ codes "peeled:" ++ value → (id : ObjectName) × IsObjectName format value id
 
--- by which name it is refused
+-- the name by which it is refused
 abbrev pub IsAttributeFault : Format → List ℕ → Kind → Type 0
 IsAttributeFault format word BadRefName = Follows (codes "symref-target:") (λ value. ¬ IsRefName value) word
 IsAttributeFault format word BadObjectName = Follows (codes "peeled:") (IsNoObjectName format) word
@@ -94,7 +94,7 @@ attribute_checks format [] = []
 attribute_checks format (word ∷ words) =
     record { refuses = IsAttributeFault format word; passes = IsAttribute format word } ∷ attribute_checks format words
 
--- what refuses a line of these words: they are looked at from left to right
+-- the checks of a line of these words, from left to right
 abbrev pub reference_checks : Format → List (List ℕ) → List Check
 reference_checks format [] = check ⊥ (Unit {0}) BadLine ∷ []
 reference_checks format (word ∷ []) = check ⊥ (Unit {0}) BadLine ∷ []
@@ -107,7 +107,7 @@ abbrev pub IsMaybeObjectName : Format → Option (List ℕ) → Option ObjectNam
 IsMaybeObjectName format None id = id ≡ None
 IsMaybeObjectName format (Some text) id = (named : ObjectName) × IsObjectName format text named × (id ≡ Some named)
 
--- what the attributes of a line contain: of one that is repeated, the last holds
+-- the content of a line's attributes: if one is repeated, the last counts
 pub record AreAttributes (format : Format) (attributes : List (List ℕ)) (target : Option (List ℕ)) (peeled : Option ObjectName) : Type 0 where
   pub passes : Passes (attribute_checks format attributes)
   pub target_is : target ≡ last_of (values_of (codes "symref-target:") attributes)
@@ -122,7 +122,7 @@ pub record IsReferenceLine (format : Format) (text : List ℕ) (ref : Ref) : Typ
   pub name_is : IsRefName ref.name
   pub attributes_are : AreAttributes format attributes ref.target ref.peeled
 
--- by which name the line is refused
+-- the name by which the line is refused
 abbrev pub IsReferenceFault : Format → List ℕ → Kind → Type 0
 IsReferenceFault format text kind = Refuses (reference_checks format (spaced_words text)) kind
 
@@ -134,7 +134,7 @@ abbrev pub peeled_text : Option ObjectName → List ℕ
 peeled_text None = []
 peeled_text (Some id) = codes " peeled:" ++ hex_of id
 
--- how many bytes that has
+-- the length of that text
 abbrev pub peeled_count : Option ObjectName → ℕ
 peeled_count None = 0
 peeled_count (Some id) = 8 + digits_of id.format

@@ -19,7 +19,7 @@ AreLines offer limit before (g ∷ gs) (line ∷ lines) =
     IsLine offer limit before g.packet line × AreLines offer limit (before ++ line ∷ []) gs lines
 AreLines offer limit before _ _ = ⊥
 
--- after these packets, the packet is a line of the request, and no argument
+-- after these packets, the packet is a line of the request, but no argument
 pub record IsPlainLine (offer : Offer) (limit : ℕ) (packets : List Given) (packet : Pkt) : Type 0 where
   pub lines : List Line
   pub line : Line
@@ -41,7 +41,7 @@ pub record Asks (offer : Offer) (limit : ℕ) (packets : List Given) (asked : As
   pub asked_is : asked ≡ asked_by command (arguments_of lines)
   pub kept_is : kept ≡ kept_in lines
 
--- the first packet of a request that is refused, by which name, and where it is
+-- the first packet of a request that is refused, the name of the refusal, and its offset
 pub record FirstFault (offer : Offer) (limit : ℕ) (packets : List Given) (kind : Kind) (offset : ℕ) : Type 0 where
   pub front : List Given
   pub bad : Given
@@ -52,7 +52,7 @@ pub record FirstFault (offer : Offer) (limit : ℕ) (packets : List Given) (kind
   pub fault : HasFault offer limit lines bad.packet kind
   pub at : offset ≡ bad.offset
 
--- memory ran out while the argument of a packet that nothing refuses was kept
+-- memory ran out while an argument was kept, in a packet that nothing refuses
 pub record WantsMemory (offer : Offer) (limit : ℕ) (packets : List Given) (kind : Kind) (offset : ℕ) : Type 0 where
   pub front : List Given
   pub last : Given
@@ -66,12 +66,12 @@ pub record WantsMemory (offer : Offer) (limit : ℕ) (packets : List Given) (kin
   pub name : kind ≡ OutOfMemory
   pub at : offset ≡ last.offset
 
--- a fault of these packets: the first that one of them has, or want of memory at the last
+-- a fault of these packets: the first fault of one of them, or lack of memory at the last
 abbrev pub IsTold : Offer → ℕ → List Given → Fault → Type 0
 IsTold offer limit packets fault =
     FirstFault offer limit packets fault.kind fault.offset ⊎ WantsMemory offer limit packets fault.kind fault.offset
 
--- the packets are a flush alone, by which a session ends
+-- the packets are only a flush, which ends a session
 pub record IsStop (packets : List Given) : Type 0 where
   pub last : Given
   pub alone : packets ≡ last ∷ []

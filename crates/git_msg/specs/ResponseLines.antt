@@ -1,4 +1,4 @@
--- The lines of fetch's response sections and of the response to object-info, by gitprotocol-v2(5).
+-- The lines of fetch's response sections and of the response to object-info, as in gitprotocol-v2(5).
 use Rattle.std.specs.Prelude.{◌≡◌, ◌≢◌, ◌⊎◌, ℕ, ◌<◌, ◌^◌, List, [], ◌∷◌, ◌++◌, Option, Some, None, codes, decimal}
 use Rattle.git_names.specs.ObjectName.{ObjectName, IsObjectName, IsNoObjectName, hex_of}
 use Rattle.git_names.specs.RefName.{IsRefName, Lacks}
@@ -12,7 +12,7 @@ use Rattle.git_msg.specs.declared.response_lines.Info.{Info}
 use Rattle.git_msg.specs.Arguments.{IsNumberIn, IsNoNumberIn}
 use Rattle.git_msg.specs.Texts.{BeginsOtherThan, Follows, IsPartedAt}
 
--- a reference that was asked for by its name, wherever that lies, and the object that it points to
+-- a reference that was requested by its name, wherever the name lies, and the object that it points to
 pub record Wanted : Type 0 where
   pub id : ObjectName
   pub name : List ℕ
@@ -33,7 +33,7 @@ object_of (Unshallow id) = id
 abbrev pub IsNamed : List ℕ → Format → List ℕ → ObjectName → Type 0
 IsNamed word format text id = Follows word (λ name. IsObjectName format name id) text
 
--- by which name a text is refused that has to be the word and then an object's name: first for what it begins with
+-- the name by which a text is refused that has to be the word and then an object's name: the beginning is judged first
 abbrev pub IsNamedFault : List ℕ → Format → List ℕ → Kind → Type 0
 IsNamedFault word format text BadLine = BeginsOtherThan word text
 IsNamedFault word format text BadObjectName = Follows word (IsNoObjectName format) text
@@ -43,7 +43,7 @@ IsNamedFault word format text _ = ⊥
 abbrev pub IsAckLine : Format → List ℕ → ObjectName → Type 0
 IsAckLine format text id = IsNamed (codes "ACK ") format text id
 
--- by which name it is refused
+-- the name by which it is refused
 abbrev pub IsAckFault : Format → List ℕ → Kind → Type 0
 IsAckFault format text kind = IsNamedFault (codes "ACK ") format text kind
 
@@ -52,51 +52,51 @@ abbrev pub IsBoundaryLine : Format → List ℕ → Boundary → Type 0
 IsBoundaryLine format text (Shallow id) = IsNamed (codes "shallow ") format text id
 IsBoundaryLine format text (Unshallow id) = IsNamed (codes "unshallow ") format text id
 
--- by which name it is refused: it has to begin with one of the two words
+-- the name by which it is refused: it has to begin with one of the two words
 abbrev pub IsBoundaryFault : Format → List ℕ → Kind → Type 0
 IsBoundaryFault format text BadLine =
     IsNamedFault (codes "shallow ") format text BadLine × IsNamedFault (codes "unshallow ") format text BadLine
 IsBoundaryFault format text kind =
     IsNamedFault (codes "shallow ") format text kind ⊎ IsNamedFault (codes "unshallow ") format text kind
 
--- the text is this wanted reference: an object name, a space, and all after the first space, which is a reference name
+-- the text is this wanted reference: an object name, a space, and then a reference name, which is all after the first space
 pub record IsWantedLine (format : Format) (text : List ℕ) (wanted : Wanted) : Type 0 where
   pub id : List ℕ
   pub spelled : text ≡ id ++ 32 ∷ wanted.name
   pub id_is : IsObjectName format id wanted.id
   pub name_is : IsRefName wanted.name
 
--- what comes before the first space of the text is no object name
+-- the bytes before the first space of the text are no object name
 abbrev pub BeginsWithNoName : Format → List ℕ → Type 0
 BeginsWithNoName format text = (id : List ℕ) × (rest : List ℕ) × IsPartedAt 32 text id rest × IsNoObjectName format id
 
--- what comes before the first space of the text is an object name, and what comes after that space meets P
+-- the bytes before the first space of the text are an object name, and those after that space meet P
 abbrev pub BeginsWithName : Format → (List ℕ → Type 0) → List ℕ → Type 0
 BeginsWithName format P text =
     (id : List ℕ) × (rest : List ℕ) × IsPartedAt 32 text id rest × ((named : ObjectName) × IsObjectName format id named) × P rest
 
--- by which name it is refused: for want of a space, and then from left to right
+-- the name by which it is refused: if there is no space, and then from left to right
 abbrev pub IsWantedFault : Format → List ℕ → Kind → Type 0
 IsWantedFault format text BadLine = Lacks text 32
 IsWantedFault format text BadObjectName = BeginsWithNoName format text
 IsWantedFault format text BadRefName = BeginsWithName format (λ name. ¬ IsRefName name) text
 IsWantedFault format text _ = ⊥
 
--- a size in bytes: of 64 bits
+-- a size in bytes, of 64 bits
 abbrev pub IsSize : ℕ → Type 0
 IsSize size = size < 2 ^ 64
 
--- the text is a size, or nothing, where the object is not there
+-- the text is a size, or nothing if the object is not there
 abbrev pub IsSizeText : List ℕ → Option ℕ → Type 0
 IsSizeText text None = text ≡ []
 IsSizeText text (Some size) = IsNumberIn IsSize text size
 
--- the text is neither
+-- the text is neither a size nor nothing
 pub record IsNoSizeText (text : List ℕ) : Type 0 where
   pub some : text ≢ []
   pub no_number : IsNoNumberIn IsSize text
 
--- the text is what the server has of an object: its name, a space, and all after the first space, which is its size or nothing
+-- the text is the line for an object: its name, a space, and then its size or nothing, which is all after the first space
 pub record IsInfoLine (format : Format) (text : List ℕ) (info : Info) : Type 0 where
   pub id : List ℕ
   pub size : List ℕ
@@ -104,7 +104,7 @@ pub record IsInfoLine (format : Format) (text : List ℕ) (info : Info) : Type 0
   pub id_is : IsObjectName format id info.id
   pub size_is : IsSizeText size info.size
 
--- by which name it is refused: for want of a space, and then from left to right
+-- the name by which it is refused: if there is no space, and then from left to right
 abbrev pub IsInfoFault : Format → List ℕ → Kind → Type 0
 IsInfoFault format text BadLine = Lacks text 32
 IsInfoFault format text BadObjectName = BeginsWithNoName format text

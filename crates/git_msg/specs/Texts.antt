@@ -1,4 +1,4 @@
--- Words of a text, and at its beginning.
+-- Words of a text, and those at its beginning.
 use Rattle.std.specs.Prelude.{◌≡◌, ◌≢◌, ℕ, ◌+◌, ◌==◌, List, [], ◌∷◌, ◌++◌, Option, Some, None, codes, length}
 use Rattle.std.specs.List.{slice_split}
 use Rattle.git_names.specs.RefName.{Lacks}
@@ -7,27 +7,27 @@ use Rattle.git_names.specs.RefName.{Lacks}
 abbrev pub parts_of : ℕ → List ℕ → List (List ℕ)
 parts_of byte text = slice_split (λ c. c == byte) text
 
--- the parts of what is left of a text, if something is left
+-- the parts of the rest of a text, if there is a rest
 abbrev pub parts_left : ℕ → Option (List ℕ) → List (List ℕ)
 parts_left byte None = []
 parts_left byte (Some text) = parts_of byte text
 
--- how many bytes are left, and one more, if something is left
+-- how many bytes the rest has, and one more, if there is a rest
 abbrev pub bytes_left : Option (List ℕ) → ℕ
 bytes_left None = 0
 bytes_left (Some text) = length text + 1
 
--- the first such byte of the text is between these two
+-- the first such byte of the text lies between these two
 pub record IsPartedAt (byte : ℕ) (text before after : List ℕ) : Type 0 where
   pub spelled : text ≡ before ++ byte ∷ after
   pub first : Lacks before byte
 
--- the text is cut at its first such byte, where it has one
+-- the text is cut at its first such byte, if it has one
 abbrev pub IsCutAt : ℕ → List ℕ → List ℕ → Option (List ℕ) → Type 0
 IsCutAt byte text before None = (before ≡ text) × Lacks text byte
 IsCutAt byte text before (Some after) = IsPartedAt byte text before after
 
--- what is left of a text, if something is left, is its end
+-- the rest of a text, if there is one, is its end
 abbrev pub IsLeftOf : List ℕ → Option (List ℕ) → Type 0
 IsLeftOf text None = Unit {0}
 IsLeftOf text (Some rest) = (front : List ℕ) × (text ≡ front ++ rest)

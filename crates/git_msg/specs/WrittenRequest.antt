@@ -1,4 +1,4 @@
--- What a request is written as.
+-- The written form of a request.
 use Rattle.std.specs.Prelude.{ℕ, Bool, true, false, List, [], ◌∷◌, ◌++◌, map, codes}
 use Rattle.git_names.specs.ObjectFormat.{name_of as format_name}
 use Rattle.git_names.specs.declared.object_format.Format.{Format}
@@ -10,7 +10,7 @@ use Rattle.git_msg.specs.Asked.{Asked, command_asked, arguments_in}
 abbrev pub text_line : List ℕ → Pkt
 text_line text = payload (text ++ 10 ∷ [])
 
--- a packet that comes before the others where the flag is set
+-- a packet before the others, if the flag is set
 abbrev pub where_set : Bool → Pkt → List Pkt → List Pkt
 where_set true p others = p ∷ others
 where_set false p others = others
@@ -31,7 +31,7 @@ argument_lines args = map (λ arg. text_line (written_text arg)) args ++ flush �
 abbrev pub argument_part : Asked → List Pkt
 argument_part asked = delim ∷ argument_lines (arguments_in asked)
 
--- the packets of a request for this: the agent and the object format are named where they were advertised
+-- the packets of a request for this: the agent and the object format are named if they were advertised
 abbrev pub lines_written : Bool → Bool → Format → Asked → List Pkt
 lines_written agent object_format format asked =
     text_line (codes "command=" ++ name_of (command_asked asked))

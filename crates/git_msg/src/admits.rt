@@ -1,4 +1,4 @@
-//! What may refuse an argument of a request that is well formed.
+//! What may refuse a well-formed argument of a request.
 
 ghost use Rattle.std.specs.Prelude.{◌≡◌, ◌≢◌, IfSome, Option};
 ghost use Rattle.git_pkt.specs.declared.fault.Kind.{Kind};
@@ -8,20 +8,20 @@ ghost use Rattle.git_msg.specs.Admission.{nothing_barred};
 use crate::arguments::Argument;
 use git_pkt::Kind;
 
-/// What may refuse an argument of a request that is well formed: a server's repository, or nothing.
+/// What may refuse a well-formed argument of a request: a server's repository, or nothing.
 pub trait Admits {
-    /// By which name an argument is refused, where it is.
+    /// The name by which an argument is refused, if it is.
     ghost refused_as: { Self → Arg → Option Kind };
 
-    /// By which name it refuses the argument, if it does.
+    /// The name by which it refuses the argument, if it does.
     fn refusal_of(&self, argument: &Argument<'_>) -> Option<Kind>
         ensures value { result ≡ refused_as self.now (shown argument.now) }
 
-        // It needs no memory.
+        // It never refuses for lack of memory.
         ensures own { IfSome result (λ kind. kind ≢ Kind.OutOfMemory) };
 }
 
-/// It refuses no argument.
+/// Refuses no argument.
 #[derive(Clone, Copy, Debug)]
 pub struct AdmitsAll;
 

@@ -1,4 +1,4 @@
-//! The argument lines of requests, gitprotocol-v2(5).
+//! The argument lines of requests, as in gitprotocol-v2(5).
 ghost use Rattle.std.specs.Prelude.{◌≡◌, ◌+◌, ◌*◌, IfErr, MatchBool, MatchOption, MatchResult, OnOk, length};
 ghost use Rattle.git_names.specs.ObjectName.{IsNoObjectName, IsObjectName};
 ghost use Rattle.git_names.specs.RefName.{IsRefName};
@@ -17,27 +17,27 @@ use crate::texts::{after, is_word};
 use git_names::{Format, Oid, RefName, Steps};
 use git_pkt::Kind;
 
-/// A command of a request, gitprotocol-v2(5).
+/// A command of a request, as in gitprotocol-v2(5).
 #[derive(Clone, Copy, Debug, PartialEq, Eq, Hash)]
 pub enum Command {
     /// `ls-refs`: the references, as `git ls-remote` shows them.
     LsRefs,
-    /// `fetch`: a pack of the objects that are wanted, as `git clone` asks for it.
+    /// `fetch`: a pack of the wanted objects, as `git clone` requests it.
     Fetch,
-    /// `object-info`: what is known of objects, without the objects themselves.
+    /// `object-info`: facts about objects, without the objects themselves.
     ObjectInfo,
 }
 
-/// An argument of a request, whose text is lent.
+/// An argument of a request, with a borrowed text.
 #[derive(Clone, Copy, Debug)]
 pub enum Argument<'a> {
     /// `symrefs`: send what symbolic references point to.
     Symrefs,
     /// `peel`: send the object that an annotated tag peels to.
     Peel,
-    /// `unborn`: send what `HEAD` points to where that has no commit yet.
+    /// `unborn`: send what `HEAD` points to if that has no commit yet.
     Unborn,
-    /// `ref-prefix`: show references whose name begins with this text, of 32,000 bytes at most.
+    /// `ref-prefix`: show references whose name begins with this text, of at most 32,000 bytes.
     RefPrefix(&'a [u8]),
     /// `want`: send this object.
     Want(Oid),
@@ -55,7 +55,7 @@ pub enum Argument<'a> {
     OfsDelta,
     /// `wait-for-done`: send no pack before the request contains `done`.
     WaitForDone,
-    /// `filter`: leave out the objects that this filter-spec excludes, whose text has 1 to 32,000 bytes.
+    /// `filter`: leave out the objects that this filter-spec excludes. Its text has 1 to 32,000 bytes.
     Filter(&'a [u8]),
     /// `shallow`: the client has this commit without its parents.
     Shallow(Oid),
@@ -63,12 +63,12 @@ pub enum Argument<'a> {
     Deepen(u64),
     /// `deepen-relative`: count the depth from where the client's history is cut off now.
     DeepenRelative,
-    /// `deepen-since`: cut the history off at this time, in seconds since 1970, of 9,223,372,036,854,775,807 at most.
+    /// `deepen-since`: cut the history off at this time, in seconds since 1970, at most 9,223,372,036,854,775,807.
     DeepenSince(u64),
-    /// `deepen-not`: leave out what this revision reaches, whose text has 1 to 32,000 bytes.
+    /// `deepen-not`: leave out what this revision reaches. Its text has 1 to 32,000 bytes.
     DeepenNot(&'a [u8]),
-    /// `want-ref`: send the object of the reference of this name, whose text is a [`git_names::RefName`]. It is the text
-    /// that is lent, since the check has no rule yet for an enum by value of an object name and a struct that borrows.
+    /// `want-ref`: send the object of the reference of this name, whose text is a [`git_names::RefName`]. The text is
+    /// borrowed, since the check has no rule yet for an enum that has an object name by value and a struct that borrows.
     WantRef(&'a [u8]),
     /// `size`: send how many bytes the objects have.
     Size,
@@ -77,7 +77,7 @@ pub enum Argument<'a> {
 }
 
 // The same argument, taken apart and put together: the check has no rule yet for lending or copying a whole parameter that
-// may have both a lent text and an object name.
+// may have both a borrowed text and an object name.
 macro_rules! put_together {
     ($argument:ident) => {
         match $argument {
@@ -108,19 +108,19 @@ macro_rules! put_together {
 
 pub(crate) use put_together;
 
-/// The most bytes that a text which is kept may have.
+/// The maximum length of a text that is kept.
 pub(crate) const MOST_TEXT: usize = 32_000;
 
-// The most bytes that a word at the head of an argument has.
+// The maximum length of a word at the head of an argument.
 const LONGEST_WORD: usize = 15;
 
-// The largest depth, and the latest time.
+// The greatest depth, and the latest time.
 const MOST_DEPTH: u64 = 2_147_483_647;
 
 const MOST_TIME: u64 = 9_223_372_036_854_775_807;
 
 impl Command {
-    /// The command's key, as it is after `command=`.
+    /// The command's key, as it stands after `command=`.
     pub fn name(self) -> &'static str
         ensures { result.now ≡ name_of self }
     {
@@ -131,7 +131,7 @@ impl Command {
         }
     }
 
-    /// The command that has this key, as [`Command::name`] gives it.
+    /// The command that has this key, as [`Command::name`] returns it.
     pub fn read(key: &[u8]) -> Option<Command>
         ensures { MatchOption result ((command : Command) → ¬ (key.now ≡ name_of command)) (λ command. key.now ≡ name_of command) }
     {
@@ -149,7 +149,7 @@ impl Command {
 }
 
 impl<'a> Argument<'a> {
-    /// The flag that the argument is, if it is a word alone.
+    /// The flag that the argument is, if it consists of a word alone.
     pub fn flag(&self) -> Option<Flag>
         ensures { MatchOption result (TakesValue (shown self.now).word) (λ flag. shown self.now ≡ alone (of_flag flag)) }
     {
@@ -170,10 +170,10 @@ impl<'a> Argument<'a> {
     }
 }
 
-/// Reads the text of an argument line: `UnknownArgument` where the command has no such argument, then what is wrong
-/// with the value: `BadLine` for a text of a wrong length, `BadObjectName` for what is no object name of the format,
-/// `BadRefName` for what is no reference name, `BadNumber` for what is no number in its range. Then `NotAdvertised`
-/// where the feature that the argument needs was not offered.
+/// Reads the text of an argument line. Refuses it first as `UnknownArgument`, if the command has no such argument; then for
+/// its value: `BadLine` for a text of a wrong length, `BadObjectName` if it is no object name of the format, `BadRefName` if
+/// it is no reference name, `BadNumber` if it is no number in its range; and then as `NotAdvertised`, if the argument needs
+/// a feature that was not advertised.
 pub fn read_argument<'a>(
     command: Command,
     offer: &Offer,
@@ -195,7 +195,7 @@ pub fn read_argument<'a>(
     }
 }
 
-// The argument of the command that the text is, whether or not the feature that it needs was offered.
+// The argument of the command that the text is, whether or not the feature that it needs was advertised.
 fn read_text<'a>(
     command: Command,
     format: Format,
@@ -217,7 +217,7 @@ fn read_text<'a>(
     }
 }
 
-// The argument of `ls-refs` that is a word and a value.
+// Reads an argument of `ls-refs` that is a word and a value.
 fn read_ls_refs_value<'a>(
     format: Format,
     text: &'a [u8],
@@ -238,7 +238,7 @@ fn read_ls_refs_value<'a>(
     Ok(Argument::RefPrefix(prefix))
 }
 
-// The argument of `fetch` that is a word and a value.
+// Reads an argument of `fetch` that is a word and a value.
 fn read_fetch_value<'a>(
     format: Format,
     text: &'a [u8],
@@ -291,7 +291,7 @@ fn read_fetch_value<'a>(
     Err(Kind::UnknownArgument)
 }
 
-// The argument of `object-info` that is a word and a value.
+// Reads an argument of `object-info` that is a word and a value.
 fn read_object_info_value<'a>(
     format: Format,
     text: &'a [u8],
@@ -348,7 +348,7 @@ fn command_with(argument: &Argument<'_>) -> Command
     }
 }
 
-/// Whether the feature that the argument needs was offered.
+/// Whether the feature that the argument needs was advertised.
 pub(crate) fn is_offered(offer: &Offer, argument: &Argument<'_>) -> bool
     ensures { result ≡ offers offer.now (shown argument.now) }
 {
@@ -422,7 +422,7 @@ pub(crate) fn is_ref_name(text: &[u8], steps: &mut Steps) -> bool
     RefName::read(text, steps).is_ok()
 }
 
-/// Whether a text that is not looked into may be kept: it has 1 to 32,000 bytes.
+/// Whether a text that is not parsed may be kept: it has 1 to 32,000 bytes.
 pub(crate) fn is_kept_text(text: &[u8]) -> bool
     ensures { MatchBool result (IsKeptText text.now) (IsNoKeptText text.now) }
 {

@@ -1,4 +1,4 @@
-//! Capability lines, as gitprotocol-v2(5) has them.
+//! Capability lines, as in gitprotocol-v2(5).
 
 ghost use Rattle.std.specs.Prelude.{◌≡◌, ◌+◌, ◌*◌, ◌≤◌, [], length, unwrap_or, IfErr, IfOk, MatchResult};
 ghost use Rattle.std.specs.Option.{option_copied};
@@ -9,12 +9,12 @@ use crate::texts::split_at_first;
 use git_names::Steps;
 use git_pkt::Kind;
 
-/// A capability, as a line of an advertisement or of a request has it.
+/// A capability, as it stands in a line of an advertisement or of a request.
 #[derive(Clone, Copy, Debug)]
 pub struct Capability<'a> {
     /// One or more ASCII letters, digits, `-` or `_`.
     pub key: &'a [u8],
-    /// What comes after the first `=`, where there is one: any bytes but NUL and LF, also none.
+    /// The bytes after the first `=`, if there is one: any bytes but NUL and LF, possibly none.
     pub value: Option<&'a [u8]>,
 }
 
@@ -28,7 +28,7 @@ pub fn read_capability<'a>(text: &'a [u8], steps: &mut Steps) -> Result<Capabili
     ensures within { IfOk result (λ c. length c.key.now + length (unwrap_or (option_copied c.value) []) ≤ length text.now) }
     ensures cost { TakesAtMost (4 * (length text.now + 1)) steps.old steps.new }
 {
-    // A search, and a look at each byte of the key and of the value.
+    // A search, and one look at each byte of the key and of the value.
     steps.tick(text.len() + 2);
     steps.tick(text.len() + 1);
     let (key, value) = split_at_first(text, b'=');

@@ -13,7 +13,7 @@ pub(crate) enum Key {
     OtherKey,
 }
 
-/// Which key the word is.
+/// The key that the word is.
 pub(crate) fn read_key(word: &[u8]) -> Key
     ensures word { IsWordOf word.now result }
 {

@@ -63,35 +63,35 @@ impl<A: Allocator + Copy> Fetch<A> {
         &self.haves
     }
 
-    /// Whether the request has the flag; one of another command it has not.
+    /// Whether the request has the flag. It has no flag of another command.
     pub fn has(&self, flag: Flag) -> bool
         ensures { result ≡ has_flag flag (fetch self.now.asked) }
     {
         flag.command() == Command::Fetch && self.flags.has(flag)
     }
 
-    /// Whether negotiation is over, or not even to begin: the pack is to be made of what the request contains.
+    /// Whether negotiation is over, or does not even begin: the pack is to be made from what the request contains.
     pub fn done(&self) -> bool
         ensures { result ≡ self.now.asked.done }
     {
         self.flags.has(Flag::Done)
     }
 
-    /// Whether a thin pack may be sent, which has deltas against objects that are not in it.
+    /// Whether the server may send a thin pack, which has deltas against objects that are not in it.
     pub fn thin_pack(&self) -> bool
         ensures { result ≡ thin_pack_of (fetch self.now.asked) }
     {
         self.flags.has(Flag::ThinPack)
     }
 
-    /// Whether the progress that is sent beside the pack is to be left out.
+    /// Whether the server is to send no progress beside the pack.
     pub fn no_progress(&self) -> bool
         ensures { result ≡ no_progress_of (fetch self.now.asked) }
     {
         self.flags.has(Flag::NoProgress)
     }
 
-    /// Whether annotated tags are to be sent with the objects that they point to.
+    /// Whether the server is to send annotated tags with the objects that they point to.
     pub fn include_tag(&self) -> bool
         ensures { result ≡ include_tag_of (fetch self.now.asked) }
     {
@@ -112,7 +112,7 @@ impl<A: Allocator + Copy> Fetch<A> {
         &self.shallows
     }
 
-    /// The depth at which the history is to be cut off, if it was given: of several the last.
+    /// The depth at which the history is to be cut off, if there is one; of several, the last.
     pub fn deepen(&self) -> Option<u64>
         ensures { result ≡ self.now.asked.deepen }
     {
@@ -126,21 +126,21 @@ impl<A: Allocator + Copy> Fetch<A> {
         self.flags.has(Flag::DeepenRelative)
     }
 
-    /// The time at which the history is to be cut off, in seconds since 1970, if it was given: of several the last.
+    /// The time at which the history is to be cut off, in seconds since 1970, if there is one; of several, the last.
     pub fn deepen_since(&self) -> Option<u64>
         ensures { result ≡ self.now.asked.deepen_since }
     {
         self.deepen_since
     }
 
-    /// The revision of the `deepen-not` line at place `i`, whose history is to be left out.
+    /// The revision of the `deepen-not` line at index `i`, whose history is to be left out.
     pub fn deepen_not(&self, i: usize) -> Option<&[u8]>
         ensures { option_copied result ≡ slice_get self.now.asked.deepen_nots i }
     {
         self.deepen_nots.get(i)
     }
 
-    /// The name of the reference of the `want-ref` line at place `i`, whose object is wanted.
+    /// The name of the reference of the `want-ref` line at index `i`, whose object is wanted.
     pub fn want_ref(&self, i: usize) -> Option<&[u8]>
         ensures value { option_copied result ≡ slice_get self.now.asked.want_refs i }
         ensures name { IfSome result (λ name. IsRefName name.now) }
@@ -149,14 +149,14 @@ impl<A: Allocator + Copy> Fetch<A> {
         self.want_refs.get(i)
     }
 
-    /// Whether no pack is to be sent before the request contains `done`.
+    /// Whether the server is to send no pack before the request contains `done`.
     pub fn wait_for_done(&self) -> bool
         ensures { result ≡ wait_for_done_of (fetch self.now.asked) }
     {
         self.flags.has(Flag::WaitForDone)
     }
 
-    /// The filter-spec of the `filter` line at place `i`, as it came: which objects are to be left out.
+    /// The filter-spec of the `filter` line at index `i`, as it came: it states which objects are to be left out.
     pub fn filter(&self, i: usize) -> Option<&[u8]>
         ensures { option_copied result ≡ slice_get self.now.asked.filters i }
     {
@@ -172,7 +172,7 @@ impl<A: Allocator + Copy> Fetch<A> {
             || (self.wait_for_done() && !self.done())
     }
 
-    /// Whether the history is cut off by a depth and by something else, which exclude each other.
+    /// Whether the history is cut off both by a depth and by something else, which exclude each other.
     pub(crate) fn has_deepen_conflict(&self) -> bool
         ensures { result ≡ has_deepen_conflict self.now.asked }
     {
@@ -216,7 +216,7 @@ impl<A: Allocator + Copy> Fetch<A> {
         self.budget.kept()
     }
 
-    /// The argument at place `i`, in the order in which they are written.
+    /// The argument at index `i`, in the order in which they are written.
     pub(crate) fn argument(&self, i: usize) -> Option<Argument<'_>>
         ensures value { option_map shown result ≡ slice_get (arguments_in (fetch self.now.asked)) i }
         ensures within { IsWithin (kept_as fetch self.now) }
@@ -227,7 +227,7 @@ impl<A: Allocator + Copy> Fetch<A> {
         }
     }
 
-    // The argument at place `i` after the flags for how the pack is to be sent.
+    // The argument at index `i` of those after the flags that state how the pack is to be sent.
     fn filter_argument(&self, i: usize) -> Option<Argument<'_>>
         ensures { option_map shown result ≡ slice_get (map (with_text filter_spec) self.now.asked.filters
             ++ joined (shallows_in self.now.asked) (object_arguments self.now.asked)) i }
@@ -238,7 +238,7 @@ impl<A: Allocator + Copy> Fetch<A> {
         }
     }
 
-    // The argument at place `i` after those for how the pack is to be sent.
+    // The argument at index `i` of those after the ones that state how the pack is to be sent.
     fn shallow_argument(&self, i: usize) -> Option<Argument<'_>>
         ensures { option_map shown result ≡ slice_get (joined (shallows_in self.now.asked) (object_arguments self.now.asked)) i }
     {
@@ -257,7 +257,7 @@ impl<A: Allocator + Copy> Fetch<A> {
         self.revision_argument(i)
     }
 
-    // The argument at place `i` after the depth and the time.
+    // The argument at index `i` of those after the depth and the time.
     fn revision_argument(&self, i: usize) -> Option<Argument<'_>>
         ensures { option_map shown result ≡ slice_get (map (with_text deepen_not) self.now.asked.deepen_nots
             ++ (where_asked self.now.asked.deepen_relative Flag.DeepenRelative ++ object_arguments self.now.asked)) i }
@@ -272,7 +272,7 @@ impl<A: Allocator + Copy> Fetch<A> {
         self.object_argument(i)
     }
 
-    // The argument at place `i` among those for what is wanted and what the client has.
+    // The argument at index `i` of those for what is wanted and what the client has.
     fn object_argument(&self, i: usize) -> Option<Argument<'_>>
         ensures { option_map shown result ≡ slice_get (object_arguments self.now.asked) i }
     {
@@ -287,7 +287,7 @@ impl<A: Allocator + Copy> Fetch<A> {
         self.have_argument(i)
     }
 
-    // The argument at place `i` among those for what the client has, and whether it is done.
+    // The argument at index `i` of those for what the client has, and for whether it is done.
     fn have_argument(&self, i: usize) -> Option<Argument<'_>>
         ensures { option_map shown result ≡ slice_get (map (with_id have) self.now.asked.haves ++ where_asked self.now.asked.done Flag.Done) i }
     {

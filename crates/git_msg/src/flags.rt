@@ -1,4 +1,4 @@
-//! Flags: the arguments that are a word alone, and which of them a request has.
+//! Flags: the arguments that are a word alone, and the set of them that a request has.
 ghost use Rattle.std.specs.Prelude.{◌≡◌, ◌<◌, ◌≤◌, ◌==◌, ◌||◌, ℕ, List, Some, MatchOption, MatchResult, false, get_or, length, slice_get};
 ghost use Rattle.git_msg.specs.Arguments.{Arg, alone, of_flag, shown};
 ghost use Rattle.git_msg.specs.Asked.{flag_arguments, joined};
@@ -8,7 +8,7 @@ use crate::arguments::{Argument, Command};
 use crate::parts::past_flag;
 use crate::texts::is_word;
 
-/// An argument that is a word alone; what it asks for is said of each [`Argument`].
+/// An argument that is a word alone. Each [`Argument`] states what it requests.
 #[derive(Clone, Copy, Debug, PartialEq, Eq, Hash)]
 pub enum Flag {
     /// `thin-pack` of `fetch`.
@@ -35,10 +35,10 @@ pub enum Flag {
     Size,
 }
 
-// No fewer places than there are flags.
+// At least as many places as there are flags.
 const PLACES: usize = 16;
 
-/// The flags of `fetch` that are written before its other arguments, in their order.
+/// The flags of `fetch` that are written before its other arguments, in order.
 pub(crate) const PACK_FLAGS: &[Flag] = &[
     Flag::ThinPack,
     Flag::NoProgress,
@@ -113,7 +113,7 @@ impl Flag {
         }
     }
 
-    // The flag's place in `all_flags`: the variants are in that order.
+    // The flag's index in `all_flags`: the variants are in that order.
     fn place(self) -> usize
         ensures value { result ≡ place_of self }
         ensures below { result < PLACES }
@@ -149,7 +149,7 @@ impl Command {
     }
 }
 
-/// Which flags a request has.
+/// The flags that a request has.
 #[derive(Clone, Copy, Drop)]
 pub(crate) struct FlagSet {
     set: [bool; PLACES],
@@ -176,7 +176,7 @@ impl FlagSet {
         self.set[flag.place()] = true;
     }
 
-    /// The flag at place `i` of those of this order that are set; otherwise the place after them.
+    /// The flag at index `i` of those of this order that are set; otherwise the index after them.
     pub(crate) fn at(&self, order: &[Flag], i: usize) -> Result<Flag, usize>
         ensures { MatchResult result
             (λ flag. (others : List Arg) → slice_get (joined (flag_arguments (is_held self.now) order.now) others) i ≡ Some (alone (of_flag flag)))

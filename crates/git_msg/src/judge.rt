@@ -1,4 +1,4 @@
-//! What one line of a request is, or what refuses it.
+//! The meaning of one line of a request, or what refuses it.
 ghost use Rattle.std.specs.Prelude.{◌≡◌, ◌+◌, ◌*◌, ◌↔◌, length, Some, IsTrue, MatchResult, MatchOption};
 ghost use Rattle.std.specs.Option.{option_copied};
 ghost use Rattle.git_names.specs.Steps.{TakesAtMost};
@@ -15,10 +15,10 @@ use crate::texts::{is_error, is_word};
 use git_names::Steps;
 use git_pkt::Kind;
 
-// The most bytes that a key has which is known, or a value.
+// The maximum length of a known key, or of a value.
 const LONGEST_KEY: usize = 13;
 
-/// What a line of the capability part contains.
+/// The meaning of a line of the capability part.
 #[derive(Clone, Copy, Debug)]
 pub(crate) enum Noted {
     Command(Command),
@@ -27,7 +27,7 @@ pub(crate) enum Noted {
     ObjectFormat,
 }
 
-/// Judges the text of a line of the capability part; `first` means that no command line came before.
+/// Judges the text of a line of the capability part; `first` means that no command line came before it.
 pub(crate) fn judge_capability(
     offer: &Offer,
     first: bool,
@@ -91,7 +91,7 @@ fn read_command(value: Option<&[u8]>) -> Option<Command>
     Command::read(value?)
 }
 
-/// Whether the value is there, and is the word.
+/// Whether there is a value, and it is the word.
 fn is_value(value: Option<&[u8]>, word: &[u8]) -> bool
     ensures same { IsTrue result ↔ (option_copied value.entry ≡ Some word.now) }
 {

@@ -1,4 +1,4 @@
-//! What follows from the definitions alone: each law is the contract of a function without parameters.
+//! Laws that follow from the definitions alone: each law is the contract of a function without parameters.
 
 ghost use Rattle.std.specs.Prelude.{◌≡◌, ◌≤◌, ◌+◌, ℕ, List, [], ◌∷◌, Option, Some, true, length, map, sum_by};
 ghost use Rattle.git_names.specs.ObjectName.{ObjectName};
@@ -45,25 +45,25 @@ use crate::memory::Memory;
 
 // Texts of single lines.
 
-/// A text is one capability at most.
+/// A text is at most one capability.
 #[tactic(auto, using(crate::proofs::Keys::one_capability))]
 pub fn one_capability()
     ensures { (text key other : List ℕ) (value other_value : Option (List ℕ)) → IsCapability text key value
         → IsCapability text other other_value → (key ≡ other) × (value ≡ other_value) }
 {}
 
-/// A text is a capability or none, never both.
+/// A text is a capability or is not, never both.
 #[tactic(auto, using(crate::proofs::Keys::capability_or_none))]
 pub fn capability_or_none()
     ensures { (text key : List ℕ) (value : Option (List ℕ)) → IsCapability text key value → IsNoCapability text → ⊥ }
 {}
 
-/// A reference line is one reference at most.
+/// A reference line is at most one reference.
 pub fn one_reference()
     ensures { (format : Format) (text : List ℕ) (a b : Ref) → IsReferenceLine format text a → IsReferenceLine format text b → a ≡ b }
 {}
 
-/// A text is a reference line or is refused, never both, and it is refused by one name at most.
+/// A text is a reference line or is refused, never both, and it is refused by at most one name.
 pub fn reference_or_fault()
     ensures never_both { (format : Format) (text : List ℕ) (ref : Ref) (kind : Kind)
         → IsReferenceLine format text ref → IsReferenceFault format text kind → ⊥ }
@@ -71,13 +71,13 @@ pub fn reference_or_fault()
         → IsReferenceFault format text kind → IsReferenceFault format text other → kind ≡ other }
 {}
 
-/// The text of an argument line is one argument of a command at most.
+/// The text of an argument line is at most one argument of a command.
 pub fn one_argument()
     ensures { (command : Command) (offer : Offer) (text : List ℕ) (a b : Arg)
         → ReadsAs command offer text a → ReadsAs command offer text b → a ≡ b }
 {}
 
-/// A text is an argument of a command or is refused, never both, and it is refused by one name at most.
+/// A text is an argument of a command or is refused, never both, and it is refused by at most one name.
 pub fn argument_or_fault()
     ensures never_both { (command : Command) (offer : Offer) (text : List ℕ) (arg : Arg) (kind : Kind)
         → ReadsAs command offer text arg → IsArgumentFault command offer text kind → ⊥ }
@@ -85,28 +85,28 @@ pub fn argument_or_fault()
         → IsArgumentFault command offer text kind → IsArgumentFault command offer text other → kind ≡ other }
 {}
 
-/// A text acknowledges one object at most.
+/// A text acknowledges at most one object.
 pub fn one_ack()
     ensures { (format : Format) (text : List ℕ) (a b : ObjectName) → IsAckLine format text a → IsAckLine format text b → a ≡ b }
 {}
 
-/// A text is one line of the shallow boundary at most.
+/// A text is at most one line of the shallow boundary.
 #[tactic(auto, using(crate::proofs::ResponseLines::one_boundary))]
 pub fn one_boundary()
     ensures { (format : Format) (text : List ℕ) (a b : Boundary) → IsBoundaryLine format text a → IsBoundaryLine format text b → a ≡ b }
 {}
 
-/// A text is one wanted reference at most.
+/// A text is at most one wanted reference.
 pub fn one_wanted()
     ensures { (format : Format) (text : List ℕ) (a b : Wanted) → IsWantedLine format text a → IsWantedLine format text b → a ≡ b }
 {}
 
-/// A text is one line of the response to object-info at most.
+/// A text is at most one line of the response to object-info.
 pub fn one_info()
     ensures { (format : Format) (text : List ℕ) (a b : Info) → IsInfoLine format text a → IsInfoLine format text b → a ≡ b }
 {}
 
-/// A text acknowledges an object or is refused, never both, and it is refused by one name at most.
+/// A text acknowledges an object or is refused, never both, and it is refused by at most one name.
 #[tactic(auto, using(crate::proofs::ResponseFaults::ack_or_fault, crate::proofs::ResponseFaults::one_ack_fault))]
 pub fn ack_or_fault()
     ensures never_both { (format : Format) (text : List ℕ) (id : ObjectName) (kind : Kind)
@@ -115,7 +115,7 @@ pub fn ack_or_fault()
         → IsAckFault format text kind → IsAckFault format text other → kind ≡ other }
 {}
 
-/// A text is a line of the shallow boundary or is refused, never both, and it is refused by one name at most.
+/// A text is a line of the shallow boundary or is refused, never both, and it is refused by at most one name.
 #[tactic(auto, using(crate::proofs::ResponseFaults::boundary_or_fault, crate::proofs::ResponseFaults::one_boundary_fault))]
 pub fn boundary_or_fault()
     ensures never_both { (format : Format) (text : List ℕ) (line : Boundary) (kind : Kind)
@@ -124,7 +124,7 @@ pub fn boundary_or_fault()
         → IsBoundaryFault format text kind → IsBoundaryFault format text other → kind ≡ other }
 {}
 
-/// A text is a wanted reference or is refused, never both, and it is refused by one name at most.
+/// A text is a wanted reference or is refused, never both, and it is refused by at most one name.
 pub fn wanted_or_fault()
     ensures never_both { (format : Format) (text : List ℕ) (wanted : Wanted) (kind : Kind)
         → IsWantedLine format text wanted → IsWantedFault format text kind → ⊥ }
@@ -132,7 +132,7 @@ pub fn wanted_or_fault()
         → IsWantedFault format text kind → IsWantedFault format text other → kind ≡ other }
 {}
 
-/// A text is a line of the response to object-info or is refused, never both, and it is refused by one name at most.
+/// A text is a line of the response to object-info or is refused, never both, and it is refused by at most one name.
 pub fn info_or_fault()
     ensures never_both { (format : Format) (text : List ℕ) (info : Info) (kind : Kind)
         → IsInfoLine format text info → IsInfoFault format text kind → ⊥ }
@@ -140,33 +140,33 @@ pub fn info_or_fault()
         → IsInfoFault format text kind → IsInfoFault format text other → kind ≡ other }
 {}
 
-/// The line that is written of a reference is that reference, where its object names have the format.
+/// The written line of a reference is that reference, if its object names have the format.
 #[tactic(auto, using(crate::proofs::ReferenceLaws::reference_reads_back))]
 pub fn written_reference_reads_back()
     ensures { (format : Format) (ref : Ref) → ((id : ObjectName) → ref.id ≡ Some id → IsNameIn format id)
         → ((peeled : ObjectName) → ref.peeled ≡ Some peeled → IsNameIn format peeled) → IsWritable ref → IsReferenceLine format (reference_text ref) ref }
 {}
 
-/// The line that is written of an acknowledgment acknowledges that object.
+/// The written line of an acknowledgment acknowledges that object.
 #[tactic(auto, using(crate::proofs::ResponseLines::ack_reads_back))]
 pub fn written_ack_reads_back()
     ensures { (format : Format) (id : ObjectName) → IsNameIn format id → IsAckLine format (ack_text id) id }
 {}
 
-/// The line that is written of the shallow boundary is that line.
+/// The written line of the shallow boundary is that line.
 #[tactic(auto, using(crate::proofs::ResponseLines::boundary_reads_back))]
 pub fn written_boundary_reads_back()
     ensures { (format : Format) (line : Boundary) → IsNameIn format (object_of line) → IsBoundaryLine format (boundary_text line) line }
 {}
 
-/// The line that is written of a wanted reference is that one, where its name is a reference name.
+/// The written line of a wanted reference is that reference, if its name is a reference name.
 #[tactic(auto, using(crate::proofs::ResponseLines::wanted_reads_back))]
 pub fn written_wanted_reads_back()
     ensures { (format : Format) (wanted : Wanted) → IsNameIn format wanted.id → IsRefName wanted.name
         → IsWantedLine format (wanted_text wanted) wanted }
 {}
 
-/// The line that is written of an object and its size is that of the object and the size, where that fits 64 bits.
+/// The written line of an object and its size is that object and size, if the size fits 64 bits.
 #[tactic(auto, using(crate::proofs::ResponseLines::info_reads_back))]
 pub fn written_info_reads_back()
     ensures { (format : Format) (info : Info) → IsNameIn format info.id → ((size : ℕ) → info.size ≡ Some size → IsSize size)
@@ -175,28 +175,28 @@ pub fn written_info_reads_back()
 
 // Packets of requests.
 
-/// A packet of a request is no line where something refuses it.
+/// A packet of a request is no line if something refuses it.
 #[tactic(auto, using(crate::proofs::LineLaws::line_or_fault))]
 pub fn line_or_fault()
     ensures { (offer : Offer) (limit : ℕ) (before : List Line) (packet : Pkt) (line : Line) (kind : Kind)
         → IsLine offer limit before packet line → HasFault offer limit before packet kind → ⊥ }
 {}
 
-/// A packet of a request is one line at most.
+/// A packet of a request is at most one line.
 #[tactic(auto, using(crate::proofs::LineLaws::one_line))]
 pub fn one_line()
     ensures { (offer : Offer) (limit : ℕ) (before : List Line) (packet : Pkt) (line other : Line)
         → IsLine offer limit before packet line → IsLine offer limit before packet other → line ≡ other }
 {}
 
-/// A packet of a request is refused by one name at most.
+/// A packet of a request is refused by at most one name.
 #[tactic(auto, using(crate::proofs::LineLaws::one_fault))]
 pub fn one_fault()
     ensures { (offer : Offer) (limit : ℕ) (before : List Line) (packet : Pkt) (kind other : Kind)
         → HasFault offer limit before packet kind → HasFault offer limit before packet other → kind ≡ other }
 {}
 
-/// Packets are one request at most.
+/// Packets are at most one request.
 pub fn one_request()
     ensures { (offer : Offer) (limit : ℕ) (packets : List Given) (asked other : Asked) (kept other_kept : ℕ)
         → Asks offer limit packets asked kept → Asks offer limit packets other other_kept
@@ -209,18 +209,18 @@ pub fn no_fault_in_request()
         → Asks offer limit packets asked kept → FirstFault offer limit packets kind offset → ⊥ }
 {}
 
-/// Packets have one first fault at most.
+/// Packets have at most one first fault.
 pub fn one_first_fault()
     ensures { (offer : Offer) (limit : ℕ) (packets : List Given) (kind other : Kind) (offset place : ℕ)
         → FirstFault offer limit packets kind offset → FirstFault offer limit packets other place
         → (kind ≡ other) × (offset ≡ place) }
 {}
 
-/// The packets that are written of a request are a request for the same, whatever their offsets: where the format is
-/// that of the reader, each argument is allowed in such a request, the reader offers the command and what the arguments need
-/// (as `shallow` for `deepen`: a reader that does not offer it refuses the line), the texts of its lines are within the limit,
-/// and nothing refuses what is asked for at its end, as a fetch without a want is. For SHA-256 the format has to be among what
-/// was advertised.
+/// The packets that are written for a request are a request for the same, whatever their offsets, if these conditions hold:
+/// the format is that of the reader; each argument is allowed in such a request; the reader advertises the command and the
+/// features that the arguments need (as `shallow` for `deepen`: a reader that does not advertise it refuses the line); the
+/// texts of its lines are within the limit; and nothing refuses the request at its end, as it refuses a fetch without a
+/// want. For SHA-256, `object-format` has to be advertised.
 pub fn written_request_reads_back()
     ensures { (offer : Offer) (limit : ℕ) (caps : Caps) (asked : Asked) (packets : List Given)
         → IsFormatMeant offer.format caps.object_format → takes_command offer (command_asked asked) ≡ true
@@ -230,10 +230,10 @@ pub fn written_request_reads_back()
         → Asks offer limit packets asked (written_bytes asked) }
 {}
 
-// Requests that a program makes.
+// Requests that a program builds.
 
-/// An argument that a program adds passes the checks or is refused, never both, and it is refused by one name at most.
-/// Want of memory is reported where it passes.
+/// An argument that a program adds passes the checks or is refused, never both, and it is refused by at most one name. Lack
+/// of memory is reported only for an argument that passes.
 #[tactic(auto, using(crate::proofs::Values::added_or_refused, crate::proofs::Values::one_refusal))]
 pub fn add_passes_or_is_refused<A: Memory + Copy>()
     ensures never_both { (request : Request A) (arg : Arg) (kind : Kind)
@@ -242,13 +242,13 @@ pub fn add_passes_or_is_refused<A: Memory + Copy>()
         → Refuses (add_checks request arg) kind → Refuses (add_checks request arg) other → kind ≡ other }
 {}
 
-/// The usual limit on the texts of a request's argument lines is 16 MiB.
+/// The default limit on the texts of a request's argument lines is 16 MiB.
 pub fn usual_limit()
     ensures { Limits.USUAL ≡ 16777216 }
 {}
 
-/// A request that was empty, and to which these arguments were added one after the other, asks for what the list of
-/// them contains, and has kept as many bytes as the texts of their lines have.
+/// If arguments were added one after the other to an empty request, it asks for what the list of them contains, and has kept
+/// as many bytes as the texts of their lines have.
 #[tactic(auto, using(crate::proofs::AddedArguments::added_asked, crate::proofs::AddedArguments::added_kept, crate::proofs::AddedArguments::added_stored))]
 pub fn added_arguments_are_asked_for<A: Memory + Copy>()
     ensures asked { (command : Command) (format : Format) (limit : ℕ) (args : List Arg) (empty request : Request A)
@@ -259,14 +259,14 @@ pub fn added_arguments_are_asked_for<A: Memory + Copy>()
         → IsEmpty command format limit empty → AddsAll empty args request → stored_of request ≡ sum_by stored_in args }
 {}
 
-/// Arguments are added one after the other, where each was added as the contract of `Request::add` ensures.
+/// Arguments are added one after the other, if each was added as the contract of `Request::add` ensures.
 pub fn additions_follow_one_another<A: Memory + Copy>()
     ensures none { (request : Request A) → AddsAll request [] request }
     ensures more { (old next new : Request A) (arg : Arg) (args : List Arg)
         → Keeps old arg (length (written_text arg)) next → AddsAll next args new → AddsAll old (arg ∷ args) new }
 {}
 
-/// What is counted of each part that stores bytes is what its fields have. A field more has to be named here.
+/// The bytes that are counted for each part that stores bytes are those of its fields. A new field has to be named here.
 pub fn all_fields_are_counted<A: Memory + Copy>()
     ensures texts { (texts : Texts A) → texts_stored_by_fields texts ≡ texts_stored texts }
     ensures ls_refs { (request : LsRefsInside A) → ls_refs_stored_by_fields request ≡ ls_refs_stored request }
@@ -278,19 +278,19 @@ pub fn all_fields_are_counted<A: Memory + Copy>()
     ensures stream { (stream : RequestStream A) → bytes_held_by_fields stream ≡ bytes_held stream }
 {}
 
-/// A reader of requests stores at no time more bytes than it counts, and counts no more than its limit.
+/// A reader of requests never stores more bytes than it counts, and never counts more than its limit.
 pub fn request_reader_keeps_within_its_limit<A: Memory + Copy>()
     ensures stored { (reader : RequestReader A) → stored_so_far reader ≤ kept_so_far reader }
     ensures kept { (reader : RequestReader A) → kept_so_far reader ≤ limit_in reader }
 {}
 
-/// A reader of requests from bytes holds at no time more bytes than the longest packet has and its limit together.
+/// A reader of requests from bytes never holds more bytes than its limit and the length of the longest packet together.
 pub fn request_stream_holds_within_its_limit<A: Memory + Copy>()
     ensures { (used : List ℕ) (asked : List Asked) (stream : RequestStream A)
         → HasRead used asked stream → bytes_held stream ≤ 65520 + limit_of stream }
 {}
 
-/// The arguments of a request, in the order in which they are written, ask for just what the request asks.
+/// The arguments of a request, in the order in which they are written, ask for exactly what the request asks for.
 #[tactic(auto, using(crate::proofs::ArgumentsInOrder::arguments_in_order))]
 pub fn arguments_in_order()
     ensures { (asked : Asked) → asked_by (command_asked asked) (arguments_in asked) ≡ asked }

@@ -1,5 +1,5 @@
-//! The messages of Git's wire protocol: capability lines and what an advertisement offers, requests as they are
-//! read, kept and written, and the lines of responses.
+//! The messages of Git's wire protocol: capability lines and the content of an advertisement, requests as they are read,
+//! kept and written, and the lines of responses.
 #![tactic(auto)]
 
 mod admits;

@@ -1,22 +1,22 @@
-//! How much a request may keep.
+//! The limits on what a request may keep.
 ghost use Rattle.std.specs.Prelude.{◌≡◌, ◌+◌, ◌≤◌, ◌<◌, OnErr, OnOk, MatchResult};
 ghost use Rattle.git_msg.specs.Arguments.{most_limit};
 
 use git_pkt::Kind;
 
-/// How much a request may keep.
+/// How many bytes a request may keep.
 #[derive(Clone, Copy, Debug)]
 pub struct Limits {
-    /// The most bytes that the texts of its argument lines may have, all of them together: 1,073,741,824 at most.
+    /// The maximum length of the texts of its argument lines, all of them together; at most 1,073,741,824 bytes.
     pub args: u32,
     ghost in_range: { args ≤ most_limit },
 }
 
 impl Limits {
-    /// The usual limit: 16,777,216 bytes.
+    /// The default limit: 16,777,216 bytes.
     pub const USUAL: u32 = 16_777_216;
 
-    /// The usual limit alone.
+    /// Limits that consist of the default limit alone.
     pub const DEFAULT: Limits = Limits {
         args: Limits::USUAL,
     };
@@ -24,7 +24,7 @@ impl Limits {
 
 const _: () = prove!(Limits::DEFAULT.args == Limits::USUAL);
 
-/// How many bytes the texts of a request's argument lines may have, and how many they had so far.
+/// How many bytes the texts of a request's argument lines may have, and how many they have so far.
 #[derive(Clone, Copy, Debug)]
 pub(crate) struct Budget {
     limit: u32,
@@ -44,21 +44,21 @@ impl Budget {
         }
     }
 
-    /// How many bytes they had so far.
+    /// How many bytes they have so far.
     pub(crate) fn kept(&self) -> u32
         ensures { result ≡ self.now.kept }
     {
         self.kept
     }
 
-    /// How many they may have.
+    /// How many bytes they may have.
     pub(crate) fn limits(&self) -> Limits
         ensures { result.args ≡ self.now.limit }
     {
         Limits { args: self.limit }
     }
 
-    /// Counts a text of so many bytes, if there is room for it.
+    /// Counts a text of so many bytes, if it fits within the limit.
     pub(crate) fn charge(&mut self, text_length: usize) -> Result<(), Kind>
         ensures charged { OnOk result ((self.new.kept ≡ self.old.kept + text_length) × (self.new.limit ≡ self.old.limit)) }
         ensures unchanged { OnErr result (self.new ≡ self.old) }

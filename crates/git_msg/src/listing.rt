@@ -1,4 +1,4 @@
-//! Requests for references as they are answered: with their prefixes in order.
+//! Requests for references while they are answered: their prefixes are sorted.
 ghost use Rattle.std.specs.Prelude.{◌≡◌, false, slice_get};
 ghost use Rattle.std.specs.Option.{option_copied};
 
@@ -7,8 +7,8 @@ use crate::ls_refs::LsRefs;
 use std::alloc::Allocator;
 use std::marker::Model;
 
-/// A request for references that is answered. Before its first reference is looked for, its prefixes are put in an order in which
-/// they are found by binary search and none begins another.
+/// A request for references that is being answered. Before its first reference is looked up, its prefixes are sorted: binary
+/// search finds them, and none begins another.
 #[derive(Drop)]
 pub struct Listing<A: Allocator + Copy> {
     request: LsRefs<A>,
@@ -33,7 +33,7 @@ impl<A: Allocator + Copy> Listing<A> {
     ghost use Rattle.git_msg.specs.Asked.{has_flag, ls_refs};
     ghost use Rattle.git_msg.specs.Prefixes.{IsOrdered, OrdersPrefixes, SplitsAt, is_shown};
 
-    /// The request, its prefixes in the order in which they came.
+    /// Wraps the request, with its prefixes in the order in which they came.
     pub fn new(request: LsRefs<A>) -> Listing<A>
         ensures { result ≡ request }
     {
@@ -43,8 +43,8 @@ impl<A: Allocator + Copy> Listing<A> {
         }
     }
 
-    /// Puts the prefixes in their order, where they lie, and drops those that begin with another: the same names begin with one of
-    /// them. A second call does nothing.
+    /// Sorts the prefixes in place, and drops those that begin with another one: the same names begin with one of the rest.
+    /// A second call does nothing.
     pub fn put_in_order(&mut self)
         ensures ordered { IsOrdered self.new.asked.ref_prefixes }
         ensures same { OrdersPrefixes self.old self.new }
@@ -56,7 +56,7 @@ impl<A: Allocator + Copy> Listing<A> {
         self.is_ordered = true;
     }
 
-    /// Whether the request has the flag; one of another command it has not.
+    /// Whether the request has the flag. It has no flag of another command.
     pub fn has(&self, flag: Flag) -> bool
         ensures { result ≡ has_flag flag (ls_refs self.now.asked) }
     {
@@ -77,14 +77,14 @@ impl<A: Allocator + Copy> Listing<A> {
         self.request.peel()
     }
 
-    /// Whether what `HEAD` points to is to be shown too where that has no commit yet.
+    /// Whether to show, too, what `HEAD` points to if that has no commit yet.
     pub fn unborn(&self) -> bool
         ensures { result ≡ self.now.asked.unborn }
     {
         self.request.unborn()
     }
 
-    /// The prefix at place `i`.
+    /// The prefix at index `i`.
     pub fn ref_prefix(&self, i: usize) -> Option<&[u8]>
         ensures { option_copied result ≡ slice_get self.now.asked.ref_prefixes i }
     {
@@ -99,7 +99,7 @@ impl<A: Allocator + Copy> Listing<A> {
         self.request.split(name)
     }
 
-    /// Whether a name is shown, where this many of the prefixes do not come after it.
+    /// Whether a name is shown, if this many of the prefixes do not come after it.
     pub fn shows_at(&self, split: usize, name: &[u8]) -> bool
         requires ordered { IsOrdered self.now.asked.ref_prefixes }
         requires split { SplitsAt self.now.asked.ref_prefixes name.now split }

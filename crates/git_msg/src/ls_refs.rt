@@ -41,7 +41,7 @@ impl<A: Allocator + Copy> LsRefs<A> {
     ghost use Rattle.git_msg.specs.Kept.{IsNew, IsWithin, kept_as};
     ghost use Rattle.git_msg.specs.Prefixes.{IsOrdered, OrdersPrefixes, SplitsAt, is_shown};
 
-    /// Whether the request has the flag; one of another command it has not.
+    /// Whether the request has the flag. It has no flag of another command.
     pub fn has(&self, flag: Flag) -> bool
         ensures { result ≡ has_flag flag (ls_refs self.now.asked) }
     {
@@ -62,14 +62,14 @@ impl<A: Allocator + Copy> LsRefs<A> {
         self.flags.has(Flag::Peel)
     }
 
-    /// Whether what `HEAD` points to is to be shown too where that has no commit yet.
+    /// Whether to show, too, what `HEAD` points to if that has no commit yet.
     pub fn unborn(&self) -> bool
         ensures { result ≡ self.now.asked.unborn }
     {
         self.flags.has(Flag::Unborn)
     }
 
-    /// The prefix at place `i`, in the order of their lines.
+    /// The prefix at index `i`, in the order of their lines.
     pub fn ref_prefix(&self, i: usize) -> Option<&[u8]>
         ensures value { option_copied result ≡ slice_get self.now.asked.ref_prefixes i }
         ensures bound { OnSome result (i + 1 < 2 ^ 64) }
@@ -108,7 +108,7 @@ impl<A: Allocator + Copy> LsRefs<A> {
         self.budget.kept()
     }
 
-    /// The argument at place `i`, in the order in which they are written.
+    /// The argument at index `i`, in the order in which they are written.
     pub(crate) fn argument(&self, i: usize) -> Option<Argument<'_>>
         ensures value { option_map shown result ≡ slice_get (arguments_in (ls_refs self.now.asked)) i }
         ensures within { IsWithin (kept_as ls_refs self.now) }
@@ -122,7 +122,7 @@ impl<A: Allocator + Copy> LsRefs<A> {
         }
     }
 
-    /// Puts the prefixes in their order, and drops those that begin with another: the same names begin with one of them.
+    /// Sorts the prefixes, and drops those that begin with another one: the same names begin with one of the rest.
     pub(crate) fn put_in_order(&mut self)
         ensures ordered { IsOrdered self.new.asked.ref_prefixes }
         ensures same { OrdersPrefixes self.old self.new }
@@ -138,7 +138,7 @@ impl<A: Allocator + Copy> LsRefs<A> {
         self.ref_prefixes.split(name)
     }
 
-    /// Whether a name is shown, where this many of the prefixes do not come after it.
+    /// Whether a name is shown, if this many of the prefixes do not come after it.
     pub(crate) fn shows_at(&self, split: usize, name: &[u8]) -> bool
         requires ordered { IsOrdered self.now.asked.ref_prefixes }
         requires split { SplitsAt self.now.asked.ref_prefixes name.now split }

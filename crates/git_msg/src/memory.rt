@@ -1,18 +1,18 @@
-//! Memory whose refusals a contract can state.
+//! Memory whose refusal a contract can state.
 ghost use Rattle.std.specs.Prelude.{◌≡◌, ◌+◌, ◌*◌, ◌≤◌, ℕ, OnOk, OnErr, vec_capacity, vec_len};
 ghost use Rattle.git_msg.specs.Memory.{bytes_each};
 
 use std::alloc::{AllocError, Allocator};
 
-/// An allocator of which a contract can state that it refused memory for a list, and for how many bytes. Each allocator is one.
+/// An allocator whose refusal of memory for a list a contract can state, with the number of bytes. Every allocator is one.
 ///
-/// Code that is generic in it knows nothing of `refuses` but that a call of `reserve` which failed shows it. So a contract that has
-/// `refuses` where `OutOfMemory` is reported rules out a function that reports it though no memory was refused.
+/// Generic code knows of `refuses` only that a failed call of `reserve` shows it. So if a contract states `refuses` wherever
+/// `OutOfMemory` is reported, it rules out a function that reports that although no memory was refused.
 pub trait Memory: Allocator {
-    // That it refused to let a list have so many bytes.
+    // The allocator refused to let a list have so many bytes.
     ghost refuses: { ℕ → Type 0 };
 
-    /// Makes room in a list for so many items more, as [`Vec::reserve`] does.
+    /// Reserves memory in a list for so many more items, as [`Vec::reserve`] does.
     fn reserve<T>(list: &mut Vec<T, Self>, more: usize) -> Result<(), AllocError>
     where
         Self: Sized,

@@ -5,7 +5,7 @@ ghost use Rattle.git_msg.specs.Numbers.{IsNumber};
 
 use itoa::Buffer;
 
-/// The number that the text is: one or more decimal digits, leading zeros taken. None for another text, and for a
+/// The number that the text is: one or more decimal digits; leading zeros are allowed. None for any other text, and for a
 /// number that does not fit 64 bits.
 pub fn read_number(text: &[u8]) -> Option<u64>
     ensures { MatchOption result ((number : ℕ) → number < 2 ^ 64 → ¬ IsNumber text.now number) (IsNumber text.now) }
@@ -27,7 +27,7 @@ pub fn read_number(text: &[u8]) -> Option<u64>
     Some(number)
 }
 
-/// How many digits a number has, as it is written.
+/// How many digits a number has when it is written.
 pub(crate) fn decimal_length(number: u64) -> usize
     ensures { result ≡ length (decimal number) }
 {

@@ -1,4 +1,4 @@
-//! Requests for what is known of objects, `object-info` of gitprotocol-v2(5), as they are kept.
+//! Requests for facts about objects, `object-info` of gitprotocol-v2(5), as they are kept.
 ghost use Rattle.std.specs.Prelude.{◌≡◌, ◌+◌, ◌≤◌, length, OnOk, OnErr, IfErr, slice_get};
 ghost use Rattle.std.specs.Option.{option_map};
 ghost use Rattle.git_msg.specs.Arguments.{shown, written_text};
@@ -13,7 +13,7 @@ use git_pkt::Kind;
 use std::alloc::Allocator;
 use std::marker::Model;
 
-/// A request for what is known of objects, `object-info` of gitprotocol-v2(5).
+/// A request for facts about objects, `object-info` of gitprotocol-v2(5).
 #[derive(Drop)]
 pub struct ObjectInfo<A: Allocator + Copy> {
     format: Format,
@@ -45,21 +45,21 @@ impl<A: Allocator + Copy> ObjectInfo<A> {
     ghost use Rattle.git_msg.specs.Asked.{arguments_in, has_flag, object_info};
     ghost use Rattle.git_msg.specs.Kept.{IsNew, IsWithin, kept_as};
 
-    /// Whether the request has the flag; one of another command it has not.
+    /// Whether the request has the flag. It has no flag of another command.
     pub fn has(&self, flag: Flag) -> bool
         ensures { result ≡ has_flag flag (object_info self.now.asked) }
     {
         flag.command() == Command::ObjectInfo && self.flags.has(flag)
     }
 
-    /// Whether the sizes of the objects are asked for.
+    /// Whether the request asks for the sizes of the objects.
     pub fn size(&self) -> bool
         ensures { result ≡ self.now.asked.size }
     {
         self.flags.has(Flag::Size)
     }
 
-    /// The objects that are asked about, in the order of their lines.
+    /// The objects that the request asks about, in the order of their lines.
     pub fn oids(&self) -> &[Oid]
         ensures { result.now ≡ self.now.asked.oids }
     {
@@ -96,7 +96,7 @@ impl<A: Allocator + Copy> ObjectInfo<A> {
         self.budget.kept()
     }
 
-    /// The argument at place `i`, in the order in which they are written.
+    /// The argument at index `i`, in the order in which they are written.
     pub(crate) fn argument(&self, i: usize) -> Option<Argument<'_>>
         ensures value { option_map shown result ≡ slice_get (arguments_in (object_info self.now.asked)) i }
         ensures within { IsWithin (kept_as object_info self.now) }

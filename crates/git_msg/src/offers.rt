@@ -1,4 +1,4 @@
-//! What an advertisement offers, and what of it this project knows.
+//! The capabilities of an advertisement, and which of them this project knows.
 
 ghost use Rattle.std.specs.Prelude.{◌≡◌, ℕ, ◌+◌, ◌*◌, List, [], ◌∷◌, codes, length, unwrap_or};
 ghost use Rattle.std.specs.Option.{option_copied};
@@ -14,16 +14,17 @@ use crate::capabilities::Capability;
 use crate::texts::{is_word, split_at_first};
 use git_names::{Format, Steps};
 
-// The most bytes that a key has which is known.
+// The maximum length of a known key.
 const LONGEST_KEY: usize = 13;
 
-// The most bytes that the name of an object format has.
+// The maximum length of an object format's name.
 const LONGEST_FORMAT: usize = 6;
 
-// The most bytes that the word of a feature of `fetch` has.
+// The maximum length of the word for a feature of `fetch`.
 const LONGEST_FEATURE: usize = 13;
 
-/// What a server offers to a client, beside `agent` and the commands `ls-refs` and `fetch`, which are in every offer.
+/// The content of a server's advertisement to a client, beside `agent` and the commands `ls-refs` and `fetch`, which every
+/// offer has.
 #[derive(Clone, Copy, Debug, PartialEq, Eq)]
 pub struct Offer {
     /// The format of the object names in requests and answers.
@@ -68,7 +69,7 @@ impl Offer {
         Caps::new().offer(format)
     }
 
-    /// Whether requests of this command are taken.
+    /// Whether requests of this command are accepted.
     pub(crate) fn takes(&self, command: Command) -> bool
         ensures { result ≡ takes_command self.now command }
     {
@@ -80,8 +81,8 @@ impl Offer {
     }
 }
 
-/// What the lines of an advertisement had, of all that this project knows. Keys and words beside these are
-/// passed over, and repeated lines add up.
+/// The content of an advertisement's lines, as far as this project knows it. Other keys and words are ignored, and repeated
+/// lines add up.
 #[derive(Clone, Copy, Debug, Default, PartialEq, Eq)]
 pub struct Caps {
     /// The key `agent`.
@@ -113,14 +114,14 @@ pub struct Caps {
 }
 
 impl Caps {
-    /// What is noted before the first line: nothing.
+    /// The capabilities before the first line: none.
     pub fn new() -> Caps
         ensures { result ≡ noted_of [] }
     {
         Caps::default()
     }
 
-    /// What is noted when this line comes too.
+    /// The capabilities after one more line, which is this one.
     pub fn with(self, capability: &Capability<'_>, steps: &mut Steps) -> Caps
         ensures exact { result ≡ noted_with self capability.now.key.now (unwrap_or (option_copied capability.now.value) []) }
         ensures notes { (packets : List Pkt) (line : List ℕ) → self ≡ noted_of packets
@@ -133,7 +134,7 @@ impl Caps {
         self.with_line(capability.key, value, steps)
     }
 
-    // What is noted when a line with this key and value comes too.
+    // The capabilities after one more line, with this key and value.
     fn with_line(self, key: &[u8], value: &[u8], steps: &mut Steps) -> Caps
         ensures exact { result ≡ noted_with self key.now value.now }
         ensures cost { TakesAtMost (16 * (length key.now + length value.now + 1)) steps.old steps.new }
@@ -157,7 +158,7 @@ impl Caps {
         }
     }
 
-    // What is noted when a line of this command with this value comes too.
+    // The capabilities after one more line of this command, with this value.
     fn with_words(self, command: Command, value: &[u8], steps: &mut Steps) -> Caps
         ensures exact { result ≡ noted_with self (name_of command) value.now }
         ensures cost { TakesAtMost (7 * (length value.now + 1)) steps.old steps.new }
@@ -176,7 +177,8 @@ impl Caps {
         }
     }
 
-    // What is noted when a line of this command has this word in its value: the features of each command, with their flags.
+    // The capabilities after one more line of this command that has this word in its value: the features of each command,
+    // with their flags.
     fn with_word(self, command: Command, word: &[u8], steps: &mut Steps) -> Caps
         ensures exact { (value : List ℕ) → result ≡ noted_after self (name_of command) value (word.now ∷ []) }
         ensures cost { TakesAtMost (4 * (length word.now + 1)) steps.old steps.new }
@@ -209,7 +211,7 @@ impl Caps {
         }
     }
 
-    // What is noted when a line `object-format` with this name comes too.
+    // The capabilities after one more line `object-format`, with this name.
     fn with_format(self, name: &[u8], steps: &mut Steps) -> Caps
         ensures exact { result ≡ noted_with self (codes "object-format") name.now }
         ensures cost { TakesAtMost (2 * (length name.now + 1)) steps.old steps.new }
@@ -224,7 +226,7 @@ impl Caps {
         }
     }
 
-    /// Whether object names of this format are spoken. Where no line names a format, SHA-1 is meant.
+    /// Whether object names of this format are spoken. If no line names a format, SHA-1 is meant.
     pub fn speaks(&self, format: Format) -> bool
         ensures { result ≡ is_spoken self.now format }
     {
@@ -234,7 +236,7 @@ impl Caps {
         }
     }
 
-    /// Whether requests of this command are taken.
+    /// Whether requests of this command are accepted.
     pub fn offers(&self, command: Command) -> bool
         ensures { result ≡ offers_command self.now command }
     {
@@ -245,7 +247,7 @@ impl Caps {
         }
     }
 
-    /// What is offered to a client that speaks this format.
+    /// The offer to a client that speaks this format.
     pub fn offer(&self, format: Format) -> Offer
         ensures { result ≡ noted_offer self.now format }
     {

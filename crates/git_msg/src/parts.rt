@@ -1,4 +1,4 @@
-//! What kept requests are made of: texts, and the places of their arguments.
+//! The parts of kept requests: texts, and the indexes of their arguments.
 ghost use Rattle.std.specs.Prelude.{◌≡◌, ◌≢◌, ◌+◌, ◌*◌, ◌^◌, ◌<◌, ◌≤◌, [], ◌∷◌, ◌++◌, ℕ, List, Some, None, OnOk, OnSome, OnErr, IfErr, MatchOption};
 ghost use Rattle.std.specs.Prelude.{MatchResult};
 ghost use Rattle.std.specs.Prelude.{true, false, length, map, slice_get, slice_index, All};
@@ -20,8 +20,8 @@ use git_pkt::Kind;
 use std::alloc::{AllocError, Allocator};
 use std::cmp::Ordering;
 
-/// Byte strings in one vector, each followed by its length in two bytes, with the place where each ends: so that a text is found
-/// from its end alone, and the ends may be in any order.
+/// Byte strings in one vector, each followed by its length in two bytes, and the list of the places where they end. So a
+/// text is found from its end alone, and the ends may be in any order.
 #[derive(Drop)]
 pub(crate) struct Texts<A: Allocator + Copy> {
     bytes: Vec<u8, A>,
@@ -52,7 +52,7 @@ impl<A: Allocator + Copy> Texts<A> {
         }
     }
 
-    /// The text whose argument has this place, if one of these has it; otherwise the place after them.
+    /// The text whose argument has this index, if one of these has it; otherwise the index after them.
     pub(crate) fn at(&self, i: usize) -> Result<&[u8], usize>
         ensures { MatchResult result
             (λ text. (word : Word) (others : List Arg)
@@ -71,7 +71,7 @@ impl<A: Allocator + Copy> Texts<A> {
         self.ends.len()
     }
 
-    /// Puts the texts in their order, and drops those that begin with another: the same names are shown by them.
+    /// Sorts the texts, and drops those that begin with another one: the rest show the same names.
     pub(crate) fn put_in_order(&mut self)
         ensures ordered { IsOrdered (texts_of self.new) }
         ensures alike { ShowAlike (texts_of self.old) (texts_of self.new) }
@@ -89,7 +89,7 @@ impl<A: Allocator + Copy> Texts<A> {
         split_at(&self.bytes, &self.ends, name)
     }
 
-    /// Whether a name begins with one of the texts, or there are none, where this many of them do not come after it.
+    /// Whether a name begins with one of the texts, or there are none, if this many of them do not come after it.
     pub(crate) fn shows_at(&self, split: usize, name: &[u8]) -> bool
         requires ordered { IsOrdered (texts_of self.now) }
         requires split { SplitsAt (texts_of self.now) name.now split }
@@ -105,7 +105,7 @@ impl<A: Allocator + Copy> Texts<A> {
 impl<A: Memory + Copy> Texts<A> {
     ghost use Rattle.git_msg.specs.Machine.HeldTexts.{texts_of, texts_stored};
 
-    /// Keeps a copy of the text after the others; `OutOfMemory` where there is no memory for it.
+    /// Keeps a copy of the text after the others; `OutOfMemory` if there is no memory for it.
     pub(crate) fn keep(&mut self, text: &[u8]) -> Result<(), Kind>
         requires short { length text.now < 2 ^ 16 }
         requires fits { texts_stored self.old + length text.now < 2 ^ 32 }
@@ -161,7 +161,7 @@ fn byte(bytes: &[u8], i: usize) -> usize
     }
 }
 
-// Puts the ends in the order of their texts, and drops those of texts that begin with another.
+// Sorts the ends by their texts, and drops those of texts that begin with another one.
 fn order<A: Allocator + Copy>(bytes: &[u8], ends: &mut Vec<u32, A>)
     ensures ordered { IsOrdered (map (text_at bytes.now) ends.new.items) }
     ensures alike { ShowAlike (map (text_at bytes.now) ends.old.items) (map (text_at bytes.now) ends.new.items) }
@@ -184,7 +184,7 @@ fn sort<A: Allocator + Copy>(bytes: &[u8], ends: &mut Vec<u32, A>)
     );
 }
 
-// How many of the ends are of texts that do not come after the name.
+// How many of the ends belong to texts that do not come after the name.
 fn split_at(bytes: &[u8], ends: &[u32], name: &[u8]) -> usize
     requires { IsPartitionedBy (λ end. goes_before (text_at bytes.now end) name.now) ends.now }
     ensures bound { result ≤ length ends.now }
@@ -211,7 +211,7 @@ fn prune<A: Allocator + Copy>(bytes: &[u8], ends: &mut Vec<u32, A>)
     );
 }
 
-/// Keeps an object name after the others; `OutOfMemory` where there is no memory for it.
+/// Keeps an object name after the others; `OutOfMemory` if there is no memory for it.
 pub(crate) fn keep_id<A: Memory + Copy>(ids: &mut Vec<Oid, A>, id: Oid) -> Result<(), Kind>
     ensures ok { OnOk result (ids.new.items ≡ ids.old.items ++ id ∷ []) }
     ensures err { OnErr result (ids.new.items ≡ ids.old.items) }
@@ -235,7 +235,7 @@ pub(crate) fn check_id(format: Format, id: &Oid) -> Result<(), Kind>
     Ok(())
 }
 
-/// The place after a flag's argument, if that is among the arguments; none where the place is its own.
+/// The index after a flag's argument, if that is among the arguments; none if the index is its own.
 pub(crate) fn past_flag(set: bool, i: usize) -> Option<usize>
     ensures { MatchOption result
         ((flag : Flag) (others : List Arg) → slice_get (where_asked set flag ++ others) i ≡ Some (alone (of_flag flag)))
@@ -250,7 +250,7 @@ pub(crate) fn past_flag(set: bool, i: usize) -> Option<usize>
     Some(i - 1)
 }
 
-/// The object name whose argument has this place, if one of these has it; otherwise the place after them.
+/// The object name whose argument has this index, if one of these has it; otherwise the index after them.
 pub(crate) fn id_at(ids: &[Oid], i: usize) -> Result<&Oid, usize>
     ensures { MatchResult result
         (λ id. (word : Word) (others : List Arg) → slice_get (map (with_id word) ids.now ++ others) i ≡ Some (with_id word id.now))
@@ -262,7 +262,7 @@ pub(crate) fn id_at(ids: &[Oid], i: usize) -> Result<&Oid, usize>
     }
 }
 
-/// The number whose argument has this place, if one was given; otherwise the place after it.
+/// The number whose argument has this index, if there is a number; otherwise the index after it.
 pub(crate) fn number_at(number: Option<u64>, i: usize) -> Result<u64, usize>
     ensures { MatchResult result
         (λ own. (word : Word) (others : List Arg) → slice_get (where_given word number ++ others) i ≡ Some (with_number word own))

@@ -12,7 +12,7 @@ use git_pkt::{Fault, Kind, Packet, text};
 use std::alloc::Allocator;
 use std::mem;
 
-/// What a packet brought.
+/// The result of taking a packet.
 #[derive(Drop)]
 pub enum Taken<'p, A: Allocator + Copy> {
     /// The request goes on.
@@ -21,7 +21,7 @@ pub enum Taken<'p, A: Allocator + Copy> {
     Argument(Argument<'p>),
     /// The whole request: this was its flush.
     Request(Request<A>),
-    /// A flush with nothing before it, by which the other end leaves.
+    /// A flush with nothing before it: the other end ends the session.
     Stop,
 }
 
@@ -29,22 +29,22 @@ pub enum Taken<'p, A: Allocator + Copy> {
 enum Part {
     Capabilities,
     Arguments,
-    // An argument was given, of the packet at this offset and with a text of so many bytes.
+    // An argument came, in the packet at this offset, with a text of so many bytes.
     Waiting(u64, usize),
     Failed(Fault),
 }
 
-/// Reads requests from their packets, gitprotocol-v2(5), against what was offered.
+/// Reads requests from their packets, as in gitprotocol-v2(5), against what was advertised.
 #[derive(Drop)]
 pub struct RequestReader<A: Allocator + Copy> {
     alloc: A,
     offer: Offer,
     part: Part,
-    // Whether a packet came since the last request.
+    // Whether a packet has come since the last request.
     begun: bool,
     command: Option<Command>,
     has_format: bool,
-    // What is kept so far. It also has the limit.
+    // The request as it is kept so far, with its limit.
     request: Request<A>,
     ghost bounded: { IsBounded request },
 }
@@ -81,8 +81,8 @@ impl<A: Allocator + Copy> RequestReader<A> {
         }
     }
 
-    /// Takes the next packet, which is at `offset`. No argument may wait for [`RequestReader::keep`]. A packet that
-    /// is refused ends the reading: from then on each call answers that fault.
+    /// Takes the next packet, which is at `offset`. No argument may wait for [`RequestReader::keep`]. A packet that is
+    /// refused ends the reading: from then on each call returns that fault.
     pub fn take<'p>(
         &mut self,
         packet: Packet<'p>,
@@ -94,7 +94,7 @@ impl<A: Allocator + Copy> RequestReader<A> {
         ensures keepable { GivesKeepable (length (body_of (seen packet.entry))) result self.new }
         ensures cost { TakesAtMost (48 * (length (body_of (seen packet.entry)) + 1)) steps.old steps.new }
 
-        // It needs no memory.
+        // It never reports a lack of memory.
         ensures own { fault_of self.old ≡ None → IfErr result (λ fault. fault.kind ≢ Kind.OutOfMemory) }
     {
         let step = match self.part {
@@ -204,7 +204,7 @@ impl<A: Allocator + Copy> RequestReader<A> {
         Ok(())
     }
 
-    // The command, which is due at the end of the capability part.
+    // The command, which the capability part must have at its end.
     fn command_due(&self) -> Result<Command, Kind>
         ensures command { MatchResult result (IsDue self.now) (IsUndue self.now) }
     {
@@ -233,7 +233,7 @@ impl<A: Allocator + Copy> RequestReader<A> {
         )
     }
 
-    // Gives the request away. The next packet begins another.
+    // Hands the request out. The next packet begins another.
     fn restart(&mut self) -> Request<A>
         ensures given { result ≡ self.old.request }
         ensures next { IsEmpty Command.LsRefs self.old.offer.format (limit_in self.old) self.new.request }
@@ -255,9 +255,9 @@ impl<A: Memory + Copy> RequestReader<A> {
     ghost use Rattle.git_msg.specs.Machine.RequestReader.{KeepsOn, counted_as, is_waiting, limit_in};
     ghost use Rattle.git_msg.specs.Memory.{NeedsRefusal};
 
-    /// Makes the argument that [`RequestReader::take`] gave last a part of the request, whose lines then count the bytes
-    /// that its text had on the wire. The fault names its packet: `TooMuchKept` where the limit has no room for so many
-    /// bytes, or else `OutOfMemory` where no memory is left for its value.
+    /// Makes the argument that [`RequestReader::take`] returned last a part of the request, which then counts the bytes that
+    /// the argument's text had on the wire. The fault names its packet: `TooMuchKept` if so many more bytes would exceed the
+    /// limit, or else `OutOfMemory` if there is no memory for its value.
     pub fn keep(&mut self, argument: Argument<'_>, steps: &mut Steps) -> Result<(), Fault>
         requires waits { is_waiting self.old ≡ true }
         requires named { HasName (shown argument) }
@@ -279,10 +279,10 @@ impl<A: Memory + Copy> RequestReader<A> {
         let Part::Waiting(offset, length) = self.part else {
             unreachable!()
         };
-        // Nothing here shows that the argument is the one that waits, and a request counts no text by less than it is
-        // written. For the one that waits this is the length of its text as it came, which is never less.
+        // Nothing here shows that the argument is the one that waits, and a request counts no text as shorter than it is
+        // written. For the argument that waits, this is the length of its text as it came, which is never less.
         let length = length.max(written_length(argument));
-        // What is pushed has fewer bytes than the text, its end among them, and so has a number that is written.
+        // The pushed value, with its end, has fewer bytes than the text, and so has a number when it is written.
         steps.tick(length);
         match self.request.keep(argument, length) {
             Ok(()) => {

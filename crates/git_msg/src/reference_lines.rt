@@ -1,4 +1,4 @@
-//! Reference lines, read.
+//! Reading reference lines.
 ghost use Rattle.std.specs.Prelude.{◌≡◌, ◌+◌, ◌-◌, ◌*◌, ◌≤◌, IfOk, OnOk, MatchResult, length};
 ghost use Rattle.std.specs.Option.{option_copied};
 ghost use Rattle.git_names.specs.Steps.{TakesAtMost};
@@ -14,9 +14,9 @@ use crate::texts::{after, is_word, split_at_first};
 use git_names::{Format, NameFault, Oid, RefName, Steps};
 use git_pkt::Kind;
 
-/// Reads the text of a reference line: an object name, or `unborn` in its place, a space and a reference name, then attributes,
-/// each after one space. Attributes that are not known are passed over. A text without a space is `BadLine`; then from left to right
-/// `BadObjectName` and `BadRefName`.
+/// Reads the text of a reference line: an object name or `unborn`, a space and a reference name, then attributes, each after
+/// one space. Unknown attributes are ignored. A text without a space is `BadLine`; then, from left to right, `BadObjectName`
+/// and `BadRefName`.
 pub fn read_reference<'a>(
     format: Format,
     text: &'a [u8],
@@ -31,10 +31,10 @@ pub fn read_reference<'a>(
     Ok(places.reference(text))
 }
 
-/// Reads the text of a reference line as [`read_reference`] does, and writes where its parts are to `places`, whatever was there. Where
-/// the line is refused, what is there then means nothing.
-// The parts are written where they stay, each by itself: a name that is handed up through results is copied at each, and loaded just after
-// it was stored in parts, which is slow.
+/// Reads the text of a reference line as [`read_reference`] does, and writes the places of its parts over `places`. If the
+/// line is refused, `places` means nothing afterwards.
+// Each part is written directly to its final place: a name that is passed up through results is copied at each of them, and
+// loaded just after it was stored in parts, which is slow.
 #[inline(always)]
 pub fn locate_reference(
     format: Format,
@@ -54,8 +54,9 @@ pub fn locate_reference(
     Ok(())
 }
 
-/// Finds the object that the first word of a line names, none where that is `unborn`, and answers what comes after the space that ends
-/// it. Most lines begin with the digits of an object's name and a space: as digits have no space, they need no search for one.
+/// Finds the object that the first word of a line names, none if that is `unborn`, and returns the text after the space that
+/// ends the word. Most lines begin with the digits of an object's name and a space: digits contain no space, so these lines
+/// need no search for one.
 #[inline(always)]
 fn split_id<'a>(
     format: Format,
@@ -82,7 +83,7 @@ fn split_id<'a>(
     }
 }
 
-/// The same of any line. Two of its bytes have been looked at.
+/// The same for any line, by a search. Two bytes of the line have been looked at.
 #[inline(never)]
 fn search_id<'a>(
     format: Format,
@@ -108,7 +109,7 @@ fn search_id<'a>(
     }
 }
 
-/// The object that the first word of a line names: none where the word is `unborn`.
+/// The object that the first word of a line names; none if the word is `unborn`.
 fn read_id(format: Format, word: &[u8], steps: &mut Steps) -> Result<Option<Oid>, Kind>
     ensures id { MatchResult result (IsIdText format word.now) (λ kind. IsNoIdText format word.now × (kind ≡ Kind.BadObjectName)) }
     ensures cost { TakesAtMost (17 * (length word.now + 1)) steps.old steps.new }
@@ -123,8 +124,8 @@ fn read_id(format: Format, word: &[u8], steps: &mut Steps) -> Result<Option<Oid>
     }
 }
 
-/// The reference name that the text begins with, and what comes after the space that ends it, where there is one. Most
-/// texts are the name alone: as a name has no space, they need no search for one.
+/// The reference name that the text begins with, and the text after the space that ends the name, if there is one. Most
+/// texts are the name alone: a name contains no space, so these need no search for one.
 fn split_name<'a>(
     text: &'a [u8],
     steps: &mut Steps,
@@ -144,7 +145,7 @@ fn split_name<'a>(
     Ok((name, rest))
 }
 
-/// Finds the last values of the attributes of a line, which are the end of its text. Most lines have none.
+/// Finds the last values of a line's attributes, which are the end of its text. Most lines have none.
 #[inline(always)]
 fn read_attributes(
     format: Format,
@@ -176,7 +177,7 @@ fn read_attributes(
     Ok(())
 }
 
-/// Finds what one more attribute contains, which ends at this place of the line.
+/// Finds the content of one more attribute, which ends at this place of the line.
 fn read_attribute(
     format: Format,
     word: &[u8],

@@ -1,4 +1,4 @@
-//! Where the parts of a reference line lie in its text.
+//! The places of a reference line's parts in its text.
 ghost use Rattle.std.specs.Prelude.{◌≡◌, ◌+◌, ◌≤◌, ℕ, List, [], None, length};
 ghost use Rattle.git_msg.specs.References.{FitsIn, part_of, reference_at, reference_of, shown_reference};
 
@@ -21,20 +21,20 @@ impl Part {
     }
 }
 
-/// What a reference line contains of objects, and where the names lie in its text: a reference that lends nothing.
+/// The objects that a reference line contains, and the places of the names in its text: a reference that borrows nothing.
 #[derive(Clone, Copy, Debug)]
 pub struct ReferencePlaces {
-    /// The object that the reference points to: none where it is unborn.
+    /// The object that the reference points to; none if it is unborn.
     pub id: Option<Oid>,
     // The name begins after the word for the object and one space.
     pub(crate) name_length: usize,
     pub(crate) target: Option<Part>,
-    /// For an annotated tag, where it is given, the object that it peels to.
+    /// For an annotated tag, the object that it peels to, if given.
     pub peeled: Option<Oid>,
 }
 
 impl ReferencePlaces {
-    /// Room for the places of a line, before one was read.
+    /// The places before a line was read.
     pub fn new() -> Self
         ensures empty { (text : List ℕ) → reference_at result text ≡ reference_of None [] None None }
     {
@@ -46,7 +46,7 @@ impl ReferencePlaces {
         }
     }
 
-    /// The reference of the line that has these places, whose text is lent again.
+    /// The reference of the line that has these places. The line's text has to be passed again.
     pub fn reference<'a>(&self, text: &'a [u8]) -> Reference<'a>
         requires { FitsIn self.now (length text.now) }
         ensures { shown_reference result ≡ reference_at self.now text.now }

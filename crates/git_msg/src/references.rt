@@ -1,4 +1,4 @@
-//! Reference lines, as answers to ls-refs have them: gitprotocol-v2(5).
+//! Reference lines, as in the answers to ls-refs: gitprotocol-v2(5).
 ghost use Rattle.std.specs.Prelude.{◌≡◌, ◌+◌, ◌<◌, ◌≤◌, [], ◌∷◌, ◌++◌, length};
 ghost use Rattle.std.specs.Option.{option_copied};
 ghost use Rattle.arrayvec.specs.ArrayVec.{array_vec_len};
@@ -12,21 +12,21 @@ ghost use Rattle.git_msg.specs.References.{reference_text, shown_reference, targ
 use git_names::Oid;
 use git_pkt::{Hold, append, begin};
 
-/// A reference, whose texts are lent.
+/// A reference with borrowed texts.
 #[derive(Clone, Copy, Debug)]
 pub struct Reference<'a> {
-    /// The object that it points to: none where it is unborn, as `HEAD` is while its branch has no commit.
+    /// The object that it points to; none if it is unborn, as `HEAD` is while its branch has no commit.
     pub id: Option<Oid>,
     /// Its name.
     pub name: &'a [u8],
-    /// For a symbolic reference, where it is given, the name of the reference that it points to.
+    /// For a symbolic reference, the name of the reference that it points to, if given.
     pub target: Option<&'a [u8]>,
-    /// For an annotated tag, where it is given, the object that it peels to.
+    /// For an annotated tag, the object that it peels to, if given.
     pub peeled: Option<Oid>,
 }
 
-/// Makes the hold the packet of the reference's line, with an LF at its end. The name and the target have to be such as
-/// [`git_names::RefName::read`] takes, and the object and a peeled object of one format.
+/// Makes the hold the packet of the reference's line, with an LF at its end. [`git_names::RefName::read`] has to accept the
+/// name and the target, and the object and a peeled object have to be of one format.
 pub fn put_reference(hold: &mut Hold, reference: Reference<'_>)
     requires { IsWritable (shown_reference reference) }
     ensures written { hold.new.items ≡ spelling_of (payload (reference_text (shown_reference reference.entry) ++ 10 ∷ [])) }
@@ -71,7 +71,7 @@ fn put_parts(
     append(hold, b"\n");
 }
 
-/// How many bytes the word for the object at the head of a line has.
+/// The length of the word for the object at the head of a line.
 pub(crate) fn id_text_length(id: &Option<Oid>) -> usize
     ensures { result ≡ id_length id.now }
 {

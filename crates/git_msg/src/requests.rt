@@ -19,14 +19,14 @@ use git_names::{Format, Oid, Steps};
 use git_pkt::Kind;
 use std::alloc::Allocator;
 
-/// A request of gitprotocol-v2(5), as it is kept: its arguments by their kinds.
+/// A request of gitprotocol-v2(5), as it is kept: its arguments by kind.
 #[derive(Drop)]
 pub enum Request<A: Allocator + Copy> {
     /// A request for references.
     LsRefs(LsRefs<A>),
     /// A request for objects.
     Fetch(Fetch<A>),
-    /// A request for what is known of objects.
+    /// A request for facts about objects.
     ObjectInfo(ObjectInfo<A>),
 }
 
@@ -40,8 +40,8 @@ impl<A: Allocator + Copy> Request<A> {
     ghost use Rattle.git_msg.specs.Lines.{end_checks};
     ghost use Rattle.git_msg.specs.Machine.HeldRequest.{IsEmpty, asked_of, command_of, format_of, kept_of, limit_of, stored_of};
 
-    /// A request without arguments. Later calls take memory from `alloc`, and only where an argument with a text or an
-    /// object name is kept.
+    /// A request without arguments. Later calls take memory from `alloc`, but only to keep an argument with a text or an
+    /// object name.
     pub fn new(alloc: A, command: Command, format: Format, limits: Limits) -> Request<A>
         ensures { IsEmpty command format limits.args result }
     {
@@ -52,9 +52,9 @@ impl<A: Allocator + Copy> Request<A> {
         }
     }
 
-    /// Judges what the request asks for, at its end: `DeepenConflict` for a fetch that cuts the history off by a depth and
-    /// by a time or a revision too, and then `NoWants` for one that wants nothing, unless it negotiates alone; `NoSize` for
-    /// an object-info that does not ask for sizes.
+    /// Judges the whole request, at its end: `DeepenConflict` for a fetch that cuts the history off by a depth and also by a
+    /// time or a revision, and then `NoWants` for one that wants nothing, unless it negotiates alone; `NoSize` for an
+    /// object-info that does not ask for sizes.
     pub fn check_end(&self) -> Result<(), Kind>
         ensures { MatchResult result (λ _. Passes (end_checks (asked_of self.now))) (Refuses (end_checks (asked_of self.now))) }
     {
@@ -78,7 +78,7 @@ impl<A: Allocator + Copy> Request<A> {
         }
     }
 
-    /// Judges whether the features are offered that the arguments need: `NotAdvertised` where one is not.
+    /// Judges whether the features that the arguments need were advertised: `NotAdvertised` if one was not.
     pub fn check_features(&self, offer: &Offer) -> Result<(), Kind>
         ensures { MatchResult result (λ _. AreOffered offer.now (asked_of self.now))
             (λ kind. (¬ AreOffered offer.now (asked_of self.now)) × (kind ≡ Kind.NotAdvertised)) }
@@ -115,16 +115,16 @@ impl<A: Allocator + Copy> Request<A> {
         }
     }
 
-    /// How many bytes the texts of the request's argument lines have, all of them together: as they came where they
-    /// were read, and as they are written where they were added.
+    /// How many bytes the texts of the request's argument lines have, all of them together: as they came, if they were read,
+    /// and as they are written, if they were added.
     pub fn kept(&self) -> u32
         ensures value { result ≡ kept_of self.now }
         ensures within { kept_of self.now ≤ limit_of self.now }
 
-        // No more is stored of their values: 33 bytes of an object name, and of a text its own and six.
+        // No more bytes are stored of their values: 33 for an object name, and for a text its own and six.
         ensures stored { stored_of self.now ≤ kept_of self.now }
 
-        // The lines as they are written have no more, and each argument is allowed there.
+        // The lines as they are written have no more bytes, and each argument is allowed there.
         ensures written { written_bytes (asked_of self.now) ≤ kept_of self.now }
         ensures values { HasValues (format_of self.now) (asked_of self.now) }
     {
@@ -146,7 +146,7 @@ impl<A: Allocator + Copy> Request<A> {
         }
     }
 
-    /// Whether the request has the flag; one of another command it has not.
+    /// Whether the request has the flag. It has no flag of another command.
     pub fn has(&self, flag: Flag) -> bool
         ensures { result ≡ has_flag flag (asked_of self.now) }
     {
@@ -178,7 +178,7 @@ impl<A: Allocator + Copy> Request<A> {
         self.has(Flag::Unborn)
     }
 
-    /// The text of the `ref-prefix` line at place `i` of `ls-refs`.
+    /// The text of the `ref-prefix` line at index `i` of `ls-refs`.
     pub fn ref_prefix(&self, i: usize) -> Option<&[u8]>
         ensures value { option_copied result ≡ slice_get (ref_prefixes_of (asked_of self.now)) i }
         ensures bound { OnSome result (i + 1 < 2 ^ 64) }
@@ -190,7 +190,7 @@ impl<A: Allocator + Copy> Request<A> {
         }
     }
 
-    /// The objects of the `want` lines of `fetch`, in their order.
+    /// The objects of the `want` lines of `fetch`, in order.
     pub fn wants(&self) -> &[Oid]
         ensures { result.now ≡ wants_of (asked_of self.now) }
     {
@@ -200,7 +200,7 @@ impl<A: Allocator + Copy> Request<A> {
         }
     }
 
-    /// The objects of the `have` lines of `fetch`, in their order.
+    /// The objects of the `have` lines of `fetch`, in order.
     pub fn haves(&self) -> &[Oid]
         ensures { result.now ≡ haves_of (asked_of self.now) }
     {
@@ -252,7 +252,7 @@ impl<A: Allocator + Copy> Request<A> {
         self.has(Flag::WaitForDone)
     }
 
-    /// The filter-spec of the `filter` line of `fetch` at place `i`, as it came.
+    /// The filter-spec of the `filter` line at index `i` of `fetch`, as it came.
     pub fn filter(&self, i: usize) -> Option<&[u8]>
         ensures { option_copied result ≡ slice_get (filters_of (asked_of self.now)) i }
     {
@@ -262,7 +262,7 @@ impl<A: Allocator + Copy> Request<A> {
         }
     }
 
-    /// The commits of the `shallow` lines of `fetch`, in their order.
+    /// The commits of the `shallow` lines of `fetch`, in order.
     pub fn shallows(&self) -> &[Oid]
         ensures { result.now ≡ shallows_of (asked_of self.now) }
     {
@@ -289,7 +289,7 @@ impl<A: Allocator + Copy> Request<A> {
         self.has(Flag::DeepenRelative)
     }
 
-    /// Since when the history is wanted, in seconds since 1970: the number of the last `deepen-since` line of `fetch`.
+    /// From when on the history is wanted, in seconds since 1970: the number of the last `deepen-since` line of `fetch`.
     pub fn deepen_since(&self) -> Option<u64>
         ensures { result ≡ deepen_since_of (asked_of self.now) }
     {
@@ -299,7 +299,7 @@ impl<A: Allocator + Copy> Request<A> {
         }
     }
 
-    /// The text of the `deepen-not` line at place `i` of `fetch`.
+    /// The text of the `deepen-not` line at index `i` of `fetch`.
     pub fn deepen_not(&self, i: usize) -> Option<&[u8]>
         ensures { option_copied result ≡ slice_get (deepen_nots_of (asked_of self.now)) i }
     {
@@ -309,7 +309,7 @@ impl<A: Allocator + Copy> Request<A> {
         }
     }
 
-    /// The name of the `want-ref` line at place `i` of `fetch`.
+    /// The name of the `want-ref` line at index `i` of `fetch`.
     pub fn want_ref(&self, i: usize) -> Option<&[u8]>
         ensures value { option_copied result ≡ slice_get (want_refs_of (asked_of self.now)) i }
         ensures bound { OnSome result (i + 1 < 2 ^ 64) }
@@ -328,7 +328,7 @@ impl<A: Allocator + Copy> Request<A> {
         self.has(Flag::Size)
     }
 
-    /// The objects of the `oid` lines of `object-info`, in their order.
+    /// The objects of the `oid` lines of `object-info`, in order.
     pub fn oids(&self) -> &[Oid]
         ensures { result.now ≡ oids_of (asked_of self.now) }
     {
@@ -338,7 +338,7 @@ impl<A: Allocator + Copy> Request<A> {
         }
     }
 
-    /// The argument at place `i`, in the order in which they are written.
+    /// The argument at index `i`, in the order in which they are written.
     pub(crate) fn argument(&self, i: usize) -> Option<Argument<'_>>
         ensures value { option_map shown result ≡ slice_get (arguments_in (asked_of self.now)) i }
         ensures bound { OnSome result (i + 1 < 2 ^ 64) }
@@ -351,7 +351,7 @@ impl<A: Allocator + Copy> Request<A> {
         }
     }
 
-    // Whether a reference that is asked for by name has a name that it may have.
+    // Whether the argument's name is a reference name, if it requests a reference by name.
     fn check_name(&self, argument: &Argument<'_>) -> Result<(), Kind>
         ensures ok { OnOk result (HasName (shown argument.now)) }
         ensures err { IfErr result (IsValueFault (command_of self.now) (format_of self.now) (shown argument.now)) }
@@ -377,10 +377,10 @@ impl<A: Memory + Copy> Request<A> {
     ghost use Rattle.git_msg.specs.Machine.HeldRequest.{IsRefused, Keeps, add_checks, keep_checks, limit_of};
     ghost use Rattle.git_msg.specs.Memory.{NeedsRefusal};
 
-    /// Adds an argument after the others. Refused in this order: `UnknownArgument` for an argument of another command, a
-    /// value that is not allowed there (`BadObjectName` for an object name of another format, `BadNumber` for a number out of
-    /// its range, `BadRefName` for a `want-ref` of what is no reference name, `BadLine` for a text of more than 32,000 bytes
-    /// or an empty `deepen-not`), `TooMuchKept` where the texts of all lines, as they are written, would pass the limit, and
+    /// Adds an argument after the others. It is refused in this order: `UnknownArgument` for an argument of another command;
+    /// a value that is not allowed there (`BadObjectName` for an object name of another format, `BadNumber` for a number out
+    /// of its range, `BadRefName` for a `want-ref` that is no reference name, `BadLine` for a text of more than 32,000 bytes
+    /// or an empty `deepen-not`); `TooMuchKept` if the texts of all lines, as they are written, would exceed the limit; and
     /// `OutOfMemory`. Then the request stays as it was.
     pub fn add(&mut self, argument: Argument<'_>) -> Result<(), Kind>
         ensures added { OnOk result (Keeps self.old (shown argument.entry) (length (written_text (shown argument.entry))) self.new) }
@@ -388,14 +388,14 @@ impl<A: Memory + Copy> Request<A> {
         ensures unchanged { OnErr result (self.new ≡ self.old) }
         ensures refused { IfErr result (IsRefused (add_checks self.old (shown argument.entry)) (shown argument.entry)) }
 
-        // `OutOfMemory` is reported where memory refused a list, which was to have no more bytes than the limit.
+        // It reports `OutOfMemory` only if memory for a list was refused, and the list was to have no more bytes than the limit.
         ensures memory { IfErr result (NeedsRefusal A.refuses (limit_of self.old)) }
     {
         let argument = put_together!(argument);
         self.add_lent(&argument)
     }
 
-    // The same, of an argument that is lent.
+    // The same for a borrowed argument.
     fn add_lent(&mut self, argument: &Argument<'_>) -> Result<(), Kind>
         ensures added { OnOk result (Keeps self.old (shown argument.now) (length (written_text (shown argument.now))) self.new) }
         ensures passes { OnOk result (Passes (add_checks self.old (shown argument.now))) }
@@ -427,7 +427,7 @@ impl<A: Memory + Copy> Request<A> {
     }
 }
 
-/// How many bytes the argument's text has, as it is written.
+/// The length of the argument's text when it is written.
 pub(crate) fn written_length(argument: &Argument<'_>) -> usize
     ensures { result ≡ length (written_text (shown argument.now)) }
 {
@@ -449,7 +449,7 @@ pub(crate) fn written_length(argument: &Argument<'_>) -> usize
     }
 }
 
-// How many bytes a word of so many and an object name have.
+// The length of a word of so many bytes and an object name.
 fn name_length(word: usize, id: &Oid) -> usize
     requires { word ≤ most_text }
     ensures { result ≡ word + length (hex_of id.now) }
@@ -457,7 +457,7 @@ fn name_length(word: usize, id: &Oid) -> usize
     word + id.format().digits()
 }
 
-// How many bytes a word of so many and a number have.
+// The length of a word of so many bytes and a number.
 fn number_length(word: usize, number: u64) -> usize
     requires { word ≤ most_text }
     ensures { result ≡ word + length (decimal number) }

@@ -17,16 +17,16 @@ use git_names::{Format, Oid, RefName, Steps};
 use git_pkt::{Hold, Kind, append, begin};
 use itoa::Buffer;
 
-/// A line of a shallow boundary, gitprotocol-v2(5).
+/// A line of a shallow boundary, as in gitprotocol-v2(5).
 #[derive(Clone, Copy, Debug, PartialEq, Eq)]
 pub enum Boundary {
     /// The parents of this commit are not sent.
     Shallow(Oid),
-    /// The parents of this commit, which had none, are sent now.
+    /// The parents of this commit, which had none so far, are sent now.
     Unshallow(Oid),
 }
 
-/// A line of the wanted references, gitprotocol-v2(5): of a reference that was asked for by its name, whose text is lent.
+/// A line of the wanted references, as in gitprotocol-v2(5): a reference that was requested by its name, with a borrowed text.
 #[derive(Clone, Copy, Debug)]
 pub struct WantedRef<'a> {
     /// The object that it points to.
@@ -35,7 +35,7 @@ pub struct WantedRef<'a> {
     pub name: &'a [u8],
 }
 
-/// A line of the response to object-info, gitprotocol-v2(5).
+/// A line of the response to object-info, as in gitprotocol-v2(5).
 #[derive(Clone, Copy, Debug, PartialEq, Eq)]
 pub struct Info {
     /// The object.
@@ -68,7 +68,7 @@ pub fn put_boundary(hold: &mut Hold, boundary: &Boundary)
 }
 
 /// Makes the hold the packet of the wanted reference's line, with an LF at its end: gitprotocol-v2(5), the section
-/// `wanted-refs`. The name has to be such as [`git_names::RefName::read`] takes.
+/// `wanted-refs`. [`git_names::RefName::read`] has to accept the name.
 pub fn put_wanted(hold: &mut Hold, wanted: WantedRef<'_>)
     requires { IsRefName wanted.name.now }
     ensures written { hold.new.items ≡ spelling_of (text_line (wanted_text (shown_wanted wanted.entry))) }
@@ -76,7 +76,7 @@ pub fn put_wanted(hold: &mut Hold, wanted: WantedRef<'_>)
     ensures fits { length (wanted_text (shown_wanted wanted.entry)) < longest_payload }
 {
     let WantedRef { id, name } = wanted;
-    // The line is that of a reference of which no more is given.
+    // The line is that of a reference without a target and a peeled object.
     let reference = Reference {
         id: Some(id),
         name,
@@ -86,8 +86,7 @@ pub fn put_wanted(hold: &mut Hold, wanted: WantedRef<'_>)
     put_reference(hold, reference);
 }
 
-/// Makes the hold the packet of the line with what is known of an object, with an LF at its end: gitprotocol-v2(5), the
-/// response to object-info.
+/// Makes the hold the packet of an object's line, with an LF at its end: gitprotocol-v2(5), the response to object-info.
 pub fn put_info(hold: &mut Hold, info: &Info)
     ensures written { hold.new.items ≡ spelling_of (text_line (info_text info.now)) }
     ensures reads_back { IsInfoLine info.now.id.format (info_text info.now) info.now }
@@ -105,8 +104,8 @@ pub fn put_info(hold: &mut Hold, info: &Info)
     append(hold, b"\n");
 }
 
-/// Reads the text of a line for an object that both ends have. A text that does not begin with `ACK ` is
-/// `BadLine`, and else one without an object name after that is `BadObjectName`.
+/// Reads the text of a line for an object that both ends have. A text that does not begin with `ACK ` is `BadLine`;
+/// otherwise, one without an object name after that is `BadObjectName`.
 pub fn read_ack(format: Format, text: &[u8], steps: &mut Steps) -> Result<Oid, Kind>
     ensures line { MatchResult result (IsAckLine format text.now) (IsAckFault format text.now) }
     ensures cost { TakesAtMost (40 * (length text.now + 1)) steps.old steps.new }
@@ -114,8 +113,8 @@ pub fn read_ack(format: Format, text: &[u8], steps: &mut Steps) -> Result<Oid, K
     read_named(format, b"ACK ", text, steps)
 }
 
-/// Reads the text of a line of the shallow boundary. A text that begins neither with `shallow ` nor with `unshallow ` is
-/// `BadLine`, and else one without an object name after that is `BadObjectName`.
+/// Reads the text of a line of the shallow boundary. A text that begins with neither `shallow ` nor `unshallow ` is
+/// `BadLine`; otherwise, one without an object name after that is `BadObjectName`.
 pub fn read_boundary(format: Format, text: &[u8], steps: &mut Steps) -> Result<Boundary, Kind>
     ensures line { MatchResult result (IsBoundaryLine format text.now) (IsBoundaryFault format text.now) }
     ensures cost { TakesAtMost (40 * (length text.now + 1)) steps.old steps.new }
@@ -132,8 +131,8 @@ pub fn read_boundary(format: Format, text: &[u8], steps: &mut Steps) -> Result<B
     }
 }
 
-/// Reads the text of a line of the wanted references: an object name, a space, and all after it, a reference name. A text
-/// without a space is `BadLine`; then from left to right `BadObjectName` and `BadRefName`.
+/// Reads the text of a line of the wanted references: an object name, a space, and then a reference name, which is all the
+/// rest. A text without a space is `BadLine`; then, from left to right, `BadObjectName` and `BadRefName`.
 pub fn read_wanted<'a>(
     format: Format,
     text: &'a [u8],
@@ -151,9 +150,9 @@ pub fn read_wanted<'a>(
     Ok(WantedRef { id, name })
 }
 
-/// Reads the text of a line of the response to object-info: an object name, a space, and all after it, a size or nothing. A
-/// text without a space is `BadLine`; then from left to right `BadObjectName`, and `BadNumber` for what is no decimal number
-/// of 64 bits.
+/// Reads the text of a line of the response to object-info: an object name, a space, and then a size or nothing, which is
+/// all the rest. A text without a space is `BadLine`; then, from left to right, `BadObjectName`, and `BadNumber` for
+/// anything but a decimal number of 64 bits.
 pub fn read_info(format: Format, text: &[u8], steps: &mut Steps) -> Result<Info, Kind>
     ensures line { MatchResult result (IsInfoLine format text.now) (IsInfoFault format text.now) }
     ensures cost { TakesAtMost (40 * (length text.now + 1)) steps.old steps.new }
@@ -167,7 +166,7 @@ pub fn read_info(format: Format, text: &[u8], steps: &mut Steps) -> Result<Info,
     Ok(Info { id, size })
 }
 
-/// The size, or none where there is no text.
+/// The size, or none if there is no text.
 fn read_size(text: &[u8], steps: &mut Steps) -> Result<Option<u64>, Kind>
     ensures size { MatchResult result (IsSizeText text.now) (λ kind. IsNoSizeText text.now × (kind ≡ Kind.BadNumber)) }
     ensures cost { TakesAtMost (length text.now) steps.old steps.new }

@@ -1,4 +1,4 @@
-//! Requests, read from bytes that come in pieces.
+//! Requests, read from bytes that come in chunks.
 
 ghost use Rattle.std.specs.Prelude.{◌≡◌, ◌<◌, ◌≤◌, ◌+◌, ◌*◌, [], None, true, false, length};
 ghost use Rattle.git_names.specs.Steps.{TakesAtMost};
@@ -30,30 +30,30 @@ enum Stage {
     Failed(Fault),
 }
 
-/// What came of some bytes of a piece.
+/// The result of reading some bytes of a chunk.
 #[derive(Drop)]
 pub struct ReadRequest<A: Allocator + Copy> {
-    /// How many bytes of the piece were used.
+    /// How many bytes of the chunk were used.
     pub used: usize,
-    /// What they brought.
+    /// The result of reading them.
     pub got: ReadGot<A>,
 }
 
-/// What the bytes used brought.
+/// The result of reading the bytes used.
 #[derive(Drop)]
 pub enum ReadGot<A: Allocator + Copy> {
-    /// Nothing whole yet: all of the piece was used, or the reader reads no more.
+    /// Nothing whole yet: the whole chunk was used, or the reader reads no more.
     More,
     /// A whole request.
     Request(Request<A>),
-    /// A flush with nothing before it, by which the other end leaves. Nothing after it is read.
+    /// A flush with nothing before it: the other end ends the session. Nothing after it is read.
     Stop,
     /// The first fault of the bytes; the reader stays at it.
     Failed(Fault),
 }
 
-/// Reads requests, gitprotocol-v2(5), from pieces of any size, against what was offered. Each argument is kept as it comes, within
-/// the limit.
+/// Reads requests, as in gitprotocol-v2(5), from chunks of any size, against what was advertised. It keeps each argument as
+/// it comes, within the limit.
 #[derive(Drop)]
 pub struct RequestStream<A: Allocator + Copy> {
     packets: PacketReader,
@@ -97,15 +97,15 @@ impl<A: Allocator + Copy> RequestStream<A> {
         self.packets.position()
     }
 
-    /// Whether bytes are read on: no fault came, and no flush instead of a request.
+    /// Whether the reader reads on: no fault came, and no flush in place of a request.
     pub fn wants_input(&self) -> bool
         ensures { result ≡ wants_input self.now }
     {
         matches!(self.stage, Stage::Between | Stage::Within)
     }
 
-    /// The input ends here, where more could come. Between two requests that is well; inside one it is refused as
-    /// truncated, at the end of the last whole packet.
+    /// The input ends here, where more could come. Between two requests that is correct; inside one, the request is refused
+    /// as truncated, at the end of the last whole packet.
     pub fn close(&mut self) -> Result<(), Fault>
         requires { wants_input self.old ≡ true }
         ensures { Closes result self.old self.new }
@@ -125,8 +125,8 @@ impl<A: Allocator + Copy> RequestStream<A> {
         Err(fault)
     }
 
-    /// Lends the buffer of one packet for writing; none while a packet is open, as between two packets alone its bytes mean nothing
-    /// to the reader.
+    /// Lends the buffer of one packet for writing; none while a packet is open, since its bytes mean nothing to the reader
+    /// only between packets.
     pub fn lend(&mut self) -> Option<&mut Hold>
         ensures* lends { sem 𝓛 (LendsSo (the_row A.row A.Allocator) (array_vec_row u8 (number 65520) unit) self.entry result
             (λ new hold. OnSome result (IsLent self.old hold new)) (λ new. IfNone result (IsUnlent self.old new))) }
@@ -139,7 +139,7 @@ impl<A: Allocator + Copy> RequestStream<A> {
         Some(self.packets.lend())
     }
 
-    /// The buffer of one packet: after a packet its bytes as they came, and after it was lent what was written.
+    /// The buffer of one packet: after a packet, that packet's bytes as they came; after it was lent, what was written there.
     pub fn hold(&self) -> &Hold
         ensures value { result.now.items ≡ hold_of self.now }
         ensures fits { length result.now.items ≤ 65520 }
@@ -154,7 +154,7 @@ impl<A: Memory + Copy> RequestStream<A> {
     ghost use Rattle.git_msg.specs.Machine.RequestStreamSteps.{Steps as StepsTo};
     ghost use Rattle.git_msg.specs.Memory.{FaultNeedsRefusal};
 
-    /// Reads on. It returns after a whole request, at a flush instead of one, with the whole piece used, or at the first
+    /// Reads on. It returns after a whole request, at a flush in place of one, when the whole chunk is used, or at the first
     /// fault. Call it again with the bytes that it did not use.
     pub fn feed(&mut self, piece: &[u8], steps: &mut Steps) -> ReadRequest<A>
         ensures used { result.used ≤ length piece.now }
@@ -162,7 +162,7 @@ impl<A: Memory + Copy> RequestStream<A> {
         ensures moves { wants_input self.old ≡ true → 0 < length piece.now → 0 < result.used ⊎ IsSome (fault_of self.new) }
         ensures cost { Pays result.used steps.old steps.new (credit_of self.old) (credit_of self.new) }
 
-        // It comes to `OutOfMemory` only where memory refused a list, which was to have no more bytes than the limit.
+        // It reports `OutOfMemory` only if memory for a list was refused, and the list was to have no more bytes than the limit.
         ensures memory { FaultNeedsRefusal A.refuses (limit_of self.old) (fault_of self.old)
             → FaultNeedsRefusal A.refuses (limit_of self.old) (fault_of self.new) }
     {
@@ -187,7 +187,8 @@ impl<A: Memory + Copy> RequestStream<A> {
         }
     }
 
-    /// Uses bytes up to the end of a packet, or all of them. A packet after which more is wanted has been paid for by its own bytes.
+    /// Uses bytes up to the end of a packet, or all of them. If more is wanted after a packet, the packet's own bytes have
+    /// paid for it.
     fn step(&mut self, piece: &[u8], steps: &mut Steps) -> ReadRequest<A>
         requires waits { wants_input self.old ≡ true }
         requires some { 0 < length piece.now }
@@ -200,7 +201,7 @@ impl<A: Memory + Copy> RequestStream<A> {
             → steps.new + credit_of self.new ≤ steps.old + credit_of self.old + 64 * result.used }
     {
         steps.tick(1);
-        // The buffer has no more bytes than the longest packet.
+        // The buffer has at most the bytes of the longest packet.
         let _ = self.packets.hold();
         let fed = self.packets.feed(piece, steps);
         let used = fed.used;
@@ -225,8 +226,8 @@ impl<A: Memory + Copy> RequestStream<A> {
     }
 }
 
-/// Takes a packet of a request, and keeps its argument, if it is one that is not refused. A fault is that of the packet, or by which its
-/// argument is refused, at its offset; after it the reader takes no packet more.
+/// Takes a packet of a request, and keeps its argument, if it is one and nothing refuses it. A fault is at the packet's
+/// offset: that of the packet, or the one by which its argument is refused. After a fault the reader takes no more packets.
 pub fn take_packet<A: Memory + Copy, B: Admits>(
     requests: &mut RequestReader<A>,
     admits: &B,
@@ -245,7 +246,7 @@ pub fn take_packet<A: Memory + Copy, B: Admits>(
         Ok(taken) => match taken {
             Taken::More => return ReadGot::More,
             Taken::Argument(argument) => {
-                // What may refuse it is asked once.
+                // One call of `refusal_of`.
                 steps.tick(1);
                 if let Some(kind) = admits.refusal_of(&argument) {
                     return ReadGot::Failed(Fault { kind, offset });
@@ -265,7 +266,7 @@ pub fn take_packet<A: Memory + Copy, B: Admits>(
     }
 }
 
-/// The stage of the reader after a packet that brought this.
+/// The stage of the reader after a packet with this result.
 fn stage_after<A: Allocator + Copy>(got: &ReadGot<A>) -> Stage
     ensures { result ≡ stage_brought got.now }
 {

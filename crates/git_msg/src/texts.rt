@@ -14,21 +14,21 @@ pub fn is_word(text: &[u8], word: &[u8]) -> bool
     text == word
 }
 
-/// What comes after the word, if the text begins with it.
+/// The text after the word, if it begins with the word.
 pub fn after<'a>(text: &'a [u8], word: &[u8]) -> Option<&'a [u8]>
     ensures rest { MatchOption result (BeginsOtherThan word.now text.now) (λ rest. text.now ≡ word.now ++ rest.now) }
 {
     text.strip_prefix(word)
 }
 
-/// The first place of the text where this byte is.
+/// The first index of this byte in the text.
 pub(crate) fn find_byte(text: &[u8], byte: u8) -> Option<usize>
     ensures value { result ≡ position (λ c. c == byte) text.now }
 {
     text.find_byte(byte)
 }
 
-/// The text up to the first such byte, and what comes after that byte, where there is one.
+/// The text up to the first such byte, and the text after that byte, if there is one.
 pub fn split_at_first(text: &[u8], byte: u8) -> (&[u8], Option<&[u8]>)
     ensures parts { parts_of byte text.now ≡ result.0.now ∷ parts_left byte (option_copied result.1) }
     ensures cut { IsCutAt byte text.now result.0.now (option_copied result.1) }
@@ -41,7 +41,7 @@ pub fn split_at_first(text: &[u8], byte: u8) -> (&[u8], Option<&[u8]>)
     }
 }
 
-/// The message of an error packet that has this text, gitprotocol-pack(5): what comes after `ERR `.
+/// The message of an error packet with this text, as in gitprotocol-pack(5): the bytes after `ERR `.
 pub fn error_message(text: &[u8]) -> Option<&[u8]>
     ensures message { MatchOption result (¬ IsErrorText text.now) (λ message. IsErrorOf text.now message.now) }
 {

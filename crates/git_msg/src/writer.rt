@@ -14,20 +14,20 @@ use crate::writing::{put_argument, put_line};
 use git_pkt::{Hold, Packet, put};
 use std::alloc::Allocator;
 
-/// The packet that is due.
+/// The next packet.
 #[derive(Clone, Copy, Debug)]
 enum Next {
     CommandLine,
     Agent,
     ObjectFormat,
     Delimiter,
-    // The argument at this place, or the flush after the last.
+    // The argument at this index, or the flush after the last.
     Argument(usize),
     Done,
 }
 
-/// Writes a request's packets, gitprotocol-v2(5): its command, what was advertised of `agent` and `object-format`, the
-/// delimiter, its arguments and the flush.
+/// Writes a request's packets, as in gitprotocol-v2(5): its command, then `agent` and `object-format` if they were
+/// advertised, the delimiter, its arguments and the flush.
 #[derive(Clone, Copy, Debug)]
 pub struct RequestWriter {
     agent: bool,
@@ -47,8 +47,8 @@ impl RequestWriter {
         }
     }
 
-    /// Makes the hold the next packet of the request that the writer was made for; false, with the hold as it was, when
-    /// there is none.
+    /// Makes the hold the next packet of the request that the writer was made for. Returns false, and leaves the hold as it
+    /// was, when there is none.
     pub fn pull<A: Allocator + Copy>(&mut self, request: &Request<A>, hold: &mut Hold) -> bool
         ensures more { OnTrue result (PutsFirst (left_to_write self.old request.now) (left_to_write self.new request.now) hold.new.items) }
         ensures none { OnFalse result ((left_to_write self.old request.now ≡ []) × (hold.new ≡ hold.old) × (self.new ≡ self.old)) }
@@ -62,7 +62,7 @@ impl RequestWriter {
         }
     }
 
-    /// Whether all packets were given.
+    /// Whether no packet is left.
     pub fn is_done(&self) -> bool
         ensures { (format : Format) (asked : Asked) → IsTrue result ↔ (lines_left self.now format asked ≡ []) }
     {
@@ -116,7 +116,7 @@ impl RequestWriter {
     }
 }
 
-/// The line of the argument at place `i`, or the flush after the last.
+/// Writes the line of the argument at index `i`, or the flush after the last.
 fn put_from<A: Allocator + Copy>(request: &Request<A>, i: usize, hold: &mut Hold) -> Next
     ensures { (agent object_format : Bool) (format : Format)
         → PutsFirst (lines_from (Next.Argument i) agent object_format format (asked_of request.now))

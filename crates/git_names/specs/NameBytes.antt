@@ -1,4 +1,4 @@
--- What a clause sees of a reference name that borrows its bytes.
+-- How a clause sees a reference name that borrows its bytes.
 use Rattle.std.specs.Prelude.{ℕ, List}
 use Rattle.git_names.specs.declared.reference.RefName.{RefName}
 

@@ -2,7 +2,7 @@
 use Rattle.std.specs.Prelude.{◌≡◌, ◌≢◌, ℕ, ◌≤◌, List, codes}
 use Rattle.git_names.specs.RefName.{EndsWith}
 
--- the byte is none of those that no reference name has
+-- the byte is not among those that no reference name has
 pub record IsAllowed (byte : ℕ) : Type 0 where
   pub no_control : 32 ≤ byte
   pub no_space : byte ≢ 32
@@ -15,14 +15,14 @@ pub record IsAllowed (byte : ℕ) : Type 0 where
   pub no_tilde : byte ≢ 126
   pub no_delete : byte ≢ 127
 
--- no rule is about the byte
+-- no rule mentions the byte
 pub record IsPlain (byte : ℕ) : Type 0 where
   pub allowed : IsAllowed byte
   pub no_slash : byte ≢ 47
   pub no_dot : byte ≢ 46
   pub no_brace : byte ≢ 123
 
--- the byte may follow these
+-- the byte may follow these bytes
 pub record MayFollow (front : List ℕ) (byte : ℕ) : Type 0 where
   pub allowed : IsAllowed byte
   pub no_empty_component : byte ≡ 47 → ¬ EndsWith front (codes "/")

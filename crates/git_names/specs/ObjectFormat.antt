@@ -1,4 +1,4 @@
--- What an object format is called, and how long its object names are.
+-- The name of an object format, and the length of its object names.
 use Rattle.std.specs.Prelude.{◌≢◌, ℕ, List, codes}
 use Rattle.git_names.specs.declared.object_format.Format.{Format}
 use Rattle.git_names.specs.declared.object_format.Format.TheVariants.{Sha1, Sha256}
@@ -13,7 +13,7 @@ abbrev pub digits_of : Format → ℕ
 digits_of Sha1 = 40
 digits_of Sha256 = 64
 
--- what the protocol calls the format
+-- the protocol's name for the format
 abbrev pub name_of : Format → List ℕ
 name_of Sha1 = codes "sha1"
 name_of Sha256 = codes "sha256"

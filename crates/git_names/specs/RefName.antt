@@ -1,4 +1,4 @@
--- What reference names are: the rules of git-check-ref-format(1), as the parts that a name does not have.
+-- Reference names: the rules of git-check-ref-format(1), as the parts that no name has.
 use Rattle.std.specs.Prelude.{◌≢◌, ℕ, ◌-◌, ◌<◌, ◌≤◌, List, length, slice_index, codes}
 use Rattle.bstr.specs.Find.{OccursAt}
 use Rattle.bstr.specs.Text.{Contains}

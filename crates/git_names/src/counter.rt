@@ -4,8 +4,7 @@ ghost use Rattle.std.specs.Prelude.{◌≡◌, ℕ, ◌+◌};
 
 use std::marker::Model;
 
-/// A counter of steps that only contracts read: it has no bytes, and no answer for a running
-/// program.
+/// A counter of steps that only contracts read: it has no bytes, and a running program cannot read it.
 #[derive(Drop)]
 pub struct Steps {
     count: Count,
@@ -20,7 +19,7 @@ impl Model for Steps {
 }
 
 impl Steps {
-    /// A counter at no steps.
+    /// A counter at 0 steps.
     pub fn new() -> Steps
         ensures { result ≡ 0 }
     {
@@ -40,7 +39,7 @@ impl Steps {
 
 const _: () = prove!(size_of::<Steps>() == 0);
 
-// A number that a proof by hand sets, and nothing else: no code holds it.
+// A number that only a proof by hand sets: no code holds it.
 #[derive(Drop)]
 struct Count {
     ghost taken: { ℕ },

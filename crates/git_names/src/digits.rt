@@ -9,9 +9,8 @@ ghost use Rattle.git_names.specs.Steps.{TakesAtMost};
 use crate::counter::Steps;
 use std::simd::prelude::*;
 
-// The value of each byte as a digit of either case, and 16 where it is none; a row has 16 bytes.
-// Each packet begins with digits and object names are in nearly every line; a table has no branch for the
-// processor to guess.
+// The value of each byte as a digit of either case, or 16 if it is no digit; each row has 16 bytes. Each packet begins with
+// digits, and nearly every line has an object name; a table has no branch that the processor has to guess.
 static DIGIT_VALUES: [u8; 256] = *b"\
     \x10\x10\x10\x10\x10\x10\x10\x10\x10\x10\x10\x10\x10\x10\x10\x10\
     \x10\x10\x10\x10\x10\x10\x10\x10\x10\x10\x10\x10\x10\x10\x10\x10\
@@ -30,7 +29,7 @@ static DIGIT_VALUES: [u8; 256] = *b"\
     \x10\x10\x10\x10\x10\x10\x10\x10\x10\x10\x10\x10\x10\x10\x10\x10\
     \x10\x10\x10\x10\x10\x10\x10\x10\x10\x10\x10\x10\x10\x10\x10\x10";
 
-// The steps of joining pairs: six calls of vectors, one over 64 bytes and five over 32.
+// The steps of joining pairs: six vector calls, one over 64 bytes and five over 32.
 const PAIRING: usize = 65 + 5 * 33;
 
 static LOWER_DIGITS: [u8; 16] = *b"0123456789abcdef";
@@ -50,7 +49,7 @@ pub fn lower_digit(value: usize) -> u8
     LOWER_DIGITS[value]
 }
 
-// What `hex::decode_to_slice` gives for a SHA-1 name, with zeros after its 20 bytes. None where it gives an error.
+// Decodes a SHA-1 name as `hex::decode_to_slice` does, with zeros after its 20 bytes. None if that returns an error.
 pub(crate) fn decode_20(text: &[u8], steps: &mut Steps) -> Option<[u8; 32]>
     ensures value { Decodes Format.Sha1 text.now result }
     ensures cost { TakesAtMost (16 * (length text.now + 1)) steps.old steps.new }
@@ -85,8 +84,8 @@ pub(crate) fn decode_32(text: &[u8], steps: &mut Steps) -> Option<[u8; 32]>
     Some(joined_32(&values))
 }
 
-// The forty digits where vectors of 16 are loaded as they were stored, which is much faster: the last sixteen begin at the place 32.
-// After them comes the digit 0.
+// Lays the forty digits out so that vectors of 16 are loaded as they were stored, which is much faster: the last sixteen
+// begin at index 32. The digit 0 fills the rest.
 fn laid_out(text: &[u8]) -> [u8; 64]
     requires { length text.now ≡ 40 }
     ensures value { result ≡ (take 32 text.now ++ drop 24 text.now) ++ replicate 16 48 }
@@ -97,8 +96,7 @@ fn laid_out(text: &[u8]) -> [u8; 64]
     digits
 }
 
-// The values of 64 digits. Each step of the loop is the same and goes on whatever it finds, so that the compiler makes
-// one of many.
+// The values of 64 digits. Each step of the loop does the same, whatever it finds, so that the compiler can vectorize it.
 fn digit_values(digits: &[u8; 64], steps: &mut Steps) -> Option<[u8; 64]>
     ensures values { MatchOption result (¬ AreDigits digits.now) (λ values. HaveValues digits.now values) }
     ensures cost { TakesAtMost 64 steps.old steps.new }
@@ -132,7 +130,7 @@ fn value_of(byte: u8) -> u8
     }
 }
 
-// The 32 bytes of pairs of digits that have these values.
+// The 32 bytes that pairs of digits with these values spell.
 fn joined_32(values: &[u8; 64]) -> [u8; 32]
     requires { (k : ℕ) → k < 64 → slice_index values.now k < 16 }
     ensures size { length result ≡ 32 }
@@ -150,8 +148,8 @@ fn joined_32(values: &[u8; 64]) -> [u8; 32]
     (high * u8x32::splat(16) + low).to_array()
 }
 
-// The 20 bytes of pairs of digits that have these values, of which the last four are from the place 40 on, and after them twelve times
-// the byte of the pair after those.
+// The 20 bytes that pairs of digits with these values spell; the pairs of the last four begin at index 40. Twelve copies of
+// the byte of the next pair follow.
 fn joined_20(values: &[u8; 64]) -> [u8; 32]
     requires { (k : ℕ) → k < 64 → slice_index values.now k < 16 }
     ensures size { length result ≡ 32 }
@@ -171,7 +169,7 @@ fn joined_20(values: &[u8; 64]) -> [u8; 32]
     (high * u8x32::splat(16) + low).to_array()
 }
 
-// What `hex::encode_to_slice` gives for the bytes. Each step of the loop is the same, so that the compiler makes one of many.
+// Encodes the bytes as `hex::encode_to_slice` does. Each step of the loop does the same, so that the compiler can vectorize it.
 pub(crate) fn pairs_of(bytes: &[u8; 32]) -> [u8; 64]
     ensures { result ≡ encode_lower bytes.now }
 {

@@ -9,7 +9,7 @@ use std::fmt;
 /// Why a text is no name.
 #[derive(Clone, Copy, Debug, PartialEq, Eq, Hash)]
 pub enum NameFault {
-    /// The text is no object name of the format that was asked for.
+    /// The text is no object name of the requested format.
     BadObjectName,
     /// The text is no reference name.
     BadRefName,

@@ -6,25 +6,25 @@ ghost use Rattle.git_names.specs.ObjectName.{IsObjectName, IsOid, ObjectName, he
 ghost use Rattle.git_names.specs.RefName.{IsRefName, Lacks};
 ghost use Rattle.git_names.specs.declared.object_format.Format.{Format as ObjectFormat};
 
-/// What is written of an object name reads back as that name.
+/// The written form of an object name reads back as that name.
 pub fn written_name_reads_back()
     ensures { (id : ObjectName) → IsOid id → IsObjectName id.format (hex_of id) id }
 {}
 
-/// A text is one object name of a format at most.
+/// A text is at most one object name of a format.
 pub fn text_is_one_object_name()
     ensures { (format : ObjectFormat) (text : List ℕ) (a b : ObjectName)
         → IsObjectName format text a → IsObjectName format text b → a ≡ b }
 {}
 
-/// The texts of an object name in lower case are one: its written form.
+/// Only one text of an object name is in lower case: its written form.
 pub fn object_name_has_one_written_form()
     ensures lower { (id : ObjectName) → IsOid id → AllPass is_lower_digit (hex_of id) }
     ensures one { (format : ObjectFormat) (text : List ℕ) (id : ObjectName)
         → IsObjectName format text id → AllPass is_lower_digit text → text ≡ hex_of id }
 {}
 
-/// Object names with one written form are equal, their formats too.
+/// Object names with the same written form are equal, and so are their formats.
 pub fn written_forms_tell_names_apart()
     ensures { (a b : ObjectName) → IsOid a → IsOid b → hex_of a ≡ hex_of b → a ≡ b }
 {}
@@ -35,7 +35,7 @@ pub fn no_object_name_begins_another()
         → IsObjectName format text a → IsObjectName format (text ++ more) b → more ≡ [] }
 {}
 
-/// An object name is digits: no byte of it ends a word or a line.
+/// An object name consists of digits: no byte of it ends a word or a line.
 pub fn object_name_is_digits()
     ensures { (format : ObjectFormat) (text : List ℕ) (id : ObjectName) → IsObjectName format text id
         → (k : ℕ) → k < length text → IsHexDigit (slice_index text k) }

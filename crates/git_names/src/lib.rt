@@ -1,6 +1,5 @@
-//! Names in Git's protocol: object formats, object names and reference names, read from the bytes
-//! of a stranger and written back, the hexadecimal digits of the protocol, and the counter of steps that contracts
-//! cite.
+//! Names in Git's protocol: object formats, object names and reference names, read from untrusted bytes and written back;
+//! the hexadecimal digits of the protocol; and the counter of steps that contracts cite.
 #![tactic(auto)]
 
 mod counter;

@@ -3,8 +3,7 @@
 ghost use Rattle.std.specs.Prelude.{◌≡◌, MatchOption};
 ghost use Rattle.git_names.specs.ObjectFormat.{digits_of, name_of, width_of, NamesNoFormat};
 
-/// The hash that object names are made with, an object format of gitformat-index(5) and
-/// gitprotocol-v2(5).
+/// The hash that object names are made with: an object format, as in gitformat-index(5) and gitprotocol-v2(5).
 #[derive(Clone, Copy, Debug, Hash, PartialEq, Eq, PartialOrd, Ord)]
 pub enum Format {
     /// SHA-1, with names of 20 bytes.

@@ -1,4 +1,4 @@
-//! Object names: read from digits and written, as the crate `hex` has it.
+//! Object names, read from digits and written as digits, as the crate `hex` does.
 
 ghost use Rattle.std.specs.Prelude.{◌≡◌, ◌+◌, ◌*◌, Err, MatchResult, length, take, drop};
 ghost use Rattle.hex.specs.Hex.{decode_sized};
@@ -16,12 +16,12 @@ use std::convert::AsSlice;
 use std::fmt;
 use std::marker::Model;
 
-/// An object name, as in gitprotocol-common(5): the hash of an object, as a value of 33 bytes. Two
-/// names are equal where their formats and bytes are; those of one format are in order of bytes.
+/// An object name, as in gitprotocol-common(5): the hash of an object, as a value of 33 bytes. Two names are equal if their
+/// formats and bytes are equal; names of one format are ordered by their bytes.
 #[derive(Clone, Copy, Hash, PartialEq, Eq, PartialOrd, Ord)]
 pub struct Oid {
     format: Format,
-    // After the format's width these are zero.
+    // The bytes after the format's width are zero.
     bytes: [u8; 32],
 }
 
@@ -42,7 +42,8 @@ const _: () = prove!(size_of::<Oid>() == 33);
 impl Oid {
     /// The object name that `text` spells: exactly as many hexadecimal digits as the format has,
     /// of either case. Any other text is `BadObjectName`.
-    // It goes into each caller: a name that is returned is stored once more, and copied from there, which is slow right after it.
+    // Inlined into each caller: otherwise the name that it returns is stored once more and copied from there, which is slow
+    // right after the store.
     #[inline(always)]
     pub fn read(format: Format, text: &[u8], steps: &mut Steps) -> Result<Oid, NameFault>
         ensures name { MatchResult result (IsObjectName format text.now)
@@ -59,7 +60,7 @@ impl Oid {
         }
     }
 
-    /// The name in lower case digits, at the front: as many as its format has. What comes after them means nothing.
+    /// The name in lower case digits, at the front: as many as its format has. The bytes after them mean nothing.
     pub fn hex(&self) -> [u8; 64]
         ensures text { take (digits_of self.now.format) result ≡ hex_of self.now }
     {
@@ -79,7 +80,7 @@ impl Oid {
         digits
     }
 
-    /// The name in lower case digits, which are put at the front of the room. What the room has after them means nothing.
+    /// Writes the name in lower case digits to the front of `room`, and returns them. The bytes of `room` after them mean nothing.
     pub fn written<'a>(&self, room: &'a mut [u8; 64]) -> &'a [u8]
         ensures text { result.now ≡ hex_of self.now }
         ensures reads_back { IsObjectName self.now.format (hex_of self.now) self.now }
@@ -104,7 +105,7 @@ impl Oid {
     }
 }
 
-/// An object name of either format, which the number of digits determines. A text of another length is `OddLength` or
+/// An object name of either format; the number of digits determines which. A text of another length is `OddLength` or
 /// `InvalidStringLength`, as for an array of bytes.
 impl FromHex for Oid {
     ghost use Rattle.git_names.specs.ObjectName.{HexReads};

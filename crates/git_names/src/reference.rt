@@ -17,11 +17,10 @@ pub struct RefName<'a> {
     ghost named: { IsRefName text.now },
 }
 
-// The most bytes that a reference name may have.
+// The maximum length of a reference name, in bytes.
 const MOST_BYTES: usize = 32_000;
 
-// A dot marks each byte that some rule is about. The place of any other has the byte itself,
-// or an x for those from 0x80 on.
+// A dot marks each byte that a rule mentions. Every other byte has itself at its place, or an x if it is 0x80 or more.
 static PLAIN_BYTES: [u8; 256] = *b"\
     ................................\
     .!\"#$%&'().+,-..0123456789.;<=>.\
@@ -35,7 +34,7 @@ static PLAIN_BYTES: [u8; 256] = *b"\
 impl<'a> RefName<'a> {
     ghost use Rattle.git_names.specs.NameBytes.{name_bytes};
 
-    /// The reference name that is `text`, or `BadRefName` where it breaks a rule.
+    /// The reference name that is `text`, or `BadRefName` if it breaks a rule.
     pub fn read(text: &'a [u8], steps: &mut Steps) -> Result<RefName<'a>, NameFault>
         ensures name { MatchResult result (λ name. (name_bytes name ≡ text.now) × IsRefName text.now)
             (λ fault. (fault ≡ NameFault.BadRefName) × ¬ IsRefName text.now) }
@@ -56,7 +55,7 @@ impl<'a> RefName<'a> {
     }
 }
 
-// The rules for what follows what hold of `HEAD` too, so it takes the same way.
+// `HEAD` keeps the rules about which byte may follow which, too, so it takes the same path.
 fn is_ref_name(text: &[u8], steps: &mut Steps) -> bool
     ensures name { IsTrue result ↔ IsRefName text.now }
     ensures cost { TakesAtMost (16 * (length text.now + 1)) steps.old steps.new }
@@ -74,7 +73,7 @@ fn is_ref_name(text: &[u8], steps: &mut Steps) -> bool
     if text.ends_with_str(b".") {
         return false;
     }
-    // Where a slash may follow, the last component is not empty and does not end with `.lock`.
+    // If a slash may follow, the last component is not empty and does not end with `.lock`.
     may_follow(text, b'/', steps)
 }
 

@@ -1,4 +1,4 @@
--- The side bands of a packfile section, by gitprotocol-v2(5).
+-- The side bands of a packfile section, as in gitprotocol-v2(5).
 use Rattle.std.specs.Prelude.{◌≡◌, ◌≢◌, ℕ, ◌<◌, List, [], ◌∷◌, ◌++◌, length}
 use Rattle.git_pkt.specs.Packets.{Pkt, payload, longest_payload}
 use Rattle.git_pkt.specs.declared.band.Band.{Band}
@@ -12,7 +12,7 @@ byte_of Pack = 1
 byte_of Progress = 2
 byte_of Fatal = 3
 
--- the packet that has these bytes on the band
+-- the packet of these bytes on the band
 abbrev pub band_packet : Band → List ℕ → Pkt
 band_packet band bytes = payload (byte_of band ∷ bytes)
 
@@ -21,7 +21,7 @@ abbrev pub IsNoBand : List ℕ → Kind → Type 0
 IsNoBand [] kind = kind ≡ NoBand
 IsNoBand (byte ∷ bytes) kind = ((band : Band) → byte ≢ byte_of band) × (kind ≡ BadBand)
 
--- the packets have the bytes on the band, in their order: some in each, and no more than a packet takes
+-- the packets have the bytes on the band, in order: each has at least one of them, and at most as many as a packet takes
 abbrev pub AreBands : Band → List ℕ → List Pkt → Type 0
 AreBands band bytes [] = bytes ≡ []
 AreBands band bytes (packet ∷ packets) =

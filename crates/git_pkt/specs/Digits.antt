@@ -2,7 +2,7 @@
 use Rattle.std.specs.Prelude.{ℕ, ◌+◌, ◌*◌, ◌/◌, ◌%◌, ◌<◌, ◌≤◌, List, [], ◌∷◌, length, slice_index}
 use Rattle.git_names.specs.Digits.{IsHexDigit, digit_value, lower_digit}
 
--- the number that the first four bytes spell, where they are digits
+-- the number that the first four bytes spell, if they are digits
 unfoldable pub digits_value : List ℕ → ℕ
 digits_value s =
     digit_value (slice_index s 0) * 4096 + digit_value (slice_index s 1) * 256 + digit_value (slice_index s 2) * 16

@@ -3,7 +3,7 @@ use Rattle.std.specs.Prelude.{ℕ, ◌/◌, ◌%◌, ◌==◌, ◌&&◌, List, [
 use Rattle.std.specs.List.{flat_map}
 use Rattle.git_names.specs.Digits.{lower_digit}
 
--- LF and the backslash have two characters, other bytes from 0x20 to 0x7e stay as they are, and the rest have two digits
+-- LF and the backslash become two characters, other bytes from 0x20 to 0x7e stay as they are, and the rest are escaped with two digits
 unfoldable pub escape_of : ℕ → List ℕ
 escape_of b =
     if b == 10

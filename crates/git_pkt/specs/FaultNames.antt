@@ -84,11 +84,11 @@ kind_number ReadFault = 32
 kind_number WriteFault = 33
 kind_number ReadLimit = 34
 
--- what users see of a fault: its name and its place
+-- the text of a fault for users: its name and its offset
 abbrev pub fault_text : Fault → List ℕ
 fault_text fault = kind_name fault.kind ++ codes " at " ++ decimal fault.offset
 
--- what users see where a run ended early
+-- the text for users if a run ended early
 abbrev pub run_fault_text : RunFault → List ℕ
 run_fault_text ReaderFailed = codes "ReadFault"
 run_fault_text WriterFailed = codes "WriteFault"

@@ -1,4 +1,4 @@
--- The state and the calls of the packet reader, the engines and the hold. No definition beside this folder cites them.
+-- The state and the calls of the packet reader, the engines and the hold. No definition outside this folder cites them.
 pub mod TellsDigits
 pub mod HeldPacket
 pub mod ReaderState

@@ -38,7 +38,7 @@ body_of delim = []
 body_of resp_end = []
 body_of (payload bytes) = bytes
 
--- how many bytes a packet has after its four digits, at the most
+-- how many bytes a packet has after its four digits, at most
 abbrev pub longest_payload : ℕ
 longest_payload = 65516
 
@@ -49,11 +49,11 @@ pub record Spells (p : Pkt) (s : List ℕ) : Type 0 where
   pub body : drop 4 s ≡ body_of p
   pub fits : length (body_of p) ≤ longest_payload
 
--- the spelling that is written: digits in lower case
+-- the spelling that is written, with digits in lower case
 abbrev pub spelling_of : Pkt → List ℕ
 spelling_of p = digits_of (length_field p) ++ body_of p
 
--- a payload's text: less one LF at its end, if it ends with one
+-- a payload's text: the payload without the LF at its end, if it ends with one
 abbrev pub text_of : List ℕ → List ℕ
 text_of bytes =
     if nat_lt 0 (length bytes) && (slice_index bytes (length bytes - 1) == 10) then take (length bytes - 1) bytes else bytes

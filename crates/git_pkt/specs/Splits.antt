@@ -1,4 +1,4 @@
--- How a stream falls into packets and a rest. The whole list of bytes is looked at, however it came.
+-- How a stream splits into packets and a rest. The definitions speak of the whole list of bytes, however it came.
 use Rattle.std.specs.Prelude.{◌≡◌, ℕ, ◌+◌, List, [], ◌∷◌, ◌++◌, length}
 use Rattle.git_pkt.specs.Packets.{Pkt, Spells}
 
@@ -7,7 +7,7 @@ pub record Given : Type 0 where
   pub packet : Pkt
   pub offset : ℕ
 
--- from offset p on, the bytes are a spelling of each packet in order, and then the rest
+-- from offset p on, the bytes spell each packet in order, and then the rest
 abbrev pub SpellsAll : ℕ → List ℕ → List Given → List ℕ → Type 0
 SpellsAll p bytes [] rest = bytes ≡ rest
 SpellsAll p bytes (g ∷ gs) rest =

@@ -1,4 +1,4 @@
-//! The side bands of a packfile section, gitprotocol-v2(5): the first byte of a payload is the band of the others.
+//! The side bands of a packfile section, as in gitprotocol-v2(5): the first byte of a payload names the band of the others.
 
 ghost use Rattle.std.specs.Prelude.{◌≡◌, ◌+◌, ◌≤◌, ◌<◌, ◌∷◌, MatchResult, drop, length, take};
 ghost use Rattle.std.specs.Io.{StartsWith};
@@ -10,20 +10,20 @@ use crate::fault::Kind;
 use crate::hold::{Hold, LONGEST_PACKET, append, put_at};
 use crate::packet::{begin, digits};
 
-/// How many bytes of a packet come before those on its band: its four digits, and the band's byte.
+/// How many bytes of a packet come before those on its band: its four digits and the band's byte.
 pub const BAND_HEAD: usize = 5;
 
-/// By how many blank bytes a hold is made longer at a time.
+/// How many blank bytes are appended to a hold at a time.
 const BLANKS: usize = 1024;
 
-/// What the bytes of a packet are, inside a packfile section.
+/// The kind of a packet's bytes, inside a packfile section.
 #[derive(Clone, Copy, Debug, PartialEq, Eq, Hash)]
 pub enum Band {
     /// 1: bytes of the pack.
     Pack,
     /// 2: progress, a text for the user.
     Progress,
-    /// 3: a fatal error, after which nothing comes.
+    /// 3: a fatal error; nothing follows it.
     Fatal,
 }
 
@@ -40,7 +40,7 @@ impl Band {
     }
 }
 
-/// Makes the hold the packet of these bytes on a band: 65,515 at most, for the band takes one of a payload's.
+/// Makes the hold the packet of these bytes on a band. There are at most 65,515, for the payload begins with the band's byte.
 pub fn put_band(hold: &mut Hold, band: Band, bytes: &[u8])
     requires { length bytes.now < longest_payload }
     ensures { hold.new.items ≡ spelling_of (band_packet band bytes.now) }
@@ -50,8 +50,8 @@ pub fn put_band(hold: &mut Hold, band: Band, bytes: &[u8])
     append(hold, bytes);
 }
 
-/// Makes room in the hold for a packet on a band: 65,515 bytes after the place of its first [`BAND_HEAD`], to be written over
-/// before [`close_band`]. A hold that is as long as the longest packet stays as it is.
+/// Lengthens the hold for a packet on a band, so that 65,515 bytes come after the place of its first [`BAND_HEAD`]: write
+/// over them, and then call [`close_band`]. A hold that is as long as the longest packet stays as it is.
 pub fn open_band(hold: &mut Hold)
     ensures long { array_vec_len hold.new ≡ 65520 }
     ensures front { take (array_vec_len hold.old) hold.new.items ≡ hold.old.items }
@@ -62,8 +62,8 @@ pub fn open_band(hold: &mut Hold)
     }
 }
 
-/// Makes the hold's front the packet on a band of so many of the bytes after the place of its first [`BAND_HEAD`].
-/// None of these is moved, and the hold stays as long as it is.
+/// Makes the hold begin with the packet on a band of the first `count` bytes after the place of its first [`BAND_HEAD`].
+/// These bytes are not moved, and the hold keeps its length.
 pub fn close_band(hold: &mut Hold, band: Band, count: usize)
     requires within { count + 5 ≤ array_vec_len hold.old }
     ensures front { StartsWith hold.new.items (spelling_of (band_packet band (take count (drop 5 hold.old.items)))) }
@@ -75,8 +75,8 @@ pub fn close_band(hold: &mut Hold, band: Band, count: usize)
     put_at(held, 0, &[a, b, c, d, band.byte()]);
 }
 
-/// The band of a payload inside a packfile section, and the bytes after it. A payload without a byte is `NoBand`, and one
-/// whose first byte is no band's is `BadBand`.
+/// The band of a payload inside a packfile section, and the bytes after it. An empty payload is `NoBand`, and one whose
+/// first byte names no band is `BadBand`.
 pub fn split_band(payload: &[u8]) -> Result<(Band, &[u8]), Kind>
     ensures { MatchResult result (λ parts. payload.now ≡ byte_of parts.0 ∷ parts.1.now) (IsNoBand payload.now) }
 {

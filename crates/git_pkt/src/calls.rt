@@ -7,12 +7,12 @@ ghost use Rattle.git_pkt.specs.Machine.Calls.{FlushCall, ReadCall, WriteCall};
 use std::io;
 use std::io::{Read, Write};
 
-/// A reader of which a contract can state that it was read: into which buffer, and what that returned. Each reader is one.
+/// A reader whose reads a contract can state: into which buffer, and with what result. Every reader is one.
 ///
-/// What is generic in it knows nothing of `is_read` but that `call_read` shows it. So a wrapper whose contract has it made that
-/// call, just once, with just that buffer, and returns what the call returned.
+/// Generic code knows of `is_read` only that `call_read` shows it. So if a wrapper's contract states it, the wrapper made
+/// that call, exactly once, with exactly that buffer, and returns the result of the call.
 pub trait ReadCalls: Read {
-    // What a read did: the reader and the buffer before it, what it returned, and both after it.
+    // A read: the reader and the buffer before it, its result, and both after it.
     ghost is_read: { ReadCall Self };
 
     /// Reads as [`Read::read`] does.
@@ -30,12 +30,12 @@ impl<R: Read> ReadCalls for R {
     }
 }
 
-/// A writer of which a contract can state that it was written to or flushed, as of [`ReadCalls`]. Each writer is one.
+/// A writer whose writes and flushes a contract can state, as [`ReadCalls`] does for reads. Every writer is one.
 pub trait WriteCalls: Write {
-    // What a write did: the writer before it, the bytes that were offered, what it returned, and the writer after it.
+    // A write: the writer before it, the bytes passed to it, its result, and the writer after it.
     ghost is_write: { WriteCall Self };
 
-    // What a flush did: the writer before it, what it returned, and the writer after it.
+    // A flush: the writer before it, its result, and the writer after it.
     ghost is_flush: { FlushCall Self };
 
     /// Writes as [`Write::write`] does.

@@ -5,12 +5,12 @@ ghost use Rattle.git_pkt.specs.Machine.TellsDigits.{TellsDigits};
 
 use git_names::digit_value;
 
-/// What four bytes are, read as digits.
+/// The result of reading four bytes as digits.
 #[derive(Clone, Copy, Debug)]
 pub(crate) enum Digits {
     /// They are digits, of this number.
     Number(usize),
-    /// The first that is no digit.
+    /// The index of the first byte that is no digit.
     Bad(usize),
 }
 

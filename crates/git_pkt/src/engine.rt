@@ -1,4 +1,4 @@
-//! What every run over a reader and a writer does: receive, send, flush, each with its one fault.
+//! The calls that every run over a reader and a writer makes: receive, send and flush, each with its one fault.
 ghost use Rattle.std.specs.Prelude.{◌≡◌, ◌+◌, ◌==◌, min, ◌||◌, IfErr, is_err, length};
 ghost use Rattle.std.specs.Io.{ReadsAtMost};
 ghost use Rattle.std.specs.Io.KnownBytes.{Keeps, ReadConsumes};
@@ -11,9 +11,9 @@ use crate::fault::RunFault;
 use crate::told::Told;
 use std::io::{Read, Write};
 
-/// Reads once, into the piece's front, and answers how many bytes came: 0 at the input's end.
+/// Reads once, into the front of the buffer, and returns how many bytes came: 0 at the end of the input.
 ///
-/// The fault is `ReadFault`, exactly where the read fails.
+/// The fault is `ReadFault`, exactly if the read fails.
 pub fn receive<R: ReadCalls>(reader: &mut Told<R>, piece: &mut [u8]) -> Result<usize, RunFault>
     ensures bound { ReadsAtMost result piece.new }
     ensures bytes { ReadConsumes (R.remaining (inner_of reader.old)) (R.remaining (inner_of reader.new)) result piece.new }
@@ -30,7 +30,7 @@ pub fn receive<R: ReadCalls>(reader: &mut Told<R>, piece: &mut [u8]) -> Result<u
 
 /// Writes all the bytes.
 ///
-/// The fault is `WriteFault`, exactly where the writing fails; a front of the bytes was written then.
+/// The fault is `WriteFault`, exactly if the writing fails; then a prefix of the bytes was written.
 pub fn send<W: WriteCalls>(writer: &mut Told<W>, bytes: &[u8]) -> Result<(), RunFault>
     ensures sends { Sends W.contents writer.old bytes.now result writer.new }
     ensures calls { SendsWhole W.is_write (inner_of writer.old) bytes.now result (inner_of writer.new) }
@@ -40,7 +40,7 @@ pub fn send<W: WriteCalls>(writer: &mut Told<W>, bytes: &[u8]) -> Result<(), Run
 
 /// Flushes the writer.
 ///
-/// The fault is `WriteFault`, exactly where the flush fails.
+/// The fault is `WriteFault`, exactly if the flush fails.
 pub fn flush<W: WriteCalls>(writer: &mut Told<W>) -> Result<(), RunFault>
     ensures bytes { Keeps (W.contents (inner_of writer.old)) (W.contents (inner_of writer.new)) }
     ensures call { Flushes W.is_flush (inner_of writer.old) result (inner_of writer.new) }

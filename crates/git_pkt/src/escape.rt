@@ -1,12 +1,11 @@
-//! The escapes by which bytes are shown on one line of text.
+//! The escapes that show bytes on one line of text.
 
 ghost use Rattle.std.specs.Prelude.{◌≡◌, ◌+◌, ◌*◌, ◌≤◌, ◌↔◌, ◌++◌, drop, length, take, IsTrue};
 ghost use Rattle.git_pkt.specs.Escape.{escape_of, escaped_of};
 
 use crate::hold::put_at;
 
-// The escape of each byte, filled up with spaces; a row has 8 bytes. A table has no branch for the processor to guess
-// wrong.
+// The escape of each byte, padded with spaces; each row has 8 bytes. A table has no branch that the processor may guess wrong.
 #[rattlefmt::skip]
 static ESCAPES: [[u8; 4]; 256] = [
     *b"\\x00",  *b"\\x01",  *b"\\x02",  *b"\\x03",  *b"\\x04",  *b"\\x05",  *b"\\x06",  *b"\\x07",
@@ -43,7 +42,7 @@ static ESCAPES: [[u8; 4]; 256] = [
     *b"\\xf8",  *b"\\xf9",  *b"\\xfa",  *b"\\xfb",  *b"\\xfc",  *b"\\xfd",  *b"\\xfe",  *b"\\xff",
 ];
 
-// How many bytes of each escape count.
+// How many bytes each escape has without its padding.
 static ESCAPE_LENGTHS: [u8; 256] = [
     4, 4, 4, 4, 4, 4, 4, 4, 4, 4, 2, 4, 4, 4, 4, 4, 4, 4, 4, 4, 4, 4, 4, 4, 4, 4, 4, 4, 4, 4, 4, 4,
     1, 1, 1, 1, 1, 1, 1, 1, 1, 1, 1, 1, 1, 1, 1, 1, 1, 1, 1, 1, 1, 1, 1, 1, 1, 1, 1, 1, 1, 1, 1, 1,
@@ -55,7 +54,7 @@ static ESCAPE_LENGTHS: [u8; 256] = [
     4, 4, 4, 4, 4, 4, 4, 4, 4, 4, 4, 4, 4, 4, 4, 4, 4, 4, 4, 4, 4, 4, 4, 4, 4, 4, 4, 4, 4, 4, 4, 4,
 ];
 
-/// The escape of one byte, and how many of the four bytes count.
+/// The escape of one byte, and how many of its four bytes count.
 #[derive(Clone, Copy, Debug)]
 struct Escaped {
     bytes: [u8; 4],
@@ -73,10 +72,10 @@ fn look_up(byte: u8) -> Escaped
     }
 }
 
-/// Writes the escape of each byte: LF is `\n`, a backslash is two, other bytes from 0x20 to 0x7e stay as
-/// they are and the rest are `\x` and two digits. They are put at a place of `out`, over what is there; the
-/// answer is where they end. Of the four bytes of room that each byte has, those after the end mean nothing; the
-/// bytes after that room stay.
+/// Writes the escape of each byte over the bytes of `out` from `at` on, and returns where the escapes end. LF becomes `\n`,
+/// a backslash becomes two, other bytes from 0x20 to 0x7e stay as they are, and the rest become `\x` and two digits. Four
+/// bytes of `out` are reserved for each byte: those after the end of the escapes mean nothing, and the bytes after all of
+/// them stay.
 pub fn escape_into(bytes: &[u8], out: &mut [u8], at: usize) -> usize
     requires { at + 4 * length bytes.now ≤ length out.old }
     ensures within { result ≤ at + 4 * length bytes.now }

@@ -1,4 +1,4 @@
-//! What can be refused, each by a name and a number of its own, and where.
+//! Why an input can be refused, and where: each reason has a name and a number of its own.
 ghost use Rattle.std.specs.Prelude.{◌≡◌, Some};
 ghost use Rattle.git_pkt.specs.FaultNames.{kind_name, kind_number, fault_text, run_fault_text};
 ghost use Rattle.git_pkt.specs.NameFaults.{kind_of};
@@ -8,7 +8,7 @@ use git_names::NameFault;
 use itoa::Buffer;
 use std::fmt;
 
-/// How many bytes the text of a fault has at the most: 17 of a name, ` at ` and 20 digits.
+/// The maximum length of a fault's text: 17 bytes of a name, ` at ` and 20 digits.
 const LONGEST_TEXT: usize = 41;
 
 /// Why an input was refused, or why a run over a reader and a writer ended early.
@@ -17,13 +17,13 @@ const LONGEST_TEXT: usize = 41;
 /// gitprotocol-v2(5), gitprotocol-pack(5) and git-check-ref-format(1).
 #[derive(Clone, Copy, Debug, PartialEq, Eq)]
 pub enum Kind {
-    /// A byte of a packet's length is no hexadecimal digit.
+    /// A byte of a packet's length is not a hexadecimal digit.
     BadDigit,
     /// The length digits are `0003`, which no packet has.
     BadLength,
     /// The length digits are above `fff0`, the longest packet.
     TooLong,
-    /// The input ended inside a packet, or before what was due had come.
+    /// The input ended inside a packet, or before all that was expected had come.
     Truncated,
     /// The stream goes on past the last position, 9,223,372,036,854,775,807.
     StreamTooLong,
@@ -31,9 +31,9 @@ pub enum Kind {
     NoBand,
     /// A packet of the packfile section has a band byte other than 1, 2 and 3.
     BadBand,
-    /// A line is no capability line.
+    /// A line is not a capability line.
     BadCapability,
-    /// The request's command is none that this end knows.
+    /// This end does not know the request's command.
     UnknownCommand,
     /// The request has a second command line.
     TwoCommands,
@@ -41,13 +41,13 @@ pub enum Kind {
     NoCommand,
     /// A command, a capability or an argument was used that was not advertised.
     NotAdvertised,
-    /// A text that has to be an object name is none.
+    /// A text that has to be an object name is not one.
     BadObjectName,
-    /// A text that has to be a reference name is none.
+    /// A text that has to be a reference name is not one.
     BadRefName,
-    /// A text that has to be a number is none, or the number is out of range.
+    /// A text that has to be a number is not one, or the number is out of range.
     BadNumber,
-    /// `deepen` is given beside `deepen-since` or `deepen-not`.
+    /// `deepen` is used together with `deepen-since` or `deepen-not`.
     DeepenConflict,
     /// A fetch asks for no object and no reference, and does not negotiate alone.
     NoWants,
@@ -55,17 +55,17 @@ pub enum Kind {
     NoSize,
     /// The object format is not that of this end.
     WrongFormat,
-    /// An argument line is none of the request's command.
+    /// The request's command has no such argument line.
     UnknownArgument,
-    /// The request's arguments pass the limit on what is kept.
+    /// The request's arguments exceed the limit on the bytes that are kept.
     TooMuchKept,
     /// A packet of this kind is not allowed here.
     UnexpectedPacket,
     /// The other end sent an error packet.
     RemoteError,
-    /// The repository does not have a reference that was asked for.
+    /// The repository does not have a requested reference.
     UnknownRef,
-    /// The repository does not have an object that was asked for.
+    /// The repository does not have a requested object.
     NotOurs,
     /// The source of the pack failed.
     PackSource,
@@ -73,7 +73,7 @@ pub enum Kind {
     NotVersion2,
     /// A section of a response is unknown, repeated, or out of order.
     UnexpectedSection,
-    /// A line is none that its section may have.
+    /// A line is not one that its section may have.
     BadLine,
     /// Memory ran out while an argument was kept.
     OutOfMemory,
@@ -83,7 +83,7 @@ pub enum Kind {
     ReadFault,
     /// A writer failed.
     WriteFault,
-    /// All reads that were allowed were made, and the input had not ended.
+    /// All reads that were allowed were made, but the input had not ended.
     ReadLimit,
 }
 
@@ -202,7 +202,7 @@ pub struct Fault {
 }
 
 impl Fault {
-    /// What users see of it: its name, ` at ` and its offset.
+    /// Its text for users: its name, ` at ` and its offset.
     pub fn text(&self) -> ArrayString<LONGEST_TEXT>
         ensures { result.bytes ≡ fault_text self.now }
     {
@@ -229,9 +229,9 @@ impl std::error::Error for Fault {}
 pub enum RunFault {
     /// A reader failed.
     ReadFault,
-    /// A writer failed. Of what was given to it a front was written.
+    /// A writer failed. A prefix of the bytes passed to it was written.
     WriteFault,
-    /// All reads that were allowed were made, and the input had not ended.
+    /// All reads that were allowed were made, but the input had not ended.
     ReadLimit,
     /// The input was refused.
     Refused(Fault),

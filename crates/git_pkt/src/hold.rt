@@ -10,11 +10,11 @@ use git_names::Steps;
 /// How many bytes the longest packet has, its four digits among them.
 pub const LONGEST_PACKET: usize = 65_520;
 
-/// A buffer for one packet. It lies where its owner does and never allocates; making or moving one
-/// moves 64 KiB, so hold on to it and lend it.
+/// A buffer for one packet. It is stored inside its owner and never allocates. Making or moving one moves 64 KiB, so keep it
+/// where it is and lend it.
 pub type Hold = ArrayVec<u8, LONGEST_PACKET>;
 
-/// Appends bytes for which there is room.
+/// Appends bytes, which have to fit.
 pub fn append(hold: &mut Hold, bytes: &[u8])
     requires { array_vec_len hold.old + length bytes.now ≤ 65520 }
     ensures appended { hold.new.items ≡ hold.old.items ++ bytes.now }
@@ -22,9 +22,8 @@ pub fn append(hold: &mut Hold, bytes: &[u8])
     let _ = hold.try_extend_from_slice(bytes);
 }
 
-/// Puts bytes at a place of the hold, over what is there. The hold grows where they end after it; it is
-/// never emptied first, since that would fill it with zeros. Each byte counts twice: once for its copy, and once for being cut
-/// off later.
+/// Writes bytes at an index of the hold, over those that are there. The hold grows if they end after it; it is never emptied
+/// first, since that would fill it with zeros. Each byte counts twice: once for its copy, and once for being cut off later.
 pub(crate) fn place(hold: &mut Hold, at: usize, bytes: &[u8], steps: &mut Steps)
     requires within { at ≤ array_vec_len hold.old }
     requires fits { at + length bytes.now ≤ 65520 }
@@ -40,7 +39,7 @@ pub(crate) fn place(hold: &mut Hold, at: usize, bytes: &[u8], steps: &mut Steps)
     }
 }
 
-/// Puts bytes at a place of a slice, over what is there, and returns where they end.
+/// Writes bytes at an index of a slice, over those that are there, and returns where they end.
 pub fn put_at(slice: &mut [u8], at: usize, bytes: &[u8]) -> usize
     requires { at + length bytes.now ≤ length slice.old }
     ensures end { result ≡ at + length bytes.now }

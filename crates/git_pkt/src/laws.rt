@@ -1,4 +1,4 @@
-//! What follows from the definitions alone: each law is the contract of a function without parameters.
+//! Laws that follow from the definitions alone: each law is the contract of a function without parameters.
 
 ghost use Rattle.std.specs.Prelude.{◌≡◌, ◌≢◌, ◌⊎◌, ◌≤◌, ◌∷◌, ◌++◌, ℕ, List, [], Some, None, false, length, take, true};
 ghost use Rattle.git_pkt.specs.Bands.{IsNoBand, byte_of};
@@ -20,51 +20,51 @@ pub fn no_spelling_begins_another()
     ensures { (p q : Pkt) (s more : List ℕ) → Spells p s → Spells q (s ++ more) → (more ≡ []) × (p ≡ q) }
 {}
 
-/// A stream falls into packets and a rest in one way.
+/// A stream splits into packets and a rest in only one way.
 pub fn one_split()
     ensures { (start : ℕ) (bytes : List ℕ) (given others : List Given) (rest other_rest : List ℕ)
         → Splits start bytes given rest → Splits start bytes others other_rest → (given ≡ others) × (rest ≡ other_rest) }
 {}
 
-/// What is written is a spelling of the packet.
+/// The written form of a packet is a spelling of it.
 pub fn written_form_is_a_spelling()
     ensures { (p : Pkt) → length (body_of p) ≤ longest_payload → Spells p (spelling_of p) }
 {}
 
-/// A spelling is that of one packet.
+/// A spelling spells only one packet.
 pub fn spelling_of_one_packet()
     ensures { (p q : Pkt) (s : List ℕ) → Spells p s → Spells q s → p ≡ q }
 {}
 
-/// Every stream falls into packets and a rest.
+/// Every stream splits into packets and a rest.
 pub fn every_stream_splits()
     ensures { (start : ℕ) (bytes : List ℕ) → (given : List Given) × (rest : List ℕ) × Splits start bytes given rest }
 {}
 
-/// A rest is open or has a fault, never both, and one fault at most.
+/// A rest is open or has a fault, never both, and it has at most one fault.
 pub fn open_or_one_fault()
     ensures either { (p : ℕ) (rest : List ℕ) → IsOpen rest ⊎ ((fault : Fault) × RestFault p rest fault) }
     ensures never_both { (p : ℕ) (rest : List ℕ) (fault : Fault) → IsOpen rest → RestFault p rest fault → ⊥ }
     ensures one { (p : ℕ) (rest : List ℕ) (fault other : Fault) → RestFault p rest fault → RestFault p rest other → fault ≡ other }
 {}
 
-/// A packet may still come of an open rest: it is a proper beginning of some packet's spelling.
+/// An open rest may still become a packet: it is a proper beginning of some packet's spelling.
 pub fn open_rest_begins_a_packet()
     ensures { (rest : List ℕ) → IsOpen rest → NoneBegins rest
         → (p : Pkt) × (more : List ℕ) × (more ≢ []) × Spells p (rest ++ more) }
 {}
 
-/// No packet comes of a rest that has a fault, whatever bytes follow.
+/// A rest that has a fault never becomes a packet, whatever bytes follow.
 pub fn faulty_rest_begins_no_packet()
     ensures { (p : ℕ) (rest more : List ℕ) (fault : Fault) → RestFault p rest fault → NoneBegins (rest ++ more) }
 {}
 
-/// More bytes leave a fault as it is.
+/// A fault stays as it is when more bytes come.
 pub fn fault_stays()
     ensures { (p : ℕ) (rest more : List ℕ) (fault : Fault) → RestFault p rest fault → RestFault p (rest ++ more) fault }
 {}
 
-/// A fault shows with one byte of the bytes that have it, wherever they were cut.
+/// One byte of a rest that has a fault shows that fault, wherever the bytes were cut.
 pub fn fault_shows_with_one_byte()
     ensures somewhere { (p : ℕ) (rest : List ℕ) (fault : Fault) → RestFault p rest fault
         → (n : ℕ) × (n ≤ length rest) × RestFault p (take n rest) fault × ShowsAtEnd (take n rest) }
@@ -72,8 +72,8 @@ pub fn fault_shows_with_one_byte()
         → RestFault p shown fault → ShowsAtEnd shown → RestFault q other next → ShowsAtEnd other → shown ≡ other }
 {}
 
-/// A reader knows of the rest whether there is any, and how long it is; and it holds all that has come of an open packet
-/// whose bytes do not pass.
+/// A reader knows whether the rest is empty, and how long it is. If an open packet's bytes do not pass, the reader holds all
+/// of them that have come.
 pub fn reader_knows_its_rest()
     ensures between { (r : PacketReader) (rest : List ℕ) → Holds r rest → is_open r ≡ false → rest ≡ [] }
     ensures inside { (r : PacketReader) (rest : List ℕ) → Holds r rest → is_open r ≡ true → rest ≢ [] }
@@ -81,28 +81,28 @@ pub fn reader_knows_its_rest()
     ensures all { (r : PacketReader) → passes_of r ≡ false → HoldsAll r }
 {}
 
-/// What is counted of a reader is what its fields have: its hold. A field more has to be named here.
+/// The bytes that are counted for a reader are those of its fields: its hold. A new field has to be named here.
 pub fn all_fields_are_counted()
     ensures { (r : PacketReader) → bytes_held_by_fields r ≡ bytes_held r }
 {}
 
-/// Whatever calls of `feed_band` there were since: the parts that they handed out, joined, are what passes of the packets that have
-/// become whole and of the rest, and they returned the packets of which nothing passes. From the start of a stream, or from between two
-/// packets, where the rest was empty, these are all parts so far.
+/// After any calls of `feed_band`, the parts that they handed out, joined, are the bytes that pass of the rest and of the
+/// packets that became whole since; the calls returned those packets that are on no band whose bytes pass. From the start of
+/// a stream, or from between two packets, where the rest was empty, these are all parts so far.
 pub fn parts_join_to_what_passes()
     ensures { (calls : List BandCall) (old new : PacketReader) (start : ℕ) (bytes : List ℕ) (given : List Given) (rest : List ℕ)
         → AreFed old calls new → Reads old start bytes given rest → AllGoes start bytes given rest calls new }
 {}
 
-/// Calls of `feed_band` follow one another, where each did what the contract of `feed_band` ensures.
+/// Calls of `feed_band` follow one another, if each did what the contract of `feed_band` ensures.
 pub fn band_calls_follow_one_another()
     ensures none { (r : PacketReader) → AreFed r [] r }
     ensures more { (old between new : PacketReader) (call : BandCall) (calls : List BandCall)
         → FeedsBand old call.piece call.fed between → AreFed between calls new → AreFed old (call ∷ calls) new }
 {}
 
-/// Readers of the same bytes gave the same packets and have the same rest, however the bytes came; those that hold all
-/// of it hold the same bytes.
+/// Readers of the same bytes returned the same packets and have the same rest, however the bytes came; those that hold all
+/// of the rest hold the same bytes.
 pub fn one_answer_however_cut()
     ensures packets { (r s : PacketReader) (start : ℕ) (bytes : List ℕ) (given others : List Given) (rest other_rest : List ℕ)
         → Reads r start bytes given rest → Reads s start bytes others other_rest → given ≡ others }
@@ -115,8 +115,8 @@ pub fn one_answer_however_cut()
         → fault_of r ≡ None → fault_of s ≡ None → HoldsAll r → HoldsAll s → rest_of r ≡ rest_of s }
 {}
 
-/// A fault that the bytes show is reported by every reader of them; the two others, for the end of the input and of
-/// the stream's positions, are each at one offset.
+/// Every reader of some bytes reports a fault that the bytes show; the two other faults, for the end of the input and of the
+/// stream's positions, each have only one offset.
 pub fn one_fault_however_cut()
     ensures told_by_all { (r s : PacketReader) (start : ℕ) (bytes : List ℕ) (given others : List Given) (rest other_rest : List ℕ) (fault : Fault)
         → Reads r start bytes given rest → Reads s start bytes others other_rest
@@ -126,7 +126,7 @@ pub fn one_fault_however_cut()
         → fault_of r ≡ Some fault → fault_of s ≡ Some other → fault.kind ≡ other.kind → fault ≡ other }
 {}
 
-/// A payload's text is the payload, or lacks one LF at its end and nothing else.
+/// A payload's text is the payload itself, or lacks one LF at its end and nothing else.
 pub fn text_lacks_one_line_end()
     ensures one { (bytes : List ℕ) → (text_of bytes ≡ bytes) ⊎ (bytes ≡ text_of bytes ++ 10 ∷ []) }
     ensures taken_off { (text : List ℕ) → text_of (text ++ 10 ∷ []) ≡ text }
@@ -134,13 +134,13 @@ pub fn text_lacks_one_line_end()
     ensures nothing { text_of [] ≡ [] }
 {}
 
-/// A payload has one band and one part after it at most.
+/// A payload has at most one band and one part after it.
 pub fn one_band()
     ensures { (bytes part more : List ℕ) (band other : Band) → bytes ≡ byte_of band ∷ part → bytes ≡ byte_of other ∷ more
         → (band ≡ other) × (part ≡ more) }
 {}
 
-/// A payload has a band or is refused, never both, and it is refused by one name at most.
+/// A payload has a band or is refused, never both, and it is refused by at most one name.
 pub fn band_or_fault()
     ensures never_both { (bytes part : List ℕ) (band : Band) (kind : Kind) → bytes ≡ byte_of band ∷ part → IsNoBand bytes kind → ⊥ }
     ensures one_name { (bytes : List ℕ) (kind other : Kind) → IsNoBand bytes kind → IsNoBand bytes other → kind ≡ other }

@@ -1,4 +1,4 @@
-//! Packets of Git's wire protocol, over pieces of any size.
+//! Packets of Git's wire protocol, over chunks of any size.
 #![tactic(auto)]
 
 mod band;

@@ -9,25 +9,25 @@ use crate::fault::RunFault;
 use crate::told::Told;
 use std::io::Write;
 
-/// Takes the bytes that a run gives: a [`Told`] writer, or [`Discard`].
+/// Takes the output of a run: a [`Told`] writer, or [`Discard`].
 pub trait Output {
-    // The bytes that it holds, where they are known.
+    // The bytes that it holds, if they are known.
     ghost contents: { Self → Option (List ℕ) };
     // Whether a write or a flush has failed.
     ghost failed: { Self → Bool };
 
     /// Takes all the bytes.
     ///
-    /// The fault is `WriteFault`, exactly where the writing fails; a front of the bytes was written then.
+    /// The fault is `WriteFault`, exactly if the writing fails; then a prefix of the bytes was written.
     fn send(&mut self, bytes: &[u8]) -> Result<(), RunFault>
         ensures ok { OnOk result (Appends (contents self.old) (contents self.new) bytes.now) }
         ensures err { OnErr result (AppendsFront (contents self.old) (contents self.new) bytes.now) }
         ensures fault { IfErr result (λ fault. fault ≡ RunFault.WriteFault) }
         ensures failed { failed self.new ≡ (failed self.old || is_err result) };
 
-    /// Flushes what was taken.
+    /// Flushes the bytes that were taken.
     ///
-    /// The fault is `WriteFault`, exactly where the flush fails.
+    /// The fault is `WriteFault`, exactly if the flush fails.
     fn flush(&mut self) -> Result<(), RunFault>
         ensures bytes { Keeps (contents self.old) (contents self.new) }
         ensures fault { IfErr result (λ fault. fault ≡ RunFault.WriteFault) }

@@ -1,4 +1,4 @@
-//! Packets of the wire, as gitprotocol-common(5) has them, and how they are written.
+//! Packets of the wire, as in gitprotocol-common(5), and how they are written.
 
 ghost use Rattle.std.specs.Prelude.{◌≡◌, ◌+◌, ◌≤◌, ◌<◌, ◌++◌, ℕ, List, length};
 ghost use Rattle.std.specs.Io.{StartsWith};
@@ -10,7 +10,7 @@ use crate::digits::{Digits, read_digits};
 use crate::hold::{Hold, append};
 use git_names::lower_digit;
 
-/// A packet, whose payload is lent.
+/// A packet with a borrowed payload.
 #[derive(Clone, Copy, Debug)]
 pub enum Packet<'a> {
     /// `0000`, the end of a message.
@@ -19,11 +19,11 @@ pub enum Packet<'a> {
     Delim,
     /// `0002`, the end of a response on a stateless connection.
     RespEnd,
-    /// A data packet: its bytes after the four digits, 65,516 at most.
+    /// A data packet: the bytes after its four digits, at most 65,516.
     Payload(&'a [u8]),
 }
 
-/// Makes the hold the packet's spelling, with its digits in lower case.
+/// Makes the hold the packet's spelling, with digits in lower case.
 pub fn put(hold: &mut Hold, packet: Packet<'_>)
     requires { length (body_of (seen packet)) ≤ longest_payload }
     ensures { hold.new.items ≡ spelling_of (seen packet.entry) }
@@ -36,7 +36,7 @@ pub fn put(hold: &mut Hold, packet: Packet<'_>)
     }
 }
 
-/// A payload's text: less one LF at its end, if it ends with one.
+/// A payload's text: the payload without the LF at its end, if it ends with one.
 pub fn text(payload: &[u8]) -> &[u8]
     ensures { result.now ≡ text_of payload.now }
 {
@@ -46,7 +46,7 @@ pub fn text(payload: &[u8]) -> &[u8]
     }
 }
 
-/// Makes the hold the four digits of a data packet. Its payload, of `length` bytes, is to be appended then.
+/// Makes the hold the four digits of a data packet. Append its payload, of `length` bytes, next.
 pub fn begin(hold: &mut Hold, length: usize)
     requires { length ≤ longest_payload }
     ensures { hold.new.items ≡ digits_of (length + 4) }
@@ -54,7 +54,7 @@ pub fn begin(hold: &mut Hold, length: usize)
     spell(hold, length + 4, b"");
 }
 
-/// The packet at the hold's front, its four digits among its bytes. What is after them is no part of it.
+/// The packet at the hold's front, with its four digits. The bytes after it are no part of it.
 pub fn front_packet(hold: &Hold) -> &[u8]
     requires begins { HasFront hold.now.items }
     ensures front { (packet : Pkt) (bytes : List ℕ) → Spells packet bytes → StartsWith hold.now.items bytes → result.now ≡ bytes }

@@ -1,4 +1,4 @@
-//! How far one step of a reader over a piece came.
+//! How far one step of a reader over a chunk came.
 
 ghost use Rattle.std.specs.Prelude.{◌≡◌, ◌≤◌, length};
 ghost use Rattle.git_pkt.specs.Machine.PassedOut.{HandsOut, HasPart};
@@ -15,7 +15,7 @@ pub(crate) enum Progress {
     Failed(Fault),
 }
 
-/// What one step over a piece did.
+/// The result of one step over a chunk.
 #[derive(Clone, Copy, Debug)]
 pub(crate) struct Step {
     pub(crate) used: usize,
@@ -33,15 +33,15 @@ pub(crate) struct Passed {
 #[derive(Clone, Copy, Debug)]
 pub(crate) enum BandProgress {
     Open,
-    /// A packet without a byte after that of its band.
+    /// A packet with no byte after that of its band.
     Empty,
-    /// Bytes that passed: the last of those used.
+    /// Bytes that passed: the last of the used ones.
     Part(Passed),
     Whole,
     Failed(Fault),
 }
 
-/// What one step over a piece did there.
+/// The result of one step over a chunk in such a section.
 #[derive(Clone, Copy, Debug)]
 pub(crate) struct BandStep {
     pub(crate) used: usize,
@@ -49,7 +49,7 @@ pub(crate) struct BandStep {
 }
 
 impl BandStep {
-    /// The answer of a call that made this progress over the piece, where no packet is in the hold.
+    /// What a call returns after this progress over the chunk, if no packet is in the hold.
     pub(crate) fn fed<'a>(self, piece: &'a [u8]) -> BandFed<'a>
         requires part { HasPart self.progress self.used }
         requires all { self.used ≤ length piece.now }

@@ -1,7 +1,7 @@
-//! Packets out of pieces of any size.
+//! Packets from chunks of any size.
 //!
-//! The states of a reader, and what moves it on. `feed` goes up and down on the left alone; `feed_band` passes the bytes of a packet on
-//! the right, once its fifth byte has named a band whose bytes pass.
+//! The states of a reader, and what moves it on. `feed` goes up and down on the left alone; `feed_band` passes a packet's
+//! bytes on the right, once the fifth byte has named a band whose bytes pass.
 //!
 //! ```text
 //!              the first byte                     the fifth byte
@@ -41,19 +41,19 @@ use git_names::{Steps, digit_value};
 /// The last position of a stream.
 const LAST_POSITION: u64 = 9_223_372_036_854_775_807;
 
-/// What one call of [`PacketReader::feed`] did.
+/// The result of one call of [`PacketReader::feed`].
 #[derive(Clone, Copy, Debug)]
 pub struct Fed<'a> {
-    /// How many bytes of the piece were used.
+    /// How many bytes of the chunk were used.
     pub used: usize,
-    /// What came of them.
+    /// The result of reading them.
     pub got: Got<'a>,
 }
 
-/// What came of the bytes used.
+/// The result of reading the bytes used.
 #[derive(Clone, Copy, Debug)]
 pub enum Got<'a> {
-    /// No packet is whole yet: the piece was used up.
+    /// No packet is whole yet: the chunk was used up.
     More,
     /// A packet, and the offset of its first byte.
     Packet(Packet<'a>, u64),
@@ -61,22 +61,22 @@ pub enum Got<'a> {
     Failed(Fault),
 }
 
-/// What one call of [`PacketReader::feed_band`] did.
+/// The result of one call of [`PacketReader::feed_band`].
 #[derive(Clone, Copy, Debug)]
 pub struct BandFed<'a> {
-    /// How many bytes of the piece were used.
+    /// How many bytes of the chunk were used.
     pub used: usize,
-    /// What came of them.
+    /// The result of reading them.
     pub got: BandGot<'a>,
 }
 
-/// What came of the bytes used, in a section of side bands.
+/// The result of reading the bytes used, in a section of side bands.
 #[derive(Clone, Copy, Debug)]
 pub enum BandGot<'a> {
-    /// The piece was used up.
+    /// The chunk was used up.
     More,
-    /// Bytes of the pack or of the progress, as they lie in the piece: one at least, and all that it has of their packet
-    /// from there on.
+    /// Bytes of the pack or of the progress, as they lie in the chunk: at least one, and all that the chunk has of their
+    /// packet from there on.
     Part(Band, &'a [u8]),
     /// Any other packet, and the offset of its first byte.
     Packet(Packet<'a>, u64),
@@ -84,23 +84,22 @@ pub enum BandGot<'a> {
     Failed(Fault),
 }
 
-/// What a reader has of the packet that comes, or the fault that stopped it.
+/// How much a reader has of the current packet, or the fault that stopped it.
 #[derive(Clone, Copy, Debug)]
 pub(crate) enum State {
     /// No packet is open.
     Between,
-    /// So many bytes of the open packet have come, and all of them are at the hold's front. What is after them is
-    /// of an earlier packet.
+    /// So many bytes of the open packet have come, and all of them are at the hold's front. The bytes after them are of an
+    /// earlier packet.
     Gathering(usize),
-    /// A packet is open whose bytes pass: its first five bytes are the hold, those that came after them were handed out,
-    /// and so many are still to come.
+    /// A packet whose bytes pass is open, and so many of its bytes are still to come. Its first five bytes are the hold;
+    /// those that came after them were handed out.
     Passing(usize),
     /// The stream is refused.
     Failed(Fault),
 }
 
-/// Reads the packets of a stream that comes in pieces. It has one buffer, for one packet, and takes no
-/// memory beside it.
+/// Reads the packets of a stream that comes in chunks. It has one buffer, for one packet, and takes no other memory.
 #[derive(Drop)]
 pub struct PacketReader {
     hold: Hold,
@@ -157,8 +156,8 @@ impl PacketReader {
         self.position
     }
 
-    /// Reads on. It returns after one packet, or with the whole piece used, or at the first fault, which is reported
-    /// with the byte that shows it. Call it again with the bytes that it did not use.
+    /// Reads on. It returns after one packet, or when the whole chunk is used, or at the first fault, which it reports with
+    /// the byte that shows it. Call it again with the bytes that it did not use.
     pub fn feed<'a>(&'a mut self, piece: &'a [u8], steps: &mut Steps) -> Fed<'a>
         requires gathers { passes_of self.old ≡ false }
         ensures* after { sem 𝓛 (Rests the_row self.entry (λ new. Feeds self.old piece.now result new)) }
@@ -192,9 +191,9 @@ impl PacketReader {
         }
     }
 
-    /// Reads on in a section of side bands, as [`feed`](PacketReader::feed) does, but for bytes of the pack and of the progress:
-    /// these pass as they come, and the hold has no more of their packets than the first five bytes. Such a packet without a
-    /// byte on its band gives nothing. A packet that is open is read on by the call that began it.
+    /// Reads on in a section of side bands, as [`feed`](PacketReader::feed) does, except for bytes of the pack and of the
+    /// progress: these pass as they come, and the hold has only the first five bytes of their packets. Such a packet with no
+    /// byte on its band gives nothing. The call that began a packet reads it on.
     pub fn feed_band<'a>(&'a mut self, piece: &'a [u8], steps: &mut Steps) -> BandFed<'a>
         requires passes { MayPass self.old }
         ensures* after { sem 𝓛 (Rests the_row self.entry (λ new. FeedsBand self.old piece.now result new)) }
@@ -220,8 +219,8 @@ impl PacketReader {
         }
     }
 
-    /// The stream ends here. Between packets that is well, and changes nothing; where a packet is open
-    /// the stream is refused as truncated, at the end of its last whole packet.
+    /// The stream ends here. Between packets that is correct and changes nothing. If a packet is open, the stream is refused
+    /// as truncated, at the end of its last whole packet.
     pub fn close(&mut self) -> Result<(), Fault>
         ensures carries { ReadsOn self.old [] [] self.new }
         ensures held { held_of self.new ≡ held_of self.old }
@@ -247,7 +246,7 @@ impl PacketReader {
         Err(fault)
     }
 
-    /// Whether a packet has begun and is not whole.
+    /// Whether a packet has begun and is not whole yet.
     pub fn is_open(&self) -> bool
         ensures value { result ≡ is_open self.now }
         ensures rest { (rest : List ℕ) → Holds self.now rest → IsTrue result ↔ (rest ≢ []) }
@@ -261,7 +260,7 @@ impl PacketReader {
         }
     }
 
-    /// The hold: after a packet that packet's bytes as they came, until the next byte is read or `lend` is called.
+    /// The hold: after a packet, that packet's bytes as they came, until the next byte is read or `lend` is called.
     pub fn hold(&self) -> &Hold
         ensures value { result.now.items ≡ held_of self.now }
         ensures fits { length result.now.items ≤ 65520 }
@@ -293,7 +292,7 @@ impl PacketReader {
         }
     }
 
-    /// Steps over the piece, up to the first that gives something.
+    /// Steps over the chunk, up to the first that gives something.
     fn band_steps(&mut self, piece: &[u8], steps: &mut Steps) -> BandStep
         requires sound { fault_of self.old ≡ None }
         requires passes { MayPass self.old }
@@ -319,7 +318,7 @@ impl PacketReader {
         }
     }
 
-    /// One step: at once, where the piece has all of a packet whose bytes pass.
+    /// One step: at once, if the chunk has all of a packet whose bytes pass.
     fn next_band(&mut self, piece: &[u8], steps: &mut Steps) -> BandStep
         requires sound { fault_of self.old ≡ None }
         requires passes { MayPass self.old }
@@ -339,7 +338,7 @@ impl PacketReader {
         self.band_step(piece, steps)
     }
 
-    /// The bytes of a packet that pass, where the piece begins with all of one that has some.
+    /// The bytes that pass of the packet that the chunk begins with, if the chunk has all of it and some of its bytes pass.
     fn pass_at_once(&mut self, piece: &[u8], steps: &mut Steps) -> Option<Passed>
         requires sound { fault_of self.old ≡ None }
         requires between { is_open self.old ≡ false }
@@ -373,8 +372,8 @@ impl PacketReader {
         })
     }
 
-    /// One packet, or bytes of one that pass, or all of the piece, or all of it up to the stream's last position. Of a packet
-    /// that begins the first five bytes are gathered, which show whether its bytes pass.
+    /// Reads one packet, or bytes of one that pass, or the whole chunk, or the chunk up to the stream's last position. The
+    /// first five bytes of a packet are gathered: they show whether its bytes pass.
     fn band_step(&mut self, piece: &[u8], steps: &mut Steps) -> BandStep
         requires sound { fault_of self.old ≡ None }
         requires passes { MayPass self.old }
@@ -456,7 +455,8 @@ impl PacketReader {
         }
     }
 
-    /// The five bytes that the hold has of the open packet are all that it will have of it. Answers how many are still to come.
+    /// Stops gathering: the hold keeps the first five bytes of the open packet, and gets no more of it. Returns how many
+    /// bytes are still to come.
     fn begin_passing(&mut self, steps: &mut Steps) -> usize
         requires gathers { passes_of self.old ≡ false }
         requires five { held_in self.old.state ≡ 5 }
@@ -474,14 +474,14 @@ impl PacketReader {
         left
     }
 
-    /// The band of the packet in the hold, where its bytes pass.
+    /// The band of the packet in the hold, if its bytes pass.
     fn band(&self) -> Option<Band>
         ensures value { result ≡ band_in (drop 4 (held_of self.now)) }
     {
         band_of(self.hold.as_slice())
     }
 
-    /// Bytes of the open packet that pass: as many as are still to come, or the piece or the stream has.
+    /// Passes bytes of the open packet: as many as are still to come, or as the chunk or the stream has.
     fn pass(&mut self, left: usize, piece: &[u8]) -> BandStep
         requires passing { self.old.state ≡ State.Passing left }
         ensures used { result.used ≤ length piece.now }
@@ -521,7 +521,7 @@ impl PacketReader {
         }
     }
 
-    /// One packet, or all of the piece, or all of it up to the stream's last position.
+    /// Reads one packet, or the whole chunk, or the chunk up to the stream's last position.
     fn step(&mut self, piece: &[u8], steps: &mut Steps) -> Step
         requires sound { fault_of self.old ≡ None }
         requires gathers { passes_of self.old ≡ false }
@@ -549,7 +549,7 @@ impl PacketReader {
         }
     }
 
-    /// One packet, or all of the piece, for which the stream has room.
+    /// Reads one packet, or the whole chunk, which ends within the stream's positions.
     fn gather(&mut self, piece: &[u8], steps: &mut Steps) -> Step
         requires sound { fault_of self.old ≡ None }
         requires gathers { passes_of self.old ≡ false }
@@ -611,7 +611,7 @@ impl PacketReader {
         }
     }
 
-    /// How many bytes of the open packet the hold has, where all that has come of it is there.
+    /// How many bytes of the open packet the hold has, if all that have come are there.
     fn gathered(&self) -> usize
         requires gathers { passes_of self.now ≡ false }
         ensures value { result ≡ held_in self.now.state }
@@ -624,7 +624,7 @@ impl PacketReader {
         }
     }
 
-    /// One byte of the four digits.
+    /// Reads one byte of the four digits.
     fn gather_digit(&mut self, byte: u8, steps: &mut Steps) -> Progress
         requires sound { fault_of self.old ≡ None }
         requires gathers { passes_of self.old ≡ false }
@@ -661,7 +661,7 @@ impl PacketReader {
         Progress::Open
     }
 
-    /// Bytes after the four digits, as many as the packet lacks or the piece has.
+    /// Reads bytes after the four digits: as many as the packet lacks or the chunk has.
     fn gather_body(&mut self, piece: &[u8], steps: &mut Steps) -> Step
         requires gathers { passes_of self.old ≡ false }
         requires digits { 4 ≤ held_in self.old.state }
@@ -693,7 +693,7 @@ impl PacketReader {
         }
     }
 
-    /// A packet that begins with the piece, which has its four digits.
+    /// Reads a packet that begins where the chunk does. The chunk has its four digits.
     fn begin(&mut self, piece: &[u8], steps: &mut Steps) -> Step
         requires sound { fault_of self.old ≡ None }
         requires between { is_open self.old ≡ false }
@@ -757,7 +757,7 @@ fn field_fault(field: usize) -> Option<Kind>
     }
 }
 
-/// The band of a packet that begins so, where its bytes pass.
+/// The band of a packet that begins with these bytes, if its bytes pass.
 fn band_of(bytes: &[u8]) -> Option<Band>
     ensures { result ≡ band_in (drop 4 bytes.now) }
 {

@@ -1,4 +1,4 @@
-//! Readers whose interrupted reads are made again.
+//! Readers that repeat interrupted reads.
 ghost use Rattle.std.specs.Prelude.{◌≡◌, ◌≢◌, IfErr};
 ghost use Rattle.std.specs.Io.{ReadsAtMost};
 ghost use Rattle.std.specs.Io.KnownBytes.{ReadConsumes};
@@ -10,8 +10,8 @@ use crate::calls::ReadCalls;
 use std::io;
 use std::io::{ErrorKind, Read};
 
-/// A reader that makes a read again where a signal interrupted it, so that what runs over it sees no
-/// fault in that. Each other failure is passed on.
+/// A reader that repeats a read if a signal interrupted it, so that a run over it sees no fault in that. Every other failure
+/// is passed on.
 #[derive(Debug, Drop)]
 pub struct Retries<R> {
     inner: R,

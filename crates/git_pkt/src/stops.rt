@@ -1,4 +1,4 @@
-//! Readers and writers that stop at a call, for tests of what runs over them.
+//! Readers and writers that stop at a call, to test the code that runs over them.
 ghost use Rattle.std.specs.Prelude.{◌≡◌, ◌-◌, ◌<◌, IsErr};
 ghost use Rattle.std.specs.Io.{ReadsAtMost, WritesAtMost};
 ghost use Rattle.std.specs.Io.KnownBytes.{Keeps, ReadConsumes, WriteAppends};
@@ -7,11 +7,10 @@ use crate::calls::{ReadCalls, WriteCalls};
 use std::io;
 use std::io::{ErrorKind, Read, Write};
 
-/// A reader or a writer that stops: so many calls are passed on, reads, writes and flushes counted together, and each
-/// later one fails, with no call inside.
+/// A reader or a writer that stops: it passes on so many calls, reads, writes and flushes counted together. Each later call
+/// fails, with no call inside.
 ///
-/// It is for tests of programs that have to withstand streams that fail: one run for each number of calls makes each call fail
-/// in turn.
+/// Use it to test programs that have to withstand failing streams: one run for each number of calls makes each call fail in turn.
 #[derive(Debug, Drop)]
 pub struct Stops<T> {
     inner: T,
@@ -21,7 +20,7 @@ pub struct Stops<T> {
 impl<T> Stops<T> {
     ghost use Rattle.git_pkt.specs.Machine.Stops.{calls_left, inner_of};
 
-    /// Wraps a reader or a writer, to which it passes so many calls on.
+    /// Wraps a reader or a writer, and passes so many calls on to it.
     pub fn new(inner: T, calls: u32) -> Stops<T>
         ensures inner { inner_of result ≡ inner }
         ensures calls { calls_left result ≡ calls }
@@ -32,7 +31,7 @@ impl<T> Stops<T> {
         }
     }
 
-    /// Gives back what it wraps.
+    /// Returns what it wraps.
     pub fn into_inner(self) -> T
         ensures { result ≡ inner_of self }
     {

@@ -1,4 +1,4 @@
-//! Readers and writers that report what became of the calls made through them.
+//! Readers and writers that record the results of the calls made through them.
 ghost use Rattle.std.specs.Prelude.{◌≡◌, ◌+◌, ◌==◌, min, ◌||◌, OnOk, OnErr, is_err, length};
 ghost use Rattle.std.specs.Io.{ReadsAtMost, WritesAtMost};
 ghost use Rattle.std.specs.Io.KnownBytes.{Appends, Keeps, ReadConsumes, WriteAppends};
@@ -10,8 +10,8 @@ use crate::calls::{ReadCalls, WriteCalls};
 use std::io;
 use std::io::{ErrorKind, Read, Write};
 
-/// A reader or a writer, with what became of the calls made through it: how many reads there were,
-/// whether a call failed, whether the input ended, and whether a read was wasted.
+/// A reader or a writer that records the results of the calls made through it: how many reads there were, whether a call
+/// failed, whether the input ended, and whether a read was wasted.
 #[derive(Debug, Drop)]
 pub struct Told<T> {
     inner: T,
@@ -36,7 +36,7 @@ impl<T> Told<T> {
         }
     }
 
-    /// How many reads were made, failed ones too. It stays at `u64::MAX`.
+    /// How many reads were made, including failed ones. The count stops at `u64::MAX`.
     pub fn reads(&self) -> u64
         ensures { result ≡ reads_of self.now }
     {
@@ -50,14 +50,14 @@ impl<T> Told<T> {
         self.has_failed
     }
 
-    /// Whether a read into a buffer that is not empty gave no bytes.
+    /// Whether a read into a non-empty buffer returned no bytes.
     pub fn ended(&self) -> bool
         ensures { result ≡ has_ended self.now }
     {
         self.has_ended
     }
 
-    /// Whether a read was made that could bring nothing: into an empty buffer, or after the input's end.
+    /// Whether a read was made that could not return any bytes: into an empty buffer, or after the end of the input.
     pub fn wasted(&self) -> bool
         ensures { result ≡ has_wasted self.now }
     {
@@ -123,8 +123,7 @@ impl<W: WriteCalls> Write for Told<W> {
         flushed
     }
 
-    /// Writes all the bytes, over as many writes as it takes. A write that a signal interrupts is
-    /// made again.
+    /// Writes all the bytes, in as many writes as it takes. Repeats a write that a signal interrupted.
     fn write_all(&mut self, buf: &[u8]) -> io::Result<()>
         ensures bytes { OnOk result (Appends (W.contents (inner_of self.old)) (W.contents (inner_of self.new)) buf.now) }
         ensures front { OnErr result (AppendsFront (W.contents (inner_of self.old)) (W.contents (inner_of self.new)) buf.now) }
@@ -139,7 +138,7 @@ impl<W: WriteCalls> Write for Told<W> {
     }
 }
 
-// Unlike that of the trait's own `write_all`, its contract covers what was written where it fails.
+// Unlike the contract of the trait's own `write_all`, this one also covers what was written before a failure.
 fn write_whole<W: WriteCalls>(writer: &mut W, bytes: &[u8]) -> io::Result<()>
     ensures ok { OnOk result (Appends (W.contents writer.old) (W.contents writer.new) bytes.now) }
     ensures err { OnErr result (AppendsFront (W.contents writer.old) (W.contents writer.new) bytes.now) }

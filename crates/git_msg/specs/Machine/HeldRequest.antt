@@ -12,7 +12,7 @@ use Rattle.git_msg.specs.Checks.{Check, check, Refuses, Passes}
 use Rattle.git_msg.specs.Kept.{Kept, kept_as, IsNew, KeepsArgument}
 
 module _ {A : Type 0} where
-  -- what is kept of the request
+  -- the request as it is kept
   abbrev pub holding_of : Request A → Kept Asked
   holding_of (OfLsRefs q) = kept_as ls_refs q
   holding_of (OfFetch q) = kept_as fetch q
@@ -38,11 +38,11 @@ module _ {A : Type 0} where
   abbrev pub stored_of : Request A → ℕ
   stored_of q = (holding_of q).stored
 
-  -- how many they may have
+  -- how many bytes they may have
   abbrev pub limit_of : Request A → ℕ
   limit_of q = (holding_of q).limit
 
-  -- no more is stored of its values than is counted of its lines, and no more is counted than its limit has
+  -- the bytes stored of its values are at most those counted of its lines, and those are within its limit
   pub record IsBounded (q : Request A) : Type 0 where
     pub covered : stored_of q ≤ kept_of q
     pub within : kept_of q ≤ limit_of q
@@ -51,31 +51,31 @@ module _ {A : Type 0} where
   abbrev pub IsEmpty : Command → Format → ℕ → Request A → Type 0
   IsEmpty command format limit q = IsNew command format limit (holding_of q)
 
-  -- the new request is the old one with an argument more, whose text has so many bytes
+  -- the new request is the old one with one more argument, whose text has so many bytes
   abbrev pub Keeps : Request A → Arg → ℕ → Request A → Type 0
   Keeps old arg long new = KeepsArgument (holding_of old) arg long (holding_of new)
 
-  -- the new request is the old one with these arguments more, one after the other, each counted as it is written
+  -- the new request is the old one with these arguments added, one after the other, each counted as it is written
   abbrev pub AddsAll : Request A → List Arg → Request A → Type 0
   AddsAll old [] new = new ≡ old
   AddsAll old (arg ∷ args) new = (next : Request A) × Keeps old arg (length (written_text arg)) next × AddsAll next args new
 
--- what refuses an argument whose text has so many bytes
+-- the checks of an argument whose text has so many bytes
 abbrev pub keep_checks : {A : Type 0} → Request A → Arg → ℕ → List Check
 keep_checks request arg long =
     record { refuses = IsValueFault (command_of request) (format_of request) arg; passes = IsValue (command_of request) (format_of request) arg }
     ∷ check (kept_of request + long ≤ limit_of request) (limit_of request < kept_of request + long) TooMuchKept ∷ []
 
--- what refuses an argument that a program adds, with the length of its line as it is written
+-- the checks of an argument that a program adds, with the length of its line as it is written
 abbrev pub add_checks : {A : Type 0} → Request A → Arg → List Check
 add_checks request arg = keep_checks request arg (length (written_text arg))
 
--- memory ran out, which is reported where nothing refuses the argument
+-- memory ran out; this is reported if nothing refuses the argument
 pub record RanOut (checks : List Check) (arg : Arg) (kind : Kind) : Type 0 where
   pub passes : Passes checks
   pub takes_memory : TakesMemory arg
   pub name : kind ≡ OutOfMemory
 
--- the argument is refused by the first check that fails, or else for want of memory
+-- the argument is refused by the first check that fails, or otherwise for lack of memory
 abbrev pub IsRefused : List Check → Arg → Kind → Type 0
 IsRefused checks arg kind = Refuses checks kind ⊎ RanOut checks arg kind

@@ -1,4 +1,4 @@
--- What a pool of texts holds.
+-- The texts in a pool of texts.
 use Rattle.std.specs.Prelude.{ℕ, ◌+◌, ◌*◌, List, length, map}
 use Rattle.git_msg.specs.declared.parts.Texts.{Texts}
 use Rattle.git_msg.specs.Machine.TextPools.{text_at}

@@ -1,5 +1,6 @@
--- What the structs that keep a request hold of what it asks for, and how many bytes they store for it: 33 of an object name, and those of
--- the pools of texts. Beside each count is the same with each field named, so that none can be added without being counted.
+-- The parts of a request that its structs hold, and how many bytes they store for them: 33 for an object name, and those of
+-- the pools of texts. Beside each count stands the same count with each field named, so that no field can be added without
+-- being counted.
 use Rattle.git_msg.specs.declared.fetch.Fetch.TheInside.{Inside as FetchInside}
 use Rattle.git_msg.specs.declared.ls_refs.LsRefs.TheInside.{Inside as LsRefsInside}
 use Rattle.git_msg.specs.declared.object_info.ObjectInfo.TheInside.{Inside as ObjectInfoInside}

@@ -1,4 +1,4 @@
--- What the code makes of one line.
+-- The result of judging one line.
 use Rattle.std.specs.Prelude.{ℕ, List}
 use Rattle.git_msg.specs.declared.offers.Offer.{Offer}
 use Rattle.git_msg.specs.declared.arguments.Command.{Command}

@@ -1,10 +1,10 @@
--- What is stored of a request for references that is answered.
+-- The bytes that are stored of a request for references while it is answered.
 use Rattle.std.specs.Prelude.{ℕ}
 use Rattle.git_msg.specs.declared.limits.Budget.{Budget}
 use Rattle.git_msg.specs.declared.listing.Listing.TheInside.{Inside as ListingInside}
 
 module _ {A : Type 0} where
-  -- how many bytes it stores, all of them of its request
+  -- how many bytes it stores, all of them for its request
   abbrev pub listing_stored : ListingInside A → ℕ
   listing_stored l = l.request.stored
 
@@ -14,7 +14,7 @@ module _ {A : Type 0} where
       let record { request = request; is_ordered = is_ordered } = l in
       request.stored
 
--- numbers alone
+-- numbers only
 abbrev pub budget_stored_by_fields : Budget → ℕ
 budget_stored_by_fields b =
     let record { limit = limit; kept = kept; within = within; in_range = in_range } = b in

@@ -29,18 +29,18 @@ abbrev pub waits_in : Part → Bool
 waits_in (Waiting offset long) = true
 waits_in _ = false
 
--- where the argument is that waits
+-- the offset of the argument that waits
 abbrev pub waiting_at : Part → ℕ
 waiting_at (Waiting offset long) = offset
 waiting_at _ = 0
 
--- how many bytes its text has
+-- the length of its text
 abbrev pub waiting_bytes : Part → ℕ
 waiting_bytes (Waiting offset long) = long
 waiting_bytes _ = 0
 
 module _ {A : Type 0} where
-  -- what the requests are read against
+  -- the offer that the requests are read against
   abbrev pub offer_of : RequestReader A → Offer
   offer_of r = r.offer
 
@@ -48,11 +48,11 @@ module _ {A : Type 0} where
   abbrev pub limit_in : RequestReader A → ℕ
   limit_in r = limit_of r.request
 
-  -- how many those have that are kept so far
+  -- how many bytes the texts have that are kept so far
   abbrev pub kept_so_far : RequestReader A → ℕ
   kept_so_far r = kept_of r.request
 
-  -- how many bytes it stores, all of them of its one request
+  -- how many bytes it stores, all of them for its one request
   abbrev pub stored_so_far : RequestReader A → ℕ
   stored_so_far r = stored_of r.request
 
@@ -79,7 +79,7 @@ module _ {A : Type 0} where
   abbrev pub is_waiting : RequestReader A → Bool
   is_waiting r = waits_in r.part
 
-  -- no delimiter came yet
+  -- no delimiter has come yet
   pub record InCapabilities (lines : List Line) (r : RequestReader A) : Type 0 where
     pub before : has_delimiter lines ≡ false
     pub begun : is_nil lines ≡ not r.begun
@@ -110,7 +110,7 @@ module _ {A : Type 0} where
     pub is_text : IsArgumentText r.offer lines (text_of bytes) arg
     pub long_is : long ≡ length (text_of bytes)
 
-  -- the packets are lines, and the reader is after them
+  -- the packets are lines, and the reader has taken them
   pub record StandsBehind (packets : List Given) (In : List Line → RequestReader A → Type 0) (r : RequestReader A) : Type 0 where
     pub lines : List Line
     pub taken : AreLines r.offer (limit_in r) [] packets lines
@@ -135,8 +135,7 @@ module _ {A : Type 0} where
   pub record WaitsFor (packets : List Given) (arg : Arg) (r : RequestReader A) : Type 0 where
     pub waits : WaitsIn r.part packets arg r
 
-  -- what a packet brought, where the reader was after these packets: an argument is never passed over, nor is it
-  -- refused for the limit before it waits
+  -- the result of a packet after these packets: an argument is never skipped, nor is it refused for the limit before it waits
   abbrev pub Brings : List Given → Given → Result (Taken A) Fault → RequestReader A → Type 0
   Brings packets g (Ok More) new =
       Takes (packets ++ g ∷ []) new × IsPlainLine (offer_of new) (limit_in new) packets g.packet
@@ -150,7 +149,7 @@ module _ {A : Type 0} where
       Takes (packets ++ g ∷ []) new × FirstFault (offer_of new) (limit_in new) (packets ++ g ∷ []) f.kind f.offset
       × (f.kind ≢ TooMuchKept)
 
-  -- how the reader is left after each answer of `take`
+  -- the state of the reader after each answer of `take`
   abbrev pub LeavesTaken : Result (Taken A) Fault → RequestReader A → Type 0
   LeavesTaken (Ok More) new = (fault_of new ≡ None) × (is_waiting new ≡ false)
   LeavesTaken (Ok (TakenArgument argument)) new = (fault_of new ≡ None) × (is_waiting new ≡ true)
@@ -158,7 +157,7 @@ module _ {A : Type 0} where
   LeavesTaken (Ok Stop) new = (fault_of new ≡ None) × (is_waiting new ≡ false)
   LeavesTaken (Err f) new = (fault_of new ≡ Some f) × (is_waiting new ≡ false)
 
-  -- what is kept is within the limit; what was kept of a whole request is given away with it
+  -- what is kept is within the limit; a whole request is handed out with what was kept of it
   abbrev pub KeepsWithin : {E : Type 0} → Result (Taken A) E → RequestReader A → Type 0
   KeepsWithin (Ok (TakenRequest q)) new = (limit_of q ≡ limit_in new) × (kept_of q ≤ limit_in new) × (kept_so_far new ≡ 0)
   KeepsWithin _ new = kept_so_far new ≤ limit_in new
@@ -181,11 +180,11 @@ module _ {A : Type 0} where
   LeavesKept (Ok done) new = (fault_of new ≡ None) × (is_waiting new ≡ false)
   LeavesKept (Err f) new = (fault_of new ≡ Some f) × (is_waiting new ≡ false)
 
-  -- how many bytes an argument counts that is kept now: those of the text that waits, and no fewer than are written of it
+  -- how many bytes an argument counts when it is kept: those of the text that waits, but at least those that are written for it
   abbrev pub counted_as : Arg → RequestReader A → ℕ
   counted_as arg r = max (waiting_bytes r.part) (length (written_text arg))
 
-  -- an argument that was taken can be kept: it has the name that it is to have, and its text came in a packet of so many bytes
+  -- an argument that was taken can be kept: if it has to have a reference name, it has one, and its text came in a packet of so many bytes
   abbrev pub IsKeepable : ℕ → Taken A → RequestReader A → Type 0
   IsKeepable most (TakenArgument argument) r = HasName (shown argument) × (counted_as (shown argument) r ≤ most)
   IsKeepable most _ r = Unit {0}
@@ -194,7 +193,7 @@ module _ {A : Type 0} where
   GivesKeepable most (Ok taken) r = IsKeepable most taken r
   GivesKeepable most (Err e) r = Unit {0}
 
-  -- whether or not the argument is the one that waits, it is what is kept, or what is refused at that one's offset
+  -- the argument is kept, or refused at the offset of the one that waits, whether or not it is that one
   abbrev pub KeepsGiven : RequestReader A → Arg → Result (Unit {0}) Fault → RequestReader A → Type 0
   KeepsGiven old arg (Ok done) new = Keeps old.request arg (counted_as arg old) new.request
   KeepsGiven old arg (Err f) new =

@@ -1,4 +1,4 @@
--- What the parts of a request reader do, whose lines so far are given.
+-- The parts of a request reader's calls, after given lines.
 use Rattle.std.specs.Prelude.{◌≡◌, ◌≢◌, ℕ, ◌≤◌, Bool, true, false, Some, None, option_to_list, Result, Ok, Err, List, [], ◌∷◌, ◌++◌, length}
 use Rattle.git_pkt.specs.Packets.{Pkt, flush, payload, text_of}
 use Rattle.git_pkt.specs.declared.fault.Kind.{Kind}
@@ -19,7 +19,7 @@ use Rattle.git_msg.specs.Lines.{IsLine, HasFault, part_checks, flush_checks, is_
 use Rattle.git_msg.specs.Machine.RequestReader.{InCapabilities, InArguments, fault_of, is_waiting, limit_in, kept_so_far, KeepsWithin}
 
 module _ {A : Type 0} where
-  -- no command line came yet
+  -- no command line has come yet
   abbrev pub is_first : RequestReader A → Bool
   is_first r = is_none (option_to_list r.command)
 
@@ -29,7 +29,7 @@ module _ {A : Type 0} where
   with_line object_format r = record r { begun = true; has_format = true }
   with_line _ r = record r { begun = true }
 
-  -- the reader at the beginning of a request, which is kept where the other keeps it
+  -- the reader at the beginning of a request, with the other reader's kept request
   abbrev pub restarted : RequestReader A → RequestReader A → RequestReader A
   restarted next r = record r { part = Capabilities; begun = false; command = None; has_format = false; request = next.request; bounded = next.bounded }
 
@@ -89,7 +89,7 @@ module _ {A : Type 0} where
     pub fresh : InCapabilities [] new
     pub part : new.part ≡ Capabilities
 
-  -- the other end leaves
+  -- the other end ends the session
   pub record Leaves (lines : List Line) (p : Pkt) (new : RequestReader A) : Type 0 where
     pub nothing : lines ≡ []
     pub ends : p ≡ flush
@@ -110,7 +110,7 @@ module _ {A : Type 0} where
   LeavesStep (Ok Stop) new = (fault_of new ≡ None) × (is_waiting new ≡ false)
   LeavesStep (Err kind) new = Unit {0}
 
-  -- what a packet does to a reader that has no fault and waits for nothing
+  -- the effect of a packet on a reader that has no fault and waits for nothing
   pub record StepsOn (old : RequestReader A) (p : Pkt) (offset : ℕ) (result : Result (Taken A) Kind) (new : RequestReader A) : Type 0 where
     pub goes : (lines : List Line) → InLines old.part lines old → Goes lines old p offset result new
     pub leaves : LeavesStep result new

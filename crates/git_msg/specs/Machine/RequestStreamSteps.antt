@@ -1,4 +1,4 @@
--- What the bytes up to a packet do to a reader of requests from bytes.
+-- The effect of the bytes up to a packet on a reader of requests from bytes.
 use Rattle.std.specs.Prelude.{◌≡◌, ◌<◌, ℕ, true, List, ◌++◌, take}
 use Rattle.git_msg.specs.Asked.{Asked}
 use Rattle.git_msg.specs.Machine.RequestStreams.{EndsWith, HasRead, Leaves, IsNews, asked_by, offer_of, limit_of, wants_input}
@@ -8,12 +8,12 @@ use Rattle.git_msg.specs.declared.streams.ReadGot.{ReadGot}
 use Rattle.git_msg.specs.declared.streams.ReadGot.TheVariants.{More}
 
 module _ {A : Type 0} where
-  -- how the reader is left after a step; where the request goes on, some bytes were used
+  -- the state of the reader after a step; if the request goes on, some bytes were used
   abbrev pub StepLeaves : ReadGot A → ℕ → List ℕ → RequestStream A → RequestStream A → Type 0
   StepLeaves More used piece old new = (0 < used) × (wants_input new ≡ true)
   StepLeaves got used piece old new = Leaves got used piece old new
 
-  -- what the bytes up to a packet do, or all of them
+  -- the effect of the bytes up to a packet, or of all of them
   pub record Steps (old : RequestStream A) (piece : List ℕ) (read : ReadRequest A) (new : RequestStream A) : Type 0 where
     pub reads : (used : List ℕ) (asked : List Asked) → HasRead used asked old → HasRead (used ++ take read.used piece) (asked ++ asked_by read.got) new
     pub counts : (used : List ℕ) (asked : List Asked) → HasRead used asked old → EndsWith read.got (used ++ take read.used piece) new

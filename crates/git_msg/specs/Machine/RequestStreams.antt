@@ -1,4 +1,4 @@
--- Requests in a stream of bytes: what the bytes ask for, and what a reader of them represents.
+-- Requests in a stream of bytes: what the bytes ask for, and what a reader represents.
 use Rattle.std.specs.Prelude.{◌≡◌, ◌≢◌, ◌⊎◌, ℕ, ◌+◌, ◌-◌, ◌<◌, ◌≤◌, Bool, true, false, List, [], ◌∷◌, ◌++◌, length, take, Option, Some, None, Result, Ok, Err}
 use Rattle.arrayvec.specs.ArrayVec.{ArrayVec}
 use Rattle.git_pkt.specs.Machine.LentHold.{with_hold}
@@ -28,7 +28,7 @@ use Rattle.git_msg.specs.declared.streams.ReadGot.TheVariants.{More, Request as 
 abbrev pub IsOne : Offer → ℕ → List Given → Asked → Type 0
 IsOne offer limit packets q = (kept : ℕ) × Asks offer limit packets q kept
 
--- the bytes are whole requests, which ask for these, further packets, and a rest that no packet begins
+-- the bytes are whole requests, which ask for these, then further packets, and then a rest that no packet begins
 pub record AreAsked (offer : Offer) (limit : ℕ) (bytes : List ℕ) (asked : List Asked) (left : List Given) (rest : List ℕ) : Type 0 where
   pub packets : List Given
   pub splits : Splits 0 bytes packets rest
@@ -43,7 +43,7 @@ pub record IsRefusedLast (offer : Offer) (limit : ℕ) (left : List Given) (rest
   pub told : IsTold offer limit left fault
   pub no_rest : rest ≡ []
 
--- no packet is refused, and the bytes after them are no packet's
+-- no packet is refused, and the bytes after them belong to no packet
 pub record IsRefusedRest (offer : Offer) (limit : ℕ) (left : List Given) (rest : List ℕ) (end : ℕ) (fault : Fault) : Type 0 where
   pub begun : AreBegun offer limit left
   pub stops : StopsBy (end - length rest) rest end fault.kind fault.offset
@@ -57,12 +57,12 @@ pub record IsCutOff (offer : Offer) (limit : ℕ) (left : List Given) (rest : Li
   pub kind : fault.kind ≡ Truncated
   pub at : fault.offset + length rest ≡ end
 
--- how what is left after the whole requests is refused
+-- the refusal of the packets and bytes after the whole requests
 abbrev pub IsRefusedAs : Offer → ℕ → List Given → List ℕ → ℕ → Fault → Type 0
 IsRefusedAs offer limit left rest end fault =
     IsRefusedLast offer limit left rest fault ⊎ (IsRefusedRest offer limit left rest end fault ⊎ IsCutOff offer limit left rest end fault)
 
--- what is left in a stage: nothing between two requests, and within one the lines that begin it
+-- the packets that are left in a stage: none between two requests, and within one the lines that begin it
 abbrev pub IsLeftIn : Stage → Offer → ℕ → List Given → List ℕ → ℕ → Type 0
 IsLeftIn Between offer limit left rest end = left ≡ []
 IsLeftIn Within offer limit left rest end = (left ≢ []) × AreBegun offer limit left
@@ -70,7 +70,7 @@ IsLeftIn Stopped offer limit left rest end = IsStop left × (rest ≡ [])
 IsLeftIn (Failed fault) offer limit left rest end = IsRefusedAs offer limit left rest end fault
 
 module _ {A : Type 0} where
-  -- what the requests are read against
+  -- the offer that the requests are read against
   abbrev pub offer_of : RequestStream A → Offer
   offer_of s = offer_in s.requests
 
@@ -78,7 +78,7 @@ module _ {A : Type 0} where
   abbrev pub limit_of : RequestStream A → ℕ
   limit_of s = limit_in s.requests
 
-  -- how many bytes the reader has: those of the hold of its packet reader, and those stored of its one request
+  -- how many bytes the reader has: those of its packet reader's hold, and those stored for its one request
   abbrev pub bytes_held : RequestStream A → ℕ
   bytes_held s = held_in_packet s.packets + stored_so_far s.requests
 
@@ -102,19 +102,19 @@ module _ {A : Type 0} where
   abbrev pub fault_of : RequestStream A → Option Fault
   fault_of s = fault_in s.stage
 
-  -- bytes are read on: no fault came, and no flush instead of a request
+  -- the reader reads on: no fault came, and no flush in place of a request
   abbrev pub wants_input : RequestStream A → Bool
   wants_input s = takes_bytes s.stage
 
-  -- no request is begun
+  -- no request has begun
   abbrev pub is_between : RequestStream A → Bool
   is_between s = stage_is_between s.stage
 
-  -- a packet has begun that is not whole
+  -- a packet has begun and is not whole yet
   abbrev pub is_within_packet : RequestStream A → Bool
   is_within_packet s = is_open s.packets
 
-  -- what the bytes of the open packet leave for the steps of its end
+  -- the steps that the bytes of the open packet leave for its end
   abbrev pub credit_of : RequestStream A → ℕ
   credit_of s = packet_credit s.packets
 
@@ -144,14 +144,14 @@ module _ {A : Type 0} where
   abbrev pub hold_of : RequestStream A → List ℕ
   hold_of s = held_in s.packets
 
-  -- the hold was lent, and has these bytes after that: between two packets they mean nothing to the reader
+  -- the hold was lent, and has these bytes afterwards: between two packets they mean nothing to the reader
   pub record IsLent (old : RequestStream A) (hold : ArrayVec ℕ) (new : RequestStream A) : Type 0 where
     pub between : is_within_packet old ≡ false
     pub packets : new.packets ≡ with_hold old.packets hold
     pub requests : new.requests ≡ old.requests
     pub stage : new.stage ≡ old.stage
 
-  -- it was not lent, and nothing changed
+  -- the hold was not lent, and nothing changed
   pub record IsUnlent (old new : RequestStream A) : Type 0 where
     pub within_packet : is_within_packet old ≡ true
     pub packets : new.packets ≡ old.packets
@@ -163,19 +163,19 @@ module _ {A : Type 0} where
   asked_by (RequestGot request) = asked_of request ∷ []
   asked_by got = []
 
-  -- the last of the packets in these bytes are the request: they ask for what it does, and their texts have as many bytes as it counts
+  -- the last packets in these bytes are the request: they ask for the same, and their texts have as many bytes as it counts
   pub record IsAtTheEnd (bytes : List ℕ) (request : Request A) (s : RequestStream A) : Type 0 where
     pub before : List Given
     pub own : List Given
     pub splits : Splits 0 bytes (before ++ own) []
     pub asks : Asks (offer_of s) (limit_of s) own (asked_of request) (kept_of request)
 
-  -- a request that is handed out is the last in the bytes
+  -- a request that is handed out is at the end of the bytes
   abbrev pub EndsWith : ReadGot A → List ℕ → RequestStream A → Type 0
   EndsWith (RequestGot request) bytes s = IsAtTheEnd bytes request s
   EndsWith got bytes s = Unit {0}
 
-  -- how the reader is left after each answer
+  -- the state of the reader after each answer
   abbrev pub Leaves : ReadGot A → ℕ → List ℕ → RequestStream A → RequestStream A → Type 0
   Leaves More used piece old new = wants_input old ≡ true → (used ≡ length piece) × (wants_input new ≡ true)
   Leaves (RequestGot request) used piece old new =
@@ -184,20 +184,20 @@ module _ {A : Type 0} where
   Leaves StopGot used piece old new = (0 < used) × (wants_input new ≡ false) × (fault_of new ≡ None)
   Leaves (FailedGot fault) used piece old new = fault_of new ≡ Some fault
 
-  -- a reader that had no fault reports no end of the input, and that the stream is too long only where the piece has a further byte
+  -- a reader that had no fault never reports the end of the input, and reports that the stream is too long only if the chunk has one more byte
   abbrev pub IsNews : RequestStream A → List ℕ → ReadRequest A → Type 0
   IsNews old piece read = (fault : Fault) → fault_of old ≡ None → read.got ≡ FailedGot fault → ShownByFeed fault read.used piece
 
-  -- what a reader answers that has stopped or failed
+  -- the answer of a reader that has stopped or failed
   abbrev pub told_again : Option Fault → ReadGot A
   told_again None = More
   told_again (Some fault) = FailedGot fault
 
-  -- a reader that has stopped or failed uses nothing, stays as it is, and answers the same again
+  -- a reader that has stopped or failed uses nothing, stays as it is, and returns the same answer again
   abbrev pub Stays : RequestStream A → ReadRequest A → RequestStream A → Type 0
   Stays old read new = wants_input old ≡ false → (read.used ≡ 0) × (read.got ≡ told_again (fault_of old)) × (new ≡ old)
 
-  -- what a call of `feed` does, whatever was read before
+  -- the effect of a call of `feed`, whatever was read before
   pub record Feeds (old : RequestStream A) (piece : List ℕ) (read : ReadRequest A) (new : RequestStream A) : Type 0 where
     pub reads : (used : List ℕ) (asked : List Asked) → HasRead used asked old → HasRead (used ++ take read.used piece) (asked ++ asked_by read.got) new
     pub counts : (used : List ℕ) (asked : List Asked) → HasRead used asked old → EndsWith read.got (used ++ take read.used piece) new
@@ -207,7 +207,7 @@ module _ {A : Type 0} where
     pub offer : offer_of new ≡ offer_of old
     pub limit : limit_of new ≡ limit_of old
 
-  -- what a call of `close` means: all was whole requests, or the last was cut off
+  -- the meaning of a call of `close`: all bytes were whole requests, or the last was cut off
   abbrev pub Closes : Result (Unit {0}) Fault → RequestStream A → RequestStream A → Type 0
   Closes (Ok done) old new =
       (new ≡ old) × ((used : List ℕ) (asked : List Asked) → HasRead used asked old → AreAsked (offer_of old) (limit_of old) used asked [] [])

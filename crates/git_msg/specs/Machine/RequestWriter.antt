@@ -1,4 +1,4 @@
--- What a writer of a request has left to write, and what it puts first.
+-- The packets that a writer of a request has left to write, and the one that it puts first.
 use Rattle.std.specs.Prelude.{◌≡◌, ℕ, Bool, List, [], ◌∷◌, drop}
 use Rattle.git_names.specs.declared.object_format.Format.{Format}
 use Rattle.git_pkt.specs.Packets.{Pkt, spelling_of}
@@ -11,7 +11,7 @@ use Rattle.git_msg.specs.Asked.{Asked, arguments_in}
 use Rattle.git_msg.specs.Machine.HeldRequest.{asked_of, format_of}
 use Rattle.git_msg.specs.WrittenRequest.{agent_line, argument_lines, argument_part, format_line, lines_written, where_set}
 
--- what is left from this packet on: of the arguments, those from this place on
+-- the packets from this one on: of the arguments, those from this index on
 abbrev pub lines_from : Next → Bool → Bool → Format → Asked → List Pkt
 lines_from CommandLine agent object_format format asked = lines_written agent object_format format asked
 lines_from Agent agent object_format format asked = agent_line ∷ where_set object_format (format_line format) (argument_part asked)
@@ -20,7 +20,7 @@ lines_from Delimiter agent object_format format asked = argument_part asked
 lines_from (Argument i) agent object_format format asked = argument_lines (drop i (arguments_in asked))
 lines_from Done agent object_format format asked = []
 
--- the packets that a writer has left, of a request for this
+-- the packets that a writer has left for a request for this
 abbrev pub lines_left : RequestWriter → Format → Asked → List Pkt
 lines_left w format asked = lines_from w.next w.agent w.object_format format asked
 
@@ -36,7 +36,7 @@ module _ {A : Type 0} where
   abbrev pub left_to_write : RequestWriter → Request A → List Pkt
   left_to_write w request = lines_left w (format_of request) (asked_of request)
 
--- the hold is the first packet that was left, and the others are left
+-- the hold is the first of the packets that were left, and the others are left
 pub record PutsFirst (before after : List Pkt) (held : List ℕ) : Type 0 where
   pub packet : Pkt
   pub first : before ≡ packet ∷ after

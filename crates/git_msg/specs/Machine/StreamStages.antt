@@ -1,4 +1,4 @@
--- The stage of a reader of requests from bytes, and what a packet brings to it.
+-- The stage of a reader of requests from bytes, and the effect of a packet on it.
 use Rattle.std.specs.Prelude.{◌≡◌, ◌≤◌, ◌⊎◌, ℕ, Bool, true, false, Option, None, Some, List, [], ◌∷◌, ◌++◌}
 use Rattle.git_pkt.specs.Splits.{Given}
 use Rattle.git_pkt.specs.declared.fault.Fault.{Fault}
@@ -26,30 +26,30 @@ abbrev pub fault_in : Stage → Option Fault
 fault_in (FailedStage fault) = Some fault
 fault_in stage = None
 
--- bytes are read on
+-- the reader reads on
 abbrev pub takes_bytes : Stage → Bool
 takes_bytes Between = true
 takes_bytes Within = true
 takes_bytes stage = false
 
--- no request is begun
+-- no request has begun
 abbrev pub stage_is_between : Stage → Bool
 stage_is_between Between = true
 stage_is_between stage = false
 
 module _ {A : Type 0} where
-  -- some packets are what the reader has taken since the last request began
+  -- the reader has taken some packets since the last request began
   abbrev pub HasTaken : RequestReader A → Type 0
   HasTaken r = (left : List Given) × Takes left r
 
-  -- the stage of a reader after a packet that brought this
+  -- the stage of a reader after a packet with this result
   abbrev pub stage_brought : ReadGot A → Stage
   stage_brought More = Within
   stage_brought (Request request) = Between
   stage_brought Stop = Stopped
   stage_brought (Failed fault) = FailedStage fault
 
-  -- what was brought, where the reader was after these packets, by what refuses an argument
+  -- the result of the last of these packets; `barred` states which arguments are refused
   abbrev pub IsBrought : (Arg → Option Kind) → List Given → ReadGot A → RequestReader A → Type 0
   IsBrought barred packets More new =
       Takes packets new × AreBegun (offer_of new) (limit_in new) packets × IsUnbarred (offer_of new) (limit_in new) barred packets
@@ -58,12 +58,12 @@ module _ {A : Type 0} where
   IsBrought barred packets Stop new = Takes [] new × IsStop packets
   IsBrought barred packets (Failed fault) new = IsToldFor (offer_of new) (limit_in new) barred packets fault
 
-  -- no more is stored of a whole request than is kept of it
+  -- the bytes stored of a whole request are at most those kept of it
   abbrev pub IsCovered : ReadGot A → Type 0
   IsCovered (Request request) = stored_of request ≤ kept_of request
   IsCovered _ = Unit {0}
 
-  -- a packet is not refused for want of memory, unless a list of at most so many bytes was refused
+  -- a packet is not refused for lack of memory, unless memory for a list of at most so many bytes was refused
   abbrev pub GotNeedsRefusal : (ℕ → Type 0) → ℕ → ReadGot A → Type 0
   GotNeedsRefusal refuses most (Failed fault) = NeedsRefusal refuses most fault.kind
   GotNeedsRefusal refuses most got = Unit {0}
@@ -75,19 +75,19 @@ module _ {A : Type 0} where
   goes_on Stop = false
   goes_on (Failed fault) = false
 
-  -- what is kept is within the limit; what was kept of a whole request is given away with it, under the same limit
+  -- what is kept is within the limit; a whole request is handed out with what was kept of it, under the same limit
   abbrev pub IsWithin : ReadGot A → RequestReader A → Type 0
   IsWithin (Request request) new = (limit_of request ≡ limit_in new) × (kept_of request ≤ limit_in new) × (kept_so_far new ≡ 0)
   IsWithin got new = kept_so_far new ≤ limit_in new
 
-  -- after the flush by which the other end leaves the reader has no fault, and no argument waits in it; after a fault it takes no packet
-  -- more: it stays at the fault, or an argument waits in it that was refused
+  -- after the flush that ends the session, the reader has no fault, and no argument waits in it; after a fault it takes no
+  -- more packets: it stays at the fault, or an argument that was refused waits in it
   abbrev pub IsStopped : ReadGot A → RequestReader A → Type 0
   IsStopped Stop new = (fault_of new ≡ None) × (is_waiting new ≡ false)
   IsStopped (Failed fault) new = (fault_of new ≡ Some fault) ⊎ (is_waiting new ≡ true)
   IsStopped got new = Unit {0}
 
-  -- what a packet does, whatever packets came since the last request
+  -- the effect of a packet, whatever packets came since the last request
   pub record Brings (barred : Arg → Option Kind) (old : RequestReader A) (g : Given) (got : ReadGot A) (new : RequestReader A) : Type 0 where
     pub brings : (packets : List Given) → Takes packets old → IsBrought barred (packets ++ g ∷ []) got new
     pub sound : goes_on got ≡ true → fault_of new ≡ None

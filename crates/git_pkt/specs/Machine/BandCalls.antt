@@ -7,33 +7,33 @@ use Rattle.git_pkt.specs.Machine.BandReader.{FeedsBand, part_of, told_by}
 use Rattle.git_pkt.specs.declared.reader.BandFed.{BandFed}
 use Rattle.git_pkt.specs.declared.reader.PacketReader.{PacketReader}
 
--- a call with a piece, and its answer
+-- a call with a chunk, and its result
 pub record BandCall : Type 0 where
   pub piece : List ℕ
   pub fed : BandFed
 
--- the bytes that they used
+-- the bytes that the calls used
 abbrev pub used_by : List BandCall → List ℕ
 used_by [] = []
 used_by (call ∷ calls) = take call.fed.used call.piece ++ used_by calls
 
--- the packets that they returned
+-- the packets that the calls returned
 abbrev pub told_by_all : List BandCall → List Given
 told_by_all [] = []
 told_by_all (call ∷ calls) = told_by call.fed.got ++ told_by_all calls
 
--- the bytes that they handed out, each with its band
+-- the bytes that the calls handed out, each with its band
 abbrev pub parts_of_all : List BandCall → List OnBand
 parts_of_all [] = []
 parts_of_all (call ∷ calls) = part_of call.fed.got ++ parts_of_all calls
 
--- they took the reader from `old` to `new`
+-- the calls took the reader from `old` to `new`
 abbrev pub AreFed : PacketReader → List BandCall → PacketReader → Type 0
 AreFed old [] new = old ≡ new
 AreFed old (call ∷ calls) new = (mid : PacketReader) × FeedsBand old call.piece call.fed mid × AreFed mid calls new
 
--- of the bytes used more packets and a rest came: those packets of which nothing passes were returned, and all parts, joined, are
--- what passes of the packets and of the rest
+-- the bytes used brought more packets and a rest: the calls returned those packets that are on no band whose bytes pass, and
+-- all parts, joined, are the bytes that pass of the packets and of the rest
 pub record AllGoes (start : ℕ) (bytes : List ℕ) (given : List Given) (rest : List ℕ) (calls : List BandCall) (new : PacketReader) : Type 0 where
   pub more : List Given
   pub later : List ℕ

@@ -1,4 +1,4 @@
--- What a packet reader does in a section of side bands, where bytes of the pack and of the progress pass as they come.
+-- The calls of a packet reader in a section of side bands, where bytes of the pack and of the progress pass as they come.
 use Rattle.std.specs.Prelude.{◌≡◌, ◌≢◌, ◌⊎◌, ℕ, ◌+◌, ◌<◌, ◌≤◌, true, false, List, [], ◌∷◌, ◌++◌, length, take, drop, map, Some, None}
 use Rattle.git_pkt.specs.Packets.{Pkt, Spells, body_of, seen, longest_payload}
 use Rattle.git_pkt.specs.Passed.{OnBand, begins_band, is_on_band, on, others, passed_by_all, passed_by_rest}
@@ -21,8 +21,8 @@ use Rattle.git_pkt.specs.declared.progress.BandProgress.TheVariants.{Failed as F
 abbrev pub MayPass : PacketReader → Type 0
 MayPass r = passes_of r ≡ false → begins_band (drop 4 (rest_of r)) ≡ false
 
--- a stream of these bytes goes on by those used: packets of which bytes pass have become whole, and then those returned, and the
--- parts join to what passes of them
+-- the used bytes continue a stream of these bytes: packets whose bytes pass became whole, and then those returned, and the
+-- parts join to the bytes that pass of them
 pub record GoesByBands (start : ℕ) (bytes : List ℕ) (given : List Given) (rest used : List ℕ) (told : List Given) (parts : List OnBand)
     (new : PacketReader) : Type 0 where
   pub passed : List Given
@@ -33,7 +33,7 @@ pub record GoesByBands (start : ℕ) (bytes : List ℕ) (given : List Given) (re
   pub joins : passed_by_all passed ++ passed_by_rest later ≡ passed_by_rest rest ++ parts
   pub held : (g : Given) → told ≡ g ∷ [] → (before : List ℕ) × (bytes ++ used ≡ before ++ held_of new)
 
--- whatever the stream was so far
+-- the same, whatever the stream was so far
 abbrev pub ReadsBandsOn : PacketReader → List ℕ → List Given → List OnBand → PacketReader → Type 0
 ReadsBandsOn old used told parts new =
     (start : ℕ) (bytes : List ℕ) (given : List Given) (rest : List ℕ) → Reads old start bytes given rest
@@ -53,7 +53,7 @@ part_of (Part band bytes) = map (on band) bytes.now
 part_of (Packet p offset) = []
 part_of (Failed f) = []
 
--- bytes that passed: they are the last of those used, and all that the piece, or the stream, has of their packet from there on
+-- bytes that passed: they are the last of the used ones, and all that the chunk, or the stream, has of their packet from there on
 pub record IsPart (bytes : List ℕ) (used : ℕ) (piece : List ℕ) (new : PacketReader) : Type 0 where
   pub uses : 0 < used
   pub some : 0 < length bytes
@@ -64,7 +64,7 @@ pub record IsPart (bytes : List ℕ) (used : ℕ) (piece : List ℕ) (new : Pack
   pub all : is_open new ≡ true → (used ≡ length piece) ⊎ (position_of new ≡ last_position)
   pub few : length (held_of new) ≤ 5
 
--- what each answer means for the reader: no packet is returned whose bytes pass, and of a fatal error none do
+-- the meaning of each answer for the reader: a packet whose bytes pass is never returned, and no bytes of a fatal error pass
 abbrev pub TellsBand : BandGot → ℕ → List ℕ → PacketReader → Type 0
 TellsBand More used piece new = (used ≡ length piece) × (fault_of new ≡ None)
 TellsBand (Part band bytes) used piece new = (band ≢ Fatal) × IsPart bytes.now used piece new
@@ -73,27 +73,27 @@ TellsBand (Packet p offset) used piece new =
     × (offset + length (held_of new) ≡ position_of new) × (is_on_band (seen p) ≡ false)
 TellsBand (Failed f) used piece new = fault_of new ≡ Some f
 
--- a reader that had no fault reports only a fault that the piece shows
+-- a reader that had no fault reports only a fault that the chunk shows
 abbrev pub IsBandNews : PacketReader → List ℕ → BandFed → Type 0
 IsBandNews old piece fed = (f : Fault) → fault_of old ≡ None → fed.got ≡ Failed f → ShownByFeed f fed.used piece
 
--- a reader with this fault uses nothing and answers it again
+-- a reader with this fault uses nothing and returns the fault again
 abbrev pub RepeatsBand : PacketReader → BandFed → PacketReader → Type 0
 RepeatsBand old fed new = (f : Fault) → fault_of old ≡ Some f → (fed.used ≡ 0) × (fed.got ≡ Failed f) × (new ≡ old)
 
--- of a packet whose bytes pass the hold has no more than the first five
+-- the hold has only the first five bytes of a packet whose bytes pass
 abbrev pub HoldsFew : PacketReader → Type 0
 HoldsFew new = (rest : List ℕ) → Holds new rest → begins_band (drop 4 rest) ≡ true → length (held_of new) ≤ 5
 
--- how many bytes of the open packet have come after a call: no more than before it and those used, and fewer where packets that
--- give nothing came whole; of a packet that is returned all had come
+-- how many bytes of the open packet have come after a call: at most those before it and those used, and fewer if packets
+-- that give nothing became whole; all bytes of a packet that is returned had come
 abbrev pub CountsBand : PacketReader → ℕ → BandGot → PacketReader → Type 0
 CountsBand old used More new = open_length new ≤ open_length old + used
 CountsBand old used (Part band bytes) new = open_length new ≤ open_length old + used
 CountsBand old used (Packet p offset) new = (length (body_of (seen p)) + 4 ≤ open_length old + used) × (open_length new ≡ 0)
 CountsBand old used (Failed f) new = open_length new ≡ 0
 
--- what a call of `feed_band` does
+-- the effect of a call of `feed_band`
 pub record FeedsBand (old : PacketReader) (piece : List ℕ) (fed : BandFed) (new : PacketReader) : Type 0 where
   pub reads : ReadsBandsOn old (take fed.used piece) (told_by fed.got) (part_of fed.got) new
   pub tells : TellsBand fed.got fed.used piece new
@@ -104,13 +104,13 @@ pub record FeedsBand (old : PacketReader) (piece : List ℕ) (fed : BandFed) (ne
   pub passes : MayPass new
   pub few : HoldsFew new
 
--- no packet is returned: all of the piece is used
+-- no packet is returned, and the whole chunk is used
 pub record StaysOpen (old : PacketReader) (piece : List ℕ) (used : ℕ) (new : PacketReader) : Type 0 where
   pub all : used ≡ length piece
   pub no_fault : fault_of new ≡ None
   pub goes : ReadsBandsOn old (take used piece) [] [] new
 
--- a packet on a band came that has no byte there
+-- a packet came that has no byte on its band
 pub record PassesOver (old : PacketReader) (piece : List ℕ) (used : ℕ) (new : PacketReader) : Type 0 where
   pub some : 0 < used
   pub no_fault : fault_of new ≡ None
@@ -142,7 +142,7 @@ pub record StopsReading (f : Fault) (old : PacketReader) (piece : List ℕ) (use
   pub shown : ShownByFeed f used piece
   pub goes : ReadsBandsOn old (take used piece) [] [] new
 
--- what a step results in
+-- the result of a step
 abbrev pub Comes : BandProgress → PacketReader → List ℕ → ℕ → PacketReader → Type 0
 Comes OpenYet old piece used new = StaysOpen old piece used new
 Comes EmptyPacket old piece used new = PassesOver old piece used new
@@ -150,7 +150,7 @@ Comes (PartCame part) old piece used new = Passes part.band part.count old piece
 Comes WholePacket old piece used new = IsHeldWhole old piece used new
 Comes (FailedStep f) old piece used new = StopsReading f old piece used new
 
--- what a step does
+-- the effect of a step
 pub record BandMoves (old : PacketReader) (piece : List ℕ) (used : ℕ) (progress : BandProgress) (new : PacketReader) : Type 0 where
   pub passes : MayPass new
   pub rises : open_length new ≤ open_length old + used

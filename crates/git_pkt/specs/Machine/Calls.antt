@@ -1,14 +1,14 @@
--- Calls of a reader and of a writer, and what a wrapper makes of many of them.
+-- Calls of a reader and of a writer, and how a wrapper combines many of them.
 use Rattle.std.specs.Prelude.{◌≡◌, ◌≢◌, ℕ, zero, suc, ◌<◌, List, [], length, drop, Result, Ok, Err, MatchResult, IfErr, IsErrAnd, ◌⊎◌, ◌-◌, ◌^◌}
 use Rattle.std.specs.IoError.{error_kind}
 use Rattle.std.specs.declared.io.Error.{Error}
 use Rattle.std.specs.declared.io.ErrorKind.TheVariants.{Interrupted, Other, WriteZero}
 
--- a read: the reader and the buffer before it, what it returned, and both after it
+-- a read: the reader and the buffer before it, its result, and both after it
 abbrev pub ReadCall : Type 0 → Type 1
 ReadCall R = R → List ℕ → Result ℕ Error → List ℕ → R → Type 0
 
--- a write: the writer before it, the bytes that were offered, what it returned, and the writer after it
+-- a write: the writer before it, the bytes passed to it, its result, and the writer after it
 abbrev pub WriteCall : Type 0 → Type 1
 WriteCall W = W → List ℕ → Result ℕ Error → W → Type 0
 
@@ -29,7 +29,7 @@ module _ {R : Type 0} where
       (reader : R) × (buffer : List ℕ) × (error : Error) × AreInterrupted read count old before buffer reader
       × read reader buffer (Err error) after new × (error_kind error ≡ Interrupted)
 
-  -- reads that were interrupted, and then one that was not, whose answer this is; or too many that were
+  -- interrupted reads, and then one that was not interrupted, whose result this is; or too many interrupted ones
   pub record ReadsUninterrupted (read : ReadCall R) (old : R) (before : List ℕ) (result : Result ℕ Error) (after : List ℕ) (new : R) : Type 0 where
     pub count : ℕ
     pub reader : R
@@ -52,7 +52,7 @@ module _ {W : Type 0} where
   WritesOn write (suc count) old bytes rest new =
       (writer : W) × (left : List ℕ) × WritesOn write count old bytes left writer × WritesSome write writer left rest new
 
-  -- why writing failed with this error: a write took nothing, a write failed otherwise than by an interruption, or there were too many
+  -- why writing failed with this error: a write took nothing, a write failed for another reason than an interruption, or there were too many
   abbrev pub FailsToWrite : WriteCall W → ℕ → W → List ℕ → Error → W → Type 0
   FailsToWrite write count writer rest error new =
       ((0 < length rest) × write writer rest (Ok 0) new × (error_kind error ≡ WriteZero))
@@ -67,7 +67,7 @@ module _ {W : Type 0} where
     pub so_far : WritesOn write count old bytes rest writer
     pub ends : MatchResult result (λ _. (rest ≡ []) × (new ≡ writer)) (λ error. FailsToWrite write count writer rest error new)
 
-  -- the same, of a run that passes on only that it failed
+  -- the same for a run that reports only that it failed
   abbrev pub SendsWhole : {F : Type 0} → WriteCall W → W → List ℕ → Result (Unit {0}) F → W → Type 0
   SendsWhole write old bytes result new =
       MatchResult result (λ _. WritesWhole write old bytes (Ok tt) new) (λ _. (error : Error) × WritesWhole write old bytes (Err error) new)

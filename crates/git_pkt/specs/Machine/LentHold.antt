@@ -1,4 +1,4 @@
--- What a reader ends as, whose hold was lent.
+-- The final state of a reader whose hold was lent.
 use Rattle.std.specs.Prelude.{◌≡◌, ℕ, Bool, true, false, refl}
 use Rattle.std.specs.Borrow.{Lends, MutBor, Fml, u8, unit}
 use denote.Param.{number}
@@ -30,10 +30,10 @@ with_hold_by r w false e = record r {
   passing = λ h. absurd (shut_not_passing r.state e h);
 }
 
--- the reader with another hold, where no packet is open; else the reader
+-- the reader with another hold, if no packet is open; otherwise the reader itself
 abbrev pub with_hold : PacketReader → ArrayVec ℕ → PacketReader
 with_hold r w = with_hold_by r w (is_open_in r.state) refl
 
--- once the borrow ends, the reader's hold is what was left in it
+-- once the borrow ends, the reader's hold is what the borrower left in it
 abbrev pub LendsHold : MutBor PacketReader → MutBor (ArrayVec ℕ) → Fml
 LendsHold r hold = Lends the_row (array_vec_row u8 (number 65520) unit) r hold (with_hold r.now)

@@ -19,7 +19,7 @@ position_of r = r.position
 abbrev pub is_open : PacketReader → Bool
 is_open r = is_open_in r.state
 
--- the bytes of the open packet pass: the hold has the first five of them alone
+-- the bytes of the open packet pass: the hold has only the first five of them
 abbrev pub passes_of : PacketReader → Bool
 passes_of r = passes_in r.state
 
@@ -27,7 +27,7 @@ passes_of r = passes_in r.state
 abbrev pub held_of : PacketReader → List ℕ
 held_of r = r.hold.items
 
--- how many bytes the reader has in its hold, its one field with bytes
+-- how many bytes the reader has in its hold, its only field with bytes
 abbrev pub bytes_held : PacketReader → ℕ
 bytes_held r = length (held_of r)
 
@@ -45,7 +45,7 @@ bytes_held_by_fields r =
     } = r in
     length hold.items
 
--- what the hold has of the open packet
+-- the bytes of the open packet that the hold has
 abbrev pub rest_of : PacketReader → List ℕ
 rest_of r = take (held_in r.state) (held_of r)
 
@@ -53,7 +53,7 @@ rest_of r = take (held_in r.state) (held_of r)
 abbrev pub open_length : PacketReader → ℕ
 open_length r = come_in r.state r.field
 
--- what the reader holds of the rest of a stream: its beginning, and after that no more than was handed out
+-- what the reader holds of the rest of a stream: its beginning. The bytes after that were handed out.
 pub record Holds (r : PacketReader) (rest : List ℕ) : Type 0 where
   pub passed : List ℕ
   pub all : rest_of r ++ passed ≡ rest
@@ -72,7 +72,7 @@ abbrev pub StandsAt : Option Fault → ℕ → ℕ → List ℕ → PacketReader
 StandsAt None p end rest r = Holds r rest × IsOpen rest
 StandsAt (Some f) p end rest r = (is_open r ≡ false) × StopsBy p rest end f.kind f.offset
 
--- the reader has used these bytes of a stream that starts at `start`: they are the packets given, and a rest
+-- the reader has used these bytes of a stream that starts at `start`: they are these packets and a rest
 pub record Reads (r : PacketReader) (start : ℕ) (bytes : List ℕ) (given : List Given) (rest : List ℕ) : Type 0 where
   pub position : position_of r ≡ start + length bytes
   pub within : start + length bytes ≤ last_position
@@ -80,19 +80,19 @@ pub record Reads (r : PacketReader) (start : ℕ) (bytes : List ℕ) (given : Li
   pub splits : Splits start bytes given rest
   pub state : StandsAt (fault_of r) (start + length bytes - length rest) (start + length bytes) rest r
 
--- the packets of an answer
+-- the packets that an answer contains
 abbrev pub given_by : Got → List Given
 given_by More = []
 given_by (Packet p offset) = (record { packet = seen p; offset = offset }) ∷ []
 given_by (Failed f) = []
 
--- whatever the stream was so far, it goes on by the bytes used and the packet given
+-- whatever the stream was so far, the used bytes and the returned packet continue it
 abbrev pub ReadsOn : PacketReader → List ℕ → List Given → PacketReader → Type 0
 ReadsOn old used more new =
     (start : ℕ) (bytes : List ℕ) (given : List Given) (rest : List ℕ) → Reads old start bytes given rest
     → (later : List ℕ) × Reads new start (bytes ++ used) (given ++ more) later
 
--- what each answer of `feed` means for the reader
+-- the meaning of each answer of `feed` for the reader
 abbrev pub Tells : Got → ℕ → List ℕ → PacketReader → Type 0
 Tells More used piece new = (used ≡ length piece) × (fault_of new ≡ None)
 Tells (Packet p offset) used piece new =
@@ -100,32 +100,32 @@ Tells (Packet p offset) used piece new =
     × (offset + length (held_of new) ≡ position_of new)
 Tells (Failed f) used piece new = fault_of new ≡ Some f
 
--- a fault that the bytes of a piece show: past the last position there is one more byte, which is not used
+-- a fault that the bytes of a chunk show: past the last position there is one more byte, which is not used
 pub record ShownByFeed (f : Fault) (used : ℕ) (piece : List ℕ) : Type 0 where
   pub not_the_end : f.kind ≢ Truncated
   pub one_more : f.kind ≡ StreamTooLong → used < length piece
 
--- a reader that had no fault reports only a fault that the piece shows
+-- a reader that had no fault reports only a fault that the chunk shows
 abbrev pub IsNews : PacketReader → List ℕ → Fed → Type 0
 IsNews old piece fed = (f : Fault) → fault_of old ≡ None → fed.got ≡ Failed f → ShownByFeed f fed.used piece
 
--- a reader with this fault uses nothing and answers it again
+-- a reader with this fault uses nothing and returns the fault again
 abbrev pub Repeats : PacketReader → Fed → PacketReader → Type 0
 Repeats old fed new = (f : Fault) → fault_of old ≡ Some f → (fed.used ≡ 0) × (fed.got ≡ Failed f) × (new ≡ old)
 
--- after a packet the hold has its bytes as they came
+-- after a packet, the hold has its bytes as they came
 abbrev pub HoldsAsItCame : PacketReader → List ℕ → Got → PacketReader → Type 0
 HoldsAsItCame old used More new = Unit {0}
 HoldsAsItCame old used (Packet p offset) new = (rest : List ℕ) → Holds old rest → held_of new ≡ rest ++ used
 HoldsAsItCame old used (Failed f) new = Unit {0}
 
--- how many bytes of the open packet have come after a call; of a packet that is whole now all had come
+-- how many bytes of the open packet have come after a call; all bytes of a packet that is now whole had come
 abbrev pub Counts : PacketReader → ℕ → Got → PacketReader → Type 0
 Counts old used More new = open_length new ≡ open_length old + used
 Counts old used (Packet p offset) new = (length (body_of (seen p)) + 4 ≡ open_length old + used) × (open_length new ≡ 0)
 Counts old used (Failed f) new = open_length new ≡ 0
 
--- what a call of `feed` does
+-- the effect of a call of `feed`
 pub record Feeds (old : PacketReader) (piece : List ℕ) (fed : Fed) (new : PacketReader) : Type 0 where
   pub reads : ReadsOn old (take fed.used piece) (given_by fed.got) new
   pub tells : Tells fed.got fed.used piece new

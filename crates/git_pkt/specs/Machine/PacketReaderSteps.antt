@@ -1,4 +1,4 @@
--- What the parts of a reader's step do.
+-- The parts of a reader's step.
 use Rattle.std.specs.Prelude.{◌≡◌, ◌≢◌, ℕ, ◌+◌, ◌-◌, false, List, ◌++◌, length, Some, None}
 use Rattle.git_pkt.specs.Splits.{NoneBegins}
 use Rattle.git_pkt.specs.Faults.{StopsBy}
@@ -11,7 +11,7 @@ use Rattle.git_pkt.specs.declared.reader.PacketReader.{PacketReader}
 use Rattle.git_pkt.specs.declared.progress.Progress.{Progress}
 use Rattle.git_pkt.specs.declared.progress.Progress.TheVariants.{Open, Whole, Failed}
 
--- the rest goes on
+-- the rest stays open
 pub record StaysOpen (rest : List ℕ) (new : PacketReader) : Type 0 where
   pub no_fault : fault_of new ≡ None
   pub gathers : passes_of new ≡ false
@@ -41,7 +41,7 @@ pub record Moves (old : PacketReader) (u : List ℕ) (progress : Progress) (new 
   pub position : position_of new ≡ position_of old + length u
   pub arrives : Arrives progress (rest_of old ++ u) new
 
--- the reader ended with this fault, and is else as it was
+-- the reader ended with this fault, and is otherwise as it was
 pub record IsStopped (old : PacketReader) (kind : Kind) (offset : ℕ) (progress : Progress) (new : PacketReader) : Type 0 where
   pub progress_is : progress ≡ Failed (record { kind = kind; offset = offset })
   pub told : fault_of new ≡ Some (record { kind = kind; offset = offset })
@@ -54,7 +54,7 @@ IsOfPacket Open = Unit {0}
 IsOfPacket Whole = Unit {0}
 IsOfPacket (Failed f) = (f.kind ≢ Truncated) × (f.kind ≢ StreamTooLong)
 
--- a fault that bytes of the piece show; past the last position the byte that shows it is not used
+-- a fault that bytes of the chunk show; past the last position the byte that shows it is not used
 abbrev pub IsShown : Progress → ℕ → List ℕ → Type 0
 IsShown Open used piece = Unit {0}
 IsShown Whole used piece = Unit {0}

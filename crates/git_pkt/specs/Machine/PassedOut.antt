@@ -10,7 +10,7 @@ abbrev pub HasPart : BandProgress → ℕ → Type 0
 HasPart (Part part) used = part.count ≤ used
 HasPart progress used = Unit {0}
 
--- what came of a step is handed out: of bytes that passed the last of those used of the piece
+-- the result of a step is handed out: bytes that passed are the last of the chunk's used ones
 abbrev pub HandsOut : BandProgress → ℕ → List ℕ → BandGot → Type 0
 HandsOut (Part part) used piece (PartGot band bytes) =
     (band ≡ part.band) × (bytes.now ≡ take (used - (used - part.count)) (drop (used - part.count) piece))

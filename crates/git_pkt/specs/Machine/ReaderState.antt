@@ -1,4 +1,4 @@
--- What each state of a reader means, of its hold and of the number of its packet.
+-- The meaning of each state of a reader, for its hold and for the number of its packet.
 use Rattle.std.specs.Prelude.{◌≡◌, ℕ, ◌+◌, ◌-◌, ◌<◌, ◌≤◌, Bool, true, false, List, length, take, drop, Option, Some, None}
 use Rattle.git_pkt.specs.Machine.HeldPacket.{IsGathering}
 use Rattle.git_pkt.specs.Passed.{begins_band}
@@ -20,14 +20,14 @@ come_in (Gathering count) field = count
 come_in (Passing left) field = field - left
 come_in (Failed fault) field = 0
 
--- how many bytes of it are still to come, where they pass
+-- how many bytes of it are still to come, if they pass
 abbrev pub left_in : State → ℕ
 left_in Between = 0
 left_in (Gathering count) = 0
 left_in (Passing left) = left
 left_in (Failed fault) = 0
 
--- how many that have come the hold has not
+-- how many bytes of it have come but are not in the hold
 abbrev pub passed_length_in : State → ℕ → ℕ
 passed_length_in Between field = 0
 passed_length_in (Gathering count) field = 0

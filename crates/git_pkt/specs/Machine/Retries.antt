@@ -1,4 +1,4 @@
--- What a clause sees of a `Retries`.
+-- How a clause sees a `Retries`.
 use Rattle.git_pkt.specs.declared.retries.Retries.{Retries}
 
 -- the reader inside

@@ -1,4 +1,4 @@
--- What a call does that sends bytes to a writer.
+-- A call that sends bytes to a writer.
 use Rattle.std.specs.Prelude.{◌≡◌, ◌||◌, ◌++◌, ℕ, List, Option, Result, OnOk, OnErr, IfErr, is_err}
 use Rattle.std.specs.Io.KnownBytes.{Appends}
 use Rattle.git_pkt.specs.declared.fault.RunFault.{RunFault}
@@ -7,8 +7,8 @@ use Rattle.git_pkt.specs.declared.told.Told.{Told}
 use Rattle.git_pkt.specs.Machine.Told.{inner_of, has_failed, ReadsNothing}
 use Rattle.git_pkt.specs.Streams.{AppendsFront}
 
--- The bytes were appended to what the writer holds. Where that failed, a front of them was, and the fault is `WriteFault`. The writer has
--- failed where it had before, and where this did; nothing was read.
+-- The bytes were appended to what the writer holds. If that failed, a prefix of them was, and the fault is `WriteFault`. The
+-- writer has failed if it had before, or if this call failed; nothing was read.
 pub record Sends {W T : Type 0} (contents : W → Option (List ℕ)) (old : Told W) (bytes : List ℕ) (result : Result T RunFault) (new : Told W) : Type 0 where
   pub ok : OnOk result (Appends (contents (inner_of old)) (contents (inner_of new)) bytes)
   pub err : OnErr result (AppendsFront (contents (inner_of old)) (contents (inner_of new)) bytes)
@@ -16,7 +16,7 @@ pub record Sends {W T : Type 0} (contents : W → Option (List ℕ)) (old : Told
   pub failed : has_failed new ≡ (has_failed old || is_err result)
   pub reads : ReadsNothing old new
 
--- The bytes came to those that waited for the writer: some of all these were sent, and the others wait.
+-- The bytes joined those that waited for the writer: some of all these were sent, and the others wait.
 pub record Puts {W T : Type 0} (contents : W → Option (List ℕ)) (old : Told W) (before bytes : List ℕ) (result : Result T RunFault) (new : Told W)
     (after : List ℕ) : Type 0 where
   pub sent : List ℕ

@@ -1,4 +1,4 @@
--- What a clause sees of a `Stops`.
+-- How a clause sees a `Stops`.
 use Rattle.std.specs.Prelude.{ℕ}
 use Rattle.git_pkt.specs.declared.stops.Stops.{Stops}
 

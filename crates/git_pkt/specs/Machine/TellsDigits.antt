@@ -1,4 +1,4 @@
--- What four bytes are, read as the digits of a packet's length.
+-- The result of reading four bytes as the digits of a packet's length.
 use Rattle.std.specs.Prelude.{◌≡◌, ℕ, List}
 use Rattle.git_pkt.specs.Digits.{HasDigits, digits_value}
 use Rattle.git_pkt.specs.Faults.{FirstBadDigit}

@@ -1,4 +1,4 @@
--- What a clause sees of a `Told`, and what its calls do to that.
+-- How a clause sees a `Told`, and how its calls change that.
 use Rattle.std.specs.Prelude.{◌≡◌, ℕ, ◌==◌, Bool, false, not, ◌&&◌, List, length, Result, Ok, Err}
 use Rattle.git_pkt.specs.declared.told.Told.{Told}
 
@@ -7,7 +7,7 @@ module _ {T : Type 0} where
   abbrev pub inner_of : Told T → T
   inner_of told = told.inner
 
-  -- how many reads were made, or `u64::MAX` where there were more
+  -- how many reads were made, or `u64::MAX` if there were more
   abbrev pub reads_of : Told T → ℕ
   reads_of told = told.reads
 
@@ -15,11 +15,11 @@ module _ {T : Type 0} where
   abbrev pub has_failed : Told T → Bool
   has_failed told = told.has_failed
 
-  -- a read into a buffer that is not empty gave no bytes
+  -- a read into a non-empty buffer returned no bytes
   abbrev pub has_ended : Told T → Bool
   has_ended told = told.has_ended
 
-  -- a read was made that could bring nothing: into an empty buffer, or after the input's end
+  -- a read was made that could not return any bytes: into an empty buffer, or after the end of the input
   abbrev pub has_wasted : Told T → Bool
   has_wasted told = told.has_wasted
 
@@ -36,7 +36,7 @@ module _ {T : Type 0} where
     pub ended : has_ended new ≡ has_ended old
     pub wasted : has_wasted new ≡ has_wasted old
 
--- a read into this buffer gave no bytes, though there was room for some
+-- a read into this buffer returned no bytes, though the buffer is not empty
 abbrev pub gave_nothing : {E : Type 0} → Result ℕ E → List ℕ → Bool
 gave_nothing (Ok n) buf = (n == 0) && not (length buf == 0)
 gave_nothing (Err e) buf = false
