@@ -170,7 +170,7 @@ pub fn methods_make_calls<A: Allocator + Copy>()
         → MakesAll Makes (call ∷ calls) before old after new }
 {}
 
-/// If byte counts are within a client's events, they do not overflow with the events that the client receives next.
+/// Counts of bytes that are together at most the number of a client's events do not overflow with the events that it receives next.
 pub fn counts_stay_below_their_end<A: Allocator + Copy>()
     ensures { (t : Terms) (h : History) (old new : Client A) (used : List ℕ) (events : List EventValue) (counts : Counts) → Converses t h old
         → HearsOn old used events new → counts.pack + counts.progress ≤ length h.events → CanCount counts events }
