@@ -123,7 +123,7 @@ module _ {A : Type 0} where
     pub served : AreServed t h [] first later
     pub sessions : AreWholeSessions now t.ending t limit state first later
 
-  -- the first error in the received bytes was refused, as truncated only if the servers send nothing more; or the next request was refused
+  -- the received bytes are refused for their first error, truncated only if the servers send nothing more; or the next request is refused
   pub record IsRefusedPlay (now : ℕ) (t : Terms) (limit : ℕ) (state : RepoState) (rest : List (Request A)) (h : History) (fault : Fault) : Type 0 where
     pub first : Talk
     pub later : List Talk

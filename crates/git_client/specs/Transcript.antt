@@ -8,16 +8,16 @@ use Rattle.git_msg.specs.declared.arguments.Command.{Command}
 use Rattle.git_msg.specs.References.{Ref, id_text, peeled_text}
 use Rattle.git_client.specs.Events.{EventValue, capability, offered, reference, ack, nak, ready, shallow, unshallow, wanted_ref, pack, progress, info, ended}
 
--- a text that may be there, after a word that comes before it
+-- a text that may be absent, after a word that comes before it
 abbrev pub shown_after : List ℕ → Option (List ℕ) → List ℕ
 shown_after word None = []
 shown_after word (Some text) = word ++ escaped_of text
 
--- what comes after a capability's key
+-- the text after a capability's key
 abbrev pub value_shown : Option (List ℕ) → List ℕ
 value_shown value = shown_after (codes "=") value
 
--- what comes after a reference's name
+-- the text after a reference's name
 abbrev pub target_shown : Option (List ℕ) → List ℕ
 target_shown target = shown_after (codes " symref-target:") target
 
@@ -25,12 +25,12 @@ target_shown target = shown_after (codes " symref-target:") target
 abbrev pub reference_shown : Ref → List ℕ
 reference_shown ref = codes "ref " ++ id_text ref.id ++ codes " " ++ escaped_of ref.name ++ target_shown ref.target ++ peeled_text ref.peeled ++ codes "\n"
 
--- the size of an object, or that it is not there
+-- the size of an object, or a dash if it is not there
 abbrev pub size_shown : Option ℕ → List ℕ
 size_shown None = codes "-"
 size_shown (Some size) = decimal size
 
--- the line of an event; the numbers are those of the pack and progress bytes of a response that ends
+-- the line of an event; the numbers count the pack and progress bytes of a response that ends
 abbrev pub line_of : EventValue → ℕ → ℕ → List ℕ
 line_of (capability key value) packed told = codes "capability " ++ escaped_of key ++ value_shown value ++ codes "\n"
 line_of offered packed told = codes "offered\n"
