@@ -92,7 +92,7 @@ impl Advance {
 }
 
 impl Passed {
-    /// The event of these bytes, all of which are on the band.
+    /// The event of these bytes on the band.
     fn event<'a>(self, bytes: &'a [u8]) -> Event<'a>
         requires { self.band ≢ Band.Fatal }
         ensures { Shows self.band bytes.now result }

@@ -18,7 +18,7 @@ pub enum Ending {
 pub enum Event<'a> {
     /// A line of the advertisement, whether its key is known or not.
     Capability(Capability<'a>),
-    /// The advertisement is complete, and it has the client's object format.
+    /// The advertisement is complete, and the server speaks the client's object format.
     Offered,
     /// A reference, in the response to `ls-refs`.
     Reference {

@@ -50,7 +50,7 @@ pub(crate) enum Due {
 }
 
 /// The contents of a packet without an error, with their places in the payload: so no line is read twice. Bytes of the pack and of
-/// the progress are not among them.
+/// the progress pass without this.
 #[derive(Clone, Copy, Debug)]
 pub(crate) enum Said {
     Nothing,

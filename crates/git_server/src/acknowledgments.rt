@@ -18,7 +18,7 @@ use std::alloc::Allocator;
 pub(crate) enum AcknowledgmentsPlace {
     /// The header.
     Header,
-    /// The have at this index, and whether one before it was acknowledged.
+    /// The haves from this index on, and whether one before them was acknowledged.
     Have(usize, bool),
     /// The part that comes after all the haves.
     Through,

@@ -1,4 +1,4 @@
-//! A repository with short reads of packs, all of which fail from one of them on.
+//! A repository whose reads of packs are short, and fail from some read on.
 
 ghost use Rattle.std.specs.Prelude.{◌≡◌, ◌≤◌, ◌<◌, ◌-◌, ◌⊎◌, IfOk, IsErr, OnErr, OnOk, length, min};
 ghost use Rattle.git_server.specs.Packs.{IsPackPart};

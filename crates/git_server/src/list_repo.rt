@@ -87,7 +87,7 @@ impl ListRepo {
 
     /// The repository with these references, these objects with their sizes in bytes, this shallow boundary and
     /// this pack for each request; if there is a `filtered` pack, it is for each request that has a filter. The repository is ready
-    /// to send a pack after this number of common objects, or never. If a request cuts the history off, the answer has the
+    /// to send a pack after `ready_after` common objects, or never. If a request cuts the history off, the answer has the
     /// shallow commits of the boundary in their order, and then those that the request called shallow and that are no
     /// longer shallow.
     ///
@@ -134,7 +134,7 @@ impl ListRepo {
         }))
     }
 
-    /// The same repository, if the lists are known to make one, for example because they were checked item by item.
+    /// The same repository, if the lists are known to make one, for example because each item was checked when it was added.
     pub fn of_lists(lists: RepoLists) -> ListRepo
         requires fit { IsRepository (lists_in lists) }
         requires named { All (λ ref. IsNamed ref.name ref.target) lists.refs.items }

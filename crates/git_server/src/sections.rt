@@ -5,7 +5,7 @@
 pub(crate) enum SectionPlace {
     /// The header, if the answer has the section.
     Header,
-    /// The line of the item at this index.
+    /// The lines of the items from this index on.
     Line(usize),
 }
 
@@ -14,7 +14,7 @@ pub(crate) enum SectionPlace {
 pub(crate) enum SectionPart {
     /// Nothing was written: the answer does not have the section.
     Absent,
-    /// The section goes on with the line of the item at this index.
+    /// The section goes on with the items from this index on.
     Line(usize),
     /// The packet was the delimiter of the section.
     Over,

@@ -36,7 +36,7 @@ use git_pkt::{Fault, Got, Kind, PacketReader, front_packet};
 use std::alloc::Allocator;
 use std::io::Read;
 
-/// The state of a session.
+/// The phase of a session.
 #[derive(Drop)]
 enum Phase<A: Allocator + Copy> {
     // The advertisement has to be sent, from this line on.
@@ -279,8 +279,8 @@ impl<R: Repo, A: Memory + Copy> Server<R, A> {
     ghost use Rattle.git_server.specs.Machine.Server.{outcome_of, reader_of, wants_input};
     ghost use Rattle.git_server.specs.Machine.ServerCalls.{Goes, GoesUnread, KeepsToMemory, StopsInTime};
 
-    /// Takes bytes of the input, and returns how many were used: all of them, or those up to the end of a request, of a flush
-    /// instead of a request, or of an error. None is used while a packet waits to be pulled, nor after the session ended. An empty
+    /// Takes bytes of the input, and returns how many were used: all of them, or those up to the end of a request, a flush
+    /// in place of a request, or an error. None is used while a packet waits to be pulled, nor after the session ended. An empty
     /// chunk changes nothing.
     pub fn feed(&mut self, piece: &[u8], steps: &mut Steps) -> usize
         ensures used { result ≤ length piece.now }

@@ -1,4 +1,4 @@
--- The view of a `Faulty` in clauses.
+-- The values of a `Faulty` that contracts refer to.
 use Rattle.std.specs.Prelude.{ℕ, ◌+◌}
 use Rattle.git_server.specs.declared.faulty.Faulty.{Faulty}
 use Rattle.git_server.specs.Repository.{RepoState}

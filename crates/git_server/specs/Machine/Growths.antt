@@ -1,4 +1,4 @@
--- The view of a `Growths` in clauses.
+-- The values of a `Growths` that contracts refer to.
 use Rattle.std.specs.Prelude.{Bool}
 use Rattle.git_server.specs.declared.growths.Growths.{Growths}
 

@@ -1,4 +1,4 @@
--- The view of a `LateRepo` in clauses.
+-- The values of a `LateRepo` that contracts refer to.
 use Rattle.std.specs.Prelude.{◌≡◌, ℕ, Bool, Option, List}
 use Rattle.git_server.specs.Lists.{Lists}
 use Rattle.git_server.specs.Repository.{RepoState}

@@ -1,4 +1,4 @@
--- The view of a `ListRepo` in clauses.
+-- The values of a `ListRepo` that contracts refer to.
 use Rattle.std.specs.Prelude.{◌≡◌, ◌<◌, ℕ, Bool, true, false, List, Option, Some, None, filter, length, unwrap_or, if◌then◌else◌}
 use Rattle.std.proofs.Common.{refl}
 use Rattle.std.specs.Option.{ForSome}

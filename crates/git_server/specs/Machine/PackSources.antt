@@ -1,4 +1,4 @@
--- The view of a `PackSources` in clauses.
+-- The values of a `PackSources` that contracts refer to.
 use Rattle.std.specs.Prelude.{◌≡◌, ◌||◌, ℕ, Bool, false, Option, Some, None, IfSome, List}
 use Rattle.std.specs.Option.{option_map}
 use Rattle.git_pkt.specs.Machine.Told.{has_failed, inner_of as in_told}

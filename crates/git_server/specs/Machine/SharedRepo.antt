@@ -1,4 +1,4 @@
--- The view of a `SharedRepo` in clauses.
+-- The values of a `SharedRepo` that contracts refer to.
 use Rattle.git_server.specs.declared.list_repo.ListRepo.{ListRepo}
 use Rattle.git_server.specs.declared.shared_repo.SharedRepo.{SharedRepo}
 use Rattle.git_server.specs.Machine.ListRepo.{state_of}
