@@ -60,7 +60,7 @@ answer_to (Some (ls_refs q)) = Some listing
 answer_to (Some (fetch q)) = Some (sections q.done)
 answer_to (Some (object_info q)) = Some informing
 
--- the part after so many flushes
+-- the part after this number of flushes
 abbrev pub part_after : List Asked → ℕ → Option Part
 part_after asked zero = Some advertisement
 part_after asked (suc k) = answer_to (slice_get asked k)

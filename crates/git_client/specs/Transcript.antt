@@ -55,12 +55,12 @@ lines_of (event ∷ events) packed told = line_of event packed told ++ lines_of 
 abbrev pub asked_line : Command → List ℕ
 asked_line command = codes "request " ++ name_of command ++ codes "\n"
 
--- the line of the next request, where one was asked
+-- the line of the next request, if there is one
 abbrev pub next_asked : List Asked → List ℕ
 next_asked [] = []
 next_asked (question ∷ questions) = asked_line (command_asked question)
 
--- the lines of events and of the requests between them, after so many bytes of pack and progress of a response
+-- the lines of events and of the requests between them, after these numbers of pack and progress bytes of a response
 abbrev pub transcript_from : List Asked → ℕ → ℕ → List EventValue → List ℕ
 transcript_from asked packed told [] = []
 transcript_from asked packed told (pack byte ∷ events) = transcript_from asked (suc packed) told events
@@ -71,6 +71,6 @@ transcript_from asked packed told (ended ∷ events) =
     line_of ended packed told ++ next_asked asked ++ transcript_from (drop 1 asked) 0 0 events
 transcript_from asked packed told (event ∷ events) = line_of event packed told ++ transcript_from asked packed told events
 
--- the transcript of what was asked and received
+-- the transcript of these requests and events
 abbrev pub transcript_of : List Asked → List EventValue → List ℕ
 transcript_of asked events = transcript_from asked 0 0 events

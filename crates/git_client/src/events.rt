@@ -33,7 +33,7 @@ pub enum Event<'a> {
     },
     /// Both sides have this object: a line of `acknowledgments`, as all events up to `Ready` are.
     Ack(&'a Oid),
-    /// No object is common of those that the request lists as the client's.
+    /// The server has none of the objects that the request lists as the client's.
     Nak,
     /// The server has found enough common objects: a pack follows.
     Ready,

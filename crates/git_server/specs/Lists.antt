@@ -52,7 +52,7 @@ pub record AreOfFormat (lists : Lists) : Type 0 where
   pub by_objects : All (λ object. object.0.format ≡ lists.format) lists.objects
   pub by_boundaries : All (λ boundary. (object_of boundary).format ≡ lists.format) lists.boundaries
 
--- the lists make a repository
+-- the lists are a repository
 pub record IsRepository (lists : Lists) : Type 0 where
   pub rising_refs : IsRising lists.refs
   pub rising_objects : AreRising lists.objects

@@ -30,7 +30,7 @@ pub record IsNamed (name : List ℕ) (target : Option (List ℕ)) : Type 0 where
   pub by_name : IsRefName name
   pub by_target : ForSome target IsRefName
 
--- the one name comes before the other, in the order of their bytes
+-- one name comes before the other, in the order of their bytes
 abbrev pub comes_before : List ℕ → List ℕ → Bool
 comes_before a b = is_lt (slice_cmp nat_cmp a b)
 

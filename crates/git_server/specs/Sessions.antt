@@ -42,7 +42,7 @@ AreAnswers repo [] packets = packets ≡ []
 AreAnswers repo (q ∷ qs) packets =
     (answer : List Pkt) × (more : List Pkt) × (packets ≡ answer ++ more) × IsAnswer repo q answer × AreAnswers repo qs more
 
--- the bytes are whole requests, further packets, and a rest that no packet begins
+-- the bytes are whole requests, further packets, and a rest that does not begin with a packet
 pub record Stream (s : Setting) (used : List ℕ) (asked : List Asked) (left : List Given) (rest : List ℕ) : Type 0 where
   pub packets : List Given
   pub splits : Splits 0 used packets rest
@@ -126,8 +126,8 @@ pub record IsOfTheBytes (outcome : Outcome) : Type 0 where
   pub by_memory : ¬ WantsMemory outcome
   pub by_pack : ¬ WantsPack outcome
 
--- the first malformed packet of the bytes: after the whole requests a packet is refused, or bytes that no packet begins with, or the input
--- ended inside a request
+-- the first malformed packet of the bytes: after the whole requests a packet is refused, or the bytes are no packet's, or the input ended
+-- inside a request
 pub record FirstMalformed (s : Setting) (used : List ℕ) (over : Bool) (fault : Fault) : Type 0 where
   pub asked : List Asked
   pub left : List Given

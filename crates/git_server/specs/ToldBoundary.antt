@@ -8,7 +8,7 @@ use Rattle.git_msg.specs.declared.Boundary.TheVariants.{Shallow, Unshallow}
 use Rattle.git_msg.specs.Asked.{FetchAsked, is_empty}
 use Rattle.git_server.specs.Objects.{object_cmp}
 
--- whether so many common objects are enough to send a pack
+-- whether this number of common objects is enough to send a pack
 abbrev pub is_enough : Option ℕ → ℕ → Bool
 is_enough None count = false
 is_enough (Some least) count = nat_le least count

@@ -114,7 +114,7 @@ module _ {A : Type 0} where
     -- a client that has refused something did so at the first malformed packet, and any other client has received none
     pub refused : (fault : Fault) → fault_of client ≡ Some fault → FirstMalformed t h.asked h.used fault
     pub unrefused : fault_of client ≡ None → GoesWell t h.asked h.used h.events
-    -- the bytes have no other first malformed packet; an end of the input or of the stream's positions has one offset
+    -- the bytes have no other first malformed packet; `Truncated` and `StreamTooLong` have one offset each
     pub one_refusal : (fault other : Fault) → fault_of client ≡ Some fault → FirstMalformed t h.asked h.used other
         → fault.kind ≢ Truncated → fault.kind ≢ StreamTooLong → fault ≡ other
     pub one_by_name : (fault other : Fault) → fault_of client ≡ Some fault → FirstMalformed t h.asked h.used other

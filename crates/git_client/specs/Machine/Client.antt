@@ -196,7 +196,7 @@ module _ {A : Type 0} where
   abbrev pub request_of : Client A → Option (Request A)
   request_of client = client.request
 
-  -- the packets that are still to be pulled
+  -- the packets that still have to be pulled
   abbrev pub left_to_say : Client A → List Pkt
   left_to_say client = left_in client.phase client.request
 

@@ -9,7 +9,7 @@ use Rattle.git_server.specs.Machine.PackSources.{AreReadFrom}
 use Rattle.git_server.specs.declared.late_repo.LateRepo.{LateRepo}
 
 module _ {P : Type 0} where
-  -- the lists that it is made of
+  -- the lists that it consists of
   abbrev pub late_lists : LateRepo P → Lists
   late_lists repo = lists_of repo.lists
 

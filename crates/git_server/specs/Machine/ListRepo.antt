@@ -10,7 +10,7 @@ use Rattle.git_server.specs.Lists.{Lists, lists_in, pack_for}
 use Rattle.git_server.specs.Objects.{has_object, object_of, size_among}
 use Rattle.git_server.specs.ToldBoundary.{boundary_for, is_enough}
 
--- the lists that it is made of
+-- the lists that it consists of
 abbrev pub lists_of : ListRepo → Lists
 lists_of repo = lists_in repo.lists
 
