@@ -39,7 +39,7 @@ pub struct Counts {
     pub progress: u64,
 }
 
-/// Receives the expected message, the advertisement or a response, or the rest of it, up to where the client can ask. It first uses the
+/// Receives the expected message, the advertisement or a response, or the rest of it, until the client can ask. It first uses the
 /// unused bytes of the `piece`, and then reads more into it. The lines of the transcript are written to `out`, the bytes of the pack to
 /// `pack`, and those of the server's progress to `progress`; all three are flushed before each read and at the end. The line at the end
 /// of a response counts only the bytes that this call received. Returns which bytes of the `piece` were not used.
@@ -109,8 +109,8 @@ pub fn hear<R: Read, O: Write, P: Output, E: Output, A: Allocator + Copy>(
     Ok(left)
 }
 
-/// Receives the messages in a chunk, up to where the client can ask. The count starts at `counts`, the bytes of the response so far. Returns
-/// how many bytes were used. Everything that was written before an error is flushed.
+/// Receives the messages in a chunk, until the client can ask. The count starts at `counts`, the bytes of the response so far. Returns how
+/// many bytes were used. Everything that was written before an error is flushed.
 ///
 /// The error is `Refused` with the first error in the received bytes, or `WriteFault` if a write or a flush fails: then the client is
 /// spent, since it may have received more than was written.
