@@ -1,4 +1,4 @@
--- Calls of a server and of a client in any order, over two queues of bytes, and what one of both can do next.
+-- Calls of a server and of a client in any order, over two queues of bytes, and what one of them can do next.
 use Rattle.std.specs.Prelude.{◌≡◌, ◌≢◌, ◌⊎◌, ℕ, true, false, All, List, [], ◌∷◌, ◌++◌, Some, take}
 use Rattle.git_names.specs.declared.object_format.Format.{Format}
 use Rattle.git_pkt.specs.declared.fault.Fault.{Fault}
@@ -21,19 +21,19 @@ use Rattle.git_server.specs.declared.server.Server.{Server}
 use Rattle.git_both_ends.specs.Plays.{setting_of}
 use Rattle.git_both_ends.specs.ToldAnswers.{CanBeWritten}
 
--- a call of either end
+-- a call of either side
 pub data EitherCall (A : Type 0) : Type 0 where
   of_server : ServerCall → EitherCall A
   of_client : ClientCall A → EitherCall A
 
--- both ends, and the bytes between them: those that one gave and the other has not used
+-- both sides, and the bytes between them: those that one has sent and the other has not used
 pub record BothEnds (R A : Type 0) : Type 0 where
   pub server : Server R A
   pub client : Client A
   pub to_server : List ℕ
   pub to_client : List ℕ
 
--- where each response ends with its flush: one server answers all requests
+-- each response ends with its flush: one server answers all requests
 abbrev pub terms_with : Format → Terms
 terms_with format = terms_of format FlushOnly
 
@@ -43,7 +43,7 @@ module _ {A : Type 0} where
   taken_by (feed piece answer) = take answer.used piece
   taken_by call = []
 
-  -- the bytes that it gave
+  -- the bytes that the call sent
   abbrev pub sent_by : ClientCall A → List ℕ
   sent_by (pull sent) = given_by sent
   sent_by call = []
@@ -54,11 +54,11 @@ module _ {A : Type 0} where
   calls_of_client (of_server call ∷ calls) = calls_of_client calls
   calls_of_client (of_client call ∷ calls) = call ∷ calls_of_client calls
 
-  -- what was asked of the client, and what it used, handed out and gave
+  -- the requests that the client was asked to send, and the bytes and events that it used, returned and sent
   abbrev pub history_of : List (EitherCall A) → History
   history_of calls = history_after nothing_yet (calls_of_client calls)
 
--- an answer of `pull` is a packet
+-- the result of `pull` is a packet
 abbrev pub IsSentPacket : Sent → Type 0
 IsSentPacket (SentPacket bytes) = Unit {0}
 IsSentPacket sent = ⊥
@@ -67,7 +67,7 @@ abbrev pub IsPulledPacket : Pulled → Type 0
 IsPulledPacket (Packet bytes) = Unit {0}
 IsPulledPacket pulled = ⊥
 
--- a client has a packet to give: whatever a call of `pull` answers, it is one
+-- a client has a packet to send: whatever a call of `pull` returns is one
 abbrev pub ClientGives : {A : Type 0} → Client A → Type 0
 ClientGives {A} client = (sent : Sent) (new : Client A) → PullsClient client sent new → IsSentPacket sent
 
@@ -76,11 +76,12 @@ abbrev pub HasRefused : {R A : Type 0} → Server R A → Type 0
 HasRefused server = (fault : Fault) × (outcome_of server ≡ Some (Refused fault))
 
 module _ {R A : Type 0} (state : R → RepoState) where
-  -- a server has a packet to give, likewise
+  -- a server has a packet to send, in the same sense
   abbrev pub ServerGives : Server R A → Type 0
   ServerGives server = (pulled : Pulled) (new : Server R A) → Pulls state server pulled new → IsPulledPacket pulled
 
-  -- a call of the client: the bytes that it used were the first on their way to it, and those that it gave are the last on their way to the server
+  -- a call of the client: the bytes that it used were the first on their way to the client, and those that it sent are the last on their
+  -- way to the server
   pub record MovesClient (call : ClientCall A) (old new : BothEnds R A) : Type 0 where
     pub before : ℕ
     pub after : ℕ
@@ -89,18 +90,19 @@ module _ {R A : Type 0} (state : R → RepoState) where
     pub gave : new.to_server ≡ old.to_server ++ sent_by call
     pub same : new.server ≡ old.server
 
-  -- one of both has bytes to use that it waits for
+  -- one side waits for bytes and has some to use
   abbrev pub HasBytes : BothEnds R A → Type 0
   HasBytes now =
       ((wants_input now.server ≡ true) × (now.to_server ≢ [])) ⊎ ((waits_for_input now.client ≡ true) × (now.to_client ≢ []))
 
-  -- neither waits for the other: the client can ask, one of both has a packet to give, or one has bytes to use
+  -- neither waits for the other: the client can ask, one side has a packet to send, or one has bytes to use
   abbrev pub CanGoOn : BothEnds R A → Type 0
   CanGoOn now =
       (can_ask now.client ≡ true) ⊎ (ClientGives now.client ⊎ (ServerGives now.server ⊎ HasBytes now))
 
 module _ {R A : Type 0} (state : R → RepoState) (refuses : ℕ → Type 0) where
-  -- a call of the server: the bytes that it used were the first on their way to it, and those that it gave are the last on their way to the client
+  -- a call of the server: the bytes that it used were the first on their way to the server, and those that it sent are the last on their
+  -- way to the client
   pub record MovesServer (call : ServerCall) (old new : BothEnds R A) : Type 0 where
     pub before : ℕ
     pub after : ℕ
@@ -118,8 +120,8 @@ module _ {R A : Type 0} (state : R → RepoState) (refuses : ℕ → Type 0) whe
   MoveAll [] old new = new ≡ old
   MoveAll (call ∷ calls) old new = (between : BothEnds R A) × Moves call old between × MoveAll calls between new
 
-  -- before the calls both ends were new: a client of the format, and a server of this repository that offers everything and advertises first.
-  -- What the repository answers can be written, and the values of each request that was asked are allowed in one of the format.
+  -- before the calls both sides were new: a client of the format, and a server of this repository that advertises first, and advertises
+  -- everything. The repository's answers can be written, and the values of each request are allowed in a request of the format.
   pub record HaveMet (format : Format) (limit : ℕ) (before : RepoState) (calls : List (EitherCall A)) (now : BothEnds R A) : Type 0 where
     pub first : BothEnds R A
     pub new_server : Running state (setting_of (terms_with format) limit before true) [] false [] first.server

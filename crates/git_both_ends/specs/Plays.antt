@@ -1,4 +1,4 @@
--- What a play of both ends against each other results in: what the client asked and received, and the sessions of the servers that
+-- The result of a play of both sides against each other: what the client asked and received, and the sessions of the servers that
 -- answered it.
 use Rattle.std.specs.Prelude.{◌≡◌, ◌⊎◌, ℕ, ◌<◌, Bool, true, false, All, List, [], ◌∷◌, ◌++◌, map, flat_map, Some, Result, Ok, Err}
 use Rattle.git_pkt.specs.Packets.{Pkt, flush, resp_end}
@@ -24,7 +24,7 @@ use Rattle.git_server.specs.declared.outcome.Outcome.{Outcome}
 
 -- ---- the sessions
 
--- a server of this repository that offers everything, and advertises first where it is asked to
+-- a server of this repository that advertises everything, and sends the advertisement first if `advertise` is set
 abbrev pub setting_of : Terms → ℕ → RepoState → Bool → Setting
 setting_of t limit state advertise = record {
   offer = everything t.format;
@@ -34,16 +34,16 @@ setting_of t limit state advertise = record {
   failures = state.failures;
 }
 
--- what was sent to a server, and what it gave
+-- the bytes sent to a server, and those that it sent
 pub record Talk : Type 0 where
   pub said : List ℕ
   pub given : List ℕ
 
--- a pack was lost only where more reads of the repository have failed by now than before
+-- a pack was lost only if more reads of the repository have failed by now than before
 abbrev pub IsLostFor : (before now : ℕ) → Outcome → Type 0
 IsLostFor before now outcome = IsPackLost (Some outcome) → before < now
 
--- a server goes on with all that was sent to it, or its session ended after a front of that
+-- a server goes on and has used all that was sent to it, or its session ended after a prefix of that
 pub record IsTalk (now : ℕ) (s : Setting) (talk : Talk) : Type 0 where
   pub used : List ℕ
   pub unused : List ℕ
@@ -51,7 +51,7 @@ pub record IsTalk (now : ℕ) (s : Setting) (talk : Talk) : Type 0 where
   pub runs : ((unused ≡ []) × GoesOn s used talk.given)
       ⊎ ((outcome : Outcome) × (owed : List Pkt) × IsEnding s used false talk.given outcome owed × IsLostFor s.failures now outcome)
 
--- a server gave all that it gives: it waits for more, or its session ended after a front of what was sent to it
+-- a server has sent all that it sends: it waits for more, or its session ended after a prefix of the bytes sent to it
 pub record IsDone (now : ℕ) (s : Setting) (talk : Talk) : Type 0 where
   pub used : List ℕ
   pub unused : List ℕ
@@ -59,30 +59,30 @@ pub record IsDone (now : ℕ) (s : Setting) (talk : Talk) : Type 0 where
   pub done : ((unused ≡ []) × IsAnswered s used talk.given)
       ⊎ ((outcome : Outcome) × IsSession s used false talk.given outcome × IsLostFor s.failures now outcome)
 
--- what the client gets of a server that answers one request alone: all that it gave, and after it a response end
+-- the bytes that the client gets from a server that answers only one request: all that the server sent, and then a response-end
 abbrev pub with_end : Talk → List ℕ
 with_end talk = talk.given ++ spelled (resp_end ∷ [])
 
--- who answers: one server alone, or one that only advertises and then one for each request, which is sent to it
+-- the servers: one alone, or one that only advertises and then one for each request, to which that request is sent
 abbrev pub AreSaid : Ending → (first : Talk) (later : List Talk) (said : List ℕ) (questions : List (List ℕ)) → Type 0
 AreSaid FlushOnly first later said questions = (later ≡ []) × (first.said ≡ said)
 AreSaid ResponseEnd first later said questions = (first.said ≡ []) × (map (λ talk. talk.said) later ≡ questions)
 
--- the bytes of each request as it is sent, where this was advertised
+-- the bytes of each request as it is sent, if this was advertised
 abbrev pub said_each : Terms → Caps → List Asked → List (List ℕ)
 said_each t caps asked = map (λ q. spelled (questions_of t.format caps (q ∷ []))) asked
 
--- what was sent to the servers, and what the client used is a front of what they gave
+-- the bytes sent to the servers; the client used a prefix of those that the servers sent
 pub record AreServed (t : Terms) (h : History) (unheard : List ℕ) (first : Talk) (later : List Talk) : Type 0 where
   pub said : (caps : Caps) → HasNoted t h.asked h.used caps → AreSaid t.ending first later h.given (said_each t caps h.asked)
   pub gave : h.used ++ unheard ≡ first.given ++ flat_map with_end later
 
--- this holds of the sessions: that of the first server, and those of the others
+-- this holds of the sessions: that of the first server, and those of the later ones
 abbrev pub AreAll : (Setting → Talk → Type 0) → Terms → ℕ → RepoState → Talk → List Talk → Type 0
 AreAll Stands t limit state first later =
     Stands (setting_of t limit state true) first × All (Stands (setting_of t limit state false)) later
 
--- what was sent to the servers, and their sessions, of which the client has received a front
+-- the bytes sent to the servers, and their sessions; the client has received a prefix of them
 pub record IsServed (now : ℕ) (t : Terms) (limit : ℕ) (state : RepoState) (h : History) : Type 0 where
   pub first : Talk
   pub later : List Talk
@@ -90,21 +90,21 @@ pub record IsServed (now : ℕ) (t : Terms) (limit : ℕ) (state : RepoState) (h
   pub served : AreServed t h unheard first later
   pub sessions : AreAll (IsTalk now) t limit state first later
 
--- a server answered all requests that were sent to it, and after them it received the flush by which the client leaves
+-- a server answered all requests that were sent to it, and after them it received the flush of the client that leaves
 pub record IsAnsweredAndLeft (now : ℕ) (s : Setting) (talk : Talk) : Type 0 where
   pub questions : List ℕ
   pub parts : talk.said ≡ questions ++ spelled (flush ∷ [])
   pub answered : IsAnswered s questions talk.given
   pub talks : IsTalk now s talk
 
--- each server gave all that its session gives for what it was asked
+-- each server sent all that its session gives for the requests that it got
 abbrev pub AreWholeSessions : (now : ℕ) → Ending → Terms → ℕ → RepoState → Talk → List Talk → Type 0
 AreWholeSessions now FlushOnly t limit state first later = IsAnsweredAndLeft now (setting_of t limit state true) first
 AreWholeSessions now ResponseEnd t limit state first later = AreAll (λ s talk. IsAnswered s talk.said talk.given) t limit state first later
 
 -- ---- how a play ended
 
--- a write failed: what was received comes of the servers, to which all was sent that is written of the requests; the last request may
+-- a write failed: the received bytes come from servers that got everything that is written of the requests; the last request may
 -- not have reached them yet
 pub record IsBrokenPlay (now : ℕ) (t : Terms) (limit : ℕ) (state : RepoState) (h : History) : Type 0 where
   pub reached : History
@@ -115,7 +115,7 @@ pub record IsBrokenPlay (now : ℕ) (t : Terms) (limit : ℕ) (state : RepoState
   pub is_served : IsServed now t limit state reached
 
 module _ {A : Type 0} where
-  -- each request was asked, answered and received whole, and all that was given was received
+  -- each request was asked, answered and received whole, and all that the servers sent was received
   pub record IsWholePlay (now : ℕ) (t : Terms) (limit : ℕ) (state : RepoState) (rest : List (Request A)) (h : History) : Type 0 where
     pub first : Talk
     pub later : List Talk
@@ -123,7 +123,7 @@ module _ {A : Type 0} where
     pub served : AreServed t h [] first later
     pub sessions : AreWholeSessions now t.ending t limit state first later
 
-  -- what was received is refused for its first fault, truncated only where the servers give nothing more; or the next request is
+  -- the received bytes are refused for their first error, truncated only if the servers send nothing more; or the next request is refused
   pub record IsRefusedPlay (now : ℕ) (t : Terms) (limit : ℕ) (state : RepoState) (rest : List (Request A)) (h : History) (fault : Fault) : Type 0 where
     pub first : Talk
     pub later : List Talk
@@ -143,8 +143,8 @@ module _ {A : Type 0} where
   EndsAs now t limit state (Err ReadFault) rest h = ⊥
   EndsAs now t limit state (Err ReadLimit) rest h = ⊥
 
-  -- what a play of these requests gives, after which so many reads of the repository have failed: the transcript of what was asked and received, and what
-  -- came of packs
+  -- the result of a play of these requests, after which `now` reads of the repository have failed: the transcript of the requests and events, and the
+  -- pack bytes
   pub record Played (now : ℕ) (t : Terms) (limit : ℕ) (state : RepoState) (requests : List (Request A)) (result : Result (Unit {0}) RunFault)
       (read given : List (List ℕ)) : Type 0 where
     pub h : History

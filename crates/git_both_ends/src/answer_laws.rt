@@ -1,4 +1,4 @@
-//! Laws of what a client receives of a server's answers.
+//! Laws about what a client receives when a server answers.
 
 ghost use Rattle.std.specs.Prelude.{ℕ, ◌≡◌, ◌∷◌, ◌++◌, [], All, List};
 ghost use Rattle.git_names.specs.declared.object_format.Format.{Format};
@@ -22,8 +22,8 @@ ghost use Rattle.git_repository.specs.Packs.{PackBytes};
 ghost use Rattle.git_repository.specs.RepositoryText.{IsRepositoryText};
 ghost use Rattle.git_both_ends.specs.ToldAnswers.{AsksIn, CanBeWritten, end_packets, packets_of, told_all, told_by, told_offer};
 
-/// The advertisement of any offer is received as it was meant, whatever is asked later. Then the first answer may follow. What a client
-/// notes of bytes that begin with it is just that offer.
+/// A client receives the advertisement of any offer as it was meant, whatever is asked later. Then the first answer may follow. The
+/// capabilities that a client notes in bytes that begin with the advertisement are exactly that offer.
 pub fn heard_offer()
     ensures heard { (t : Terms) (asked : List Asked) (offer : Offer) (gs : List Given) → offer.format ≡ t.format
         → packets_of gs ≡ advertisement_of offer → GiveAll t asked [] gs (told_offer offer) }
@@ -33,8 +33,8 @@ pub fn heard_offer()
         → HasNoted t asked (spelled (advertisement_of offer) ++ more) caps → noted_offer caps t.format ≡ offer }
 {}
 
-/// A whole answer is received as it was meant: after the advertisement and the answers to the requests before, none of its packets is
-/// refused, and it gives just the events that the repository's answers name, however the pack is cut. Then the next answer may follow.
+/// A client receives a whole answer as it was meant: after the advertisement and the answers to the earlier requests, none of its packets is
+/// refused, and they give exactly the events of the repository's answer, however the pack is cut. Then the next answer may follow.
 pub fn heard_answer()
     ensures heard { (t : Terms) (repo : Repository) (earlier later : List Asked) (q : Asked) (before packets : List Pkt) (gs : List Given)
         → IsSound repo → CanBeWritten repo → repo.format ≡ t.format → AsksIn t.format q → IsAnswer repo q packets
@@ -46,8 +46,8 @@ pub fn heard_answer()
         → AreWhole t (earlier ++ q ∷ []) (nearest gs before) }
 {}
 
-/// The answers of a session are received as they were meant: all answers that a server gave, one after the other, give just the events
-/// that the repository's answers to the requests name, and then the conversation is whole.
+/// A client receives the answers of a session as they were meant: all answers that a server sent, one after the other, give exactly the
+/// events of the repository's answers to the requests, and then the conversation is complete.
 pub fn heard_answers()
     ensures heard { (t : Terms) (repo : Repository) (earlier later asked : List Asked) (before packets : List Pkt) (gs : List Given)
         → IsSound repo → CanBeWritten repo → repo.format ≡ t.format → All (AsksIn t.format) asked → AreAnswers repo asked packets
@@ -59,12 +59,12 @@ pub fn heard_answers()
         → AreWhole t (earlier ++ asked) (nearest gs before) }
 {}
 
-/// A request whose values are allowed in one of its format asks for what can be answered in that format.
+/// If the values of a request are allowed in a request of its format, then it can be answered in that format.
 pub fn values_are_asked_in_their_format()
     ensures { (format : Format) (q : Asked) → HasValues format q → AsksIn format q }
 {}
 
-/// What a repository answers that was read from a text can be written: so its answers are received.
+/// The answers of a repository that was read from a text can be written: so a client receives them.
 pub fn read_repository_can_be_written()
     ensures { (repo : ListRepo) (text : List ℕ) (packs : PackBytes) → IsRepositoryText text packs (lists_of repo) → CanBeWritten (state_of repo).answers }
 {}

@@ -1,4 +1,4 @@
-//! Laws of a server and a client whose bytes go from the one to the other, whoever calls them.
+//! Laws about a server and a client that send their bytes to each other, whoever calls them.
 
 ghost use Rattle.std.specs.Prelude.{ℕ, ◌≡◌, ◌⊎◌, ◌++◌, ◌∷◌, [], All, List, None, Some, false, true};
 ghost use Rattle.git_names.specs.declared.object_format.Format.{Format};
@@ -18,8 +18,8 @@ ghost use Rattle.git_both_ends.specs.ToldAnswers.{CanBeWritten, told_play};
 use git_msg::Memory;
 use git_server::Repo;
 
-/// A new server and a new client have met, and so they have after one call more of either, whose bytes come off the one queue and go into
-/// the other: so what holds wherever they have met is about any calls that a program makes.
+/// A new server and a new client have met. They have still met after one more call of either, which takes its bytes from one queue and
+/// appends bytes to the other. So a law about a server and a client that have met covers any calls that a program makes.
 pub fn ends_meet_call_by_call<R: Repo, A: Memory + Copy>()
     ensures none { (format : Format) (limit : ℕ) (before : RepoState) (server : Server R A) (client : Client A)
         → IsSound before.answers → CanBeWritten before.answers → before.answers.format ≡ format
@@ -30,10 +30,10 @@ pub fn ends_meet_call_by_call<R: Repo, A: Memory + Copy>()
         → HaveMet R.state A.refuses format limit before (calls ++ call ∷ []) next }
 {}
 
-/// Neither end waits for the other. After any calls of a server and a client, with any cutting and in any order, what the client has handed
-/// out are the first events of the advertisement and of the repository's answers to what it was asked, unless a pack was lost. As long as
-/// neither has ended, the client can ask, or one of both has a packet to give, or has bytes to use that it waits for. And a client refuses
-/// nothing of a server that has refused nothing: it fails only where its input is closed, or its stream is too long.
+/// Neither side waits for the other. Take any calls of a server and a client, with any chunks and in any order. Unless a pack was lost, the
+/// events that the client has returned are the first events of the advertisement and of the repository's answers to the client's requests.
+/// As long as neither side has ended, the client can ask, or one side has a packet to send, or one side waits for bytes and has some to
+/// use. And a client refuses nothing from a server that has refused nothing: it fails only if its input is closed or its stream is too long.
 pub fn neither_waits_for_the_other<R: Repo, A: Memory + Copy>()
     ensures front { (format : Format) (limit : ℕ) (before : RepoState) (calls : List (EitherCall A)) (now : BothEnds R A)
         → HaveMet R.state A.refuses format limit before calls now → ¬ IsPackLost (outcome_of now.server)

@@ -1,4 +1,4 @@
-//! Laws of plays of both ends against each other.
+//! Laws about plays of both sides against each other.
 
 ghost use Rattle.std.specs.Prelude.{ℕ, ◌≡◌, ◌∷◌, [], All, List, Ok, flat_map, map};
 ghost use Rattle.git_msg.specs.Asked.{Asked, HasValues};
@@ -13,9 +13,9 @@ ghost use Rattle.git_both_ends.specs.ToldAnswers.{CanBeWritten, answered_pack, t
 
 use std::alloc::Allocator;
 
-/// A play that ended well reports what the repository answers to all requests: its transcript is that of the advertisement and of the
-/// answers, however they are cut and whichever packet ends a response, and its packs are those of the answers, one after the other. Of the
-/// requests it asks only what holds of each that is kept: its values are allowed in a request of its format.
+/// A play that ended well reports the repository's answers to all requests: its transcript is that of the advertisement and of the
+/// answers, however they are cut and whichever packet ends a response, and its packs are those of the answers, one after the other. The only
+/// condition on the requests is one that each stored request meets: its values are allowed in a request of its format.
 pub fn played_as_told<A: Allocator + Copy>()
     ensures told { (now : ℕ) (t : Terms) (limit : ℕ) (state : RepoState) (requests : List (Request A)) (done : Unit {0}) (read given : List (List ℕ))
         → Played now t limit state requests (Ok done) read given
@@ -24,6 +24,6 @@ pub fn played_as_told<A: Allocator + Copy>()
         → let asked = map asked_of requests in
         given ≡ transcript_of asked (told_play t.format state.answers asked) ∷ pack_bytes (told_all state.answers asked) ∷ [] }
 
-    // The packs of the answers: to a fetch that does not negotiate, or for which the repository is ready, it is the repository's pack.
+    // The packs of the answers: a fetch gets the repository's pack if it does not negotiate, or if the repository is ready for it.
     ensures packs { (repo : Repository) (asked : List Asked) → pack_bytes (told_all repo asked) ≡ flat_map (answered_pack repo) asked }
 {}

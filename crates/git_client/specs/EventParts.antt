@@ -1,4 +1,4 @@
--- An event as a row of a table: its kind, the word of its line, and each part that an event may have.
+-- An event as a row of a table: its kind, the word of its line, and each part that events may have.
 use Rattle.std.specs.Prelude.{ℕ, List, Option, Some, None, codes}
 use Rattle.std.specs.Option.{option_copied}
 use Rattle.git_names.specs.ObjectName.{ObjectName}
@@ -22,7 +22,7 @@ word_of EventKind.Pack = None
 word_of EventKind.Progress = None
 word_of EventKind.Ended = Some (codes "end")
 
--- the kind and the parts of an event, wherever its texts lie
+-- the kind and the parts of an event, whatever memory its texts are in
 pub record Parts : Type 0 where
   pub kind : EventKind
   pub id : Option ObjectName
@@ -42,7 +42,7 @@ parts_shown p = record {
   size = p.size;
 }
 
--- that it came, and nothing more
+-- an event of this kind without parts
 abbrev pub bare : EventKind → Parts
 bare kind = record { kind = kind; id = None; name = None; text = None; peeled = None; size = None }
 
@@ -54,7 +54,7 @@ of_object kind id = record { kind = kind; id = Some id; name = None; text = None
 abbrev pub of_text : EventKind → List ℕ → Parts
 of_text kind text = record { kind = kind; id = None; name = None; text = Some text; peeled = None; size = None }
 
--- the parts of an event: a capability's key is its name and its value the text, a reference's target is the text
+-- the parts of an event: a capability's key is the name and its value the text; a reference's target is the text
 abbrev pub parts_of : Event → Parts
 parts_of (Event.Capability c) = record {
   kind = EventKind.Capability;

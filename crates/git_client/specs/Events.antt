@@ -1,4 +1,4 @@
--- What a packet gives, and what refuses it, by the place where it is.
+-- The events that a packet gives, and the errors that refuse it, by its place.
 use Rattle.std.specs.Prelude.{◌≡◌, ◌≢◌, ◌⊎◌, ℕ, suc, ◌+◌, ◌==◌, ◌||◌, true, false, List, [], ◌∷◌, ◌++◌, length, sum_by, Option, Result, Ok, Err, codes, map}
 use Rattle.std.specs.Prelude.{if◌then◌else◌}
 use Rattle.std.specs.Option.{option_map_or}
@@ -22,7 +22,7 @@ use Rattle.git_client.specs.Sections.{section_named, may_begin}
 use Rattle.git_client.specs.Places.{Place, version, capabilities, references, header, acknowledgments, shallow_info, wanted_refs, packfile}
 use Rattle.git_client.specs.Places.{size_line, sizes, response_end}
 
--- an event, wherever its bytes lie; of the pack and of the progress each byte is one
+-- an event, whatever memory its bytes are in; each byte of the pack and of the progress is one event
 pub data EventValue : Type 0 where
   capability : (key : List ℕ) (value : Option (List ℕ)) → EventValue
   offered : EventValue
@@ -38,7 +38,7 @@ pub data EventValue : Type 0 where
   info : Info → EventValue
   ended : EventValue
 
--- a text at this place that is no error packet's gives these events
+-- a text at this place, not of an error packet, gives these events
 abbrev pub SaysLine : Place → Format → List ℕ → List EventValue → Type 0
 SaysLine version format text [] = text ≡ codes "version 2"
 SaysLine (capabilities spoken) format text (capability key value ∷ []) = IsCapability text key value
@@ -54,18 +54,18 @@ SaysLine size_line format text [] = text ≡ codes "size"
 SaysLine sizes format text (info entry ∷ []) = IsInfoLine format text entry
 SaysLine _ format text _ = ⊥
 
--- the text is no line that may come after the acknowledgments so far: `NAK` comes alone, and nothing after `ready`
+-- the text is not a line that may come after the acknowledgments so far: `NAK` comes alone, and nothing comes after `ready`
 pub record IsNotDue (acks : Acks) (text : List ℕ) : Type 0 where
   pub nak : text ≡ codes "NAK" → acks.any ≡ true
   pub ready : text ≡ codes "ready" → acks.ready ≡ true
   pub ack : (name : List ℕ) → text ≡ codes "ACK " ++ name → (acks.nak || acks.ready) ≡ true
 
--- a line of the acknowledgments may come, and has no object name
+-- a line of the acknowledgments may come, and this one has no object name
 pub record IsBadAck (format : Format) (acks : Acks) (text : List ℕ) : Type 0 where
   pub due : (acks.nak || acks.ready) ≡ false
   pub no_name : Follows (codes "ACK ") (IsNoObjectName format) text
 
--- by which name a text at this place that is no error packet's is refused
+-- the name of the error that refuses a text at this place, not of an error packet
 abbrev pub IsLineFault : Place → Format → List ℕ → Kind → Type 0
 IsLineFault version format text kind = (text ≢ codes "version 2") × (kind ≡ NotVersion2)
 IsLineFault (capabilities spoken) format text kind = IsNoCapability text × (kind ≡ BadCapability)
@@ -79,12 +79,12 @@ IsLineFault size_line format text kind = (text ≢ codes "size") × (kind ≡ Ba
 IsLineFault sizes format text kind = IsInfoFault format text kind
 IsLineFault _ format text kind = ⊥
 
--- the flush of a response ends it, or the response end after it does
+-- the flush of a response ends it, or the response end after the flush does
 abbrev pub ended_by : Ending → List EventValue
 ended_by FlushOnly = ended ∷ []
 ended_by ResponseEnd = []
 
--- what a payload of the packfile section gives: its first byte is the band of the others
+-- the events of a payload of the packfile section: its first byte is the band of the others
 abbrev pub band_says : List ℕ → Result (List EventValue) Kind
 band_says [] = Err NoBand
 band_says (band ∷ bytes) =
@@ -93,7 +93,7 @@ band_says (band ∷ bytes) =
     else if band == 3 then Err RemoteFatal
     else Err BadBand
 
--- what a flush gives
+-- the events of a flush
 abbrev pub flush_says : Ending → Place → Result (List EventValue) Kind
 flush_says ending version = Err NotVersion2
 flush_says ending (capabilities spoken) = if spoken then Ok (offered ∷ []) else Err WrongFormat
@@ -104,7 +104,7 @@ flush_says ending size_line = Ok (ended_by ending)
 flush_says ending sizes = Ok (ended_by ending)
 flush_says ending place = Err UnexpectedPacket
 
--- what a delimiter gives
+-- the events of a delimiter
 abbrev pub delimiter_says : Place → Result (List EventValue) Kind
 delimiter_says version = Err NotVersion2
 delimiter_says (acknowledgments acks) = if acks.ready then Ok [] else Err UnexpectedPacket
@@ -112,7 +112,7 @@ delimiter_says shallow_info = Ok []
 delimiter_says wanted_refs = Ok []
 delimiter_says place = Err UnexpectedPacket
 
--- what a response end gives
+-- the events of a response end
 abbrev pub response_end_says : Place → Result (List EventValue) Kind
 response_end_says version = Err NotVersion2
 response_end_says response_end = Ok (ended ∷ [])
@@ -123,7 +123,7 @@ pub record GivesLine (place : Place) (format : Format) (text : List ℕ) (events
   pub no_error : ¬ IsErrorText text
   pub says : SaysLine place format text events
 
--- a text line at this place is refused by this name: an error packet may be wherever a text line may be
+-- a text line at this place is refused by this name: an error packet may come wherever a text line may
 abbrev pub RefusesLine : Place → Format → List ℕ → Kind → Type 0
 RefusesLine place format text kind =
     (IsErrorText text × (kind ≡ RemoteError)) ⊎ ((¬ IsErrorText text) × IsLineFault place format text kind)
@@ -146,7 +146,7 @@ Refuses format ending place flush kind = flush_says ending place ≡ Err kind
 Refuses format ending place delim kind = delimiter_says place ≡ Err kind
 Refuses format ending place resp_end kind = response_end_says place ≡ Err kind
 
--- how often the client reached a point where it can ask
+-- how often the client reached a point at which it can ask
 abbrev pub turns_of : List EventValue → ℕ
 turns_of [] = 0
 turns_of (offered ∷ events) = suc (turns_of events)
@@ -165,7 +165,7 @@ progress_bytes [] = []
 progress_bytes (progress byte ∷ events) = byte ∷ progress_bytes events
 progress_bytes (event ∷ events) = progress_bytes events
 
--- how many bytes the parts of an event have, its object names as digits
+-- the number of bytes in the parts of an event, its object names as digits
 abbrev pub parts_length : EventValue → ℕ
 parts_length (capability key value) = length key + option_map_or length value 0
 parts_length (reference ref) =
@@ -179,6 +179,6 @@ parts_length (progress byte) = 1
 parts_length (info entry) = digits_of entry.id.format
 parts_length event = 0
 
--- how many bytes the parts of all of them have
+-- the number of bytes in the parts of all of them
 abbrev pub all_parts_length : List EventValue → ℕ
 all_parts_length events = sum_by parts_length events

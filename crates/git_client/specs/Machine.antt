@@ -1,4 +1,4 @@
--- The state and the calls of the client and of the runs that feed it. No definition beside this folder cites them.
+-- The state and the calls of the client and of the runs that feed it. No definition outside this folder cites them.
 pub mod Turns
 pub mod Client
 pub mod HandedOut

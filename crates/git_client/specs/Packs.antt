@@ -1,4 +1,4 @@
--- The pack of a conversation: what came on the first side band, joined in order.
+-- The pack of a conversation: the bytes of the first side band, joined in order.
 use Rattle.std.specs.Prelude.{◌≡◌, ℕ, ◌==◌, List, [], ◌∷◌, ◌++◌, drop, Option, Some, if◌then◌else◌}
 use Rattle.git_pkt.specs.Packets.{Pkt, payload}
 use Rattle.git_pkt.specs.Splits.{Given, Splits}
@@ -9,7 +9,7 @@ use Rattle.git_client.specs.Events.{EventValue}
 use Rattle.git_client.specs.Opened.{IsOfRest, unless_refused}
 use Rattle.git_client.specs.Conversation.{GiveAll, IsStop}
 
--- the bytes that a payload has on the first band
+-- the bytes of a payload on the first band
 abbrev pub on_first_band : List ℕ → List ℕ
 on_first_band [] = []
 on_first_band (band ∷ bytes) = if band == 1 then bytes else []
@@ -23,12 +23,12 @@ abbrev pub pack_of : Terms → List Asked → List Pkt → List Given → List �
 pack_of t asked before [] = []
 pack_of t asked before (g ∷ gs) = pack_in (place_after t asked before) g.packet ++ pack_of t asked (g.packet ∷ before) gs
 
--- what an open packet at this place has of the pack
+-- the pack bytes of an open packet at this place
 abbrev pub open_pack_in : Option Place → List ℕ → List ℕ
 open_pack_in (Some packfile) rest = on_first_band (drop 4 rest)
 open_pack_in place rest = []
 
--- the pack of the bytes: that of their packets up to the first that is refused, and what has come of an open one
+-- the pack of the bytes: that of their packets up to the first that is refused, and the received pack bytes of an open one
 pub record HasPack (t : Terms) (asked : List Asked) (bytes pack : List ℕ) : Type 0 where
   pub clean : List Given
   pub more : List Given

@@ -1,4 +1,4 @@
--- Which part of a conversation a packet belongs to: by what was asked and by the packets before it, the nearest first.
+-- The part of a conversation that a packet belongs to: by the requests that were asked and by the packets before it, the nearest first.
 use Rattle.std.specs.Prelude.{ℕ, suc, zero, Bool, true, false, not, List, [], ◌∷◌, Option, Some, None, slice_get, if◌then◌else◌}
 use Rattle.git_names.specs.declared.object_format.Format.{Format}
 use Rattle.git_pkt.specs.Packets.{Pkt, flush, delim, resp_end, payload, flushes}
@@ -7,7 +7,7 @@ use Rattle.git_msg.specs.Asked.{Asked, ls_refs, fetch, object_info}
 use Rattle.git_client.specs.declared.events.Ending.{Ending}
 use Rattle.git_client.specs.declared.events.Ending.TheVariants.{ResponseEnd}
 
--- what holds all through a conversation: the format of its object names, and how each response ends
+-- the constants of a conversation: the format of its object names, and how each response ends
 pub record Terms : Type 0 where
   pub format : Format
   pub ending : Ending
@@ -24,13 +24,13 @@ abbrev pub is_zero : ℕ → Bool
 is_zero zero = true
 is_zero (suc n) = false
 
--- the packets of the advertisement: all up to the first flush, which is the last one of it
+-- the packets of the advertisement: all up to the first flush, which is its last packet
 abbrev pub advertisement_of : List Pkt → List Pkt
 advertisement_of [] = []
 advertisement_of (p ∷ before) =
     if is_zero (flushes before) then p ∷ advertisement_of before else advertisement_of before
 
--- the packets of a message so far: those since the flush or the response end before it
+-- the packets of a message so far: those since the last flush or response end
 abbrev pub message_of : List Pkt → List Pkt
 message_of [] = []
 message_of (flush ∷ before) = []
@@ -38,13 +38,13 @@ message_of (resp_end ∷ before) = []
 message_of (delim ∷ before) = delim ∷ message_of before
 message_of (payload line ∷ before) = payload line ∷ message_of before
 
--- the packet before is the flush of a response, after which a response end is due
+-- the packet before is the flush of a response, and a response end is expected after it
 abbrev pub is_end_due : Ending → List Pkt → Bool
 is_end_due ResponseEnd (flush ∷ before) = not (is_zero (flushes before))
 is_end_due _ _ = false
 
 -- the parts of a conversation: the first packet, the rest of the advertisement, the response to ls-refs, the response to
--- fetch, which was asked with `done` or not, the response to object-info, and the response end
+-- a fetch with or without `done`, the response to object-info, and the response end
 pub data Part : Type 0 where
   opening : Part
   advertisement : Part
@@ -60,12 +60,12 @@ answer_to (Some (ls_refs q)) = Some listing
 answer_to (Some (fetch q)) = Some (sections q.done)
 answer_to (Some (object_info q)) = Some informing
 
--- the part after so many flushes
+-- the part after this number of flushes
 abbrev pub part_after : List Asked → ℕ → Option Part
 part_after asked zero = Some advertisement
 part_after asked (suc k) = answer_to (slice_get asked k)
 
--- the part of the packet after these; none where nothing was asked that it could answer
+-- the part of the packet after these; none if there is no request that it could answer
 abbrev pub part_of : Terms → List Asked → List Pkt → Option Part
 part_of terms asked [] = Some opening
 part_of terms asked (p ∷ before) =

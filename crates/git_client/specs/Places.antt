@@ -1,4 +1,4 @@
--- What may be at a place of a conversation.
+-- The packets that may come at a place of a conversation.
 use Rattle.std.specs.Prelude.{Bool, List, Option, Some, None, if◌then◌else◌}
 use Rattle.git_names.specs.declared.object_format.Format.{Format}
 use Rattle.git_pkt.specs.Packets.{Pkt}
@@ -11,9 +11,9 @@ use Rattle.git_client.specs.declared.sections.Acks.{Acks}
 use Rattle.git_client.specs.Parts.{Terms, Part, opening, advertisement, listing, sections, informing, closing, part_of, message_of}
 use Rattle.git_client.specs.Sections.{is_empty, is_header_due, section_of, lines_of, allowed_after, acks_in}
 
--- the places: the line that begins an advertisement, its other lines, which so far have or have not shown that the server speaks the format,
--- references, the header of a section, the lines of each section, the line that names what is listed of objects, the lines that
--- list it, and a response end
+-- the places: the line that begins an advertisement; its other lines, which so far have or have not shown that the server speaks the format;
+-- references; the header of a section; the lines of each section; the line that names the attribute listed for each object; the lines that
+-- list it; and a response end
 pub data Place : Type 0 where
   version : Place
   capabilities : (spoken : Bool) → Place

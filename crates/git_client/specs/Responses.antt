@@ -1,4 +1,4 @@
--- Conversations as their messages and the sections of these come one after another, by gitprotocol-v2(5): with no place after each packet.
+-- Conversations by the order of their messages and sections, as in gitprotocol-v2(5): with no place after each packet.
 use Rattle.std.specs.Prelude.{◌≡◌, ◌⊎◌, ℕ, Bool, true, false, List, [], ◌∷◌, ◌++◌, Ok, Option, codes, map}
 use Rattle.git_names.specs.ObjectName.{ObjectName}
 use Rattle.git_names.specs.declared.object_format.Format.{Format}
@@ -18,34 +18,34 @@ use Rattle.git_client.specs.Places.{references, shallow_info, wanted_refs, size_
 use Rattle.git_client.specs.Events.{EventValue, SaysLine, ack, band_says, capability, ended, nak, offered, ready}
 use Rattle.git_client.specs.Parts.{Terms}
 
--- what a rule states: that packets are such, and give these events
+-- a rule states which packets there are, and which events they give
 abbrev pub Rule : Type 1
 Rule = List Pkt → List EventValue → Type 0
 
--- such a packet first, and then by the rule
+-- first such a packet, and then packets by the rule
 abbrev pub First : (Pkt → List EventValue → Type 0) → Rule → Rule
 First Is rule [] events = ⊥
 First Is rule (p ∷ packets) events =
     (now : List EventValue) × (later : List EventValue) × (events ≡ now ++ later) × Is p now × rule packets later
 
--- by one rule or by the other
+-- packets by one rule or by the other
 abbrev pub Either : Rule → Rule → Rule
 Either one other packets events = one packets events ⊎ other packets events
 
--- by one rule first, and then by the other
+-- packets by one rule, and then packets by the other
 abbrev pub Then : Rule → Rule → Rule
 Then one other packets events =
     (front : List Pkt) × (back : List Pkt) × (now : List EventValue) × (later : List EventValue)
     × (packets ≡ front ++ back) × (events ≡ now ++ later) × one front now × other back later
 
--- any number of such packets, and then by the rule
+-- any number of such packets, and then packets by the rule
 abbrev pub Many : (Pkt → List EventValue → Type 0) → Rule → Rule
 Many Is rule [] events = rule [] events
 Many Is rule (p ∷ packets) events =
     rule (p ∷ packets) events
     ⊎ ((now : List EventValue) × (later : List EventValue) × (events ≡ now ++ later) × Is p now × Many Is rule packets later)
 
--- a text line that is no error packet, and gives what it says
+-- a text line that is no error packet, with the events of its text
 abbrev pub IsText : (List ℕ → List EventValue → Type 0) → Pkt → List EventValue → Type 0
 IsText Says (payload line) events = (¬ IsErrorText (text_of line)) × Says (text_of line) events
 IsText Says p events = ⊥
@@ -89,14 +89,14 @@ module _ (format : Format) (ending : Ending) where
   abbrev pub WantedRefsSection : Rule → Rule
   WantedRefsSection rule = First (IsHeader WantedRefs) (Many (IsText (SaysLine wanted_refs format)) (First IsDelimiter rule))
 
-  -- one of them alone may come
+  -- only one of them may come
   abbrev pub ShallowPart : Rule
   ShallowPart = Either PackfileSection (ShallowInfoSection PackfileSection)
 
   abbrev pub WantedPart : Rule
   WantedPart = Either PackfileSection (WantedRefsSection PackfileSection)
 
-  -- each comes once at most, in any order: by whether they may still come
+  -- each comes at most once, in any order; the parameters state whether they may still come
   abbrev pub PackPart : (shallow wanted : Bool) → Rule
   PackPart false false = PackfileSection
   PackPart true false = ShallowPart
@@ -111,7 +111,7 @@ module _ (format : Format) (ending : Ending) where
   AcknowledgmentsSection =
       First (IsHeader Acknowledgments) (Either (First IsNak AfterAcks) (Many (IsAck format) AfterAcks))
 
-  -- a response to fetch: where the request has no `done`, the acknowledgments may come first
+  -- a response to fetch: if the request has no `done`, the acknowledgments may come first
   abbrev pub FetchResponse : (done : Bool) → Rule
   FetchResponse true = PackPart true true
   FetchResponse false = Either AcknowledgmentsSection (PackPart true true)

@@ -15,7 +15,7 @@ header_of ShallowInfo = codes "shallow-info"
 header_of WantedRefs = codes "wanted-refs"
 header_of Packfile = codes "packfile"
 
--- the section whose header the text is
+-- the section with this text as its header
 abbrev pub section_named : List ℕ → Option Section
 section_named text =
     if bytes_eq text (header_of Acknowledgments) then Some Acknowledgments
@@ -24,12 +24,12 @@ section_named text =
     else if bytes_eq text (header_of Packfile) then Some Packfile
     else None
 
--- the section that the packet begins, where a header is due
+-- the section that the packet begins, if a header is expected
 abbrev pub begun_by : Pkt → Option Section
 begun_by (payload line) = section_named (text_of line)
 begun_by _ = None
 
--- a section's header is due: at the head of the message, and after a delimiter
+-- a section's header is expected: at the start of the message, and after a delimiter
 abbrev pub is_header_due : List Pkt → Bool
 is_header_due [] = true
 is_header_due (delim ∷ message) = true
@@ -59,7 +59,7 @@ abbrev pub is_empty : List Pkt → Bool
 is_empty [] = true
 is_empty (p ∷ packets) = false
 
--- which sections may begin after these packets: the acknowledgments first, to a request without `done`, and the others once
+-- the sections that may begin after these packets: the acknowledgments only at the start and for a request without `done`, the others once
 abbrev pub allowed_after : Bool → List Pkt → Allowed
 allowed_after done message = record {
   acknowledgments = not done && is_empty message;
@@ -79,14 +79,14 @@ abbrev pub may_begin : Allowed → Option Section → Bool
 may_begin allowed None = false
 may_begin allowed (Some section) = allows allowed section
 
--- which sections may begin after this one
+-- the sections that may begin after this one
 abbrev pub next_allowed : Allowed → Section → Allowed
 next_allowed allowed Acknowledgments = record { acknowledgments = false; shallow_info = allowed.shallow_info; wanted_refs = allowed.wanted_refs }
 next_allowed allowed ShallowInfo = record { acknowledgments = false; shallow_info = false; wanted_refs = allowed.wanted_refs }
 next_allowed allowed WantedRefs = record { acknowledgments = false; shallow_info = allowed.shallow_info; wanted_refs = false }
 next_allowed allowed Packfile = record { acknowledgments = false; shallow_info = allowed.shallow_info; wanted_refs = allowed.wanted_refs }
 
--- which lines of the acknowledgments are among these
+-- the kinds of lines of the acknowledgments that are among these
 abbrev pub acks_in : List Pkt → Acks
 acks_in lines = record {
   any = not (is_empty lines);
@@ -94,7 +94,7 @@ acks_in lines = record {
   ready = list_any (has_text (codes "ready")) lines;
 }
 
--- the same with one line more
+-- the same with one more line
 abbrev pub acks_with : Acks → List ℕ → Acks
 acks_with acks text = record {
   any = true;

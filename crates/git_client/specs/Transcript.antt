@@ -8,16 +8,16 @@ use Rattle.git_msg.specs.declared.arguments.Command.{Command}
 use Rattle.git_msg.specs.References.{Ref, id_text, peeled_text}
 use Rattle.git_client.specs.Events.{EventValue, capability, offered, reference, ack, nak, ready, shallow, unshallow, wanted_ref, pack, progress, info, ended}
 
--- a text that may be there, after a word that comes before it
+-- a text that may be absent, after a word that comes before it
 abbrev pub shown_after : List ℕ → Option (List ℕ) → List ℕ
 shown_after word None = []
 shown_after word (Some text) = word ++ escaped_of text
 
--- what comes after a capability's key
+-- the text after a capability's key
 abbrev pub value_shown : Option (List ℕ) → List ℕ
 value_shown value = shown_after (codes "=") value
 
--- what comes after a reference's name
+-- the text after a reference's name
 abbrev pub target_shown : Option (List ℕ) → List ℕ
 target_shown target = shown_after (codes " symref-target:") target
 
@@ -25,12 +25,12 @@ target_shown target = shown_after (codes " symref-target:") target
 abbrev pub reference_shown : Ref → List ℕ
 reference_shown ref = codes "ref " ++ id_text ref.id ++ codes " " ++ escaped_of ref.name ++ target_shown ref.target ++ peeled_text ref.peeled ++ codes "\n"
 
--- the size of an object, or that it is not there
+-- the size of an object, or a dash if it is not there
 abbrev pub size_shown : Option ℕ → List ℕ
 size_shown None = codes "-"
 size_shown (Some size) = decimal size
 
--- the line of an event; the numbers are those of the pack and progress bytes of a response that ends
+-- the line of an event; the numbers count the pack and progress bytes of a response that ends
 abbrev pub line_of : EventValue → ℕ → ℕ → List ℕ
 line_of (capability key value) packed told = codes "capability " ++ escaped_of key ++ value_shown value ++ codes "\n"
 line_of offered packed told = codes "offered\n"
@@ -55,12 +55,12 @@ lines_of (event ∷ events) packed told = line_of event packed told ++ lines_of 
 abbrev pub asked_line : Command → List ℕ
 asked_line command = codes "request " ++ name_of command ++ codes "\n"
 
--- the line of the next request, where one was asked
+-- the line of the next request, if there is one
 abbrev pub next_asked : List Asked → List ℕ
 next_asked [] = []
 next_asked (question ∷ questions) = asked_line (command_asked question)
 
--- the lines of events and of the requests between them, after so many bytes of pack and progress of a response
+-- the lines of events and of the requests between them, after these numbers of pack and progress bytes of a response
 abbrev pub transcript_from : List Asked → ℕ → ℕ → List EventValue → List ℕ
 transcript_from asked packed told [] = []
 transcript_from asked packed told (pack byte ∷ events) = transcript_from asked (suc packed) told events
@@ -71,6 +71,6 @@ transcript_from asked packed told (ended ∷ events) =
     line_of ended packed told ++ next_asked asked ++ transcript_from (drop 1 asked) 0 0 events
 transcript_from asked packed told (event ∷ events) = line_of event packed told ++ transcript_from asked packed told events
 
--- the transcript of what was asked and received
+-- the transcript of these requests and events
 abbrev pub transcript_of : List Asked → List EventValue → List ℕ
 transcript_of asked events = transcript_from asked 0 0 events

@@ -1,4 +1,4 @@
-//! What a client sends: the requests that it is handed, packet by packet, and the flush at leaving.
+//! The packets that a client sends: those of the requests that it receives, and the flush when it leaves.
 
 ghost use Rattle.std.specs.Prelude.{◌≡◌, ◌≤◌, length, true, MatchResult};
 ghost use Rattle.std.specs.Borrow.{sem};
@@ -21,10 +21,10 @@ impl<A: Allocator + Copy> Client<A> {
     ghost use Rattle.git_client.specs.Machine.Client.{format_of, phase_of, reader_of};
     ghost use Rattle.git_client.specs.contracts.client.Client.{the_row};
 
-    /// Asks: from now on the packets of the request are to be pulled, and then its response is due. Refused in this order, at
-    /// the client's position, with the request handed back and the client as it was: `WrongFormat` for a request of another
-    /// object format, `NotAdvertised` for a command or an argument that was not offered, and what
-    /// [`Request::check_end`](git_msg::Request::check_end) refuses.
+    /// Starts a request: from now on its packets have to be pulled, and then its response is expected. The errors, checked in this order, are
+    /// `WrongFormat` for a request with another object format, `NotAdvertised` for a command or an argument that was not advertised, and
+    /// those of [`Request::check_end`](git_msg::Request::check_end). An error has the client's position as its offset; it returns the request,
+    /// and the client stays unchanged.
     pub fn ask(&mut self, request: Request<A>) -> Result<(), (Request<A>, Fault)>
         requires { can_ask self.old ≡ true }
         ensures asked { MatchResult result (λ _. Asks self.old request self.new) (λ refusal. RefusesToAsk self.old request refusal.0 refusal.1 self.new) }
@@ -43,7 +43,7 @@ impl<A: Allocator + Copy> Client<A> {
         }
     }
 
-    /// Leaves: the flush that ends the conversation is to be pulled, and nothing is asked any more.
+    /// Leaves: the flush that ends the conversation has to be pulled, and no further request can be sent.
     pub fn leave(&mut self)
         requires { can_ask self.old ≡ true }
         ensures { Leaves self.old self.new }
@@ -51,8 +51,8 @@ impl<A: Allocator + Copy> Client<A> {
         self.phase = Phase::Leaving;
     }
 
-    /// What is to be done next: a packet is to be sent, bytes of the server are needed, a request can be asked, or nothing is
-    /// left to do. Each packet is given once.
+    /// The next action: to send a packet, to read bytes of the server, to ask a request if the program has one, or to stop because nothing is
+    /// left to do. Each packet is returned once.
     pub fn pull(&mut self) -> Sent<'_>
         ensures* after { sem 𝓛 (Rests (the_row A.row A.Allocator) self.entry (λ new. Pulls self.old result new)) }
         ensures fits { length (given_by result) ≤ 65520 }
@@ -73,7 +73,7 @@ impl<A: Allocator + Copy> Client<A> {
         }
     }
 
-    /// What refuses the request.
+    /// Why the request is refused, if it is.
     fn check(&self, request: &Request<A>) -> Result<(), Kind>
         ensures { MatchResult result (λ _. Passes (ask_checks (format_of self.now) (caps_of self.now) request.now))
             (Refuses (ask_checks (format_of self.now) (caps_of self.now) request.now)) }
@@ -88,7 +88,7 @@ impl<A: Allocator + Copy> Client<A> {
         request.check_end()
     }
 
-    /// Puts the next packet of the request into the hold. After the last one its response is due.
+    /// Puts the next packet of the request into the buffer. After the last one the response is expected.
     fn put_question(&mut self)
         requires { is_asking (phase_of self.old) ≡ true }
         ensures { Puts self.old self.new }
@@ -109,7 +109,7 @@ impl<A: Allocator + Copy> Client<A> {
         self.request = None;
     }
 
-    /// Puts the flush into the hold that ends the conversation.
+    /// Puts the flush that ends the conversation into the buffer.
     fn put_farewell(&mut self)
         requires { phase_of self.old ≡ Phase.Leaving }
         ensures { Puts self.old self.new }
@@ -119,7 +119,7 @@ impl<A: Allocator + Copy> Client<A> {
         self.phase = Phase::Left;
     }
 
-    /// What the hold has.
+    /// The bytes in the buffer.
     fn held(&self) -> &[u8]
         ensures value { result.now ≡ held_of (reader_of self.now) }
         ensures fits { length result.now ≤ 65520 }
@@ -128,7 +128,7 @@ impl<A: Allocator + Copy> Client<A> {
     }
 }
 
-/// What is due first of the response to the request.
+/// The first packet that is expected of the response to the request.
 fn response_due<A: Allocator + Copy>(request: &Request<A>) -> Due
     ensures { result ≡ first_due (asked_of request.now) }
 {

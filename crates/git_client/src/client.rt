@@ -1,16 +1,16 @@
-//! The client: it asks, reads what a server sends in pieces of any size, and hands out events.
+//! The client, as a state machine: it sends requests, reads what a server sends in chunks of any size, and returns events.
 //!
-//! The phases of a conversation, and which call moves it on; `due` is what a packet is judged by, and goes on with each:
+//! The phases of a conversation, and the calls that move it on; each packet is judged by `due`, which advances with it:
 //!
 //! ```text
-//!               feed: the last packet of what is due
+//!               feed: the last expected packet
 //!  Hearing(due) ------------------------------------> Ready ---------> Leaving ----------------> Left
 //!     ^   ^  |                                          |     leave            pull: the flush
 //!     |   +--+ feed: one more                           | ask
 //!     |                                                 v
 //!     +--------------- pull: the last packet --------- Asking(writer) --+
 //!     |                                                       ^         | pull: one more
-//!     | feed, close: a fault                                  +---------+
+//!     | feed, close: an error                                 +---------+
 //!     v
 //!  Failed(fault)
 //! ```
@@ -45,26 +45,26 @@ use git_names::{Format, Oid, Steps};
 use git_pkt::{Band, BandGot, Fault, Got, Kind, Packet, PacketReader, text};
 use std::alloc::Allocator;
 
-/// What came of some bytes of a piece.
+/// The result of using some bytes of a chunk.
 #[derive(Clone, Copy, Debug)]
 pub(crate) enum Outcome {
     /// No event, and all bytes are used.
     More,
-    /// An event: what its packet contained is in the client, and its bytes are in the reader's hold.
+    /// An event: the contents of its packet are in the client, and the packet's bytes are in the reader's buffer.
     Event,
-    /// Bytes on a band: the last of those used.
+    /// Bytes on a band: the last ones of the bytes used.
     Passed(Passed),
     Failed(Fault),
 }
 
-/// So many bytes on a band.
+/// This many bytes on a band.
 #[derive(Clone, Copy, Debug)]
 pub(crate) struct Passed {
     pub(crate) band: Band,
     pub(crate) count: usize,
 }
 
-/// What one step over a piece did.
+/// The result of one step over a chunk.
 #[derive(Clone, Copy, Debug)]
 pub(crate) struct Advance {
     pub(crate) used: usize,
@@ -72,7 +72,7 @@ pub(crate) struct Advance {
 }
 
 impl Advance {
-    /// The answer of a call with this outcome over the piece, where no event is lent of the hold.
+    /// The result of `feed` for this outcome over the chunk, if no event borrows from the buffer.
     fn heard<'a>(self, piece: &'a [u8]) -> Heard<'a>
         requires part { HasPart self.outcome self.used }
         requires all { self.used ≤ length piece.now }
@@ -92,7 +92,7 @@ impl Advance {
 }
 
 impl Passed {
-    /// These bytes, as many as there are on the band.
+    /// The event of these bytes on the band.
     fn event<'a>(self, bytes: &'a [u8]) -> Event<'a>
         requires { self.band ≢ Band.Fatal }
         ensures { Shows self.band bytes.now result }
@@ -105,11 +105,11 @@ impl Passed {
     }
 }
 
-/// The fetching side of a conversation, as gitprotocol-v2(5) has it. It gives the packets of what it is asked to ask, reads
-/// what the server sends from pieces of any size, and hands out events. Its one buffer is that of its packet reader, and it
-/// takes no memory beside it: of a request it keeps what it was handed until the last packet of it was given.
+/// The fetching side of a conversation, as in gitprotocol-v2(5). It returns the packets of the requests that it is given, reads
+/// what the server sends from chunks of any size, and returns events. Its only buffer is that of its packet reader, and it
+/// takes no other memory: it keeps a request that it is given until the last packet of it was pulled.
 ///
-/// A program goes by [`Client::pull`]: it sends the packets, reads where input is needed, and asks or leaves where it can.
+/// A program follows [`Client::pull`]: it sends the packets, reads if input is needed, and asks or leaves if it can.
 #[derive(Drop)]
 pub struct Client<A: Allocator + Copy> {
     pub(crate) reader: PacketReader,
@@ -117,9 +117,9 @@ pub struct Client<A: Allocator + Copy> {
     pub(crate) ending: Ending,
     pub(crate) phase: Phase,
     pub(crate) caps: Caps,
-    // The request whose packets are owed.
+    // The request whose packets have to be sent.
     pub(crate) request: Option<Request<A>>,
-    // What the last packet contained. Events are lent of it and of the reader's hold.
+    // The contents of the last packet. Events borrow from it and from the reader's buffer.
     pub(crate) said: Said,
     ghost sound: { fault_in phase ≡ None → reader_fault_of reader ≡ None },
     ghost shut: { fault_in phase ≡ None → takes_packets phase ≡ false → is_open reader ≡ false },
@@ -155,7 +155,7 @@ impl<A: Allocator + Copy> Client<A> {
         }
     }
 
-    /// Whether a request can be asked, or the conversation be left: after the advertisement, and after each response.
+    /// Whether the client can ask a request or leave: after the advertisement, and after each response.
     pub fn can_ask(&self) -> bool
         ensures value { result ≡ can_ask self.now }
         ensures turn { (t : Terms) (h : History) → Converses t h self.now
@@ -167,7 +167,7 @@ impl<A: Allocator + Copy> Client<A> {
         }
     }
 
-    /// Whether bytes of the server are due: the client neither can ask, nor has left or failed, and owes no packet.
+    /// Whether bytes of the server are expected: the client cannot ask, has neither left nor failed, and has no packet to send.
     pub fn wants_input(&self) -> bool
         ensures value { result ≡ wants_input self.now }
         ensures due { IsTrue result ↔ ((can_ask self.now ≡ false) × (has_left self.now ≡ false) × (fault_of self.now ≡ None)
@@ -187,7 +187,7 @@ impl<A: Allocator + Copy> Client<A> {
         self.reader.position()
     }
 
-    /// What was noted of the advertisement so far.
+    /// The capabilities noted from the advertisement so far.
     pub fn caps(&self) -> Caps
         ensures value { result ≡ caps_of self.now }
         ensures noted { (t : Terms) (h : History) → Converses t h self.now → HasNoted t h.asked h.used result }
@@ -195,8 +195,8 @@ impl<A: Allocator + Copy> Client<A> {
         self.caps
     }
 
-    /// The server's message on the fault that ended the conversation: of an error packet the text after `ERR `, of a fatal
-    /// error in the packfile section the bytes after its band.
+    /// The server's message with the error that ended the conversation: in an error packet the text after `ERR `, and in a fatal
+    /// error of the packfile section the bytes after the band.
     pub fn message(&self) -> Option<&[u8]>
         ensures { (t : Terms) (h : History) → Converses t h self.now
             → MatchOption result (EndsWithoutMessage self.now) (λ message. EndsWithMessage t h.asked h.used message.now) }
@@ -211,13 +211,13 @@ impl<A: Allocator + Copy> Client<A> {
         }
     }
 
-    /// Reads on. It returns after one event, or with the whole piece used, or at the first fault. A client that does not
+    /// Reads on. It returns after one event, after the whole chunk, or at the first error. A client that does not
     /// wait for input uses nothing. Call it again with the bytes that it did not use.
     ///
-    /// Bytes of the pack and of the progress are lent of the piece, as it is cut: an event has all that the piece has of one
-    /// packet. Those of all other events are lent of the client.
-    // It goes into each loop that calls it, with what it calls: an answer that is returned is stored in parts and loaded whole, which is
-    // slow right after it.
+    /// The bytes of the pack and of the progress are borrowed from the chunk: an event has all those of one packet that are in the
+    /// chunk. The bytes of all other events are borrowed from the client.
+    // Inlined into each loop that calls it, together with its own calls: a result that is returned is stored in parts and loaded whole, and a
+    // load right after such a store is slow.
     #[inline(always)]
     pub fn feed<'a>(&'a mut self, piece: &'a [u8], steps: &mut Steps) -> Heard<'a>
         ensures* after { sem 𝓛 (Rests (the_row A.row A.Allocator) self.entry (λ new. Feeds self.old piece.now result new
@@ -247,7 +247,7 @@ impl<A: Allocator + Copy> Client<A> {
         }
     }
 
-    /// The input ends here, where more was due: the conversation is refused as truncated, at the end of
+    /// Ends the input although more was expected: the conversation is refused as truncated, at the end of
     /// its last whole packet.
     pub fn close(&mut self) -> Fault
         requires { wants_input self.old ≡ true }
@@ -269,7 +269,7 @@ impl<A: Allocator + Copy> Client<A> {
         fault
     }
 
-    /// Uses bytes up to the first event or fault, or all of them.
+    /// Uses bytes up to the first event or error, or all of them.
     #[inline(always)]
     fn advance(&mut self, piece: &[u8], steps: &mut Steps) -> Advance
         requires { wants_input self.old ≡ true }
@@ -293,7 +293,7 @@ impl<A: Allocator + Copy> Client<A> {
         }
     }
 
-    /// Uses bytes up to the end of a packet, or all of them; in the packfile section up to the last of the piece that passes.
+    /// Uses bytes up to the end of a packet, or all of them; in the packfile section up to the last bytes of the chunk that pass.
     fn take(&mut self, piece: &[u8], steps: &mut Steps) -> Advance
         requires { wants_input self.old ≡ true }
         ensures cost { Pays result.used steps.old steps.new (credit_of (reader_of self.old)) (credit_of (reader_of self.new)) }
@@ -313,7 +313,7 @@ impl<A: Allocator + Copy> Client<A> {
 
     /// Uses bytes up to the end of a packet, or all of them.
     ///
-    /// A packet that is whole has been paid for by its own bytes.
+    /// The bytes of a whole packet have paid for its steps.
     fn take_packet(&mut self, due: Due, piece: &[u8], steps: &mut Steps) -> Advance
         requires hears { phase_of self.old ≡ Phase.Hearing due }
         requires no_band { due ≢ Due.Packfile }
@@ -354,7 +354,7 @@ impl<A: Allocator + Copy> Client<A> {
         }
     }
 
-    /// Uses bytes of the packfile section: those that pass are handed out as they come, and what the last packet contained stays.
+    /// Uses bytes of the packfile section: those that pass are returned as they come, and the contents of the last packet stay.
     fn take_band(&mut self, piece: &[u8], steps: &mut Steps) -> Advance
         requires hears { phase_of self.old ≡ Phase.Hearing Due.Packfile }
         ensures cost { Pays result.used steps.old steps.new (credit_of (reader_of self.old)) (credit_of (reader_of self.new)) }
@@ -401,7 +401,7 @@ impl<A: Allocator + Copy> Client<A> {
         }
     }
 
-    /// Goes on after a packet that was judged, and of which the client has what it contained.
+    /// Goes on after a packet that was judged. The contents of the packet are in the client.
     fn settle(&mut self, judged: Result<Turn, Kind>, offset: u64) -> Outcome
         requires whole { is_open (reader_of self.old) ≡ false }
         requires sound { reader_fault_of (reader_of self.old) ≡ None }
@@ -431,7 +431,7 @@ impl<A: Allocator + Copy> Client<A> {
         Outcome::Failed(fault)
     }
 
-    /// The event of what the last packet contained.
+    /// The event for the contents of the last packet.
     #[inline(always)]
     fn event(&self) -> Event<'_>
         requires something { said_last self.now ≢ Said.Nothing }
@@ -459,7 +459,7 @@ impl<A: Allocator + Copy> Client<A> {
         }
     }
 
-    /// What the hold has after a packet's four digits.
+    /// The bytes in the buffer after the four digits of a packet.
     fn payload(&self) -> &[u8]
         ensures { result.now ≡ drop 4 (held_of (reader_of self.now)) }
     {
@@ -468,7 +468,7 @@ impl<A: Allocator + Copy> Client<A> {
     }
 }
 
-/// The capability whose parts lie there.
+/// The capability with its parts at these places in the line.
 fn capability<'a>(places: &CapabilityPlaces, line: &'a [u8]) -> Capability<'a>
     requires { LiesIn places.now line.now }
     ensures { capability_value result ≡ capability (take places.now.key_length line.now) (value_at places.now line.now) }
@@ -484,7 +484,7 @@ fn capability<'a>(places: &CapabilityPlaces, line: &'a [u8]) -> Capability<'a>
     }
 }
 
-/// The reference whose parts lie there.
+/// The reference with its parts at these places in the line.
 fn reference<'a>(places: &'a ReferencePlaces, line: &'a [u8]) -> Event<'a>
     requires { FitsIn places.now (length line.now) }
     ensures values { values_of result ≡ reference (reference_at places.now line.now) ∷ [] }
@@ -499,7 +499,7 @@ fn reference<'a>(places: &'a ReferencePlaces, line: &'a [u8]) -> Event<'a>
     }
 }
 
-/// The wanted reference that points to this object: its name is all after the object's name and a space.
+/// The wanted reference that points to this object: its name is everything after the object's name and a space.
 fn wanted<'a>(id: &'a Oid, line: &'a [u8]) -> Event<'a>
     requires { digits_of id.now.format < length line.now }
     ensures values { values_of result ≡ wanted_ref (wanted_at id.now line.now) ∷ [] }

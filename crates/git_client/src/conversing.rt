@@ -18,17 +18,17 @@ use git_pkt::{Output, RunFault, Told, flush};
 use std::alloc::Allocator;
 use std::io::{Read, Write};
 
-/// Runs a client that is new over a reader of what the server sends and a writer to it: it receives the advertisement, sends the
+/// Runs a new client over a reader of the server's bytes and a writer to the server: it receives the advertisement, sends the
 /// requests in their order, receives the response to each, and leaves after the last, unless each request has a connection of its
-/// own. The transcript is written to `out`; what came of packs, in order, to `pack`, and what came of the server's progress, on the
-/// second side band, to `progress`, as it came. The piece is where the bytes that are read go; it may not be empty.
+/// own. The transcript is written to `out`, the bytes of packs, in order, to `pack`, and the server's progress, which comes on the
+/// second side band, unchanged to `progress`. The bytes that are read go to the `piece`, which must not be empty.
 ///
 /// The writer is flushed before each read and at the end, and so are `out`, `pack` and `progress`.
 ///
-/// `Refused` with the first fault of what the server sent, or with what [`Client::ask`] refused of a request, after the
-/// responses to those before it; `ReadFault` where a read fails, `WriteFault` where a write or a flush does, and
-/// `ReadLimit` where a further read than the `turns` that are allowed would be needed. After `WriteFault` the client is spent, since it may
-/// have received or given more than was written.
+/// The error is `Refused` with the first error in the server's bytes, or with the error of [`Client::ask`] for a request, after the
+/// responses to the earlier ones; `ReadFault` if a read fails; `WriteFault` if a write or a flush fails; and
+/// `ReadLimit` if another read would exceed the number `turns` of reads that are allowed. After `WriteFault` the client is spent, since it
+/// may have received or returned more than was written.
 pub fn converse<R: Read, W: Write, O: Write, P: Write, E: Output, A: Allocator + Copy>(
     reader: &mut Told<R>,
     writer: &mut Told<W>,
@@ -77,10 +77,10 @@ pub fn converse<R: Read, W: Write, O: Write, P: Write, E: Output, A: Allocator +
     flush(writer)
 }
 
-/// Asks a request: its packets are sent to `writer` and flushed, and its line of the transcript is written to `out`. A request that is
-/// refused is not asked, and has no line.
+/// Asks a request: sends its packets to `writer`, flushes them, and writes the transcript line of the request to `out`. A request that is
+/// refused is not sent, and has no line.
 ///
-/// `Refused` with what [`Client::ask`] refused, and `WriteFault` where a write or a flush fails.
+/// The error is `Refused` with the error of [`Client::ask`], or `WriteFault` if a write or a flush fails.
 pub fn ask_next<W: Output, O: Write, A: Allocator + Copy>(
     client: &mut Client<A>,
     request: Request<A>,
@@ -104,7 +104,7 @@ pub fn ask_next<W: Output, O: Write, A: Allocator + Copy>(
     say(client, writer)
 }
 
-/// Sends all packets that the client owes.
+/// Sends all packets that the client has to send.
 fn say<W: Output, A: Allocator + Copy>(
     client: &mut Client<A>,
     writer: &mut W,

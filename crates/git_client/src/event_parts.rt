@@ -1,4 +1,4 @@
-//! An event as a row of a table: its kind, and each part that an event may have.
+//! An event as a row of a table: its kind, and each part that events may have.
 
 ghost use Rattle.std.specs.Prelude.{◌≡◌};
 ghost use Rattle.std.specs.Option.{option_copied};
@@ -7,7 +7,7 @@ ghost use Rattle.git_client.specs.EventParts.{parts_of, parts_shown, word_of};
 use crate::events::Event;
 use git_names::Oid;
 
-/// What an event is, without its parts.
+/// The kind of an event, without its parts.
 #[derive(Clone, Copy, Debug, PartialEq, Eq)]
 pub enum EventKind {
     /// A capability of the server.
@@ -16,7 +16,7 @@ pub enum EventKind {
     Offered,
     /// A reference.
     Reference,
-    /// An object that both ends have.
+    /// An object that both sides have.
     Ack,
     /// The server has none of the objects named so far.
     Nak,
@@ -24,11 +24,11 @@ pub enum EventKind {
     Ready,
     /// A commit whose parents are left out.
     Shallow,
-    /// A commit whose parents are left out no longer.
+    /// A commit whose parents are no longer left out.
     Unshallow,
     /// A reference that was wanted by its name.
     WantedRef,
-    /// What is known of an object.
+    /// The size of an object, if it is known.
     Info,
     /// Bytes of the pack.
     Pack,
@@ -39,7 +39,7 @@ pub enum EventKind {
 }
 
 impl EventKind {
-    /// The word that begins the line of such an event in a transcript; none for bytes of the pack and the progress, which have no line.
+    /// The word that begins the transcript line of such an event. None for bytes of the pack and of the progress, which have no line.
     pub fn word(self) -> Option<&'static [u8]>
         ensures { option_copied result ≡ word_of self }
     {
@@ -61,13 +61,13 @@ impl EventKind {
     }
 }
 
-/// The parts of an event, for what shows events: lines of a transcript, or a struct of another language. A part that an event of the
-/// kind never has, or that this one lacks, is none.
+/// The parts of an event, for code that shows events: lines of a transcript, or a struct of another language. A part is none if events of
+/// this kind never have it, or if this event lacks it.
 #[derive(Clone, Copy, Debug)]
 pub struct EventParts<'a> {
-    /// What it is.
+    /// The kind of the event.
     pub kind: EventKind,
-    /// The object that it is about, or that the reference points to: none for a reference that is unborn.
+    /// The object of the event, or the object that the reference points to. None for a reference that is unborn.
     pub id: Option<&'a Oid>,
     /// The name of the reference, or the key of the capability.
     pub name: Option<&'a [u8]>,
@@ -75,7 +75,7 @@ pub struct EventParts<'a> {
     pub text: Option<&'a [u8]>,
     /// The object that an annotated tag peels to.
     pub peeled: Option<&'a Oid>,
-    /// How many bytes the object has.
+    /// The size of the object in bytes.
     pub size: Option<u64>,
 }
 
@@ -127,7 +127,7 @@ impl<'a> Event<'a> {
 impl<'a> EventParts<'a> {
     ghost use Rattle.git_client.specs.EventParts.{bare, of_object, of_text};
 
-    /// That it came, and nothing more.
+    /// An event of this kind without parts.
     fn bare(kind: EventKind) -> EventParts<'a>
         ensures { parts_shown result ≡ bare kind }
     {

@@ -1,4 +1,4 @@
-//! What a client hands out: events, and what is to be done next.
+//! What a client returns: events, and the next action.
 
 use git_msg::Capability;
 use git_names::Oid;
@@ -7,92 +7,92 @@ use git_pkt::Fault;
 /// How each response ends.
 #[derive(Clone, Copy, Debug, PartialEq, Eq)]
 pub enum Ending {
-    /// With its flush alone, as on a connection that both sides keep.
+    /// With the flush alone, as on a connection that both sides keep open.
     FlushOnly,
-    /// With one response-end packet more, as where each request has a connection of its own.
+    /// With a response-end packet after the flush, as when each request has a connection of its own.
     ResponseEnd,
 }
 
-/// What the server sent.
+/// A message of the server.
 #[derive(Clone, Copy, Debug)]
 pub enum Event<'a> {
     /// A line of the advertisement, whether its key is known or not.
     Capability(Capability<'a>),
-    /// The advertisement is whole, and the client's object format is spoken.
+    /// The advertisement is complete, and the server speaks the client's object format.
     Offered,
     /// A reference, in the response to `ls-refs`.
     Reference {
-        /// The object that it points to; none where it is unborn.
+        /// The object that it points to. None if the reference is unborn.
         id: Option<&'a Oid>,
         /// Its name.
         name: &'a [u8],
-        /// For a symbolic reference, where it is given, the name of the reference that it points to.
+        /// The name of the reference that a symbolic reference points to, if the server sent it.
         target: Option<&'a [u8]>,
-        /// For an annotated tag, where it is given, the object that it peels to.
+        /// The object that an annotated tag peels to, if the server sent it.
         peeled: Option<&'a Oid>,
     },
-    /// Both ends have this object: a line of `acknowledgments`, as all up to `Ready` are.
+    /// Both sides have this object: a line of `acknowledgments`, as all events up to `Ready` are.
     Ack(&'a Oid),
-    /// None of the objects that the request lists as the client's is common.
+    /// The server has none of the objects that the request lists as the client's.
     Nak,
-    /// The server has found enough that is common: a pack follows.
+    /// The server has found enough common objects: a pack follows.
     Ready,
     /// The parents of this commit are not sent: a line of `shallow-info`.
     Shallow(&'a Oid),
-    /// The parents of this commit, which had none, are sent now: a line of `shallow-info`.
+    /// The client had this commit without its parents, which are sent now: a line of `shallow-info`.
     Unshallow(&'a Oid),
-    /// A reference that was asked for by its name: a line of `wanted-refs`.
+    /// A reference that was requested by its name: a line of `wanted-refs`.
     WantedRef {
         /// The object that it points to.
         id: &'a Oid,
         /// Its name.
         name: &'a [u8],
     },
-    /// What the server knows of an object, in the response to `object-info`.
+    /// The answer of the server about an object, in the response to `object-info`.
     Info {
         /// The object.
         id: &'a Oid,
-        /// How many bytes it has, if the server has it.
+        /// The size of the object in bytes, if the server has it.
         size: Option<u64>,
     },
-    /// Bytes of the pack: one at least.
+    /// Bytes of the pack: at least one.
     Pack(&'a [u8]),
-    /// Bytes of a text for the user, on the second side band: one at least.
+    /// Bytes of a text for the user, on the second side band: at least one.
     Progress(&'a [u8]),
-    /// The response is whole: the next request can be asked.
+    /// The response is complete: the client can ask the next request.
     Ended,
 }
 
-/// What one call of [`Client::feed`](crate::Client::feed) did.
+/// The result of one call of [`Client::feed`](crate::Client::feed).
 #[derive(Clone, Copy, Debug)]
 pub struct Heard<'a> {
-    /// How many bytes of the piece were used.
+    /// The number of bytes of the chunk that were used.
     pub used: usize,
-    /// What came of them.
+    /// The result of using them.
     pub got: HeardGot<'a>,
 }
 
-/// What came of the bytes used.
+/// The result of using bytes.
 #[derive(Clone, Copy, Debug)]
 pub enum HeardGot<'a> {
-    /// No event is whole yet and the piece was used up, or the client does not wait for input.
+    /// No event is complete yet and the chunk was used up, or the client does not wait for input.
     More,
     /// One event.
     Event(Event<'a>),
-    /// The conversation is refused; the client stays at this fault.
+    /// The conversation is refused; the client stays at this error.
     Failed(Fault),
 }
 
-/// What is to be done next, as [`Client::pull`](crate::Client::pull) answers it.
+/// The next action, as returned by [`Client::pull`](crate::Client::pull).
 #[derive(Clone, Copy, Debug)]
 pub enum Sent<'a> {
-    /// These bytes, one packet, are to be sent.
+    /// Send these bytes, which are one packet.
     Packet(&'a [u8]),
-    /// Bytes of the server are due.
+    /// Read: bytes of the server are expected.
     NeedInput,
-    /// A request can be asked.
+    /// The client can ask a request.
     CanAsk,
-    /// Nothing more is to be sent, and the last packet was given.
+    /// Stop: nothing more has to be sent, and the last packet was returned.
     Finished,
     /// The conversation was refused.
     Failed(Fault),

@@ -1,4 +1,4 @@
-//! A response, received over a reader: its transcript, its pack and its progress are written.
+//! Receives a response over a reader, and writes its transcript, its pack and its progress.
 
 ghost use Rattle.std.specs.Prelude.{[], ◌≡◌, ◌≤◌, ◌<◌, ◌||◌, length, true, false, IsTrue, OnOk, IfErr, is_err};
 ghost use Rattle.std.specs.Io.KnownBytes.{Appends};
@@ -21,31 +21,31 @@ use git_pkt::{Output, RunFault, Told, flush, receive};
 use std::alloc::Allocator;
 use std::io::{Read, Write};
 
-/// The bytes of a piece that nobody used yet: from `start` to `end`.
+/// The bytes of a chunk that were not used yet: from `start` to `end`.
 #[derive(Clone, Copy, Debug)]
 pub struct Window {
-    /// Where they begin.
+    /// The index of the first byte.
     pub start: usize,
-    /// Where they end.
+    /// The index after the last byte.
     pub end: usize,
 }
 
-/// How many bytes of the pack and of the progress a response has given. A response begins with none.
+/// The number of bytes of the pack and of the progress in a response so far. A response begins with none.
 #[derive(Clone, Copy, Debug)]
 pub struct Counts {
-    /// Those of the pack.
+    /// The bytes of the pack.
     pub pack: u64,
-    /// Those of the progress.
+    /// The bytes of the progress.
     pub progress: u64,
 }
 
-/// Receives what is due, the advertisement or a response, or the rest of one, up to where the client can ask. What waits of the piece is
-/// used first, and then what is read into it. The transcript's lines are written to `out`, the bytes of the pack to `pack`, and those of
-/// the server's progress to `progress`; all three are flushed before each read and at the end. The line at a response's end counts
-/// what was received by this call. Answers what of the piece was not used.
+/// Receives the expected message, the advertisement or a response, or the rest of it, until the client can ask. It first uses the
+/// unused bytes of the `piece`, and then reads more into it. The lines of the transcript are written to `out`, the bytes of the pack to
+/// `pack`, and those of the server's progress to `progress`; all three are flushed before each read and at the end. The line at the end
+/// of a response counts only the bytes that this call received. Returns which bytes of the `piece` were not used.
 ///
-/// `Refused` with the first fault of what was received; `ReadFault` where a read fails, `WriteFault` where a write or a flush
-/// does, and `ReadLimit` where the reader has made as many reads as `turns` and needs one more. After `ReadFault` and `ReadLimit` the
+/// The error is `Refused` with the first error in the received bytes; `ReadFault` if a read fails; `WriteFault` if a write or a flush
+/// fails; and `ReadLimit` if the reader has made `turns` reads and needs one more. After `ReadFault` and `ReadLimit` the
 /// client waits for the rest; after `WriteFault` it is spent, since it may have received more than was written.
 pub fn hear<R: Read, O: Write, P: Output, E: Output, A: Allocator + Copy>(
     client: &mut Client<A>,
@@ -109,11 +109,11 @@ pub fn hear<R: Read, O: Write, P: Output, E: Output, A: Allocator + Copy>(
     Ok(left)
 }
 
-/// Receives what a piece contains, up to where the client can ask, and counts on from `counts`, those of the response so far. Answers how
-/// many bytes were used. What was written before a fault is flushed.
+/// Receives the messages in a chunk, until the client can ask. The count starts at `counts`, the bytes of the response so far. Returns how
+/// many bytes were used. Everything that was written before an error is flushed.
 ///
-/// `Refused` with the first fault of what was received, and `WriteFault` where a write or a flush fails: the client is spent then, since it
-/// may have received more than was written.
+/// The error is `Refused` with the first error in the received bytes, or `WriteFault` if a write or a flush fails: then the client is
+/// spent, since it may have received more than was written.
 pub fn hear_piece<O: Write, P: Output, E: Output, A: Allocator + Copy>(
     client: &mut Client<A>,
     counts: &mut Counts,
@@ -155,8 +155,8 @@ pub fn hear_piece<O: Write, P: Output, E: Output, A: Allocator + Copy>(
     Ok(used)
 }
 
-/// Writes what an event contains: its bytes of the pack and of the progress, and its line, which is that of the counts so far and may wait
-/// with those before it. Counts its bytes.
+/// Writes an event: its bytes of the pack and of the progress, and its line, which shows the counts so far and may wait
+/// with the lines before it. Counts the bytes of the event.
 fn tell<O: Write, P: Output, E: Output>(
     event: &Event<'_>,
     counts: &mut Counts,
@@ -176,7 +176,7 @@ fn tell<O: Write, P: Output, E: Output>(
     ensures failed { (has_failed out.new || (P.failed pack.new || E.failed progress.new))
         ≡ ((has_failed out.old || (P.failed pack.old || E.failed progress.old)) || is_err result) }
 {
-    // Both are read in each case: a number behind a reference is known to fit its type once it was read.
+    // Both are read in every case: a number behind a reference is known to fit its type once it was read.
     let Counts {
         pack: packed,
         progress: told,
@@ -194,7 +194,7 @@ fn tell<O: Write, P: Output, E: Output>(
     }
 }
 
-/// Sends bytes to another stream, after all lines that wait: none of these is lost where the bytes cannot be written.
+/// Sends bytes to another stream, after all lines that wait: none of these lines is lost if the bytes cannot be written.
 fn send_after<O: Write, P: Output>(
     waiting: &mut Lines,
     out: &mut Told<O>,
@@ -211,7 +211,7 @@ fn send_after<O: Write, P: Output>(
     to.send(bytes)
 }
 
-/// Flushes the three writers, up to the first that fails: the progress first, so that the line at a response's end is seen after it.
+/// Flushes the three writers, up to the first that fails. The progress is first, so that the line at the end of a response is seen after it.
 fn flush_all<O: Write, P: Output, E: Output>(
     out: &mut Told<O>,
     pack: &mut P,

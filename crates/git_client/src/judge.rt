@@ -1,4 +1,4 @@
-//! What a packet means where something is due, and what refuses it.
+//! The meaning of a packet if something is expected, and the reasons to refuse it.
 
 ghost use Rattle.std.specs.Prelude.{◌≡◌, Err, ◌+◌, ◌*◌, false, length};
 ghost use Rattle.git_names.specs.declared.object_format.Format.{Format};
@@ -22,12 +22,12 @@ use git_msg::{Caps, is_error};
 use git_names::{Format, Steps};
 use git_pkt::{Band, Kind, Packet, split_band, text};
 
-// The most bytes that a word has which is a line.
+// The maximum length of a word that is a whole line.
 const LONGEST_WORD: usize = 15;
 
-/// What the packet means where this is due, or why it is refused: whose turn it is then. What it contains is written to `said`, and
-/// what the advertisement notes with it to `caps`: these are large, and are not moved. In the packfile section it is a packet of which
-/// no byte passes.
+/// Judges a packet if `due` is expected. Returns whose turn it is then, or why the packet is refused. Writes its contents to `said`, and
+/// what the advertisement notes with it to `caps`: these are large, and are not moved. In the packfile section the packet is one
+/// without bytes that pass.
 pub(crate) fn judge(
     format: Format,
     ending: Ending,
@@ -134,7 +134,7 @@ fn judge_line(
     }
 }
 
-/// Why a payload of the packfile section is refused of which no byte passes.
+/// Why a payload of the packfile section without bytes that pass is refused.
 fn refused_on_band(payload: &[u8]) -> Kind
     requires on_no_band { begins_band payload.now ≡ false }
     ensures { band_says payload.now ≡ Err result }
@@ -210,7 +210,7 @@ fn judge_response_end(due: Due, said: &mut Said) -> Result<Turn, Kind>
     }
 }
 
-/// The flush of a response ends it, or a response-end packet is due.
+/// The flush of a response ends the response, or a response-end packet is expected after it.
 fn after_flush(ending: Ending, said: &mut Said) -> Turn
     ensures said { said.new ≡ said_after_flush ending }
     ensures turn { phase_in result ≡ phase_after_response ending }

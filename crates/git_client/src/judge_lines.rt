@@ -1,5 +1,5 @@
-//! What the text lines of a conversation mean, each where it is due, and what refuses them. What a line contains is written to
-//! `said`. Error packets are judged before.
+//! The meaning of each text line of a conversation if it is expected, and the reasons to refuse it. The contents of a line are written to
+//! `said`. Error packets are judged before that.
 
 ghost use Rattle.std.specs.Prelude.{◌≡◌, ◌≢◌, Some, true, codes, MatchResult, OnErr, ◌+◌, ◌*◌, length};
 ghost use Rattle.git_names.specs.declared.object_format.Format.{Format};
@@ -29,7 +29,7 @@ pub(crate) fn judge_version(line: &[u8]) -> Result<(), Kind>
     Ok(())
 }
 
-/// A capability line. What is noted with it is added to `caps`.
+/// A capability line. The capability that it notes is added to `caps`.
 pub(crate) fn judge_capability(
     caps: &mut Caps,
     line: &[u8],
@@ -60,7 +60,7 @@ pub(crate) fn judge_reference(
     ensures line { MatchResult result (λ _. Says references format line.now said.new) (IsLineFault references format line.now) }
     ensures cost { TakesAtMost (40 * (length line.now + 1)) steps.old steps.new }
 {
-    // Most lines come after another, over whose places theirs are written.
+    // Most lines follow another reference line, and their places are written over its places.
     match said {
         Said::Reference(_) => {}
         _ => *said = Said::Reference(ReferencePlaces::new()),
@@ -71,7 +71,7 @@ pub(crate) fn judge_reference(
     }
 }
 
-/// The header of a section, with what is due after it.
+/// The header of a section. Returns what is expected after it.
 pub(crate) fn judge_header(allowed: Allowed, line: &[u8]) -> Result<Due, Kind>
     ensures { (format : Format) → MatchResult result
         (λ due. (may_begin allowed (section_named line.now) ≡ true) × (due ≡ due_after_header allowed (section_named line.now)))
@@ -92,7 +92,7 @@ pub(crate) fn judge_header(allowed: Allowed, line: &[u8]) -> Result<Due, Kind>
     })
 }
 
-/// A line of the acknowledgments, with what they contained so far. `NAK` comes alone, `ready` comes last.
+/// A line of the acknowledgments, after those that came so far. `NAK` comes alone, `ready` comes last.
 pub(crate) fn judge_acknowledgment(
     format: Format,
     acks: Acks,
@@ -130,7 +130,7 @@ pub(crate) fn judge_acknowledgment(
     Ok(after)
 }
 
-/// The line that names what is listed of objects: their sizes.
+/// The line that names the attribute listed for each object: its size.
 pub(crate) fn judge_size_line(line: &[u8]) -> Result<(), Kind>
     ensures { MatchResult result (λ _. line.now ≡ codes "size") (λ kind. (line.now ≢ codes "size") × (kind ≡ Kind.BadLine)) }
 {

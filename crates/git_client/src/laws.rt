@@ -1,4 +1,4 @@
-//! What follows from the definitions alone: each law is the contract of a function without parameters.
+//! Consequences of the definitions alone: each law is the contract of a function without parameters.
 
 ghost use Rattle.std.specs.Prelude.{◌≡◌, ◌≢◌, ◌+◌, ◌≤◌, ◌↔◌, ℕ, List, [], ◌∷◌, ◌++◌, Some, None, length, map, true};
 ghost use Rattle.git_pkt.specs.Machine.Credit.{MakesAll, Pays, credit_of};
@@ -28,43 +28,43 @@ ghost use Rattle.git_client.specs.declared.hearing.Counts.{Counts};
 
 use std::alloc::Allocator;
 
-/// No packet is both taken and refused.
+/// No packet is both accepted and refused.
 pub fn taken_or_refused()
     ensures { (t : Terms) (asked : List Asked) (before : List Pkt) (p : Pkt) (events : List EventValue) (kind : Kind)
         → GivesAt t asked before p events → RefusesAt t asked before p kind → ⊥ }
 {}
 
-/// A packet gives one list of events.
+/// A packet determines one list of events.
 pub fn one_gift()
     ensures { (t : Terms) (asked : List Asked) (before : List Pkt) (p : Pkt) (events others : List EventValue)
         → GivesAt t asked before p events → GivesAt t asked before p others → events ≡ others }
 {}
 
-/// A packet is refused by one name.
+/// A packet is refused with one name.
 pub fn one_refusal()
     ensures { (t : Terms) (asked : List Asked) (before : List Pkt) (p : Pkt) (kind other : Kind)
         → RefusesAt t asked before p kind → RefusesAt t asked before p other → kind ≡ other }
 {}
 
-/// Bytes give one list of events under what was asked, however they came.
+/// For given requests, bytes determine one list of events, whatever their chunks.
 pub fn one_event_list()
     ensures { (t : Terms) (asked : List Asked) (bytes : List ℕ) (events others : List EventValue)
         → HasEvents t asked bytes events → HasEvents t asked bytes others → events ≡ others }
 {}
 
-/// What is noted of bytes is one, however they came.
+/// Bytes determine one set of noted capabilities, whatever their chunks.
 pub fn one_note()
     ensures { (t : Terms) (asked : List Asked) (bytes : List ℕ) (caps others : Caps)
         → HasNoted t asked bytes caps → HasNoted t asked bytes others → caps ≡ others }
 {}
 
-/// Packets have one first fault.
+/// Packets have one first error.
 pub fn one_first_fault()
     ensures { (t : Terms) (asked : List Asked) (given : List Given) (kind other : Kind) (offset place : ℕ)
         → FirstFault t asked given kind offset → FirstFault t asked given other place → (kind ≡ other) × (offset ≡ place) }
 {}
 
-/// Bytes have one first malformed packet: beside it there are only the faults of an input that ended and of a stream that is
+/// Bytes have one first malformed packet. The only other errors are those of an input that ended and of a stream that is
 /// too long, each at one offset.
 pub fn one_first_malformed()
     ensures shown { (t : Terms) (asked : List Asked) (bytes : List ℕ) (fault other : Fault)
@@ -74,51 +74,51 @@ pub fn one_first_malformed()
         → FirstMalformed t asked bytes fault → FirstMalformed t asked bytes other → fault.kind ≡ other.kind → fault ≡ other }
 {}
 
-/// What a client has handed out are the events of the bytes that it used.
+/// The events that a client has returned are those of the bytes that it used.
 pub fn heard_events<A: Allocator + Copy>()
     ensures { (t : Terms) (h : History) (client : Client A) → Converses t h client → HasEvents t h.asked h.used h.events }
 {}
 
-/// A client fails at the first fault of the bytes that it used.
+/// A client fails at the first error in the bytes that it used.
 pub fn first_fault<A: Allocator + Copy>()
     ensures { (t : Terms) (h : History) (client : Client A) (fault : Fault)
         → Converses t h client → fault_of client ≡ Some fault → FirstMalformed t h.asked h.used fault }
 {}
 
-/// A client that has not failed received nothing with a fault.
+/// A client that has not failed has received nothing with an error.
 pub fn no_fault<A: Allocator + Copy>()
     ensures { (t : Terms) (h : History) (client : Client A)
         → Converses t h client → fault_of client ≡ None → GoesWell t h.asked h.used h.events }
 {}
 
-/// A client that can ask has used just one whole advertisement and one whole response to each request.
+/// A client that can ask has used exactly one whole advertisement and one whole response to each request.
 pub fn whole_responses<A: Allocator + Copy>()
     ensures { (t : Terms) (h : History) (client : Client A)
         → Converses t h client → can_ask client ≡ true → IsConversation t h.asked h.used h.events }
 {}
 
-/// Packets after whole responses to the requests before are a whole response to the next one by the places of each of them exactly where
-/// they are one by the rule of its sections, which come one after another; both give the same events.
+/// There are two definitions of a whole response, for packets that follow whole responses to the earlier requests: by the place of each
+/// packet, and by the rule of the response's sections, which come one after another. They agree, and give the same events.
 pub fn response_goes_by_its_sections()
     ensures { (t : Terms) (earlier : List Asked) (q : Asked) (before : List Pkt) (gs : List Given) (events : List EventValue)
         → AreWhole t earlier before → IsResponse t.format t.ending q (map (λ g. g.packet) gs) events
         ↔ (GiveAll t (earlier ++ q ∷ []) before gs events × AreWhole t (earlier ++ q ∷ []) (nearest gs before)) }
 {}
 
-/// Bytes are a whole conversation by the place of each packet exactly where they are one by its messages: an advertisement, and then a
-/// response to each request by the rule of its sections, one after another. Both give the same events.
+/// There are two definitions of a whole conversation: by the place of each packet, and by its messages, which are an advertisement and then
+/// a response to each request by the rule of its sections, one after another. They agree, and give the same events.
 pub fn conversation_goes_by_its_messages()
     ensures { (t : Terms) (asked : List Asked) (bytes : List ℕ) (events : List EventValue)
         → IsConversation t asked bytes events ↔ GoesByMessages t asked bytes events }
 {}
 
-/// To ask later takes nothing back: the events of a whole conversation stay when more is asked.
+/// Later requests take nothing back: the events of a whole conversation stay the same if more is asked.
 pub fn later_questions()
     ensures { (t : Terms) (asked more : List Asked) (bytes : List ℕ) (events : List EventValue)
         → IsConversation t asked bytes events → HasEvents t (asked ++ more) bytes events }
 {}
 
-/// Where a client owes nothing, it has given just what is written of each request, and the flush where it has left.
+/// A client that has nothing to send has sent exactly the written form of each request, and the flush if it has left.
 pub fn all_is_said<A: Allocator + Copy>()
     ensures { (t : Terms) (h : History) (client : Client A)
         → Converses t h client → left_to_say client ≡ [] → h.given ≡ spelled (said_of t.format (caps_of client) h.asked h.left) }
@@ -130,7 +130,7 @@ pub fn one_pack()
         → HasPack t asked bytes pack → HasPack t asked bytes other → pack ≡ other }
 {}
 
-/// The pack bytes that were handed out are the pack of the bytes used, and so they are of a whole conversation.
+/// The pack bytes that were returned are the pack of the bytes used, and so are those of a whole conversation.
 pub fn heard_pack()
     ensures all { (t : Terms) (asked : List Asked) (bytes : List ℕ) (events : List EventValue)
         → HasEvents t asked bytes events → HasPack t asked bytes (pack_bytes events) }
@@ -138,17 +138,17 @@ pub fn heard_pack()
         → IsConversation t asked bytes events → HasPack t asked bytes (pack_bytes events) }
 {}
 
-/// A client has at no time more bytes than the longest packet and the limit of the request that it asks together.
+/// A client never has more bytes than the longest packet and the limit of the request that it asks together.
 pub fn client_holds_within_its_limit<A: Allocator + Copy>()
     ensures { (t : Terms) (h : History) (client : Client A) → Converses t h client → bytes_held client ≤ 65520 + limit_of client }
 {}
 
-/// What is counted of a client is what its fields have: its packet reader and the request that it asks. A field more has to be named here.
+/// The count of a client's bytes covers all its fields: its packet reader and the request that it asks. A new field must be added here.
 pub fn all_fields_are_counted<A: Allocator + Copy>()
     ensures { (client : Client A) → bytes_held_by_fields client ≡ bytes_held client }
 {}
 
-/// What the contract of each method ensures is a call of the headline, and calls follow one another: so the headline is about any that
+/// The contract of each method ensures a call of the headline, and such calls follow one another: so the headline covers all calls that
 /// a program makes.
 pub fn methods_make_calls<A: Allocator + Copy>()
     ensures asked { (old new : Client A) (request : Request A) (steps : ℕ) → Asks old request new → Makes (ask request) steps old steps new }
@@ -170,23 +170,22 @@ pub fn methods_make_calls<A: Allocator + Copy>()
         → MakesAll Makes (call ∷ calls) before old after new }
 {}
 
-/// Counts of bytes that are among a client's events do not reach their end by what it receives next.
+/// Counts of bytes that are together at most the number of a client's events do not overflow with the events that it receives next.
 pub fn counts_stay_below_their_end<A: Allocator + Copy>()
     ensures { (t : Terms) (h : History) (old new : Client A) (used : List ℕ) (events : List EventValue) (counts : Counts) → Converses t h old
         → HearsOn old used events new → counts.pack + counts.progress ≤ length h.events → CanCount counts events }
 {}
 
-/// Calls of a client that has not failed leave it failed with `Truncated` exactly where its input was closed by one of them.
+/// After any calls, a client that had not failed before them has failed with `Truncated` if and only if one of the calls closed its input.
 pub fn truncated_where_closed<A: Allocator + Copy>()
     ensures { (t : Terms) (h : History) (calls : List (Call A)) (before after : ℕ) (first last : Client A)
         → Converses t h first → fault_of first ≡ None → MakesAll Makes calls before first after last
         → (closes calls ≡ true) ↔ IsTruncated last }
 {}
 
-/// After any calls of a client that was new before them, with the bytes received cut into pieces of any size: it has no more
-/// bytes than the longest packet and the limit of the request that it asks, it took at most 64 steps for each byte used and for
-/// each call of `feed`, its events are those of the bytes, its pack bytes are the pack, and where it refused, it did so at the
-/// first malformed packet.
+/// Take a client that was new, any calls after that, and any chunks of input. The client then has no more bytes than the longest packet and
+/// the limit of the request that it asks; it took at most 64 steps for each byte used and for each call of `feed`; its events
+/// are those of the bytes; its pack bytes are the pack; and if it refused, it did so at the first malformed packet.
 pub fn headline<A: Allocator + Copy>()
     ensures { (t : Terms) (calls : List (Call A)) (before after : ℕ) (first last : Client A)
         → Converses t nothing_yet first → credit_of (reader_of first) ≡ 0 → MakesAll Makes calls before first after last

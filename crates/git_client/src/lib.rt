@@ -1,4 +1,4 @@
-//! The fetching client of Git's wire protocol, version 2, over pieces of any size.
+//! The fetching client of Git's wire protocol, version 2, over chunks of any size.
 #![tactic(auto)]
 
 mod asking;

@@ -1,4 +1,4 @@
-//! Lines of text on their way to a writer, part after part.
+//! Lines of text on their way to a writer, one part after another.
 
 ghost use Rattle.std.specs.Prelude.{◌≡◌, ◌+◌, ◌≤◌, ◌++◌, [], codes, decimal, length, OnOk};
 ghost use Rattle.git_names.specs.ObjectName.{hex_of};
@@ -12,21 +12,21 @@ use itoa::Buffer;
 use std::io::Write;
 use std::marker::Model;
 
-/// How many bytes wait for the writer at the most: some tens of lines.
+/// The maximum number of bytes that wait for the writer: some tens of lines.
 const ROOM: usize = 2048;
 
-/// How many bytes the line of a reference has at the most besides its name: a word, 64 digits, a space and the line's end.
+/// The maximum length of a reference line without its name: a word, 64 digits, a space and the line's end.
 const BESIDES: usize = 4 + 64 + 1 + 1;
 
-/// How many bytes are escaped at a time.
+/// The number of bytes that are escaped at a time.
 const BLOCK: usize = 64;
 
-/// A part of a line: a word, and what comes after it.
+/// A part of a line: a word and its value.
 #[derive(Clone, Copy, Debug)]
 pub(crate) enum Part<'a> {
     /// A word alone.
     Word(&'a [u8]),
-    /// A word, and bytes that are escaped.
+    /// A word, and bytes to escape.
     Text(&'a [u8], &'a [u8]),
     /// A word, and the name of an object.
     Name(&'a [u8], &'a Oid),
@@ -63,7 +63,7 @@ impl Lines {
         }
     }
 
-    /// Puts a line of these parts after the bytes that wait.
+    /// Appends a line of these parts to the bytes that wait.
     pub(crate) fn put_line<W: Write>(
         &mut self,
         out: &mut Told<W>,
@@ -77,8 +77,8 @@ impl Lines {
         self.put(out, b"\n")
     }
 
-    /// Puts the line of a reference that is no symbolic one and no tag, as most are: at once, where there is room for it and each byte of
-    /// the name is its own escape.
+    /// Appends the line of a reference that is neither symbolic nor a tag, as most are: in one step, if there is room for it and no byte of
+    /// the name needs escaping.
     pub(crate) fn put_reference<W: Write>(
         &mut self,
         out: &mut Told<W>,
@@ -98,7 +98,7 @@ impl Lines {
         self.put_line(out, &[Part::Name(b"ref ", id), Part::Text(b" ", name)])
     }
 
-    /// Sends all that waits.
+    /// Sends all bytes that wait.
     pub(crate) fn drain<W: Write>(&mut self, out: &mut Told<W>) -> Result<(), RunFault>
         ensures sends { Sends W.contents out.old self.old result out.new }
         ensures empty { OnOk result (self.new ≡ []) }
@@ -108,7 +108,7 @@ impl Lines {
         Ok(())
     }
 
-    /// Puts bytes after those that wait, or sends both where there is no room.
+    /// Appends bytes to those that wait, or sends both if there is no room.
     fn put<W: Write>(&mut self, out: &mut Told<W>, bytes: &[u8]) -> Result<(), RunFault>
         ensures { Puts W.contents out.old self.old bytes.now result out.new self.new }
     {
@@ -120,7 +120,7 @@ impl Lines {
         send(out, bytes)
     }
 
-    /// Puts bytes for which there is room after those that wait.
+    /// Appends bytes to those that wait. There must be room for them.
     fn append(&mut self, bytes: &[u8])
         requires { length self.old + length bytes.now ≤ ROOM }
         ensures { self.new ≡ self.old ++ bytes.now }
@@ -130,7 +130,7 @@ impl Lines {
         self.count = end;
     }
 
-    /// Puts the digits of a name for which there is room after those that wait. What is after the last of them means nothing.
+    /// Appends the digits of an object name to the bytes that wait. There must be room for 64. The bytes after the last digit mean nothing.
     fn append_name(&mut self, id: &Oid)
         requires { length self.old + 64 ≤ ROOM }
         ensures name { self.new ≡ self.old ++ hex_of id.now }
@@ -172,7 +172,7 @@ impl Lines {
         self.put(out, Buffer::new().format(number).as_bytes())
     }
 
-    /// Puts the escapes of bytes after those that wait: at once where each is its own escape, else a block at a time.
+    /// Appends the escapes of bytes to the bytes that wait: in one step if no byte needs escaping, otherwise a block at a time.
     fn put_text<W: Write>(&mut self, out: &mut Told<W>, bytes: &[u8]) -> Result<(), RunFault>
         ensures { Puts W.contents out.old self.old (escaped_of bytes.now) result out.new self.new }
     {

@@ -1,4 +1,4 @@
-//! How far a conversation has come, and what a packet means there.
+//! The phases of a conversation, and what a packet means in each.
 
 ghost use Rattle.std.specs.Prelude.{◌≡◌, false, None};
 ghost use Rattle.git_client.specs.Machine.Turns.{fault_in, is_asking, phase_in};
@@ -8,24 +8,24 @@ use git_msg::{Info, ReferencePlaces, RequestWriter};
 use git_names::Oid;
 use git_pkt::Fault;
 
-/// How far a conversation has come.
+/// The phase of a conversation.
 #[derive(Clone, Copy, Debug)]
 pub(crate) enum Phase {
-    /// Packets of the server are due.
+    /// Packets of the server are expected.
     Hearing(Due),
     /// A request can be asked.
     Ready,
-    /// The packets of the request are owed, and then its response is due.
+    /// The packets of the request have to be sent, and then its response is expected.
     Asking(RequestWriter),
-    /// The flush that ends the conversation is owed.
+    /// The flush that ends the conversation has to be sent.
     Leaving,
-    /// Nothing more is to be sent.
+    /// Nothing more has to be sent.
     Left,
     /// The conversation was refused.
     Failed(Fault),
 }
 
-/// What is due of the server.
+/// What is expected from the server.
 #[derive(Clone, Copy, Debug)]
 pub(crate) enum Due {
     /// The line that begins an advertisement.
@@ -37,20 +37,20 @@ pub(crate) enum Due {
     /// The header of a section of a response to `fetch`.
     Header(Allowed),
     Acknowledgments(Acks),
-    /// Lines of the section, or the delimiter, after which these sections may begin.
+    /// Lines of the section, or the delimiter. After the delimiter these sections may begin.
     ShallowInfo(Allowed),
     WantedRefs(Allowed),
     Packfile,
-    /// The line that names what is listed of objects, or the flush.
+    /// The line that names the attribute listed for each object, or the flush.
     SizeLine,
-    /// The lines that list it, or the flush.
+    /// The lines of the objects, or the flush.
     Sizes,
     /// The response-end packet after a response's flush.
     ResponseEnd,
 }
 
-/// What a packet without a fault contains, and where in its payload: with this no line is read twice. Bytes of the pack and of
-/// the progress pass without it.
+/// The contents of a packet without an error, with their places in the payload: so no line is read twice. Bytes of the pack and of
+/// the progress pass without this.
 #[derive(Clone, Copy, Debug)]
 pub(crate) enum Said {
     Nothing,
@@ -62,30 +62,30 @@ pub(crate) enum Said {
     Ready,
     Shallow(Oid),
     Unshallow(Oid),
-    /// The wanted reference that points to this object. Its name is what comes after the object's.
+    /// The wanted reference that points to this object. Its name comes after the object's name.
     WantedRef(Oid),
     Info(Info),
     Ended,
 }
 
-/// Where the parts of a capability line lie in its text: the key at its head, and the value after one `=`.
+/// The places of the parts of a capability line in its text: the key at its start, and the value after one `=`.
 #[derive(Clone, Copy, Debug)]
 pub(crate) struct CapabilityPlaces {
     pub(crate) key_length: usize,
     pub(crate) has_value: bool,
 }
 
-/// Whose turn it is after a packet without a fault.
+/// Whose turn it is after a packet without an error.
 #[derive(Clone, Copy, Debug)]
 pub(crate) enum Turn {
-    /// The server's, of which this is due.
+    /// The server has to send this next.
     Hearing(Due),
-    /// The client's: the message is whole, and a request can be asked.
+    /// The client's turn: the message is complete, and a request can be asked.
     Ready,
 }
 
 impl Turn {
-    /// The phase of the conversation then.
+    /// The phase of the conversation in this turn.
     pub(crate) fn phase(self) -> Phase
         ensures value { result ≡ phase_in self }
         ensures owes { is_asking result ≡ false }

@@ -14,7 +14,7 @@ pub(crate) enum Section {
     Packfile,
 }
 
-/// Which sections may begin, beside the packfile, which always may.
+/// Which sections may begin, besides the packfile, which always may.
 #[derive(Clone, Copy, Debug, PartialEq, Eq)]
 pub(crate) struct Allowed {
     pub(crate) acknowledgments: bool,
@@ -22,10 +22,10 @@ pub(crate) struct Allowed {
     pub(crate) wanted_refs: bool,
 }
 
-/// Which lines of the acknowledgments have come so far.
+/// The lines of the acknowledgments that have come so far.
 #[derive(Clone, Copy, Debug, PartialEq, Eq)]
 pub(crate) struct Acks {
-    /// Some line.
+    /// Any line.
     pub(crate) any: bool,
     /// The line `NAK`.
     pub(crate) nak: bool,
@@ -43,14 +43,14 @@ impl Acks {
 }
 
 impl Allowed {
-    /// After the acknowledgments each other section may come.
+    /// After the acknowledgments every other section may come.
     pub(crate) const AFTER_ACKNOWLEDGMENTS: Allowed = Allowed {
         acknowledgments: false,
         shallow_info: true,
         wanted_refs: true,
     };
 
-    /// At the head of a response: the acknowledgments answer a request without `done` alone.
+    /// At the start of a response: only a request without `done` is answered with acknowledgments.
     pub(crate) fn at_head(done: bool) -> Allowed
         ensures { result ≡ allowed_after done [] }
     {
@@ -73,7 +73,7 @@ impl Allowed {
         }
     }
 
-    /// Which sections may begin after this one: the acknowledgments come first, and each section once.
+    /// The sections that may begin after this one: the acknowledgments come first, and each section comes once.
     pub(crate) fn after(&self, section: Section) -> Allowed
         ensures { result ≡ next_allowed self.now section }
     {
@@ -85,7 +85,7 @@ impl Allowed {
     }
 }
 
-/// The section whose header the text is.
+/// The section with this text as its header.
 pub(crate) fn read_header(text: &[u8]) -> Option<Section>
     ensures { result ≡ section_named text.now }
 {

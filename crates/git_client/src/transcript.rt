@@ -16,11 +16,11 @@ use git_names::Oid;
 use git_pkt::{RunFault, Told};
 use std::io::Write;
 
-/// Writes the transcript's line of an event, and nothing else: none for bytes of the pack or the progress. The numbers are
-/// those of the pack and progress bytes of the response: the line of a response's end shows them.
+/// Writes the transcript line of an event, and nothing else. Bytes of the pack or the progress have no line. The numbers count
+/// the pack and progress bytes of the response: the line at the end of the response shows them.
 ///
-/// The fault is `WriteFault`, where the writing fails; a front of the line was written then. A writer that has not
-/// failed before has failed exactly where this is the answer.
+/// The error is `WriteFault` if writing fails; then a prefix of the line was written. A writer that had not
+/// failed before has failed if and only if this is the result.
 pub fn write_event<W: Write>(
     out: &mut Told<W>,
     event: &Event<'_>,
@@ -34,7 +34,7 @@ pub fn write_event<W: Write>(
     lines.drain(out)
 }
 
-/// Puts the line of an event after the bytes that wait for the writer, as [`write_event`] writes it.
+/// Appends the line of an event to the bytes that wait for the writer, as [`write_event`] writes it.
 pub(crate) fn put_event<W: Write>(
     lines: &mut Lines,
     out: &mut Told<W>,
@@ -55,7 +55,7 @@ pub(crate) fn put_event<W: Write>(
     }
 }
 
-/// Puts the line of any event: the word of its kind, and after it each part that the event has.
+/// Appends the line of any event: the word of its kind, and then each part that the event has.
 #[inline(never)]
 fn put_parts<W: Write>(
     lines: &mut Lines,
@@ -85,7 +85,7 @@ fn put_parts<W: Write>(
     )
 }
 
-/// Writes the transcript's line of a request, and nothing else, on the terms of [`write_event`].
+/// Writes the transcript line of a request, and nothing else, with the errors of [`write_event`].
 pub fn write_asked<W: Write>(out: &mut Told<W>, command: Command) -> Result<(), RunFault>
     ensures { Sends W.contents out.old (asked_line command) result out.new }
 {
@@ -100,7 +100,7 @@ pub fn write_asked<W: Write>(out: &mut Told<W>, command: Command) -> Result<(), 
     lines.drain(out)
 }
 
-/// The object that the event is about. A reference that has none is unborn.
+/// The object of the event. A reference without one is unborn.
 fn object_part<'a>(kind: EventKind, id: Option<&'a Oid>) -> Part<'a>
     ensures { part_shown result ≡ object_shown kind (option_copied id.entry) }
 {
@@ -113,7 +113,7 @@ fn object_part<'a>(kind: EventKind, id: Option<&'a Oid>) -> Part<'a>
     }
 }
 
-/// The object that a tag peels to, where that is known.
+/// The object that a tag peels to, if it is known.
 fn peeled_part<'a>(id: Option<&'a Oid>) -> Part<'a>
     ensures { part_shown result ≡ peeled_text (option_copied id.entry) }
 {
@@ -123,7 +123,7 @@ fn peeled_part<'a>(id: Option<&'a Oid>) -> Part<'a>
     }
 }
 
-/// The word and the text, where there is one.
+/// The word and the text, if there is a text.
 fn text_part<'a>(word: &'a [u8], text: Option<&'a [u8]>) -> Part<'a>
     ensures { part_shown result ≡ shown_after word.now (option_copied text.entry) }
 {
@@ -143,7 +143,7 @@ fn text_word(kind: EventKind) -> &'static [u8]
     }
 }
 
-/// The size of an object, or a dash where what is known of one has none.
+/// The size of an object, or a dash in the line of an `Info` event without a size.
 fn size_part<'a>(kind: EventKind, size: Option<u64>) -> Part<'a>
     ensures { part_shown result ≡ size_after kind size }
 {
@@ -156,7 +156,7 @@ fn size_part<'a>(kind: EventKind, size: Option<u64>) -> Part<'a>
     }
 }
 
-/// A number of the line of a response's end.
+/// A number in the line at the end of a response.
 fn count_part<'a>(kind: EventKind, count: u64) -> Part<'a>
     ensures { part_shown result ≡ count_after kind count }
 {

@@ -1,4 +1,4 @@
--- What the lines of a repository's text contain so far, and what one more adds.
+-- The contents of the lines of a repository's text so far, and what one more line adds.
 use Rattle.std.specs.Prelude.{◌≡◌, ℕ, ◌-◌, ◌<◌, Bool, true, false, List, [], ◌∷◌, ◌++◌, Some, None, Result, codes, length, map, slice_index_or}
 use Rattle.std.specs.Prelude.{All, MatchResult}
 use Rattle.std.specs.Option.{IfSome, is_some}
@@ -21,12 +21,12 @@ empty_lists format = lists_said format [] no_packs
 abbrev pub with_packs : Lists → PackBytes → Lists
 with_packs lists packs = record lists { pack = packs.pack; filtered = packs.filtered }
 
--- the name of an unborn `HEAD`, where there is one
+-- the name of an unborn `HEAD`, if there is one
 abbrev pub head_names : Bool → List (List ℕ)
 head_names false = []
 head_names true = codes "HEAD" ∷ []
 
--- the names that lists have: that of an unborn `HEAD`, and those of the references
+-- the names in lists: that of an unborn `HEAD`, and those of the references
 abbrev pub names_of : Lists → List (List ℕ)
 names_of lists = head_names (is_some lists.unborn_head) ++ map (λ entry. entry.name) lists.refs
 
@@ -37,7 +37,7 @@ ComesLast names name = (d : List ℕ) → 0 < length names → comes_before (sli
 abbrev pub ComesLastObject : List (ObjectName × ℕ) → ObjectName → Type 0
 ComesLastObject objects id = (d : ObjectName × ℕ) → 0 < length objects → precedes (slice_index_or objects (length objects - 1) d).0 id ≡ true
 
--- with what one more line contains
+-- with the contents of one more line
 abbrev pub with_said : Lists → Said → Lists
 with_said lists (reference entry) = record lists { refs = lists.refs ++ entry ∷ [] }
 with_said lists (unborn target) = record lists { unborn_head = Some target }
@@ -51,16 +51,16 @@ pub record MayFollow (lists : Lists) (next : Said) : Type 0 where
   pub object_last : IfSome (object_in next) (λ sized. ComesLastObject lists.objects sized.0)
   pub first_count : IfSome (count_in next) (λ _. lists.ready_after ≡ None)
 
--- why a line is not kept: it is not allowed there, or it is and there was no memory
+-- why a line is not stored: it is not allowed there, or it is allowed and there was no memory
 abbrev pub IsLineFault : Lists → Said → LineFault → Type 0
 IsLineFault lists next Refused = ¬ MayFollow lists next
 IsLineFault lists next OutOfMemory = MayFollow lists next × TakesMemory next
 
--- a line that is allowed is kept, or there is a fault
+-- a line that is allowed is stored, or there is an error
 abbrev pub Keeps : Lists → Said → Lists → Result (Unit {0}) LineFault → Type 0
 Keeps old next new result = MatchResult result (λ _. (new ≡ with_said old next) × MayFollow old next) (IsLineFault old next)
 
--- what a line contains is of the format, and its names are names
+-- the contents of a line are of the format, and its names are names
 abbrev pub IsFit : Format → Said → Type 0
 IsFit format (reference entry) = IsOfFormat format entry × IsNamed entry.name entry.target
 IsFit format (unborn target) = IsRefName target
@@ -68,7 +68,7 @@ IsFit format (object id size) = id.format ≡ format
 IsFit format (ready count) = Unit {0}
 IsFit format (boundary line) = (object_of line).format ≡ format
 
--- these lists are what the lines contain
+-- these lists are the contents of the lines
 pub record Holds (said : List Said) (lists : Lists) : Type 0 where
   pub lists_are : lists ≡ lists_said lists.format said no_packs
   pub names_are : names_in said ≡ names_of lists

@@ -11,16 +11,16 @@ pub record AreTold (lines : List (List ℕ)) (lists : Lists) : Type 0 where
   pub begins : Begins lists.format lines said
   pub holds : Holds said lists
 
--- how many lines a ready line is
+-- the number of lines that a ready count takes
 abbrev pub ready_lines : Option ℕ → ℕ
 ready_lines None = 0
 ready_lines (Some count) = 1
 
--- how many lines an unborn `HEAD` is
+-- the number of lines that an unborn `HEAD` takes
 abbrev pub unborn_lines : Option (List ℕ) → ℕ
 unborn_lines None = 0
 unborn_lines (Some target) = 1
 
--- how many lines contain the lists, with the first, which names the format
+-- the number of lines that contain the lists, with the first line, which names the format
 abbrev pub lines_behind : Lists → ℕ
 lines_behind lists = length lists.refs + length lists.objects + length lists.boundaries + ready_lines lists.ready_after + unborn_lines lists.unborn_head + 1

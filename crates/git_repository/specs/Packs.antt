@@ -3,7 +3,7 @@ use Rattle.std.specs.Prelude.{ℕ, List, [], Option, None}
 use Rattle.git_server.specs.Repository.{bytes_of}
 use Rattle.git_repository.specs.declared.packs.Packs.{Packs}
 
--- the bytes of the pack for each request, and of that for each request that has a filter, where that is another
+-- the bytes of the pack for each request, and of the pack for each request that has a filter, if that is a different one
 pub record PackBytes : Type 0 where
   pub pack : List ℕ
   pub filtered : Option (List ℕ)

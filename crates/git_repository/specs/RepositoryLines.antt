@@ -1,4 +1,4 @@
--- The lines of a repository's text, and what each contains.
+-- The lines of a repository's text, and the contents of each.
 use Rattle.std.specs.Prelude.{◌≡◌, ℕ, ◌<◌, ◌≤◌, ◌^◌, Option, Some, None, List, ◌∷◌, ◌++◌, codes, length}
 use Rattle.std.specs.Option.{option_copied}
 use Rattle.git_names.specs.declared.object_format.Format.{Format}
@@ -15,8 +15,8 @@ use Rattle.git_repository.specs.declared.repository_lines.LineEntry.{LineEntry}
 use Rattle.git_repository.specs.declared.repository_lines.Item.{Item}
 use Rattle.git_repository.specs.declared.repository_lines.Item.TheVariants.{Reference, Unborn, Object, ReadyAfter, BoundaryLine}
 
--- what a line contains of a repository: a reference, what an unborn `HEAD` points to, an object with its size, after how many common objects it is ready,
--- a line of its shallow boundary
+-- the contents of a line about a repository: a reference, the name that an unborn `HEAD` points to, an object with its size, the number of
+-- common objects after which it is ready, a line of its shallow boundary
 pub data Said : Type 0 where
   reference : Entry → Said
   unborn : List ℕ → Said
@@ -28,7 +28,7 @@ pub data Said : Type 0 where
 abbrev pub shown_entry : LineEntry → Entry
 shown_entry e = record { name = e.name.now; id = e.id; target = option_copied e.target; peeled = e.peeled }
 
--- what a borrowed one shows
+-- the contents that a borrowed item shows
 abbrev pub shown : Item → Said
 shown (Reference entry) = reference (shown_entry entry)
 shown (Unborn target) = unborn target.now
@@ -40,7 +40,7 @@ shown (BoundaryLine line) = boundary line
 abbrev pub lines_of : List ℕ → List (List ℕ)
 lines_of text = parts_of 10 (text_of text)
 
--- how many bytes a line has at the most, without its LF
+-- the maximum length of a line in bytes, without its LF
 abbrev pub longest_line : ℕ
 longest_line = 65536
 
@@ -56,7 +56,7 @@ pub record IsSizedObject (format : Format) (id : ObjectName) (size : ℕ) (text 
   pub number_is : IsNumber number size
   pub in_range : size < 2 ^ 64
 
--- a number of objects, from 1 on
+-- a number of objects, at least 1
 pub record IsCount (count : ℕ) (text : List ℕ) : Type 0 where
   pub number_is : IsNumber text count
   pub from_one : 0 < count
@@ -76,13 +76,13 @@ pub record IsUnbornHeadOf (name : List ℕ) (target : Option (List ℕ)) (peeled
   pub points : target ≡ Some head
   pub no_peeled : peeled ≡ None
 
--- what a reference line contains
+-- the contents of a reference line
 abbrev pub SaysReference : Format → List ℕ → Said → Type 0
 SaysReference format text (reference entry) = IsReferenceLine format text (ref_of entry)
 SaysReference format text (unborn target) = IsReferenceLine format text (unborn_ref target)
 SaysReference format text _ = ⊥
 
--- what a line after the first contains
+-- the contents of a line after the first
 abbrev pub Says : Format → List ℕ → Said → Type 0
 Says format line (reference entry) = Follows (codes "ref ") (λ text. IsReferenceLine format text (ref_of entry)) line
 Says format line (unborn target) = Follows (codes "ref ") (λ text. IsReferenceLine format text (unborn_ref target)) line
@@ -91,7 +91,7 @@ Says format line (ready count) = Follows (codes "ready ") (IsCount count) line
 Says format line (boundary (Shallow id)) = Follows (codes "shallow ") (λ text. IsObjectName format text id) line
 Says format line (boundary (Unshallow id)) = Follows (codes "unshallow ") (λ text. IsObjectName format text id) line
 
--- the line is no longer than a line may be, and contains this
+-- the line is no longer than a line may be, and has these contents
 abbrev pub IsLineOf : Format → List ℕ → Said → Type 0
 IsLineOf format line said = (length line ≤ longest_line) × Says format line said
 

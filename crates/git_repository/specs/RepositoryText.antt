@@ -1,4 +1,4 @@
--- What the text of a repository contains, and which of its lines is refused.
+-- The contents of the text of a repository, and the line that is refused.
 use Rattle.std.specs.Prelude.{◌≡◌, ◌≢◌, ◌⊎◌, ℕ, ◌+◌, ◌≤◌, true, List, [], ◌∷◌, ◌++◌, Option, Some, None, codes, length}
 use Rattle.std.specs.List.{AllAdjacentBelow, filter_map}
 use Rattle.git_names.specs.declared.object_format.Format.{Format}
@@ -10,7 +10,7 @@ use Rattle.git_server.specs.Lists.{Lists}
 use Rattle.git_repository.specs.Packs.{PackBytes}
 use Rattle.git_repository.specs.RepositoryLines.{Said, reference, unborn, object, ready, boundary, IsLineOf, format_line, lines_of}
 
--- each line contains what is at its place
+-- each line contains the item at its place
 abbrev pub SayAll : Format → List (List ℕ) → List Said → Type 0
 SayAll format [] [] = Unit {0}
 SayAll format (line ∷ lines) (said ∷ more) = IsLineOf format line said × SayAll format lines more
@@ -24,7 +24,7 @@ ref_in said = None
 abbrev pub refs_in : List Said → List Entry
 refs_in = filter_map ref_in
 
--- what unborn `HEAD`s point to
+-- the names that unborn `HEAD`s point to
 abbrev pub head_in : Said → Option (List ℕ)
 head_in (unborn target) = Some target
 head_in said = None
@@ -73,8 +73,8 @@ abbrev pub first_of : {X : Type 0} → List X → Option X
 first_of [] = None
 first_of (x ∷ xs) = Some x
 
--- lines that contain this may be in one text: references, with an unborn `HEAD` among them, and objects rise strictly, and one ready
--- line at the most
+-- lines with these contents may be in one text: references, with an unborn `HEAD` among them, and objects rise strictly, and there is at
+-- most one ready line
 pub record MayStand (said : List Said) : Type 0 where
   pub rising_names : NamesRise (names_in said)
   pub rising_objects : AreRising (objects_in said)
@@ -93,14 +93,14 @@ lists_said format said packs = record {
   filtered = packs.filtered;
 }
 
--- lines that begin a text: a format, and what the others contain
+-- lines that begin a text: a format, and the contents of the others
 pub record Begins (format : Format) (lines : List (List ℕ)) (said : List Said) : Type 0 where
   pub others : List (List ℕ)
   pub spelled : lines ≡ format_line format ∷ others
   pub say_all : SayAll format others said
   pub may_stand : MayStand said
 
--- the text is this repository, but for its packs
+-- the text is this repository, except for its packs
 pub record IsRepositoryText (text : List ℕ) (packs : PackBytes) (lists : Lists) : Type 0 where
   pub format : Format
   pub said : List Said
@@ -115,7 +115,7 @@ pub record HasNoFormat (lines : List (List ℕ)) (number : ℕ) : Type 0 where
   pub whole : lines ≡ first ∷ others
   pub no_format : (format : Format) → first ≢ format_line format
 
--- the lines before this one begin a text, and with it they begin none
+-- the lines before this one begin a text, and together with it they do not
 pub record HasBadLine (lines : List (List ℕ)) (number : ℕ) : Type 0 where
   pub format : Format
   pub before : List (List ℕ)
@@ -127,11 +127,11 @@ pub record HasBadLine (lines : List (List ℕ)) (number : ℕ) : Type 0 where
   pub begins : Begins format before said
   pub refused : (next : Said) → IsLineOf format line next → ¬ MayStand (said ++ next ∷ [])
 
--- the first bad line is the one of this number, from 1
+-- the first bad line is the one with this number, counted from 1
 abbrev pub IsFirstBad : List ℕ → ℕ → Type 0
 IsFirstBad text number = HasNoFormat (lines_of text) number ⊎ HasBadLine (lines_of text) number
 
--- what a line contains is kept in memory
+-- the contents of a line are stored in memory
 abbrev pub TakesMemory : Said → Type 0
 TakesMemory (reference entry) = Unit {0}
 TakesMemory (unborn target) = Unit {0}
@@ -139,7 +139,7 @@ TakesMemory (object id size) = Unit {0}
 TakesMemory (ready count) = ⊥
 TakesMemory (boundary line) = Unit {0}
 
--- memory ran out at a line: with it the lines before it begin a text, and what it contains takes memory
+-- memory ran out at a line: together with it the lines before it begin a text, and its contents take memory
 pub record WantsMemory (lines : List (List ℕ)) : Type 0 where
   pub format : Format
   pub before : List (List ℕ)

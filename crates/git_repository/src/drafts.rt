@@ -1,4 +1,4 @@
-//! What the lines of a repository's text contain so far.
+//! The contents of the lines of a repository's text so far.
 
 ghost use Rattle.std.specs.Prelude.{◌≡◌, ◌↔◌, ◌+◌, ◌++◌, ◌∷◌, [], ℕ, List, All, IsTrue, IfOk, MatchResult};
 ghost use Rattle.git_server.specs.Machine.ListRepo.{lists_of};
@@ -18,7 +18,7 @@ use git_names::{Format, Oid};
 use git_server::{ListRepo, RefEntry, RepoLists};
 use std::alloc::{AllocError, Global};
 
-/// What the lines so far contain. With packs it makes a repository at each moment.
+/// The contents of the lines so far. At every moment they make a repository, if packs are added.
 #[derive(Drop)]
 pub(crate) struct Draft {
     lists: RepoLists,
@@ -50,7 +50,7 @@ impl Draft {
         }
     }
 
-    /// The number of the next line: the first of those before it was that of the format.
+    /// The number of the next line. The first line was that of the format.
     pub(crate) fn next_line(&self) -> u64
         ensures { result ≡ lines_behind (drafted self.now) + 1 }
     {
@@ -68,7 +68,7 @@ impl Draft {
         refs + objects + boundaries + ready + unborn + 2
     }
 
-    /// Keeps what a further line contains, or returns why it is the first that is refused.
+    /// Stores the contents of another line, or returns why it is the first line that is refused.
     pub(crate) fn read(&mut self, alloc: Global, line: &[u8]) -> Result<(), TextFault>
         ensures { (lines : List (List ℕ)) → AreTold lines (drafted self.old)
             → MatchResult result (λ _. AreTold (lines ++ line.now ∷ []) (drafted self.new)) (IsLinesFault (lines ++ line.now ∷ [])) }
@@ -87,7 +87,7 @@ impl Draft {
         }
     }
 
-    /// Keeps what a line contains, or returns why not: it may not come after the lines before it, or memory ran out.
+    /// Stores the contents of a line, or returns why it does not: the line may not come after the lines before it, or memory ran out.
     pub(crate) fn keep(&mut self, alloc: Global, item: &Item<'_>) -> Result<(), LineFault>
         requires { IsFit (drafted self.old).format (shown item.now) }
         ensures { Keeps (drafted self.old) (shown item.now) (drafted self.new) result }
@@ -101,7 +101,7 @@ impl Draft {
         }
     }
 
-    // Whether the name comes after those of the references, and after `HEAD` where that is unborn.
+    // Whether the name comes after those of the references, and after `HEAD` if that is unborn.
     fn comes_last(&self, name: &[u8]) -> bool
         ensures { IsTrue result ↔ ComesLast (names_of (drafted self.now)) name.now }
     {
@@ -191,7 +191,7 @@ impl Draft {
     }
 }
 
-/// The entry of a reference, whose texts are copied.
+/// The entry of a reference, with copies of its texts.
 fn make_entry(alloc: Global, entry: &LineEntry<'_>) -> Result<RefEntry, AllocError>
     requires { IsNamed entry.now.name.now (option_copied entry.now.target) }
     ensures { IfOk result (λ made. made ≡ shown_entry entry.now) }

@@ -1,4 +1,4 @@
-//! Repositories that are a few lists, read from texts.
+//! Repositories that consist of a few lists, read from texts.
 #![tactic(auto)]
 
 mod drafts;

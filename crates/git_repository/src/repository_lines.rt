@@ -11,10 +11,10 @@ use git_msg::{Boundary, Reference, after, is_word, read_number, read_reference};
 use git_names::{Format, Oid, Steps};
 use hex::FromHex;
 
-/// The most common objects that a repository may want before it is ready.
+/// The maximum number of common objects that a repository may need before it is ready.
 const MOST_COMMON: u64 = 2_147_483_647;
 
-/// A reference of the repository, as its line has it, whose texts are lent.
+/// A reference of the repository, as in its line. Its texts are borrowed.
 #[derive(Clone, Copy, Debug)]
 pub(crate) struct LineEntry<'a> {
     pub(crate) id: Oid,
@@ -23,7 +23,7 @@ pub(crate) struct LineEntry<'a> {
     pub(crate) peeled: Option<Oid>,
 }
 
-/// What a line contains of the repository.
+/// The contents of a line about the repository.
 #[derive(Clone, Copy, Debug)]
 pub(crate) enum Item<'a> {
     /// It has this reference.
@@ -32,7 +32,7 @@ pub(crate) enum Item<'a> {
     Unborn(&'a [u8]),
     /// It has this object, of this size in bytes.
     Object(Oid, u64),
-    /// It is ready after so many common objects.
+    /// It is ready after this number of common objects.
     ReadyAfter(u32),
     /// This is a line of its shallow boundary.
     BoundaryLine(Boundary),
@@ -45,7 +45,7 @@ pub(crate) fn read_format(line: &[u8]) -> Option<Format>
     Format::read(after(line, b"format ")?)
 }
 
-/// What a further line contains.
+/// The contents of a line after the first.
 pub(crate) fn read_item(format: Format, line: &[u8]) -> Option<Item<'_>>
     ensures { MatchOption result (SaysNothing format line.now) (λ item. Says format line.now (shown item)) }
 {
@@ -99,7 +99,7 @@ fn read_reference_line(format: Format, text: &[u8]) -> Option<Item<'_>>
     }
 }
 
-/// What an unborn `HEAD` points to, where a reference without an object is that.
+/// The name that an unborn `HEAD` points to, if a reference without an object is an unborn `HEAD`.
 fn unborn_target<'a>(name: &[u8], target: Option<&'a [u8]>, peeled: Option<Oid>) -> Option<&'a [u8]>
     ensures { MatchOption result ((other : List ℕ) → ¬ IsUnbornHeadOf name.now (option_copied target.entry) peeled other)
         (λ found. IsUnbornHeadOf name.now (option_copied target.entry) peeled found.now) }
@@ -135,7 +135,7 @@ fn read_object(format: Format, text: &[u8]) -> Option<(Oid, u64)>
     Some((id, size))
 }
 
-/// A number of objects, from 1 on.
+/// A number of objects, at least 1.
 fn read_count(text: &[u8]) -> Option<u32>
     ensures { MatchOption result ((count : ℕ) → ¬ IsCount count text.now) (λ count. IsCount count text.now) }
 {

@@ -1,4 +1,4 @@
-//! How far the lines of a repository's text are read.
+//! The state of reading the lines of a repository's text.
 
 ghost use Rattle.std.specs.Prelude.{◌≡◌, ◌↔◌, ◌+◌, ◌<◌, ◌≤◌, ◌++◌, ◌∷◌, [], ℕ, List, IsTrue, MatchResult, length, vec_capacity};
 ghost use Rattle.git_msg.specs.Texts.{parts_of};
@@ -14,14 +14,14 @@ use git_msg::split_at_first;
 use git_server::ListRepo;
 use std::alloc::Global;
 
-/// What the lines that have ended contain.
+/// The contents of the lines that have ended.
 #[derive(Drop)]
 pub(crate) enum Progress {
-    /// None has ended.
+    /// No line has ended.
     Start,
     /// They begin the text of a repository.
     Lines(Draft),
-    /// One of them is the first that is refused. Nothing of the others is kept.
+    /// One of them is the first that is refused. The contents of the others are dropped.
     Failed(TextFault),
 }
 
@@ -38,7 +38,7 @@ impl Progress {
         }
     }
 
-    /// After the first line.
+    /// The progress after the first line.
     fn begin(alloc: Global, line: &[u8]) -> Progress
         ensures { HasRead result (line.now ∷ []) }
     {
@@ -48,7 +48,7 @@ impl Progress {
         }
     }
 
-    /// After a further line.
+    /// The progress after another line.
     pub(crate) fn with_line(self, alloc: Global, line: &[u8]) -> Progress
         ensures { (lines : List (List ℕ)) → HasRead self lines → HasRead result (lines ++ line.now ∷ []) }
     {
@@ -62,7 +62,7 @@ impl Progress {
         }
     }
 
-    /// After a line that has begun and is longer than a line may be: it is refused, whatever comes after it.
+    /// The progress after a line that has begun and is already longer than a line may be: it is refused, whatever comes after it.
     fn with_long_line(self) -> Progress
         ensures reads { (lines : List (List ℕ)) (begun : List ℕ) → longest_line < length begun → HasRead self lines → HasReadTo result lines begun }
         ensures failed { HasFailed result }
@@ -76,7 +76,7 @@ impl Progress {
         }
     }
 
-    /// With the line that a text leaves open, which is refused if it is too long already.
+    /// The progress with the line that a text leaves open, which is refused if it is too long already.
     fn with_open<'a>(self, line: &'a [u8]) -> (Progress, &'a [u8])
         ensures stands { (lines : List (List ℕ)) → HasRead self lines → Stands result.0 result.1.now (lines ++ line.now ∷ []) }
         ensures within { length result.1.now ≤ length line.now }
@@ -88,7 +88,7 @@ impl Progress {
         (self, line)
     }
 
-    /// After the lines that end in the text, with the line that it leaves open.
+    /// The progress after the lines that end in the text, and the line that the text leaves open.
     pub(crate) fn with_text<'a>(self, alloc: Global, text: &'a [u8]) -> (Progress, &'a [u8])
         ensures reads { (lines : List (List ℕ)) → HasRead self lines → Stands result.0 result.1.now (lines ++ parts_of 10 text.now) }
         ensures within { length result.1.now ≤ length text.now }
@@ -105,7 +105,7 @@ impl Progress {
         }
     }
 
-    /// After the further lines that end in the text, with the line that it leaves open.
+    /// The progress after the further lines that end in the text, and the line that the text leaves open.
     fn read_on<'a>(mut draft: Draft, alloc: Global, text: &'a [u8]) -> (Progress, &'a [u8])
         ensures reads { (lines : List (List ℕ)) → HasRead (Progress.Lines draft) lines → Stands result.0 result.1.now (lines ++ parts_of 10 text.now) }
         ensures within { length result.1.now ≤ length text.now }
@@ -123,7 +123,7 @@ impl Progress {
         Progress::Lines(draft).with_open(line)
     }
 
-    /// The progress after a piece of the text, which goes on with the open line. What the piece leaves open is the open line then.
+    /// The progress after a chunk of the text, which continues the open line. The line that the chunk leaves open is the open line then.
     pub(crate) fn with_piece(self, alloc: Global, begun: &mut Vec<u8>, piece: &[u8]) -> Progress
         requires room { length begun.old.items + length piece.now ≤ vec_capacity begun.old }
         requires short { length begun.old.items ≤ longest_line }
@@ -151,7 +151,7 @@ impl Progress {
         progress
     }
 
-    /// After the last line, which is the open one if it has a byte or is the only one.
+    /// The progress after the last line: the open line, if it has a byte or is the only one.
     fn with_end(self, alloc: Global, begun: &[u8]) -> Progress
         ensures { (text : List ℕ) → Stands self begun.now (parts_of 10 text) → HasRead result (lines_of text) }
     {
@@ -180,13 +180,13 @@ impl Progress {
         match self.with_end(alloc, begun) {
             Progress::Lines(draft) => Ok(draft.finish(packs)),
             Progress::Failed(fault) => Err(fault),
-            // No text is without a line.
+            // Every text has a line.
             Progress::Start => Err(TextFault::Bad { line: 1 }),
         }
     }
 }
 
-/// Appends bytes for which there is room.
+/// Appends bytes. There must be room for them.
 fn append(begun: &mut Vec<u8>, bytes: &[u8])
     requires { length begun.old.items + length bytes.now ≤ vec_capacity begun.old }
     ensures items { begun.new.items ≡ begun.old.items ++ bytes.now }

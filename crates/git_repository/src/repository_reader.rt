@@ -1,4 +1,4 @@
-//! A repository that is a few lists, read from a text that comes in pieces.
+//! A repository that consists of a few lists, read from a text that comes in chunks.
 
 ghost use Rattle.std.specs.Prelude.{◌≡◌, ◌↔◌, ◌≤◌, ◌++◌, [], ℕ, List, length, IsOk, IsTrue, MatchResult, OnErr, OnOk};
 ghost use Rattle.git_repository.specs.Packs.{packs_of};
@@ -11,15 +11,15 @@ use git_server::ListRepo;
 use std::alloc::{AllocError, Global};
 use std::mem;
 
-/// Reads the text of a repository in pieces, however it is cut: what [`crate::read_repo`] reads from a whole one.
+/// Reads the text of a repository in chunks of any size, with the same result as [`crate::read_repo`] has for the whole text.
 ///
-/// It keeps what the lines contain, and of the text no more than the line that a piece left open: [`crate::LONGEST_LINE`] bytes at the
-/// most, since a longer line is refused at once.
+/// It stores the contents of the lines, and of the text only the line that a chunk left open: at most [`crate::LONGEST_LINE`] bytes,
+/// since a longer line is refused at once.
 #[derive(Drop)]
 pub struct RepositoryReader {
     alloc: Global,
     progress: Progress,
-    /// What came of the line that has not ended. It is not read once a line was refused.
+    /// The bytes of the line that has not ended. They are not read once a line was refused.
     begun: Vec<u8>,
     ghost short: { length begun.items ≤ 65536 },
 }
@@ -28,7 +28,7 @@ impl RepositoryReader {
     ghost use Rattle.git_repository.specs.Machine.RepositoryReader.{HasRefused, LacksRoom, Reads, Stays, open_bytes};
     ghost use Rattle.git_repository.specs.RepositoryLines.{longest_line};
 
-    /// A reader that was fed nothing.
+    /// A reader before the first chunk.
     pub fn new(alloc: Global) -> RepositoryReader
         ensures { Reads result [] }
     {
@@ -39,10 +39,10 @@ impl RepositoryReader {
         }
     }
 
-    /// Takes a further piece of the text.
+    /// Takes another chunk of the text.
     ///
-    /// Room for the piece beside the open line is made first: where memory for it runs out, the reader is as it was. After a line
-    /// that was refused a piece is passed over.
+    /// First it makes room for the chunk after the open line: if memory for that runs out, the reader stays unchanged. After a line
+    /// that was refused, a chunk is skipped.
     pub fn feed(&mut self, piece: &[u8]) -> Result<(), AllocError>
         ensures open { open_bytes self.new ≤ longest_line }
         ensures fed { OnOk result ((text : List ℕ) → Reads self.old text → Reads self.new (text ++ piece.now)) }
@@ -59,14 +59,14 @@ impl RepositoryReader {
         Ok(())
     }
 
-    /// Whether a line was refused, so that what follows is passed over.
+    /// Whether a line was refused, so that everything after it is skipped.
     pub fn has_refused(&self) -> bool
         ensures { IsTrue result ↔ HasRefused self.now }
     {
         self.progress.has_failed()
     }
 
-    /// The repository of the whole text, with these packs. Else `Bad` with the number of the first bad line, from 1, or
+    /// The repository of the whole text, with these packs. Otherwise the error is `Bad` with the number of the first bad line, counted from 1, or
     /// `OutOfMemory`.
     pub fn finish(self, packs: Packs) -> Result<ListRepo, TextFault>
         ensures { (text : List ℕ) → Reads self text → MatchResult result (IsWholeText text (packs_of packs)) (IsTextFault text) }

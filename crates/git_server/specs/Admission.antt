@@ -1,4 +1,4 @@
--- What a repository refuses of a request: objects and references that it does not have.
+-- The objects and references that a repository refuses in a request because it does not have them.
 use Rattle.std.specs.Prelude.{◌≡◌, ◌≢◌, if◌then◌else◌, true, All, Option, Some, None}
 use Rattle.git_names.specs.ObjectName.{ObjectName}
 use Rattle.git_pkt.specs.declared.fault.Kind.{Kind}
@@ -7,18 +7,18 @@ use Rattle.git_msg.specs.Arguments.{Arg, Value, Word, id_value, text_value, want
 use Rattle.git_msg.specs.Asked.{Asked, ls_refs, fetch, object_info}
 use Rattle.git_server.specs.Repository.{Repository, found_ref}
 
--- by which name a reference is refused, where none is found
+-- the name of the error that refuses a reference, if the reference is not found
 abbrev pub barred_ref : Option ObjectName → Option Kind
 barred_ref (Some id) = None
 barred_ref None = Some UnknownRef
 
--- by which name the repository refuses the value of a word
+-- the name of the error by which the repository refuses the value of a word
 abbrev pub barred_value : Repository → Word → Value → Option Kind
 barred_value repo want (id_value id) = if repo.has id then None else Some NotOurs
 barred_value repo want_ref (text_value name) = barred_ref (found_ref repo.refs name)
 barred_value repo _ _ = None
 
--- by which name it refuses an argument
+-- the name of the error by which it refuses an argument
 abbrev pub barred : Repository → Arg → Option Kind
 barred repo arg = barred_value repo arg.word arg.value
 

@@ -1,4 +1,4 @@
--- What a server gives: its advertisement, the answer to each request, and what it writes of a fault.
+-- The packets that a server sends: its advertisement, the answer to each request, and the report of an error.
 use Rattle.std.specs.Prelude.{◌≡◌, ◌≤◌, length, ℕ, Bool, if◌then◌else◌, ◌&&◌, Option, Some, None, List, [], ◌∷◌, ◌++◌, codes, filter, map}
 use Rattle.std.specs.List.{flat_map}
 use Rattle.git_pkt.specs.Packets.{Pkt, flush, spelling_of, body_of, longest_payload}
@@ -18,7 +18,7 @@ use Rattle.git_server.specs.Repository.{Entry, Repository}
 use Rattle.git_server.specs.Packs.{Manner, whole, broken}
 use Rattle.git_server.specs.FetchAnswers.{IsFetchAnswer}
 
--- the packets as they are written
+-- the bytes of the packets as they are written
 abbrev pub spelled : List Pkt → List ℕ
 spelled = flat_map spelling_of
 
@@ -27,19 +27,19 @@ abbrev pub AllFit : List Pkt → Type 0
 AllFit [] = Unit {0}
 AllFit (p ∷ ps) = (length (body_of p) ≤ longest_payload) × AllFit ps
 
--- the line of a capability that may be offered
+-- the line of a capability, if it is advertised
 abbrev pub offered_line : Bool → List ℕ → List Pkt
 offered_line offered text = if offered then text_line text ∷ [] else []
 
--- the line for ls-refs, with those of its features that are offered
+-- the line for ls-refs, with those of its features that are advertised
 abbrev pub ls_refs_line : Offer → Pkt
 ls_refs_line offer = text_line (capability_text (codes "ls-refs") (ls_refs_features offer))
 
--- the line that offers `fetch`, with its features
+-- the line that advertises `fetch`, with its features
 abbrev pub fetch_line : Offer → Pkt
 fetch_line offer = text_line (capability_text (codes "fetch") (fetch_features offer))
 
--- what a server sends first
+-- the packets that a server sends first
 abbrev pub advertisement_of : Offer → List Pkt
 advertisement_of offer =
     text_line (codes "version 2") ∷ agent_line ∷ ls_refs_line offer ∷ fetch_line offer
@@ -50,7 +50,7 @@ advertisement_of offer =
 abbrev pub shown_refs : List (List ℕ) → List Entry → List Entry
 shown_refs prefixes refs = filter (λ entry. is_shown prefixes entry.name) refs
 
--- what is shown of a reference: what was asked for of its target and its peeled object
+-- the parts of a reference that are shown: its target and its peeled object if they were asked for
 abbrev pub shown_line : (symrefs peel : Bool) → Entry → Ref
 shown_line symrefs peel entry = record {
   id = Some entry.id;
@@ -59,19 +59,19 @@ shown_line symrefs peel entry = record {
   peeled = if peel then entry.peeled else None;
 }
 
--- the line of a reference, with its target and its peeled object where these are asked for
+-- the line of a reference, with its target and its peeled object if they are asked for
 abbrev pub reference_packet : (symrefs peel : Bool) → Entry → Pkt
 reference_packet symrefs peel entry = text_line (reference_text (shown_line symrefs peel entry))
 
--- the packet of `HEAD` where it is unborn, with the name that it points to
+-- the packet of an unborn `HEAD`, with the name that it points to
 abbrev pub unborn_packet : List ℕ → Pkt
 unborn_packet target = text_line (reference_text (reference_of None (codes "HEAD") (Some target) None))
 
--- whether the request asks for that: for what is unborn, for what references point to, and for names as `HEAD`
+-- whether the request asks for that: for unborn references and for targets of references, with prefixes that show `HEAD`
 abbrev pub asks_for_unborn : LsRefsAsked → Bool
 asks_for_unborn q = q.unborn && q.symrefs && is_shown q.ref_prefixes (codes "HEAD")
 
--- it comes first, where it is asked for and `HEAD` is unborn
+-- it comes first, if it is asked for and `HEAD` is unborn
 abbrev pub unborn_packets : LsRefsAsked → Option (List ℕ) → List Pkt
 unborn_packets q None = []
 unborn_packets q (Some target) = if asks_for_unborn q then unborn_packet target ∷ [] else []
@@ -89,7 +89,7 @@ abbrev pub IsReferencesAnswer : Manner → LsRefsAsked → Repository → List P
 IsReferencesAnswer whole q repo packets = packets ≡ ls_refs_answer q repo
 IsReferencesAnswer broken q repo packets = ⊥
 
--- the packet that reports the size of an object, or that it is not there
+-- the packet that reports the size of an object, or that the object is not there
 abbrev pub info_packet : Repository → ObjectName → Pkt
 info_packet repo id = text_line (info_text (record { id = id; size = repo.object_size id }))
 
@@ -112,11 +112,11 @@ IsAnswerAs manner repo (object_info q) packets = IsObjectInfoAnswer manner q rep
 abbrev pub IsAnswer : Repository → Asked → List Pkt → Type 0
 IsAnswer = IsAnswerAs whole
 
--- the error packet that reports a fault by its name and offset
+-- the error packet that reports an error by its name and offset
 abbrev pub error_packet : Fault → Pkt
 error_packet fault = text_line (codes "ERR " ++ fault_text fault)
 
--- an error packet is not answered; any other fault is reported by an error packet
+-- an error packet is not answered; any other error is reported by an error packet
 abbrev pub refusal_by : Kind → Fault → List Pkt
 refusal_by RemoteError fault = []
 refusal_by _ fault = error_packet fault ∷ []

@@ -1,4 +1,4 @@
--- What holds of each line of a boundary holds of those that are sent, and what is no longer shallow is one of the client's.
+-- A property of every line of a boundary holds of the lines that are sent, and a commit that is no longer shallow is one of the client's.
 use Rattle.std.proofs.Common.{◌≡◌, Bool, true, false, List, [], All, filter, if◌then◌else◌}
 use Rattle.std.specs.Ordering.{is_eq}
 use Rattle.std.proofs.lemmas.List.Elements.{All-append, All-filter, All-nil, All-weaker, filter_passes}
@@ -16,7 +16,7 @@ where_deepened : (P : Boundary → Type 0) (deepened : Bool) (lines : List Bound
 where_deepened P true lines all = all
 where_deepened P false lines all = All-nil P
 
--- what holds of each line of the boundary holds of each that is sent
+-- a property of every line of the boundary holds of each line that is sent
 pub told_keep : (P : Boundary → Type 0) (lines : List Boundary) (q : FetchAsked) → All P lines → All P (boundary_for lines q)
 told_keep P lines q all =
     where_deepened P (is_deepened q) (told_lines lines q.shallows)
@@ -33,7 +33,7 @@ unshallow_means shallows (Unshallow id) says =
     let at = Any-from_list_any (λ (shallow : ObjectName). is_eq (object_cmp shallow id)) shallows says in
     (at.0, at.1, at.2, at.3, same_object _ _ (is_tied _ at.4))
 
--- what is sent as no longer shallow is what the request called shallow
+-- a commit that is sent as no longer shallow is one that the request called shallow
 pub told_unshallow : (lines : List Boundary) (q : FetchAsked) → All (IsUnshallowOf q.shallows) (boundary_for lines q)
 told_unshallow lines q =
     let shallow = filter says_shallow lines in

@@ -1,4 +1,4 @@
--- The answer to a fetch: its sections, by gitprotocol-v2(5).
+-- The answer to a fetch: its sections, as in gitprotocol-v2(5).
 use Rattle.std.specs.Prelude.{◌≡◌, Bool, true, false, not, ◌&&◌, ◌||◌, Option, List, [], ◌∷◌, ◌++◌, ℕ, codes, filter, map}
 use Rattle.std.specs.List.{filter_map}
 use Rattle.std.specs.Option.{option_map}
@@ -15,28 +15,28 @@ use Rattle.git_server.specs.Packs.{Manner, whole, broken, IsPackfile}
 abbrev pub negotiates : FetchAsked → Bool
 negotiates q = (not (is_empty q.haves) || wait_for_done_of (fetch q)) && not q.done
 
--- whether the pack follows where the request negotiates: it does not negotiate alone, and the repository is ready for it
+-- whether the pack follows if the request negotiates: the request does more than negotiate, and the repository is ready for it
 abbrev pub is_ready_for : Repository → FetchAsked → Bool
 is_ready_for repo q = not (only_negotiates q) && repo.is_ready q
 
--- the objects that the client has and the repository too, as often as they are named
+-- the objects that both the client and the repository have, as often as they are named
 abbrev pub common : (ObjectName → Bool) → List ObjectName → List ObjectName
 common has haves = filter has haves
 
--- the line of such an object
+-- the line of a common object
 abbrev pub ack_packet : ObjectName → Pkt
 ack_packet id = text_line (ack_text id)
 
--- a line for each of them, or `NAK` where there is none
+-- a line for each of them, or `NAK` if there is none
 abbrev pub nak_or_acks : List ObjectName → List Pkt
 nak_or_acks [] = text_line (codes "NAK") ∷ []
 nak_or_acks (id ∷ ids) = map ack_packet (id ∷ ids)
 
--- what ends the section of acknowledgments where the pack follows
+-- the end of the section of acknowledgments if the pack follows
 abbrev pub ready_lines : List Pkt
 ready_lines = text_line (codes "ready") ∷ delim ∷ []
 
--- the section of acknowledgments, but for its end
+-- the section of acknowledgments, without its end
 abbrev pub acknowledgments : Repository → FetchAsked → List Pkt
 acknowledgments repo q = text_line (codes "acknowledgments") ∷ nak_or_acks (common repo.has q.haves)
 
@@ -48,21 +48,21 @@ section header lines = text_line header ∷ (lines ++ delim ∷ [])
 abbrev pub boundary_packet : Boundary → Pkt
 boundary_packet line = text_line (boundary_text line)
 
--- the section of the shallow boundary, which is there where the boundary has commits
+-- the section of the shallow boundary, which is present if the boundary has commits
 abbrev pub shallow_info : List Boundary → List Pkt
 shallow_info [] = []
 shallow_info (boundary ∷ boundaries) = section (codes "shallow-info") (map boundary_packet (boundary ∷ boundaries))
 
--- the line of a wanted reference, by what the repository has under its name
+-- the line of a wanted reference, for the object that the repository has under its name
 abbrev pub wanted_packet : Repository → List ℕ → Option Pkt
 wanted_packet repo name = option_map (λ id. text_line (wanted_text (wanted_of id name))) (found_ref repo.refs name)
 
--- the section of wanted references, which is there where some were asked for
+-- the section of wanted references, which is present if some were asked for
 abbrev pub wanted_refs : Repository → List (List ℕ) → List Pkt
 wanted_refs repo [] = []
 wanted_refs repo (name ∷ names) = section (codes "wanted-refs") (filter_map (wanted_packet repo) (name ∷ names))
 
--- the packets are these first, and of those after them P holds
+-- the packets begin with these, and P holds of the packets after them
 pub record IsAfter (first : List Pkt) (P : List Pkt → Type 0) (packets : List Pkt) : Type 0 where
   pub others : List Pkt
   pub holds : P others
@@ -76,12 +76,12 @@ EndsWithRefs manner repo q = IsAfter (wanted_refs repo q.want_refs) (IsPackfile 
 abbrev pub EndsWithBoundary : Manner → Repository → FetchAsked → List Pkt → Type 0
 EndsWithBoundary manner repo q = IsAfter (shallow_info (repo.boundaries q)) (EndsWithRefs manner repo q)
 
--- an answer that has acknowledgments alone, which never breaks off
+-- an answer with acknowledgments alone, which never breaks off
 abbrev pub IsFlushed : Manner → List Pkt → List Pkt → Type 0
 IsFlushed whole lines packets = packets ≡ lines ++ flush ∷ []
 IsFlushed broken lines packets = ⊥
 
--- after these lines of the section of acknowledgments: the pack, where it follows, or else nothing
+-- the packets after these lines of the section of acknowledgments: the pack, if it follows, otherwise nothing
 abbrev pub IsNegotiated : Bool → List Pkt → Manner → Repository → FetchAsked → List Pkt → Type 0
 IsNegotiated true lines manner repo q = IsAfter (lines ++ ready_lines) (EndsWithBoundary manner repo q)
 IsNegotiated false lines manner repo q = IsFlushed manner lines

@@ -1,4 +1,4 @@
--- What a repository that is a few lists is made of, and what it is refused for.
+-- The parts of a repository that consists of a few lists, and the reasons to refuse such lists.
 use Rattle.std.specs.Prelude.{◌≡◌, ◌⊎◌, ℕ, List, [], ◌∷◌, Option, All, Vec, codes, unwrap_or, if◌then◌else◌}
 use Rattle.std.specs.Option.{ForSome}
 use Rattle.git_names.specs.declared.object_format.Format.{Format}
@@ -11,9 +11,9 @@ use Rattle.git_server.specs.declared.list_repo.RepoLists.{RepoLists}
 use Rattle.git_server.specs.declared.list_repo.RepoFault.{RepoFault}
 use Rattle.git_server.specs.declared.list_repo.RepoFault.TheVariants.{UnsortedRefs, UnsortedObjects, MixedFormats, UnbornHead}
 
--- the format, the references, the objects with their sizes, after how many common objects it is ready, the shallow
--- boundary, the pack, the name that `HEAD` points to where it is unborn, and the pack for requests that have a filter, where
--- that is another
+-- the format, the references, the objects with their sizes, the number of common objects after which it is ready, the shallow
+-- boundary, the pack, the name that an unborn `HEAD` points to, and the pack for requests that have a filter, if that
+-- is a different one
 pub record Lists : Type 0 where
   pub format : Format
   pub refs : List Entry
@@ -25,7 +25,7 @@ pub record Lists : Type 0 where
   pub filtered : Option (List ℕ)
 
 module _ {A : Type 0} where
-  -- those that vectors have
+  -- the lists in these vectors
   abbrev pub lists_from : Format → Vec Entry A → Vec (ObjectName × ℕ) A → Option ℕ → Vec Boundary A → Vec ℕ A → Option (Vec ℕ A)
       → Option (Vec ℕ A) → Lists
   lists_from format refs objects ready_after boundaries pack unborn_head filtered = record {
@@ -42,7 +42,7 @@ module _ {A : Type 0} where
 abbrev pub lists_in : RepoLists → Lists
 lists_in l = lists_from l.format l.refs l.objects l.ready_after l.boundaries l.pack l.unborn_head l.filtered
 
--- the pack for a request: the filtered one where the request has a filter and there is one, else the pack
+-- the pack for a request: the filtered one if there is one and the request has a filter, otherwise the pack
 abbrev pub pack_for : Lists → FetchAsked → List ℕ
 pack_for lists request = if is_empty request.filters then lists.pack else unwrap_or lists.filtered lists.pack
 
@@ -52,7 +52,7 @@ pub record AreOfFormat (lists : Lists) : Type 0 where
   pub by_objects : All (λ object. object.0.format ≡ lists.format) lists.objects
   pub by_boundaries : All (λ boundary. (object_of boundary).format ≡ lists.format) lists.boundaries
 
--- the lists make a repository
+-- the lists are a repository
 pub record IsRepository (lists : Lists) : Type 0 where
   pub rising_refs : IsRising lists.refs
   pub rising_objects : AreRising lists.objects
@@ -66,18 +66,18 @@ repo_fault_name UnsortedObjects = codes "UnsortedObjects"
 repo_fault_name MixedFormats = codes "MixedFormats"
 repo_fault_name UnbornHead = codes "UnbornHead"
 
--- what is asked of the lists, each rule by the fault of those that break it
+-- the rules for the lists, each with the error for lists that break it
 abbrev pub Meets : Lists → RepoFault → Type 0
 Meets lists UnsortedRefs = IsRising lists.refs
 Meets lists UnsortedObjects = AreRising lists.objects
 Meets lists MixedFormats = AreOfFormat lists
 Meets lists UnbornHead = ForSome lists.unborn_head (IsUnbornHead lists.refs)
 
--- of these rules this is the first that is broken
+-- the first of these rules that is broken is this one
 abbrev pub IsFirstBroken : (RepoFault → Type 0) → List RepoFault → RepoFault → Type 0
 IsFirstBroken Met [] fault = ⊥
 IsFirstBroken Met (rule ∷ rules) fault = ((fault ≡ rule) × ¬ Met rule) ⊎ (Met rule × IsFirstBroken Met rules fault)
 
--- why they make none: the first of the rules, in this order, that they break
+-- why the lists are not a repository: the first of the rules, in this order, that they break
 abbrev pub IsUnfit : RepoFault → Lists → Type 0
 IsUnfit fault lists = IsFirstBroken (Meets lists) (UnsortedRefs ∷ UnsortedObjects ∷ MixedFormats ∷ UnbornHead ∷ []) fault

@@ -1,4 +1,4 @@
--- The state and the calls of the server, its answers and its repositories as they are held. No definition beside this folder cites them.
+-- The state and the calls of the server, its answers and its repositories in memory. No definition outside this folder cites them.
 pub mod ListRepo
 pub mod Faulty
 pub mod SharedRepo

@@ -21,7 +21,7 @@ format_cmp Sha256 Sha256 = Equal
 abbrev pub object_cmp : ObjectName → ObjectName → Ordering
 object_cmp a b = ordering_then (format_cmp a.format b.format) (slice_cmp nat_cmp a.bytes b.bytes)
 
--- the one comes before the other
+-- one object name comes before the other
 abbrev pub precedes : ObjectName → ObjectName → Bool
 precedes a b = is_lt (object_cmp a b)
 

@@ -1,10 +1,10 @@
--- Bytes of packets that differ in nothing but how a pack is cut into packets.
+-- Bytes of packets that differ only in how a pack is cut into packets.
 use Rattle.std.specs.Prelude.{◌≡◌, ℕ, ◌==◌, List, [], ◌∷◌, map, if◌then◌else◌}
 use Rattle.std.specs.List.{flat_map}
 use Rattle.git_pkt.specs.Packets.{Pkt, payload}
 use Rattle.git_server.specs.Answers.{AllFit, spelled}
 
--- what a packet contains, however a pack is cut: each of its bytes on the pack's band, or the packet as it is
+-- the contents of a packet, however a pack is cut: each of its bytes on the pack's band, or the packet as it is
 pub data Content : Type 0 where
   pack_byte : ℕ → Content
   packet : Pkt → Content
@@ -17,7 +17,7 @@ abbrev pub contents_of : Pkt → List Content
 contents_of (payload bytes) = payload_contents bytes
 contents_of p = packet p ∷ []
 
--- what packets contain, one after the other
+-- the contents of packets, one after the other
 abbrev pub contents_of_all : List Pkt → List Content
 contents_of_all = flat_map contents_of
 

@@ -1,18 +1,18 @@
--- The pack in an answer: in packets of the pack's band, cut in any way, to its end or to where its source failed.
+-- The pack in an answer: in packets of the pack's band, cut in any way, to its end or to the point at which its source failed.
 use Rattle.std.specs.Prelude.{◌≡◌, ℕ, ◌-◌, ◌≤◌, List, [], ◌∷◌, ◌++◌, length, take, drop, codes}
 use Rattle.git_pkt.specs.Packets.{Pkt, flush}
 use Rattle.git_pkt.specs.Bands.{AreBands, band_packet}
 use Rattle.git_pkt.specs.declared.band.Band.TheVariants.{Pack, Fatal}
 use Rattle.git_msg.specs.WrittenRequest.{text_line}
 
--- so many bytes of the pack from an offset on were put in front: some, or none where the pack has no more
+-- this number of bytes of the pack from an offset on were put in front: at least one, or none if the pack has no more
 pub record IsPackPart (pack : List ℕ) (offset count : ℕ) (out : List ℕ) : Type 0 where
   pub fits : count ≤ length out
   pub within : count ≤ length pack - offset
   pub bytes : take count out ≡ take count (drop offset pack)
   pub ends : count ≡ 0 → length pack ≤ offset
 
--- how an answer comes: whole, or broken off where the pack's source failed
+-- how an answer comes: whole, or broken off because the pack's source failed
 pub data Manner : Type 0 where
   whole : Manner
   broken : Manner
@@ -27,7 +27,7 @@ pub record EndsWhole (bytes : List ℕ) (packets : List Pkt) : Type 0 where
 abbrev pub pack_source_packet : Pkt
 pack_source_packet = band_packet Fatal (codes "PackSource")
 
--- a front of the bytes comes, and then the failure is reported, with no flush after it
+-- a prefix of the bytes comes, and then the failure is reported, with no flush after it
 pub record EndsBroken (bytes : List ℕ) (packets : List Pkt) : Type 0 where
   pub front : List ℕ
   pub back : List ℕ

@@ -13,14 +13,14 @@ use Rattle.git_msg.specs.declared.Boundary.TheVariants.{Shallow, Unshallow}
 use Rattle.git_msg.specs.Asked.{FetchAsked}
 use Rattle.git_server.specs.Objects.{object_of}
 
--- a reference: its name, what it names, for a symbolic one its target, for a tag object what it peels to
+-- a reference: its name, its object, the target of a symbolic reference, and the object that a tag object peels to
 pub record Entry : Type 0 where
   pub name : List ℕ
   pub id : ObjectName
   pub target : Option (List ℕ)
   pub peeled : Option ObjectName
 
--- the bytes, where there are some
+-- the bytes, if there are some
 abbrev pub bytes_of : {A : Type 0} → Option (Vec ℕ A) → Option (List ℕ)
 bytes_of None = None
 bytes_of (Some bytes) = Some bytes.items
@@ -30,7 +30,7 @@ pub record IsNamed (name : List ℕ) (target : Option (List ℕ)) : Type 0 where
   pub by_name : IsRefName name
   pub by_target : ForSome target IsRefName
 
--- the one name comes before the other, in the order of their bytes
+-- one name comes before the other, in the order of their bytes
 abbrev pub comes_before : List ℕ → List ℕ → Bool
 comes_before a b = is_lt (slice_cmp nat_cmp a b)
 
@@ -43,17 +43,17 @@ pub record IsOfFormat (format : Format) (ref : Entry) : Type 0 where
   pub by_id : ref.id.format ≡ format
   pub by_peeled : ForSome ref.peeled (λ id. id.format ≡ format)
 
--- what a reference names and what that peels to are of one format
+-- the object of a reference and the object that it peels to are of one format
 pub record HasOneFormat (ref : Entry) : Type 0 where
   pub by_peeled : (id : ObjectName) → ref.peeled ≡ Some id → id.format ≡ ref.id.format
 
--- the name that `HEAD` may point to where it is unborn: that of a reference, and there is no reference `HEAD`
+-- the name that an unborn `HEAD` may point to: it is the name of a reference, and there is no reference `HEAD`
 pub record IsUnbornHead (refs : List Entry) (target : List ℕ) : Type 0 where
   pub named : IsRefName target
   pub no_head : All (λ ref. ref.name ≢ codes "HEAD") refs
 
--- what a repository answers: its format, its references, what its `HEAD` points to where that is unborn, which objects it has, how
--- many bytes an object has, and for a request whether it is ready to send a pack, the commits at the shallow boundary, and the pack
+-- the answers of a repository: its format, its references, the name that an unborn `HEAD` points to, the objects that it has, the size of
+-- an object in bytes, and for a request whether it is ready to send a pack, the commits at the shallow boundary, and the pack
 pub record Repository : Type 0 where
   pub format : Format
   pub refs : List Entry
@@ -69,12 +69,12 @@ abbrev pub IsUnshallowOf : List ObjectName → Boundary → Type 0
 IsUnshallowOf shallows (Shallow id) = Unit {0}
 IsUnshallowOf shallows (Unshallow id) = Any (λ shallow. shallow ≡ id) shallows
 
--- what a repository answers, and how many of its reads have failed
+-- the answers of a repository, and how many of its reads have failed
 pub record RepoState : Type 0 where
   pub answers : Repository
   pub failures : ℕ
 
--- what holds of what a repository answers
+-- the conditions on the answers of a repository
 pub record IsSound (repo : Repository) : Type 0 where
   pub rising : IsRising repo.refs
   pub named : All (λ ref. IsNamed ref.name ref.target) repo.refs
@@ -83,7 +83,7 @@ pub record IsSound (repo : Repository) : Type 0 where
   pub boundaries_of_format : (request : FetchAsked) → All (λ boundary. (object_of boundary).format ≡ repo.format) (repo.boundaries request)
   pub unshallow : (request : FetchAsked) → All (IsUnshallowOf request.shallows) (repo.boundaries request)
 
--- what a repository has under a name: the object, or nothing where no reference has the name
+-- the result for a name in a repository: the object, or nothing if no reference has the name
 abbrev pub IsFound : List Entry → List ℕ → Option ObjectName → Type 0
 IsFound refs name found =
     MatchOption found (All (λ ref. ref.name ≢ name) refs) (λ id. Any (λ ref. (ref.name ≡ name) × (ref.id ≡ id)) refs)

@@ -1,4 +1,4 @@
--- Names of which neither comes before the other are one.
+-- Two names are the same if neither comes before the other.
 use Rattle.std.proofs.Common.{◌≡◌, ℕ, true, List, refl}
 use Rattle.std.specs.Ordering.{nat_cmp, is_eq, ordering_then}
 use Rattle.std.specs.Cmp.Lexicographic.{slice_cmp}
@@ -24,7 +24,7 @@ both_tied Less p h = cc
 both_tied Equal p h = (refl, h)
 both_tied Greater p h = cc
 
--- object names of which neither comes before the other are one
+-- two object names are the same if neither comes before the other
 pub same_object : (a b : ObjectName) → object_cmp a b ≡ Equal → a ≡ b
 same_object a b h =
     let both = both_tied _ _ h in

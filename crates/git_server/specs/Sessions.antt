@@ -1,4 +1,4 @@
--- Sessions: what a server gives for the bytes that it used. It names no machine.
+-- Sessions: the bytes that a server sends for the bytes that it used. No machine is named here.
 use Rattle.std.specs.Prelude.{◌≡◌, ◌≢◌, ◌⊎◌, ℕ, ◌+◌, ◌-◌, Bool, true, false, if◌then◌else◌, List, [], ◌∷◌, ◌++◌, length}
 use Rattle.git_pkt.specs.Packets.{Pkt}
 use Rattle.git_pkt.specs.Splits.{Given, Splits}
@@ -19,8 +19,8 @@ use Rattle.git_server.specs.Answers.{AllFit, spelled, advertisement_of, refusal_
 use Rattle.git_server.specs.declared.outcome.Outcome.{Outcome}
 use Rattle.git_server.specs.declared.outcome.Outcome.TheVariants.{Flush, Closed, Refused}
 
--- what a session rests on: the offer, how many bytes of arguments a request may have, whether the offer is
--- advertised first, the repository, and how many of its reads had failed before
+-- the setting of a session: the offer, the maximum number of bytes of arguments in a request, whether the advertisement is
+-- sent first, the repository, and how many of its reads had failed before
 pub record Setting : Type 0 where
   pub offer : Offer
   pub limit : ℕ
@@ -28,11 +28,11 @@ pub record Setting : Type 0 where
   pub repo : Repository
   pub failures : ℕ
 
--- what is given before the first answer
+-- the packets sent before the first answer
 abbrev pub advertised : Setting → List Pkt
 advertised s = if s.advertise then advertisement_of s.offer else []
 
--- the packets are one whole request, which asks for this, and the repository has what a fetch wants
+-- the packets are one whole request with these contents, and the repository has all that a fetch wants
 abbrev pub IsRequest : Setting → List Given → Asked → Type 0
 IsRequest s packets q = (kept : ℕ) × Asks s.offer s.limit packets q kept × HasAsked s.repo q
 
@@ -42,7 +42,7 @@ AreAnswers repo [] packets = packets ≡ []
 AreAnswers repo (q ∷ qs) packets =
     (answer : List Pkt) × (more : List Pkt) × (packets ≡ answer ++ more) × IsAnswer repo q answer × AreAnswers repo qs more
 
--- the bytes are whole requests, further packets, and a rest that no packet begins
+-- the bytes are whole requests, further packets, and a rest that does not begin with a packet
 pub record Stream (s : Setting) (used : List ℕ) (asked : List Asked) (left : List Given) (rest : List ℕ) : Type 0 where
   pub packets : List Given
   pub splits : Splits 0 used packets rest
@@ -54,7 +54,7 @@ pub record Begins (s : Setting) (left : List Given) : Type 0 where
   pub taken : AreLines s.offer s.limit [] left lines
   pub admitted : AreAdmitted (barred s.repo) lines
 
--- one of the packets is refused, or memory ran out while its argument was kept; of those before the last none is
+-- one of the packets is refused, or memory ran out while its argument was stored; no packet before the last is
 -- refused, and no byte comes after the last
 pub record IsRefusedAtPacket (s : Setting) (left : List Given) (rest : List ℕ) (fault : Fault) : Type 0 where
   pub front : List Given
@@ -64,14 +64,14 @@ pub record IsRefusedAtPacket (s : Setting) (left : List Given) (rest : List ℕ)
   pub told : IsToldFor s.offer s.limit (barred s.repo) left fault
   pub no_rest : rest ≡ []
 
--- the bytes after the packets, of which none is refused, are no packet's; the input goes on
+-- none of the packets is refused, the bytes after them are no packet's, and the input goes on
 pub record IsRefusedAtByte (s : Setting) (over : Bool) (left : List Given) (rest : List ℕ) (end : ℕ) (fault : Fault) : Type 0 where
   pub goes_on : over ≡ false
   pub begins : Begins s left
   pub stops : StopsBy (end - length rest) rest end fault.kind fault.offset
   pub not_the_end : fault.kind ≢ Truncated
 
--- the input ended inside a request, which was not refused so far; reported at the end of the last whole packet
+-- the input ended inside a request that was not refused so far; reported at the end of the last whole packet
 pub record IsCutShort (s : Setting) (over : Bool) (left : List Given) (rest : List ℕ) (end : ℕ) (fault : Fault) : Type 0 where
   pub ended : over ≡ true
   pub begins : Begins s left
@@ -93,16 +93,16 @@ pub record IsWithoutPack (s : Setting) (over : Bool) (left : List Given) (rest :
   pub at : IsLastAt fault.offset left
   pub no_rest : rest ≡ []
 
--- what was read is refused, at a packet, at a byte or at its end
+-- the bytes read are refused, at a packet, at a byte or at the end
 abbrev pub IsRefusedAsRead : Setting → Bool → List Given → List ℕ → ℕ → Fault → Type 0
 IsRefusedAsRead s over left rest end fault =
     IsRefusedAtPacket s left rest fault ⊎ (IsRefusedAtByte s over left rest end fault ⊎ IsCutShort s over left rest end fault)
 
--- what was read is refused, or the pack that it asks for cannot be had
+-- the bytes read are refused, or the pack that they ask for is lost
 abbrev pub IsRefused : Setting → Bool → List Given → List ℕ → ℕ → Fault → Type 0
 IsRefused s over left rest end fault = IsRefusedAsRead s over left rest end fault ⊎ IsWithoutPack s over left rest fault
 
--- a session ends so, where this is left after the whole requests and `end` bytes were used
+-- a session ends so, if these packets and bytes are left after the whole requests and `end` bytes were used
 abbrev pub EndsBy : Setting → Bool → List Given → List ℕ → ℕ → Outcome → Type 0
 EndsBy s over left rest end Flush = IsStop left × (rest ≡ [])
 EndsBy s over left rest end Closed = (over ≡ true) × (left ≡ []) × (rest ≡ [])
@@ -126,8 +126,8 @@ pub record IsOfTheBytes (outcome : Outcome) : Type 0 where
   pub by_memory : ¬ WantsMemory outcome
   pub by_pack : ¬ WantsPack outcome
 
--- the first malformed packet of the bytes: after the whole requests a packet is refused, or bytes that no packet begins, or the input
--- ended inside a request
+-- the first malformed packet of the bytes: after the whole requests a packet is refused, or the bytes are no packet's, or the input ended
+-- inside a request
 pub record FirstMalformed (s : Setting) (used : List ℕ) (over : Bool) (fault : Fault) : Type 0 where
   pub asked : List Asked
   pub left : List Given
@@ -136,7 +136,7 @@ pub record FirstMalformed (s : Setting) (used : List ℕ) (over : Bool) (fault :
   pub refused : IsRefusedAsRead s over left rest (length used) fault
   pub of_the_bytes : IsOfTheBytes (Refused fault)
 
--- the packets are the beginning of an answer to the request that is left, which broke off
+-- the packets are the beginning of an answer, which broke off, to the request that is left
 pub record IsBrokenOff (s : Setting) (left : List Given) (tail : List Pkt) : Type 0 where
   pub asked : Asked
   pub is_request : IsRequest s left asked
@@ -146,13 +146,13 @@ abbrev pub IsTailBy : Kind → Setting → List Given → Fault → List Pkt →
 IsTailBy PackSource s left fault tail = IsBrokenOff s left tail
 IsTailBy kind s left fault tail = refusal_by kind fault ≡ tail
 
--- what is written at the end of a session, after the answers to the whole requests before what is left
+-- the packets at the end of a session, after the answers to the whole requests before the packets that are left
 abbrev pub IsTail : Setting → List Given → Outcome → List Pkt → Type 0
 IsTail s left Flush tail = [] ≡ tail
 IsTail s left Closed tail = [] ≡ tail
 IsTail s left (Refused fault) tail = IsTailBy fault.kind s left fault tail
 
--- the session ended so: for the bytes used, and `over` where the input ended with them, just these were given
+-- the session ended so: for the bytes used, with `over` if the input ended with them, exactly these were sent
 pub record IsSession (s : Setting) (used : List ℕ) (over : Bool) (given : List ℕ) (outcome : Outcome) : Type 0 where
   pub asked : List Asked
   pub left : List Given
@@ -166,12 +166,12 @@ pub record IsSession (s : Setting) (used : List ℕ) (over : Bool) (given : List
   pub given_is : given ≡ spelled (advertised s ++ answers ++ tail)
   pub fit : AllFit (advertised s ++ answers ++ tail)
 
--- no request has come, and of the advertisement this was sent, and that is owed
+-- no request has come; these packets of the advertisement were sent, and those have to be sent
 pub record IsOpening (s : Setting) (asked : List Asked) (sent owed : List Pkt) : Type 0 where
   pub none : asked ≡ []
   pub parts : sent ++ owed ≡ advertised s
 
--- all requests but the last were answered, and of the last one's answer this was sent, and that is owed
+-- all requests but the last were answered; these packets of the last answer were sent, and those have to be sent
 pub record IsAnswering (manner : Manner) (s : Setting) (asked : List Asked) (sent owed : List Pkt) : Type 0 where
   pub earlier : List Asked
   pub last : Asked
@@ -182,11 +182,11 @@ pub record IsAnswering (manner : Manner) (s : Setting) (asked : List Asked) (sen
   pub answer : IsAnswerAs manner s.repo last (front ++ owed)
   pub sent_is : sent ≡ advertised s ++ answers ++ front
 
--- what was sent, in whole packets, and what is owed for these requests: all but a part of the last message was sent
+-- the packets sent and those that have to be sent for these requests: all but a part of the last message was sent
 abbrev pub IsSent : Setting → List Asked → List Pkt → List Pkt → Type 0
 IsSent s asked sent owed = IsOpening s asked sent owed ⊎ IsAnswering whole s asked sent owed
 
--- the session goes on: nothing is refused and nobody has left
+-- the session goes on: nothing is refused and the client has not left
 pub record GoesOn (s : Setting) (used given : List ℕ) : Type 0 where
   pub asked : List Asked
   pub left : List Given
@@ -200,7 +200,7 @@ pub record GoesOn (s : Setting) (used given : List ℕ) : Type 0 where
   pub given_is : given ≡ spelled sent
   pub fit : AllFit sent
 
--- the session ends so, and all was given but a part of what is written at its end
+-- the session ends so, and everything was sent except a part of what is written at its end
 pub record IsEnding (s : Setting) (used : List ℕ) (over : Bool) (given : List ℕ) (outcome : Outcome) (owed : List Pkt) : Type 0 where
   pub asked : List Asked
   pub left : List Given
@@ -214,12 +214,12 @@ pub record IsEnding (s : Setting) (used : List ℕ) (over : Bool) (given : List 
   pub given_is : given ≡ spelled (advertised s ++ answers ++ sent)
   pub fit : AllFit (advertised s ++ answers ++ sent)
 
--- what holds at every moment between the bytes used and those given. A session goes on only while its input does.
+-- the relation at every moment between the bytes used and those sent. A session goes on only while its input does.
 abbrev pub IsRunning : Setting → List ℕ → Bool → List ℕ → Type 0
 IsRunning s used over given =
     ((over ≡ false) × GoesOn s used given) ⊎ ((outcome : Outcome) × (owed : List Pkt) × IsEnding s used over given outcome owed)
 
--- the session goes on, and the advertisement and each answer were given whole
+-- the session goes on, and the whole advertisement and each whole answer were sent
 pub record IsAnswered (s : Setting) (used given : List ℕ) : Type 0 where
   pub asked : List Asked
   pub left : List Given

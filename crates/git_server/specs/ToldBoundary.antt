@@ -1,4 +1,4 @@
--- What a repository that is a few lists sends of its shallow boundary, and when it is ready to send a pack.
+-- The shallow boundary that a repository of a few lists sends, and when it is ready to send a pack.
 use Rattle.std.specs.Prelude.{ℕ, Bool, true, false, not, ◌||◌, Option, Some, None, List, [], ◌++◌, filter, is_some, nat_le, if◌then◌else◌}
 use Rattle.std.specs.List.{list_any}
 use Rattle.std.specs.Ordering.{is_eq}
@@ -8,7 +8,7 @@ use Rattle.git_msg.specs.declared.Boundary.TheVariants.{Shallow, Unshallow}
 use Rattle.git_msg.specs.Asked.{FetchAsked, is_empty}
 use Rattle.git_server.specs.Objects.{object_cmp}
 
--- whether so many common objects are enough to send a pack
+-- whether this number of common objects is enough to send a pack
 abbrev pub is_enough : Option ℕ → ℕ → Bool
 is_enough None count = false
 is_enough (Some least) count = nat_le least count
@@ -27,11 +27,11 @@ abbrev pub says_unshallow : List ObjectName → Boundary → Bool
 says_unshallow shallows (Shallow id) = false
 says_unshallow shallows (Unshallow id) = list_any (λ shallow. is_eq (object_cmp shallow id)) shallows
 
--- the lines that a client receives that has these commits without their parents: the shallow commits in their order, and then
+-- the lines for a client that has these commits without their parents: the shallow commits in their order, and then
 -- those of its own that are no longer shallow
 abbrev pub told_lines : List Boundary → List ObjectName → List Boundary
 told_lines lines shallows = filter says_shallow lines ++ filter (says_unshallow shallows) lines
 
--- the shallow boundary for a request, which is there where the request cuts the history off
+-- the shallow boundary for a request, which is there if the request cuts the history off
 abbrev pub boundary_for : List Boundary → FetchAsked → List Boundary
 boundary_for lines q = if is_deepened q then told_lines lines q.shallows else []

@@ -1,4 +1,4 @@
-//! The section `acknowledgments` in an answer to `fetch`, a packet at a time.
+//! The section `acknowledgments` in an answer to `fetch`, one packet at a time.
 
 ghost use Rattle.std.specs.Prelude.{◌≡◌, false};
 ghost use Rattle.git_pkt.specs.Machine.PacketReader.{is_open};
@@ -13,29 +13,29 @@ use git_names::Oid;
 use git_pkt::{Packet, PacketReader};
 use std::alloc::Allocator;
 
-/// The place from which on the section is owed, gitprotocol-v2(5).
+/// The part of the section that is sent next, gitprotocol-v2(5).
 #[derive(Clone, Copy, Debug)]
 pub(crate) enum AcknowledgmentsPlace {
-    /// From its header on.
+    /// The header.
     Header,
-    /// From the have at this place on, and whether one was acknowledged before it.
+    /// The haves from this index on, and whether one before them was acknowledged.
     Have(usize, bool),
-    /// From what comes after all the haves on.
+    /// The part that comes after all the haves.
     Through,
 }
 
-/// What came of writing a packet of the section.
+/// The result of writing a packet of the section.
 #[derive(Clone, Copy, Debug)]
 pub(crate) enum Acknowledged {
-    /// It goes on from this place.
+    /// The section goes on with this part.
     Part(AcknowledgmentsPlace),
-    /// The repository is ready to send a pack, which follows, and that was its `ready` line.
+    /// The packet was the `ready` line: the repository is ready to send a pack, and the pack follows.
     Ready,
-    /// No pack follows, and that was the flush of the answer.
+    /// The packet was the flush of the answer: no pack follows.
     Whole,
 }
 
-/// Writes the next packet of the section into the reader's hold, and returns what comes after it.
+/// Writes the next packet of the section into the reader's buffer, and returns what comes after it.
 pub(crate) fn write_acknowledgments<R: Repo, A: Allocator + Copy>(
     repo: &R,
     request: &Fetch<A>,
@@ -55,7 +55,7 @@ pub(crate) fn write_acknowledgments<R: Repo, A: Allocator + Copy>(
     }
 }
 
-// Writes the line of the first common object from a place on. Where there is none, and none was before it, it writes `NAK`.
+// Writes the line of the first common object at `from` or after it. If there is none, and there was none before, it writes `NAK`.
 fn write_ack<R: Repo, A: Allocator + Copy>(
     repo: &R,
     request: &Fetch<A>,
@@ -82,7 +82,7 @@ fn write_ack<R: Repo, A: Allocator + Copy>(
     }
 }
 
-// Makes the hold the line of an object that both ends have.
+// Sets the buffer to the line of an object that both sides have.
 fn write_common(reader: &mut PacketReader, id: &Oid)
     requires { is_open reader.old ≡ false }
     ensures { Writes reader.old (ack_packet id.now) reader.new }
@@ -91,7 +91,7 @@ fn write_common(reader: &mut PacketReader, id: &Oid)
     let _ = reader.hold();
 }
 
-// The place of the first of these objects, at `from` or after it, that the repository has.
+// The index of the first of these objects, at `from` or after it, that the repository has.
 fn next_common<R: Repo>(repo: &R, haves: &[Oid], from: usize) -> Option<usize>
     ensures { NextCommon (R.state repo.now).answers.has haves.now from result }
 {
@@ -103,7 +103,7 @@ fn next_common<R: Repo>(repo: &R, haves: &[Oid], from: usize) -> Option<usize>
     None
 }
 
-/// Whether a pack follows the section: the request does not negotiate alone, and the repository is ready.
+/// Whether a pack follows the section: the request does more than negotiate, and the repository is ready.
 pub(crate) fn pack_follows<R: Repo, A: Allocator + Copy>(repo: &R, request: &Fetch<A>) -> bool
     ensures { result ≡ is_ready_for (R.state repo.now).answers request.now.asked }
 {
@@ -111,7 +111,7 @@ pub(crate) fn pack_follows<R: Repo, A: Allocator + Copy>(repo: &R, request: &Fet
     !only_negotiates && repo.is_ready(request)
 }
 
-// Writes what comes after the lines of the haves: whether a pack follows.
+// Writes the end of the section, which depends on whether a pack follows.
 fn write_end<R: Repo, A: Allocator + Copy>(
     repo: &R,
     request: &Fetch<A>,

@@ -1,4 +1,4 @@
-//! What a repository refuses of a request.
+//! The arguments of a request that a repository refuses.
 
 ghost use Rattle.std.specs.Prelude.{◌≡◌};
 ghost use Rattle.git_server.specs.Admission.{barred};
@@ -7,10 +7,10 @@ use crate::repo::Repo;
 use git_msg::{Admits, Argument};
 use git_pkt::Kind;
 
-/// A repository, as what refuses an argument of a request: a want of an object or a reference that it does not have.
+/// A repository that refuses arguments: a want of an object or a reference that it does not have.
 #[derive(Drop)]
 pub(crate) struct Admission<'r, R> {
-    /// The repository that is asked.
+    /// The repository that decides.
     pub(crate) repo: &'r R,
 }
 

@@ -1,4 +1,4 @@
-//! The capability advertisement, a line at a time.
+//! The capability advertisement, one line at a time.
 
 ghost use Rattle.std.specs.Prelude.{◌≡◌, ℕ, ◌+◌, ◌≤◌, ◌<◌, List, ◌∷◌, ◌++◌, [], codes, false, length};
 ghost use Rattle.git_pkt.specs.Machine.PacketReader.{is_open};
@@ -14,10 +14,10 @@ use git_msg::{AGENT_LINE, Offer};
 use git_names::Format;
 use git_pkt::{Hold, Packet, PacketReader};
 
-// The most bytes that a line has, its LF among them: that of `fetch` with all its features.
+// The maximum length of a line in bytes, its LF included: the length of the `fetch` line with all its features.
 const LONGEST_LINE: usize = 47;
 
-/// Makes the hold the packets of the whole advertisement of an offer, one after another: what a session gives first.
+/// Sets the buffer to the packets of the whole advertisement of an offer, one after another: a session sends them first.
 ///
 /// They have fewer than 200 bytes.
 pub fn put_advertisement(hold: &mut Hold, offer: &Offer)
@@ -32,7 +32,7 @@ pub fn put_advertisement(hold: &mut Hold, offer: &Offer)
     }
 }
 
-/// A line of the advertisement, in the order in which they are given, gitprotocol-v2(5).
+/// A line of the advertisement, in the order in which the lines are sent, gitprotocol-v2(5).
 #[derive(Clone, Copy, Debug)]
 pub(crate) enum AdvertisementLine {
     Version,
@@ -46,7 +46,7 @@ pub(crate) enum AdvertisementLine {
 }
 
 impl AdvertisementLine {
-    /// Makes the hold the packet of the line, for this offer, between two packets that are read.
+    /// Sets the reader's buffer to the packet of the line for this offer. The reader must be between two packets.
     pub(crate) fn write(self, offer: &Offer, reader: &mut PacketReader)
         requires { is_open reader.old ≡ false }
         ensures { Writes reader.old (advertisement_packet offer.now self) reader.new }
@@ -55,7 +55,7 @@ impl AdvertisementLine {
         let _ = reader.hold();
     }
 
-    // Makes the hold the packet of the line.
+    // Sets the buffer to the packet of the line.
     fn put(self, offer: &Offer, hold: &mut Hold)
         ensures written { hold.new.items ≡ spelling_of (advertisement_packet offer.now self) }
         ensures fits { length (body_of (advertisement_packet offer.now self)) ≤ longest_payload }
@@ -86,7 +86,7 @@ impl AdvertisementLine {
         }
     }
 
-    /// The line after it. What is not offered is passed over.
+    /// The next line. It skips the lines that are not advertised.
     pub(crate) fn next(self, offer: &Offer) -> Option<AdvertisementLine>
         ensures { result ≡ advertisement_line_after offer.now self }
     {
@@ -109,7 +109,7 @@ impl AdvertisementLine {
     }
 }
 
-// A line that names a command and features of it, as far as it is written.
+// A line that names a command and its features, as far as it is written.
 #[derive(Drop)]
 struct FeaturesLine {
     text: ArrayString<LONGEST_LINE>,
@@ -117,7 +117,7 @@ struct FeaturesLine {
 }
 
 impl FeaturesLine {
-    // The line of the command alone.
+    // The line with the command alone.
     fn of(key: &str) -> FeaturesLine
         requires { length key.now ≤ 47 }
         ensures names { Names result key.now [] }
@@ -131,7 +131,7 @@ impl FeaturesLine {
         }
     }
 
-    // Names the feature too, where it is offered.
+    // Adds the feature, if it is advertised.
     fn add(&mut self, offered: bool, feature: &str)
         requires { length self.old.text.bytes + 1 + length feature.now ≤ 47 }
         ensures names { (key : List ℕ) (features : List (List ℕ)) → Names self.old key features
@@ -146,7 +146,7 @@ impl FeaturesLine {
         self.has_features = true;
     }
 
-    // The text of the line, with LF at its end.
+    // The text of the line, with an LF at its end.
     fn end(self) -> ArrayString<LONGEST_LINE>
         requires { length self.text.bytes + 1 ≤ 47 }
         ensures { result.bytes ≡ self.text.bytes ++ 10 ∷ [] }
@@ -157,7 +157,7 @@ impl FeaturesLine {
     }
 }
 
-// What comes before one more feature.
+// The separator before the next feature.
 fn separator(has_features: bool) -> &'static str
     ensures text { result.now ≡ separator_after has_features }
     ensures count { length result.now ≡ 1 }
@@ -165,7 +165,7 @@ fn separator(has_features: bool) -> &'static str
     if has_features { " " } else { "=" }
 }
 
-// The line for `ls-refs`: its value names the features of it that are offered.
+// The line for `ls-refs`: its value names the advertised features.
 fn ls_refs_line(offer: &Offer) -> ArrayString<LONGEST_LINE>
     ensures { result.bytes ≡ capability_text (codes "ls-refs") (ls_refs_features offer.now) ++ 10 ∷ [] }
 {
@@ -174,7 +174,7 @@ fn ls_refs_line(offer: &Offer) -> ArrayString<LONGEST_LINE>
     line.end()
 }
 
-// The line that offers `fetch`, with its features.
+// The line that advertises `fetch`, with its features.
 fn fetch_line(offer: &Offer) -> ArrayString<LONGEST_LINE>
     ensures { result.bytes ≡ capability_text (codes "fetch") (fetch_features offer.now) ++ 10 ∷ [] }
 {
@@ -186,7 +186,7 @@ fn fetch_line(offer: &Offer) -> ArrayString<LONGEST_LINE>
     line.end()
 }
 
-// Appends the packet of a line that has this text.
+// Appends the packet of a line with this text.
 fn append_text(hold: &mut Hold, text: &ArrayString<LONGEST_LINE>)
     requires { length hold.old.items + length (spelling_of (payload text.now.bytes)) ≤ 65520 }
     ensures { hold.new.items ≡ hold.old.items ++ spelling_of (payload text.now.bytes) }

@@ -1,4 +1,4 @@
-//! Answers to requests, a packet at a time.
+//! Answers to requests, one packet at a time.
 
 ghost use Rattle.std.specs.Prelude.{◌≡◌, ◌≤◌, false, MatchBool};
 ghost use Rattle.git_pkt.specs.Machine.PacketReader.{is_open};
@@ -15,30 +15,30 @@ use git_msg::{Fetch, Listing, ObjectInfo, Request};
 use git_pkt::PacketReader;
 use std::alloc::Allocator;
 
-/// A request that is answered, and the place from which on its answer is owed.
+/// A request that is being answered, and the part of its answer that is sent next.
 #[derive(Drop)]
 pub(crate) enum Answer<A: Allocator + Copy> {
-    /// Of a request for references: from this place on.
+    /// The answer to a request for references.
     References(Listing<A>, ReferencesPlace),
-    /// Of a request for objects: from this place on.
+    /// The answer to a request for objects.
     Fetching(Fetch<A>, FetchPlace),
-    /// Of a request for the sizes of objects: from this place on.
+    /// The answer to a request for the sizes of objects.
     Sizes(ObjectInfo<A>, SizesPlace),
 }
 
-/// What came of writing a packet of an answer.
+/// The result of writing a packet of an answer.
 #[derive(Clone, Copy, Debug)]
 pub(crate) enum Answered {
-    /// More of it is owed.
+    /// The answer goes on.
     Part,
-    /// That was its flush.
+    /// The packet was the flush of the answer.
     Whole,
-    /// The source of its pack failed: that was its last packet.
+    /// The source of the pack failed: the packet was the last one of the answer.
     Broken,
 }
 
 impl<A: Allocator + Copy> Answer<A> {
-    /// The answer to a request, of which nothing was given.
+    /// The answer to a request, before its first packet.
     pub(crate) fn new(request: Request<A>) -> Answer<A>
         ensures { result ≡ answer_to request }
     {
@@ -54,7 +54,7 @@ impl<A: Allocator + Copy> Answer<A> {
         }
     }
 
-    /// Whether from its place on the answer has a pack.
+    /// Whether the rest of the answer has a pack.
     pub(crate) fn has_pack<R: Repo>(&self, repo: &R) -> bool
         ensures { MatchBool result (¬ HasNoPack (R.state repo.now).answers self.now) (HasNoPack (R.state repo.now).answers self.now) }
     {
@@ -64,7 +64,7 @@ impl<A: Allocator + Copy> Answer<A> {
         }
     }
 
-    /// Writes the next packet of the answer into the reader's hold, and goes on to the one after it.
+    /// Writes the next packet of the answer into the reader's buffer, and advances to the one after it.
     pub(crate) fn write<R: Repo>(&mut self, repo: &mut R, reader: &mut PacketReader) -> Answered
         requires { is_open reader.old ≡ false }
         ensures writes { WritesAnswer (R.state repo.old) self.old reader.old result (R.state repo.new) self.new reader.new }

@@ -10,13 +10,13 @@ use smallvec::SmallVec;
 use std::alloc::{AllocError, Global};
 use std::marker::Model;
 
-/// How many bytes a name has that lies in its entry: longer ones have memory of their own.
+/// The maximum length of a name that is stored in its entry: a longer name has memory of its own.
 const SHORT_NAME: usize = 32;
 
-/// A reference of a repository: a name for an object, as gitprotocol-v2(5) shows it.
+/// A reference of a repository: a name for an object, as in gitprotocol-v2(5).
 #[derive(Debug, Drop)]
 pub struct RefEntry {
-    // In this order the fields take the least room.
+    // In this order the fields take the least memory.
     name: SmallVec<u8, SHORT_NAME>,
     target: Option<Vec<u8>>,
     id: Oid,
@@ -34,10 +34,10 @@ impl Model for RefEntry {
 }
 
 impl RefEntry {
-    /// The reference with this name, for the object of this name. A symbolic reference has a target;
+    /// The reference with this name and this object. A symbolic reference has a target;
     /// a tag object peels to another object.
     ///
-    /// Name and target have to be names that a reference may have: else the fault is `BadRefName`.
+    /// The name and the target must be valid reference names: otherwise the error is `BadRefName`.
     pub fn new(
         name: Vec<u8>,
         id: Oid,
@@ -60,9 +60,9 @@ impl RefEntry {
         })
     }
 
-    /// The same reference with copies of a name and a target that are known to be names that a reference may have, as those
-    /// that were read from a line are. It fails only for want of memory, which a name of at most 32 bytes without a target does not
-    /// take.
+    /// The same reference with copies of a name and a target that are known to be valid reference names, for example because they
+    /// were read from a line. It fails only if memory runs out, and never for a name of at most 32 bytes without a target, which needs no
+    /// memory.
     pub fn copied(
         alloc: Global,
         name: &[u8],
@@ -92,7 +92,7 @@ impl RefEntry {
         self.name.as_slice()
     }
 
-    /// The object that it names.
+    /// The object that the reference names.
     pub fn id(&self) -> Oid
         ensures { result ≡ self.now.id }
     {
@@ -114,7 +114,7 @@ impl RefEntry {
         self.peeled
     }
 
-    /// Whether its object names are of the format.
+    /// Whether the object names of the reference are of the format.
     pub fn is_of(&self, format: Format) -> bool
         ensures of_format { IsTrue result ↔ IsOfFormat format self.now }
         ensures named { IsNamed self.now.name self.now.target }

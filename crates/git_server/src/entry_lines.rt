@@ -1,4 +1,4 @@
-//! What a request for references asks for of one of them, and of an unborn `HEAD`.
+//! The line of a reference, and of an unborn `HEAD`, with the attributes that a request asks for.
 
 ghost use Rattle.std.specs.Prelude.{◌≡◌, ℕ, List, Some, None, codes, if◌then◌else◌};
 ghost use Rattle.std.specs.Option.{option_copied};
@@ -13,7 +13,7 @@ use git_msg::{Listing, Reference};
 use git_names::Oid;
 use std::alloc::Allocator;
 
-/// The line of a reference, with what the request asks for of it.
+/// The line of a reference, with the attributes that the request asks for.
 pub fn entry_line<'a, A: Allocator + Copy>(
     entry: &'a RefEntry,
     listing: &Listing<A>,

@@ -1,4 +1,4 @@
-//! A repository whose reads of packs are short, and fail from one of them on.
+//! A repository whose reads of packs are short, and fail from some read on.
 
 ghost use Rattle.std.specs.Prelude.{◌≡◌, ◌≤◌, ◌<◌, ◌-◌, ◌⊎◌, IfOk, IsErr, OnErr, OnOk, length, min};
 ghost use Rattle.git_server.specs.Packs.{IsPackPart};
@@ -9,7 +9,7 @@ use git_msg::{Boundary, Fetch};
 use git_names::{Format, Oid, Steps};
 use std::alloc::Allocator;
 
-/// A repository that answers as another does, but gives its packs in short parts, and fails to from some read on.
+/// A repository that answers as another one does, but returns its packs in short parts, and fails from some read on.
 ///
 /// It is for tests of programs that have to withstand a pack source that fails.
 #[derive(Drop)]
@@ -24,8 +24,8 @@ pub struct Faulty<R> {
 impl<R: Repo> Faulty<R> {
     ghost use Rattle.git_server.specs.Machine.Faulty.{faulty_state, inner_of, most_of, reads_left};
 
-    /// A repository that gives at most `most` bytes of a pack a read, and fails from the read numbered `fail_from`, from
-    /// 0, on.
+    /// A repository that returns at most `most` bytes of a pack for each read, and fails from the read number `fail_from` on,
+    /// counted from 0.
     pub fn new(inner: R, fail_from: u32, most: usize) -> Faulty<R>
         requires some { 1 ≤ most }
         ensures inner { inner_of result ≡ inner }
@@ -41,7 +41,7 @@ impl<R: Repo> Faulty<R> {
         }
     }
 
-    /// Gives the inner repository back.
+    /// Returns the inner repository.
     pub fn into_inner(self) -> R
         ensures { result ≡ inner_of self }
     {

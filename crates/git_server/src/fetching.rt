@@ -1,4 +1,4 @@
-//! The answer to `fetch`, a packet at a time: its sections, one after another.
+//! The answer to `fetch`, one packet at a time: its sections, one after another.
 
 ghost use Rattle.std.specs.Prelude.{◌≡◌, false, MatchBool};
 ghost use Rattle.git_pkt.specs.Machine.PacketReader.{is_open};
@@ -22,23 +22,23 @@ use git_msg::Fetch;
 use git_pkt::{Packet, PacketReader};
 use std::alloc::Allocator;
 
-/// The place from which on an answer to `fetch` is owed, gitprotocol-v2(5).
+/// The part of an answer to `fetch` that is sent next, gitprotocol-v2(5).
 #[derive(Clone, Copy, Debug)]
 pub(crate) enum FetchPlace {
-    /// From this place in the acknowledgments on.
+    /// This part of the acknowledgments.
     Acknowledgments(AcknowledgmentsPlace),
-    /// From the delimiter after the acknowledgments on.
+    /// The delimiter after the acknowledgments.
     Delimiter,
-    /// From this place in the section of the shallow boundary on.
+    /// This part of the section of the shallow boundary.
     ShallowInfo(SectionPlace),
-    /// From this place in the section of wanted references on.
+    /// This part of the section of wanted references.
     WantedRefs(SectionPlace),
-    /// From this place in the section of the pack on.
+    /// This part of the section of the pack.
     Packfile(PackPlace),
 }
 
 impl FetchPlace {
-    /// Whether from here on the answer to the request has a pack.
+    /// Whether the rest of the answer to the request has a pack.
     pub(crate) fn has_pack<R: Repo, A: Allocator + Copy>(
         &self,
         repo: &R,
@@ -53,7 +53,7 @@ impl FetchPlace {
         }
     }
 
-    /// Where the answer to a request begins: with acknowledgments, if it negotiates.
+    /// The first part of the answer to a request: the acknowledgments, if the request negotiates.
     pub(crate) fn first<A: Allocator + Copy>(request: &Fetch<A>) -> FetchPlace
         ensures { result ≡ first_place request.now.asked }
     {
@@ -67,7 +67,7 @@ impl FetchPlace {
     }
 }
 
-/// Writes the next packet of the answer into the reader's hold, and goes on to the place after it.
+/// Writes the next packet of the answer into the reader's buffer, and advances to the part after it.
 pub(crate) fn write_fetch<R: Repo, A: Allocator + Copy>(
     repo: &mut R,
     request: &Fetch<A>,
@@ -103,7 +103,7 @@ pub(crate) fn write_fetch<R: Repo, A: Allocator + Copy>(
     }
 }
 
-// The next packet, from a place in the section of the shallow boundary on.
+// Writes the next packet, at or after this part of the section of the shallow boundary.
 fn write_from_boundary<R: Repo, A: Allocator + Copy>(
     repo: &mut R,
     request: &Fetch<A>,
@@ -129,7 +129,7 @@ fn write_from_boundary<R: Repo, A: Allocator + Copy>(
     }
 }
 
-// The next packet, from a place in the section of wanted references on.
+// Writes the next packet, at or after this part of the section of wanted references.
 fn write_from_refs<R: Repo, A: Allocator + Copy>(
     repo: &mut R,
     request: &Fetch<A>,
@@ -153,7 +153,7 @@ fn write_from_refs<R: Repo, A: Allocator + Copy>(
     }
 }
 
-// The next packet, from a place in the section of the pack on.
+// Writes the next packet, which is in the section of the pack.
 fn write_from_pack<R: Repo, A: Allocator + Copy>(
     repo: &mut R,
     request: &Fetch<A>,

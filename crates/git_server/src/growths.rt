@@ -1,11 +1,11 @@
-//! Lists of bytes that are made longer, with whether memory refused that.
+//! Growing lists of bytes, with a record of whether memory was refused.
 
 ghost use Rattle.std.specs.Prelude.{◌≡◌, ◌+◌, ◌<◌, ◌++◌, ◌||◌, [], false, is_err, is_ok, if◌then◌else◌, length, vec_capacity, vec_len, OnErr};
 ghost use Rattle.git_server.specs.Machine.Growths.{has_refused};
 
 use std::alloc::{AllocError, Global};
 
-/// Makes lists of bytes longer, and records whether memory refused a growth.
+/// Grows lists of bytes, and records whether memory for that was refused.
 #[derive(Drop)]
 pub(crate) struct Growths {
     alloc: Global,
@@ -13,7 +13,7 @@ pub(crate) struct Growths {
 }
 
 impl Growths {
-    /// Before the first growth.
+    /// The state before the first growth.
     pub(crate) fn new(alloc: Global) -> Growths
         ensures { has_refused result ≡ false }
     {
@@ -30,7 +30,7 @@ impl Growths {
         Vec::new(self.alloc)
     }
 
-    /// Puts bytes at a list's end, or leaves it as it was where it has no room for them and memory refuses more.
+    /// Appends bytes to a list. If the list lacks capacity for them and memory is refused, it stays unchanged.
     pub(crate) fn extend(&mut self, list: &mut Vec<u8>, bytes: &[u8]) -> Result<(), AllocError>
         ensures items { list.new.items ≡ (if is_ok result then list.old.items ++ bytes.now else list.old.items) }
         ensures refused { has_refused self.new ≡ (has_refused self.old || is_err result) }

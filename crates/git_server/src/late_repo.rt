@@ -1,4 +1,4 @@
-//! A repository that is a few lists, whose packs are read once one is needed.
+//! A repository that consists of a few lists, and reads its packs when one is needed.
 
 ghost use Rattle.std.specs.Prelude.{◌≡◌, ◌-◌, ◌<◌, IfOk, IfSome, IsErr, None, OnErr, OnOk, Some, false, length, min, true};
 ghost use Rattle.git_server.specs.Lists.{pack_for};
@@ -15,20 +15,20 @@ use std::alloc::{Allocator, Global};
 use std::io::Read;
 use std::mem;
 
-/// The packs of a repository that are read late.
+/// The packs of a repository that reads them late.
 #[derive(Drop)]
 enum LatePacks<P> {
-    /// None was read.
+    /// No pack was read.
     Unread(PackSources<P>),
-    /// The lists have them.
+    /// The packs are in the lists.
     Read,
-    /// A read of one of them failed, or memory for it ran out.
+    /// A read of a pack failed, or memory for it ran out.
     Lost(PackSources<P>),
 }
 
-/// A repository that is a few lists, whose packs are read whole once one is needed, by [`crate::Server::read_packs`].
+/// A repository that consists of a few lists, and reads its packs whole when one is needed, by [`crate::Server::read_packs`].
 ///
-/// [`Repo::pack_read`] fails before that, and if they could not be read.
+/// [`Repo::pack_read`] fails before that, and if the packs could not be read.
 #[derive(Drop)]
 pub struct LateRepo<P> {
     lists: ListRepo,
@@ -41,8 +41,8 @@ impl<P: Read + Drop> LateRepo<P> {
     ghost use Rattle.git_server.specs.Machine.LateRepo.{AreReadOf, SettlesPacks, has_packs, late_lists, late_state, pack_failed, unread_in};
     ghost use Rattle.git_server.specs.Machine.ListRepo.{lists_of, state_of};
 
-    /// The repository with these lists and, in place of their packs, those that these readers will give: `pack` for each request, but
-    /// `filtered`, if there is one, for each request that has a filter. Nothing is read of them.
+    /// The repository with these lists, but with the packs that these readers will return: `pack` for each request, except that
+    /// `filtered`, if there is one, is for each request that has a filter. This call reads nothing.
     pub fn new(alloc: Global, lists: ListRepo, pack: P, filtered: Option<P>) -> LateRepo<P>
         ensures state { late_state result ≡ state_of lists }
         ensures lists { late_lists result ≡ lists_of lists }
@@ -56,7 +56,7 @@ impl<P: Read + Drop> LateRepo<P> {
         }
     }
 
-    /// Reads the packs, unless that was tried before. They are lost only where a read of one fails, or memory refuses to keep what was read.
+    /// Reads the packs, unless that was tried before. They are lost only if a read fails, or if memory for the bytes that were read is refused.
     pub(crate) fn read_packs(&mut self)
         ensures settles { SettlesPacks (late_state self.old) (late_state self.new) }
         ensures read { IfSome (unread_in self.old) (λ packs. (has_packs self.new ≡ true → AreReadOf P.remaining packs (late_lists self.new))) }

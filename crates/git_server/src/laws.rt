@@ -1,4 +1,4 @@
-//! What a server's contract means for the bytes alone: each function does nothing, and its contract is the law.
+//! What the contract of a server means for the bytes alone: each function does nothing, and its contract is the law.
 
 ghost use Rattle.std.specs.Prelude.{◌≡◌, ◌≢◌, ◌+◌, ◌<◌, ◌≤◌, ◌↔◌, ℕ, Bool, true, false, None, Some, List, [], ◌∷◌, length, take};
 ghost use Rattle.git_pkt.specs.Machine.Credit.{MakesAll, Pays, credit_of};
@@ -20,8 +20,8 @@ use crate::server::Server;
 use git_msg::Memory;
 use std::alloc::Allocator;
 
-/// At every moment what a server has used and given is that of a session: without an outcome the session goes on,
-/// and with one it ended so. The argument lines that it keeps are within its limit.
+/// At every moment the bytes that a server has used and sent are those of a session: without an outcome the session goes on,
+/// and with one it ended so. The argument lines that the server stores are within its limit.
 pub fn server_keeps_to_its_session<R: Repo, A: Allocator + Copy>(server: &Server<R, A>)
     ensures within { (s : Setting) (used : List ℕ) (over : Bool) (given : List ℕ) →
         Running R.state s used over given server.now → kept_by server.now ≤ s.limit }
@@ -39,42 +39,42 @@ pub fn server_stops_at_a_request<R: Repo, A: Allocator + Copy>(server: &Server<R
         → outcome_of server.now ≡ None → wants_input server.now ≡ false → (asked : List Asked) × Stream s used asked [] [] }
 {}
 
-/// A server has at no time more bytes than the longest packet and its limit together.
+/// A server never has more bytes than the longest packet and its limit together.
 pub fn server_holds_within_its_limit<R: Repo, A: Allocator + Copy>(server: &Server<R, A>)
     ensures { (s : Setting) (used : List ℕ) (over : Bool) (given : List ℕ) →
         Running R.state s used over given server.now → bytes_held server.now ≤ 65520 + s.limit }
 {}
 
-/// A server waits for input exactly where it has no outcome, and the advertisement and the answer to each whole request
-/// were given whole.
+/// A server waits for input if and only if it has no outcome and has sent all of the advertisement and all of the answer to each
+/// whole request.
 pub fn server_waits_where_all_is_given<R: Repo, A: Allocator + Copy>(server: &Server<R, A>)
     ensures { (s : Setting) (used : List ℕ) (over : Bool) (given : List ℕ) → Running R.state s used over given server.now
         → (wants_input server.now ≡ true) ↔ ((outcome_of server.now ≡ None) × IsAnswered s used given) }
 {}
 
-/// A session ends without the pack that was asked for exactly where a read of the repository has failed since it began.
+/// A session ends without the requested pack if and only if a read of the repository has failed since the session began.
 pub fn session_lacks_a_pack_where_a_read_failed<R: Repo, A: Allocator + Copy>(server: &Server<R, A>)
     ensures { (s : Setting) (used : List ℕ) (over : Bool) (given : List ℕ) → Running R.state s used over given server.now
         → IsPackLost (outcome_of server.now) ↔ (s.failures < (R.state (repo_of server.now)).failures) }
 {}
 
-/// For the bytes used, and by whether the input ended with them, a session ends in one way, want of memory and sources of
-/// packs that fail aside.
+/// The bytes used, and whether the input ended with them, determine how a session ends, unless memory runs out or the source of a pack
+/// fails.
 pub fn session_has_one_outcome()
     ensures { (s : Setting) (used : List ℕ) (over : Bool) (given others : List ℕ) (outcome other : Outcome)
         → IsSession s used over given outcome → IsSession s used over others other
         → IsOfTheBytes outcome → IsOfTheBytes other → outcome ≡ other }
 {}
 
-/// The bytes alone decide each outcome but two: that memory ran out, and that the source of a pack failed.
+/// The bytes alone decide every outcome except two: that memory ran out, and that the source of a pack failed.
 pub fn bytes_decide_outcomes()
     ensures flush { IsOfTheBytes Flush }
     ensures closed { IsOfTheBytes Closed }
     ensures refused { (fault : Fault) → fault.kind ≢ OutOfMemory → fault.kind ≢ PackSource → IsOfTheBytes (Refused fault) }
 {}
 
-/// For the bytes used, and by whether the input ended with them, a session gives one output, but for how its packs are cut into packets;
-/// want of memory and sources of packs that fail aside. So does a session that goes on, wherever all that it owes was given.
+/// The bytes used, and whether the input ended with them, determine the output of a session, except for how its packs are cut into packets,
+/// and unless memory runs out or the source of a pack fails. The same holds of a session that goes on, if it has sent all that it has to send.
 pub fn session_has_one_output()
     ensures ended { (s : Setting) (used : List ℕ) (over : Bool) (given others : List ℕ) (outcome other : Outcome)
         → IsSession s used over given outcome → IsSession s used over others other
@@ -83,13 +83,13 @@ pub fn session_has_one_output()
         → IsAnswered s used given → IsAnswered s used others → AreSameButForCuts given others }
 {}
 
-/// What is counted of a server is what its fields have: its packet reader, the request that it reads and the one that it answers. Its
-/// repository is the host's, and not counted. A field more has to be named here.
+/// The count of a server's bytes covers all its fields: its packet reader, the request that it reads and the one that it answers. Its
+/// repository belongs to the host and is not counted. A new field must be added here.
 pub fn all_fields_are_counted<R: Repo, A: Allocator + Copy>()
     ensures { (server : Server R A) → bytes_held_by_fields server ≡ bytes_held server }
 {}
 
-/// What the contract of each method ensures is a call of the headline, and calls follow one another: so the headline is about any that
+/// The contract of each method ensures a call of the headline, and such calls follow one another: so the headline covers all calls that
 /// a program makes.
 pub fn methods_make_calls<R: Repo, A: Memory + Copy>()
     ensures fed { (old new : Server R A) (piece : List ℕ) (used before after : ℕ) → used ≤ length piece
@@ -106,9 +106,9 @@ pub fn methods_make_calls<R: Repo, A: Memory + Copy>()
         → MakesAll (Makes R.state A.refuses) (call ∷ calls) before old after new }
 {}
 
-/// However the input is cut, after any calls of a server that was new before them it holds at most 65,520 buffered bytes and its limit
-/// of kept arguments, and has taken at most 64 steps for each byte used and each call of `feed`; its output is in the answer
-/// relation to its whole input, and the first malformed packet is refused at its offset by name.
+/// Take a server that was new, any calls after that, and any chunks of input. The server then has at most 65,520 bytes in its buffer, and
+/// arguments within its limit; it has taken at most 64 steps for each byte used and for each call of `feed`; its output is in the
+/// answer relation to its whole input; and it refuses the first malformed packet at its offset, by name.
 pub fn headline<R: Repo, A: Memory + Copy>(server: &Server<R, A>)
     ensures { (s : Setting) (calls : List Call) (before after : ℕ) (first : Server R A) → Running R.state s [] false [] first
         → credit_of (reader_of first) ≡ 0 → MakesAll (Makes R.state A.refuses) calls before first after server.now

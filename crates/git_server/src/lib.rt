@@ -1,5 +1,5 @@
-//! The server's end of Git's wire protocol version 2: a repository as the protocol sees it, and the
-//! machine that reads requests and gives answers.
+//! The server's side of Git's wire protocol version 2: a repository as the protocol sees it, and the
+//! state machine that reads requests and returns answers.
 #![tactic(auto)]
 
 mod acknowledgments;

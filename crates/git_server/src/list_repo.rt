@@ -1,4 +1,4 @@
-//! A repository that is a few lists: of references, of objects, of shallow boundaries, and a pack or two.
+//! A repository that consists of a few lists: of references, of objects, of shallow boundaries, and a pack or two.
 
 ghost use Rattle.std.specs.Prelude.{◌≡◌, ◌≢◌, ◌<◌, ◌-◌, ◌↔◌, IsTrue, IfOk, MatchBool, MatchOption, MatchResult, All, Any, Ok, Some, filter, length};
 ghost use Rattle.std.specs.Prelude.{min, nat_le};
@@ -22,16 +22,16 @@ use std::cmp::Ordering;
 use std::error::Error;
 use std::fmt;
 
-/// Why lists make no repository.
+/// Why lists are not a repository.
 #[derive(Clone, Copy, Debug, PartialEq, Eq, Hash)]
 pub enum RepoFault {
-    /// The references do not rise strictly by the bytes of their names.
+    /// The references are not in strictly rising order of the bytes of their names.
     UnsortedRefs,
-    /// The objects do not rise strictly by their names.
+    /// The objects are not in strictly rising order of their names.
     UnsortedObjects,
     /// An object name is not of the repository's format.
     MixedFormats,
-    /// What an unborn `HEAD` points to is no reference name, or there is a reference `HEAD`.
+    /// An unborn `HEAD` points to something that is not a valid reference name, or there is a reference `HEAD`.
     UnbornHead,
 }
 
@@ -50,7 +50,7 @@ impl fmt::Display for RepoFault {
 
 impl Error for RepoFault {}
 
-/// The lists that a repository is made of, before they are judged.
+/// The lists of a repository, before they are checked.
 #[derive(Drop)]
 pub struct RepoLists {
     /// The format of the object names.
@@ -59,19 +59,19 @@ pub struct RepoLists {
     pub refs: Vec<RefEntry>,
     /// The objects, with their sizes in bytes.
     pub objects: Vec<(Oid, u64)>,
-    /// After how many common objects it is ready to send a pack, or never.
+    /// The number of common objects after which it is ready to send a pack, if it ever is.
     pub ready_after: Option<u32>,
     /// The shallow boundary.
     pub boundaries: Vec<Boundary>,
     /// The pack for each request.
     pub pack: Vec<u8>,
-    /// What an unborn `HEAD` points to.
+    /// The name that an unborn `HEAD` points to.
     pub unborn_head: Option<Vec<u8>>,
-    /// The pack for each request that has a filter, where that is another.
+    /// The pack for each request that has a filter, if that is a different one.
     pub filtered: Option<Vec<u8>>,
 }
 
-/// A repository that is a few lists, kept in memory.
+/// A repository that consists of a few lists in memory.
 #[derive(Drop)]
 pub struct ListRepo {
     lists: RepoLists,
@@ -86,14 +86,14 @@ impl ListRepo {
     ghost use Rattle.git_server.specs.Machine.ListRepo.{lists_of};
 
     /// The repository with these references, these objects with their sizes in bytes, this shallow boundary and
-    /// this pack for each request, or where `filtered` is there, that for each request that has a filter. It is ready
-    /// to send a pack after so many common objects, or never. The answer to a request that cuts the history off has the
-    /// boundary's shallow commits in their order, and then those that the request called shallow itself and that are no
-    /// longer.
+    /// this pack for each request; if there is a `filtered` pack, it is for each request that has a filter. The repository is ready
+    /// to send a pack after `ready_after` common objects, or never. If a request cuts the history off, the answer has the
+    /// shallow commits of the boundary in their order, and then those that the request called shallow and that are no
+    /// longer shallow.
     ///
-    /// The references have to rise strictly by their names (`UnsortedRefs`), the objects by theirs
-    /// (`UnsortedObjects`), and all object names are of the format (`MixedFormats`). The name that an unborn `HEAD`
-    /// points to comes last: it has to be one that a reference may have, and no reference is `HEAD` then (`UnbornHead`).
+    /// The references have to rise strictly by their names (`UnsortedRefs`), and the objects by theirs
+    /// (`UnsortedObjects`). All object names have to be of the format (`MixedFormats`). The name that an unborn `HEAD`
+    /// points to is checked last: it has to be a valid reference name, and then there must be no reference `HEAD` (`UnbornHead`).
     pub fn new(
         format: Format,
         refs: Vec<RefEntry>,
@@ -134,7 +134,7 @@ impl ListRepo {
         }))
     }
 
-    /// The same repository, where the lists are known to make one, as those that were taken item after item are.
+    /// The same repository, if the lists are known to make one, for example because each item was checked when it was added.
     pub fn of_lists(lists: RepoLists) -> ListRepo
         requires fit { IsRepository (lists_in lists) }
         requires named { All (λ ref. IsNamed ref.name ref.target) lists.refs.items }
@@ -143,7 +143,7 @@ impl ListRepo {
         ListRepo { lists }
     }
 
-    /// Gives it these packs in place of its own.
+    /// Replaces its packs by these.
     pub(crate) fn set_packs(&mut self, pack: Vec<u8>, filtered: Option<Vec<u8>>)
         ensures { lists_of self.new ≡ record (lists_of self.old) { pack = pack.items; filtered = bytes_of filtered } }
     {
@@ -151,7 +151,7 @@ impl ListRepo {
         self.lists.filtered = filtered;
     }
 
-    // The pack for a request: the filtered one where the request has a filter and there is one.
+    // The pack for a request: the filtered one, if there is one and the request has a filter.
     fn pack_for<A: Allocator + Copy>(&self, request: &Fetch<A>) -> &[u8]
         ensures { result.now ≡ pack_for (lists_of self.now) request.now.asked }
     {
@@ -164,7 +164,7 @@ impl ListRepo {
         }
     }
 
-    /// Reads bytes of the pack as [`Repo::pack_read`] does, and answers how many. Those who share the repository may read too.
+    /// Reads bytes of the pack as [`Repo::pack_read`] does, and returns how many. Others who share the repository may read too.
     pub(crate) fn read_pack<A: Allocator + Copy>(
         &self,
         request: &Fetch<A>,
@@ -321,7 +321,7 @@ fn are_boundaries_of(format: Format, boundaries: &[Boundary]) -> bool
     true
 }
 
-// Whether this is the name that an unborn `HEAD` may point to, or there is none.
+// Whether an unborn `HEAD` may point to this name, or there is no name.
 fn is_unborn_head(refs: &[RefEntry], unborn: &Option<Vec<u8>>) -> bool
     requires { IsRising refs.now }
     ensures { MatchBool result (ForSome (bytes_of unborn.now) (IsUnbornHead refs.now)) (¬ ForSome (bytes_of unborn.now) (IsUnbornHead refs.now)) }
@@ -335,7 +335,7 @@ fn is_unborn_head(refs: &[RefEntry], unborn: &Option<Vec<u8>>) -> bool
     find_name(refs, b"HEAD").is_none()
 }
 
-// The place of the reference of this name.
+// The index of the reference with this name.
 fn find_name(refs: &[RefEntry], name: &[u8]) -> Option<usize>
     requires { IsRising refs.now }
     ensures { MatchOption result (All (λ entry. entry.name ≢ name.now) refs.now)
@@ -352,7 +352,7 @@ fn find_name(refs: &[RefEntry], name: &[u8]) -> Option<usize>
     }
 }
 
-// The place of the object of this name.
+// The index of the object with this name.
 fn find_object(objects: &[(Oid, u64)], id: &Oid) -> Option<usize>
     requires { AreRising objects.now }
     ensures { MatchOption result (All (λ object. object.0 ≢ id.now) objects.now)
@@ -378,7 +378,7 @@ fn stands_among(objects: &[(Oid, u64)], id: &Oid) -> bool
     find_object(objects, id).is_some()
 }
 
-// Whether at least so many of the names are of one of the objects; a repeated name counts each time. It looks no further
+// Whether at least `least` of the names are names of objects in the list; a repeated name counts each time. It looks no further
 // than it has to.
 fn are_common(objects: &[(Oid, u64)], names: &[Oid], least: usize) -> bool
     requires { AreRising objects.now }
@@ -392,7 +392,7 @@ fn are_common(objects: &[(Oid, u64)], names: &[Oid], least: usize) -> bool
         == least
 }
 
-// Whether the request cuts the history off: at a depth, at a time, or at what a revision reaches.
+// Whether the request cuts the history off: at a depth, at a time, or at the commits that a revision reaches.
 fn deepens<A: Allocator + Copy>(request: &Fetch<A>) -> bool
     ensures { result ≡ is_deepened request.now.asked }
 {
@@ -418,7 +418,7 @@ fn is_unshallow_of(line: &Boundary, shallows: &[Oid]) -> bool
     }
 }
 
-// How many lines of the boundary a client receives that has these commits without their parents.
+// The number of boundary lines for a client that has these commits without their parents.
 fn count_told(lines: &[Boundary], shallows: &[Oid]) -> usize
     ensures { result ≡ length (told_lines lines.now shallows.now) }
 {
@@ -430,7 +430,7 @@ fn count_told(lines: &[Boundary], shallows: &[Oid]) -> usize
     shallow + unshallow
 }
 
-// The line at place `i` of those that it receives: the shallow commits come first.
+// The line at index `i` of those for the client: the shallow commits come first.
 fn told_at(lines: &[Boundary], shallows: &[Oid], i: usize) -> Option<Boundary>
     ensures { result ≡ slice_get (told_lines lines.now shallows.now) i }
 {

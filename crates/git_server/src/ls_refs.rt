@@ -1,4 +1,4 @@
-//! The answer to `ls-refs`, a packet at a time. Both the request's prefixes and the references are searched by halves.
+//! The answer to `ls-refs`, one packet at a time. It uses binary search on the prefixes of the request and on the references.
 
 ghost use Rattle.std.specs.Prelude.{◌≡◌, ◌<◌, ◌≤◌, ℕ, [], ◌∷◌, IfSome, MatchOption, true, false};
 ghost use Rattle.std.specs.Prelude.{drop, length, slice_index_or};
@@ -19,17 +19,17 @@ use git_msg::{Listing, put_reference};
 use git_pkt::{Packet, PacketReader};
 use std::alloc::Allocator;
 
-/// The place from which on an answer for references is owed, gitprotocol-v2(5).
+/// The part of an answer for references that is sent next, gitprotocol-v2(5).
 #[derive(Clone, Copy, Debug)]
 pub(crate) enum ReferencesPlace {
-    /// From an unborn `HEAD` on, where one is shown.
+    /// An unborn `HEAD`, if one is shown; then the references.
     First,
-    /// From the reference at this place on.
+    /// The first reference at this index or after it that is shown.
     Entry(usize),
 }
 
-/// Writes the next packet of the answer, from a place on, into the reader's hold, and returns where the packet after it begins. There
-/// is none after the flush that ends the answer.
+/// Writes the next packet of the answer into the reader's buffer, and returns the part after it. Nothing comes after the flush that
+/// ends the answer.
 pub(crate) fn write_references<R: Repo, A: Allocator + Copy>(
     repo: &R,
     listing: &Listing<A>,
@@ -52,7 +52,7 @@ pub(crate) fn write_references<R: Repo, A: Allocator + Copy>(
     }
 }
 
-// Writes the line of the first reference at `next` or after it that is shown, or the flush.
+// Writes the line of the first shown reference at `next` or after it, or else the flush.
 fn answer_entry<R: Repo, A: Allocator + Copy>(
     repo: &R,
     listing: &Listing<A>,
@@ -76,7 +76,7 @@ fn answer_entry<R: Repo, A: Allocator + Copy>(
     }
 }
 
-// What an unborn `HEAD` points to, where the request asks for it.
+// The name that an unborn `HEAD` points to, if the request asks for it.
 fn shown_unborn<'a, R: Repo, A: Allocator + Copy>(
     repo: &'a R,
     listing: &Listing<A>,
@@ -92,7 +92,7 @@ fn shown_unborn<'a, R: Repo, A: Allocator + Copy>(
     repo.unborn_head()
 }
 
-// Makes the hold the line of an unborn `HEAD`.
+// Sets the buffer to the line of an unborn `HEAD`.
 #[tactic(auto, using(crate::proofs::WrittenHolds::line_written))]
 fn write_unborn(reader: &mut PacketReader, target: &[u8])
     requires between { is_open reader.old ≡ false }
@@ -103,7 +103,7 @@ fn write_unborn(reader: &mut PacketReader, target: &[u8])
     let _ = reader.hold();
 }
 
-// Makes the hold the line of a reference.
+// Sets the buffer to the line of a reference.
 #[tactic(auto, using(crate::proofs::WrittenHolds::line_written))]
 fn write_entry<A: Allocator + Copy>(
     reader: &mut PacketReader,
@@ -118,7 +118,7 @@ fn write_entry<A: Allocator + Copy>(
     let _ = reader.hold();
 }
 
-/// The place of the first reference, at `from` or after it, that the request asks for.
+/// The index of the first reference, at `from` or after it, that the request asks for.
 pub(crate) fn next_shown<A: Allocator + Copy>(
     refs: &[RefEntry],
     listing: &Listing<A>,
@@ -140,7 +140,7 @@ pub(crate) fn next_shown<A: Allocator + Copy>(
     None
 }
 
-// Past a reference that is not shown, and past those after it that come before the next prefix: none of them is shown.
+// Skips a reference that is not shown, and those after it that come before the next prefix: none of them is shown.
 fn past_hidden<A: Allocator + Copy>(
     refs: &[RefEntry],
     listing: &Listing<A>,
@@ -162,7 +162,7 @@ fn past_hidden<A: Allocator + Copy>(
     }
 }
 
-// Past those of the references from this place on that come before the text.
+// Skips the references from this index on that come before the text.
 fn first_from(refs: &[RefEntry], text: &[u8], from: usize) -> usize
     requires rising { IsRising refs.now }
     requires within { from ≤ length refs.now }

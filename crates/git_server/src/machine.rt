@@ -1,4 +1,4 @@
-//! The server as a machine that `git_loop` runs.
+//! The server as a state machine that `git_loop` runs.
 
 ghost use Rattle.std.specs.Prelude.{◌≡◌, true, IsSome};
 ghost use Rattle.git_server.specs.Machine.Server.{outcome_of, wants_input};

@@ -1,4 +1,4 @@
-//! Answers to `object-info`, a packet at a time.
+//! Answers to `object-info`, one packet at a time.
 
 ghost use Rattle.std.specs.Prelude.{◌≡◌, false};
 ghost use Rattle.git_pkt.specs.Machine.PacketReader.{is_open};
@@ -13,16 +13,16 @@ use git_names::Oid;
 use git_pkt::{Packet, PacketReader};
 use std::alloc::Allocator;
 
-/// The place from which on the answer is owed, gitprotocol-v2(5).
+/// The part of the answer that is sent next, gitprotocol-v2(5).
 #[derive(Clone, Copy, Debug)]
 pub(crate) enum SizesPlace {
-    /// From the line on that names what follows of each object.
+    /// The header line, which names the attribute that follows for each object.
     Header,
-    /// From the line of the object at this place on.
+    /// The line of the object at this index.
     Object(usize),
 }
 
-/// Writes the next packet of the answer into the reader's hold, and returns where the packet after it begins. There is none
+/// Writes the next packet of the answer into the reader's buffer, and returns the part after it. Nothing comes
 /// after the flush that ends the answer.
 pub(crate) fn write_sizes<R: Repo, A: Allocator + Copy>(
     repo: &R,
@@ -52,7 +52,7 @@ pub(crate) fn write_sizes<R: Repo, A: Allocator + Copy>(
     }
 }
 
-// Makes the hold the line of an object.
+// Sets the buffer to the line of an object.
 #[tactic(auto, using(crate::proofs::WrittenHolds::line_written))]
 fn write_size<R: Repo>(repo: &R, id: &Oid, reader: &mut PacketReader)
     requires { is_open reader.old ≡ false }

@@ -5,7 +5,7 @@ use git_pkt::Fault;
 /// How a session ended.
 #[derive(Clone, Copy, Debug, PartialEq, Eq)]
 pub enum Outcome {
-    /// The client left, by a flush instead of a request.
+    /// The client left: it sent a flush instead of a request.
     Flush,
     /// The input ended between two requests.
     Closed,

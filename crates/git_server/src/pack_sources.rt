@@ -1,4 +1,4 @@
-//! Where the packs of a repository are read from, with what failed of that.
+//! The readers of the packs of a repository, with their failures.
 
 ghost use Rattle.std.specs.Prelude.{◌≡◌, ◌||◌, false, true, IfOk, OnErr};
 ghost use Rattle.git_pkt.specs.Machine.Told.{has_failed, inner_of};
@@ -12,11 +12,11 @@ use git_pkt::{Retries, Told};
 use std::alloc::Global;
 use std::io::Read;
 
-/// How many bytes a read of a pack gives at most.
+/// The maximum number of bytes that a read of a pack returns.
 const CHUNK: usize = 65_536;
 
-/// The readers of the pack of each request, and of that of each request that has a filter, where that is another. An interrupted
-/// read is made again.
+/// The readers of the pack for each request, and of the pack for each request that has a filter, if that is a different one. An interrupted
+/// read is tried again.
 #[derive(Drop)]
 pub(crate) struct PackSources<P> {
     pack: Told<Retries<P>>,
@@ -25,7 +25,7 @@ pub(crate) struct PackSources<P> {
 }
 
 impl<P: Read + Drop> PackSources<P> {
-    /// These readers, of which nothing was read.
+    /// These readers, before anything was read.
     pub(crate) fn new(alloc: Global, pack: P, filtered: Option<P>) -> PackSources<P>
         ensures readers { readers_of result ≡ (pack, filtered) }
         ensures unfailed { has_failure result ≡ false }
@@ -40,7 +40,7 @@ impl<P: Read + Drop> PackSources<P> {
         }
     }
 
-    /// Reads both packs to their ends, where there are two. It fails only where a read does, or memory refuses to keep what was read.
+    /// Reads the packs to their ends, both if there are two. It fails only if a read fails, or if memory for the bytes is refused.
     pub(crate) fn read(&mut self) -> Result<(Vec<u8>, Option<Vec<u8>>), PackFault>
         ensures read { IfOk result (λ read. AreReadFrom P.remaining (readers_of self.old) read.0.items (bytes_of read.1)) }
         ensures cause { OnErr result (has_failure self.new ≡ true) }
@@ -54,7 +54,7 @@ impl<P: Read + Drop> PackSources<P> {
     }
 }
 
-// Reads all that is left.
+// Reads the rest of the bytes.
 fn read_whole<R: Read>(reader: &mut Told<R>, growths: &mut Growths) -> Result<Vec<u8>, PackFault>
     ensures read { IfOk result (λ read. IsReadFrom (R.remaining (inner_of reader.old)) read.items) }
     ensures cause { OnErr result ((has_failed reader.new || has_refused growths.new) ≡ true) }

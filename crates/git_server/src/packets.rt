@@ -1,4 +1,4 @@
-//! What is written into a hold.
+//! Writing packets into a buffer.
 
 ghost use Rattle.std.specs.Prelude.{◌≡◌, ◌≤◌, ◌<◌, ◌+◌, ◌++◌, length, false};
 ghost use Rattle.git_pkt.specs.Digits.{digits_of};
@@ -11,7 +11,7 @@ use git_msg::put_line;
 use git_names::lower_digit;
 use git_pkt::{Hold, Packet, PacketReader, append, put};
 
-/// Makes the hold the packet's spelling, between two packets that are read.
+/// Sets the reader's buffer to the packet's spelling. The reader must be between two packets.
 pub(crate) fn write_packet(reader: &mut PacketReader, packet: Packet<'_>)
     requires between { is_open reader.old ≡ false }
     requires fits { length (body_of (seen packet)) ≤ longest_payload }
@@ -21,7 +21,7 @@ pub(crate) fn write_packet(reader: &mut PacketReader, packet: Packet<'_>)
     let _ = reader.hold();
 }
 
-/// Makes the hold the packet of a line, a word and what comes after it, between two packets that are read.
+/// Sets the reader's buffer to the packet of a line: a word and the value after it. The reader must be between two packets.
 pub(crate) fn write_line(reader: &mut PacketReader, word: &[u8], value: &[u8])
     requires between { is_open reader.old ≡ false }
     requires fits { length word.now + length value.now < longest_payload }
@@ -31,7 +31,7 @@ pub(crate) fn write_line(reader: &mut PacketReader, word: &[u8], value: &[u8])
     let _ = reader.hold();
 }
 
-/// Appends the packet's spelling, for which there is room.
+/// Appends the packet's spelling. The buffer must have room for it.
 pub(crate) fn append_packet(hold: &mut Hold, packet: Packet<'_>)
     requires { length hold.old.items + length (spelling_of (seen packet)) ≤ 65520 }
     ensures { hold.new.items ≡ hold.old.items ++ spelling_of (seen packet.entry) }
@@ -44,7 +44,7 @@ pub(crate) fn append_packet(hold: &mut Hold, packet: Packet<'_>)
     }
 }
 
-// Appends four digits and the bytes after them.
+// Appends four digits and then the body.
 fn append_spelling(hold: &mut Hold, field: usize, body: &[u8])
     requires digits { field < 65536 }
     requires room { length hold.old.items + 4 + length body.now ≤ 65520 }

@@ -1,4 +1,4 @@
-//! The section of the pack in an answer to `fetch`, a packet at a time.
+//! The section of the pack in an answer to `fetch`, one packet at a time.
 
 ghost use Rattle.std.specs.Prelude.{◌≡◌, drop, length, false};
 ghost use Rattle.std.specs.Io.{StartsWith};
@@ -16,27 +16,27 @@ use git_msg::Fetch;
 use git_pkt::{BAND_HEAD, Band, Hold, Packet, PacketReader, close_band, open_band, put, put_band};
 use std::alloc::Allocator;
 
-/// The place from which on the section of the pack is owed, gitprotocol-v2(5).
+/// The part of the section of the pack that is sent next, gitprotocol-v2(5).
 #[derive(Clone, Copy, Debug)]
 pub(crate) enum PackPlace {
-    /// From its header on.
+    /// The header.
     Header,
-    /// From the byte of the pack at this offset on.
+    /// The bytes of the pack from this offset on.
     Pack(u64),
 }
 
-// What came of a read of a pack into the room that a packet has for it.
+// The result of reading a pack into the part of a packet that is for its bytes.
 #[derive(Clone, Copy, Debug)]
 enum PartRead {
-    // So many bytes, and one at least.
+    // This many bytes, at least one.
     Bytes(usize),
-    // None, since the pack has no more.
+    // No bytes: the pack has ended.
     End,
     // The read failed.
     Failed,
 }
 
-/// Writes the next packet of the section into the reader's hold, and goes on to the place after it.
+/// Writes the next packet of the section into the reader's buffer, and advances to the part after it.
 pub(crate) fn write_pack<R: Repo, A: Allocator + Copy>(
     repo: &mut R,
     request: &Fetch<A>,
@@ -65,7 +65,7 @@ pub(crate) fn write_pack<R: Repo, A: Allocator + Copy>(
     }
 }
 
-// Writes the packet of the next part of the pack into the reader's hold, and returns what the packet has.
+// Writes the packet of the next part of the pack into the reader's buffer, and returns what was read for it.
 fn write_part<R: Repo, A: Allocator + Copy>(
     repo: &mut R,
     request: &Fetch<A>,
@@ -81,7 +81,7 @@ fn write_part<R: Repo, A: Allocator + Copy>(
     part
 }
 
-// Makes the hold's front the packet of the next part of the pack, which is read into its place there.
+// Puts the packet of the next part of the pack at the front of the buffer. The part is read directly to its place there.
 fn put_part<R: Repo, A: Allocator + Copy>(
     repo: &mut R,
     request: &Fetch<A>,
@@ -97,7 +97,7 @@ fn put_part<R: Repo, A: Allocator + Copy>(
     part
 }
 
-// Reads as much of the pack as a packet has room for, or as the repository gives.
+// Reads as much of the pack as fits into a packet, or as the repository returns.
 fn read_part<R: Repo, A: Allocator + Copy>(
     repo: &mut R,
     request: &Fetch<A>,
@@ -115,7 +115,7 @@ fn read_part<R: Repo, A: Allocator + Copy>(
     }
 }
 
-// Makes the hold's front the packet of what was read into the room after its first bytes.
+// Completes the packet at the front of the buffer, after its payload was read to the place behind its first bytes.
 fn close_part(hold: &mut Hold, part: PartRead)
     requires long { length hold.old.items ≡ 65520 }
     requires within { FitsRoom part }

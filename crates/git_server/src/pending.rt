@@ -1,4 +1,4 @@
-//! What a server has to send, written.
+//! Writing what a server has to send.
 
 ghost use Rattle.std.specs.Prelude.{◌≡◌, ◌||◌, [], true, false, IfOk, IfErr, OnErr, OnOk, is_err};
 ghost use Rattle.git_pkt.specs.Machine.Told.{inner_of, has_failed};
@@ -16,7 +16,7 @@ use std::io::Write;
 
 /// Writes all that the server has to send, and flushes the writer. Returns the outcome, if the session has ended.
 ///
-/// `WriteFault` where a write or a flush fails. The server is spent then, since it may have given more than was written.
+/// The error is `WriteFault` if a write or a flush fails. Then the server is spent, since it may have returned more than was written.
 pub fn write_pending<W: Write, R: Repo, A: Allocator + Copy>(
     writer: &mut Told<W>,
     server: &mut Server<R, A>,
@@ -35,7 +35,7 @@ pub fn write_pending<W: Write, R: Repo, A: Allocator + Copy>(
     Ok(outcome)
 }
 
-// Writes all that the server has to send. The outcome, if the session has ended.
+// Writes all that the server has to send. Returns the outcome, if the session has ended.
 fn drain<W: Write, R: Repo, A: Allocator + Copy>(
     writer: &mut Told<W>,
     server: &mut Server<R, A>,

@@ -1,4 +1,4 @@
-//! What a server asks of a repository.
+//! What a server needs from a repository.
 
 ghost use Rattle.std.specs.Prelude.{◌≡◌, ◌<◌, ℕ, Some, codes, length, slice_get, IfOk, OnErr, OnOk};
 ghost use Rattle.std.specs.Option.{option_copied};
@@ -32,52 +32,52 @@ pub trait Repo {
     /// What the repository answers, and how many of its reads have failed.
     ghost state: { Self → RepoState };
 
-    /// How many bytes a read of a pack may give: for a request, from an offset on, into a room of so many. Any number, where a
-    /// repository does not define it.
+    /// The number of bytes that a read of a pack may return, for a request, an offset and the length of the buffer. Any number is allowed if
+    /// the repository does not define this.
     ghost read_gives: { Self → FetchAsked → ℕ → ℕ → ℕ → Type 0 } = { λ repo request offset room count. Unit {0} };
 
     /// The format of its object names.
     fn format(&self) -> Format
         ensures { result ≡ (state self.now).answers.format };
 
-    /// Its references, strictly rising by the bytes of their names.
+    /// Its references, in strictly rising order of the bytes of their names.
     fn refs(&self) -> &[RefEntry]
         ensures { result.now ≡ (state self.now).answers.refs };
 
-    /// The object that the reference of this name points to, if there is such a reference.
+    /// The object that the reference with this name points to, if there is such a reference.
     fn find(&self, name: &[u8]) -> Option<Oid>
         ensures { IsFound (state self.now).answers.refs name.now result };
 
-    /// The name that `HEAD` points to where it is unborn, as it is while its branch has no commit: none where it is not.
+    /// The name that `HEAD` points to if it is unborn, that is, while its branch has no commit. None if it is not unborn.
     fn unborn_head(&self) -> Option<&[u8]>
         ensures { option_copied result ≡ (state self.now).answers.unborn_head };
 
-    /// Whether it has an object of this name.
+    /// Whether it has an object with this name.
     fn has(&self, id: &Oid) -> bool
         ensures { result ≡ (state self.now).answers.has id.now };
 
-    /// How many bytes the object of this name has: none where it has no such object, which `object-info` then lists without a
+    /// The size in bytes of the object with this name. None if there is no such object; `object-info` then lists the name without a
     /// size.
     fn object_size(&self, id: &Oid) -> Option<u64>
         ensures { result ≡ (state self.now).answers.object_size id.now };
 
-    /// Whether it is ready to send a pack for the request: of what the client has, enough is common to make one.
-    /// The answer to a request that negotiates then has a `ready` line, gitprotocol-v2(5), and the pack follows. This is not asked for
-    /// a request that negotiates alone, which gets no pack.
+    /// Whether it is ready to send a pack for the request: the client has enough common objects.
+    /// The answer to a request that negotiates then has a `ready` line, gitprotocol-v2(5), and the pack follows. A request that only
+    /// negotiates gets no pack, so this is not called for it.
     fn is_ready<A: Allocator + Copy>(&self, request: &Fetch<A>) -> bool
         ensures { result ≡ (state self.now).answers.is_ready request.now.asked };
 
-    /// How many lines the shallow boundary for the request has: the section `shallow-info` of gitprotocol-v2(5).
+    /// The number of lines of the shallow boundary for the request: the section `shallow-info` of gitprotocol-v2(5).
     fn boundaries<A: Allocator + Copy>(&self, request: &Fetch<A>) -> usize
         ensures { result ≡ length ((state self.now).answers.boundaries request.now.asked) };
 
-    /// The line at place `i` of the shallow boundary for the request.
+    /// The line at index `i` of the shallow boundary for the request.
     fn boundary<A: Allocator + Copy>(&self, request: &Fetch<A>, i: usize) -> Boundary
         requires { i < length ((state self.now).answers.boundaries request.now.asked) }
         ensures { slice_get ((state self.now).answers.boundaries request.now.asked) i ≡ Some result };
 
-    /// Reads bytes of the pack for the request, from an offset on, to the front of `out`: at least one before the
-    /// pack's end, and none at its end or after it. It answers how many. The pack for a request stays the same.
+    /// Reads bytes of the pack for the request, from an offset on, to the front of `out`: at least one if the offset is before the
+    /// pack's end, otherwise none. It returns how many. The pack for a request stays the same.
     fn pack_read<A: Allocator + Copy>(
         &mut self,
         request: &Fetch<A>,
@@ -91,9 +91,9 @@ pub trait Repo {
         ensures fine { OnOk result ((state self.new).failures ≡ (state self.old).failures) }
         ensures same { (state self.new).answers ≡ (state self.old).answers };
 
-    /// The names of the references rise, they and the targets are names that a reference may have, and the object names of the
-    /// references and of a shallow boundary are of the format. There none but a commit that the request calls shallow is
-    /// listed as no longer shallow. An unborn `HEAD` points to a name that a reference may have, and is no reference.
+    /// The names of the references rise, and these names and the targets are valid reference names. The object names of the
+    /// references and of each shallow boundary are of the format. A boundary lists a commit as no longer shallow only if the request
+    /// calls it shallow. If `HEAD` is unborn, it points to a valid reference name, and there is no reference `HEAD`.
     ghost sound: { (repo : Self) → IsSound (state repo).answers };
 
     /// A pack has less than 2^63 bytes.

@@ -17,13 +17,13 @@ use git_pkt::{RunFault, Told};
 use std::alloc::Allocator;
 use std::io::{Read, Write};
 
-/// Runs a server, from where it is, over a reader of requests and a writer of answers, to the session's end. The piece is where
-/// the bytes that are read go; it may not be empty. The writer is flushed before each read and at the end.
+/// Runs a server, from its present state, over a reader of requests and a writer of answers, to the end of the session. The bytes
+/// that are read go to the `piece`, which must not be empty. The writer is flushed before each read and at the end.
 ///
-/// `ReadFault` where a read fails, `WriteFault` where a write or a flush does, and `ReadLimit` where a further read
-/// than the `turns` that are allowed would be needed. After `ReadFault` and `ReadLimit` the session goes on: the server waits for
-/// input, and may be run again over another reader. After `WriteFault` the server is spent, since it may have given more than was written.
-/// A session that a fault of the input ended is no such fault: it is the outcome `Refused`.
+/// The error is `ReadFault` if a read fails, `WriteFault` if a write or a flush fails, and `ReadLimit` if another read would
+/// exceed the number `turns` of reads that are allowed. After `ReadFault` and `ReadLimit` the session goes on: the server waits for
+/// input, and may run again over another reader. After `WriteFault` the server is spent, since it may have returned more than was written.
+/// If an error in the input ends the session, `serve` does not fail: it returns the outcome `Refused`.
 pub fn serve<In: Read, W: Write, R: Repo, A: Allocator + Copy>(
     reader: &mut Told<In>,
     writer: &mut Told<W>,

@@ -1,21 +1,21 @@
 //! Sections of lines in the answer to `fetch`, gitprotocol-v2(5): a header, lines, and a delimiter.
 
-/// The place from which on a section is owed.
+/// The part of a section that is sent next.
 #[derive(Clone, Copy, Debug)]
 pub(crate) enum SectionPlace {
-    /// From its header on, if the answer has the section.
+    /// The header, if the answer has the section.
     Header,
-    /// From the line of what is at this place on.
+    /// The lines of the items from this index on.
     Line(usize),
 }
 
-/// What came of writing a packet of a section.
+/// The result of writing a packet of a section.
 #[derive(Clone, Copy, Debug)]
 pub(crate) enum SectionPart {
     /// Nothing was written: the answer does not have the section.
     Absent,
-    /// It goes on with the line of what is at this place.
+    /// The section goes on with the items from this index on.
     Line(usize),
-    /// That was its delimiter.
+    /// The packet was the delimiter of the section.
     Over,
 }

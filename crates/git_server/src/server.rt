@@ -1,16 +1,16 @@
-//! The server's end of a conversation, as a machine that takes bytes in pieces and gives packets.
+//! The server's side of a conversation, as a state machine: it takes bytes in chunks and returns packets.
 //!
-//! The phases of a session, and which call moves it on:
+//! The phases of a session, and the calls that move it on:
 //!
 //! ```text
 //!                pull: the flush            feed: the first packet
 //!  Advertising ------------------> Between ------------------------> Within <--+ feed: one more
 //!                                  |  ^  |                           |  |  |   |
 //!      feed: a flush alone, close  |  |  |                           |  |  +---+
-//!                  +---------------+  |  +-- feed: a fault --+       |  |
+//!                  +---------------+  |  +-- feed: an error -+       |  |
 //!                  v                  |                      v       |  | feed: the flush
 //!                Ended         pull: the flush            Refusing <-+  |
-//!                ^   ^                |                      |   feed, close: a fault
+//!                ^   ^                |                      |   feed, close: an error
 //!                |   |                +------ Answering <----|----------+
 //!                |   +-- pull: the pack is lost --+          |
 //!                +-- pull: the error packet -----------------+
@@ -36,23 +36,23 @@ use git_pkt::{Fault, Got, Kind, PacketReader, front_packet};
 use std::alloc::Allocator;
 use std::io::Read;
 
-/// How far a session has come.
+/// The phase of a session.
 #[derive(Drop)]
 enum Phase<A: Allocator + Copy> {
-    // The advertisement is owed, from this line on.
+    // The advertisement has to be sent, from this line on.
     Advertising(AdvertisementLine),
-    // All is given, and no packet of a further request has come.
+    // Everything was sent, and no packet of another request has come.
     Between,
     // A request has begun.
     Within,
-    // A whole request is answered, whose flush was at this offset.
+    // A whole request, whose flush was at this offset, is being answered.
     Answering(Answer<A>, u64),
-    // A fault is owed to the other end.
+    // This error has to be reported to the peer.
     Refusing(Fault),
     Ended(Outcome),
 }
 
-/// The server's end of a conversation: it reads requests and answers them from a repository, by gitprotocol-v2(5).
+/// The server's side of a conversation: it reads requests and answers them from a repository, as in gitprotocol-v2(5).
 #[derive(Drop)]
 pub struct Server<R, A: Allocator + Copy> {
     reader: PacketReader,
@@ -66,18 +66,18 @@ pub struct Server<R, A: Allocator + Copy> {
     ghost gathers: { passes_of reader ≡ false },
 }
 
-/// What is pulled from a server.
+/// The result of pulling from a server.
 #[derive(Clone, Copy, Debug)]
 pub enum Pulled<'a> {
-    /// The bytes of one whole packet, to be sent to the client.
+    /// The bytes of one whole packet, which have to be sent to the client.
     Packet(&'a [u8]),
     /// Nothing, until more bytes are fed or the input is closed.
     NeedInput,
-    /// The session ended so, and all is given.
+    /// The session ended with this outcome, and everything was pulled.
     Finished(Outcome),
 }
 
-// What the next turn of a session brings.
+// The next action of a session.
 #[derive(Clone, Copy, Debug)]
 pub(crate) enum Turn {
     Packet,
@@ -101,9 +101,9 @@ impl<R: Repo, A: Allocator + Copy> Server<R, A> {
     ghost use Rattle.git_server.specs.Machine.WrittenPackets.{IsAtFront};
     ghost use Rattle.git_pkt.specs.Machine.PacketReader.{held_of};
 
-    /// A server at the beginning of a session over this repository. Of each request it keeps argument lines whose texts have at
-    /// most `limits.args` bytes together, in memory from `alloc`, and it gives the advertisement of the offer first where
-    /// `advertise` is set. The offer has the repository's object format.
+    /// A server at the beginning of a session over this repository. It stores argument lines of each request whose texts have at
+    /// most `limits.args` bytes together, in memory from `alloc`. If `advertise` is set, it first sends the advertisement of the
+    /// offer. The offer must have the repository's object format.
     pub fn new(alloc: A, repo: R, offer: Offer, limits: Limits, advertise: bool) -> Server<R, A>
         requires format { offer.format ≡ (R.state repo).answers.format }
         ensures running { Running R.state (first_setting R.state repo offer limits.args advertise) [] false [] result }
@@ -138,7 +138,7 @@ impl<R: Repo, A: Allocator + Copy> Server<R, A> {
         }
     }
 
-    /// Ends the session, and gives the repository back.
+    /// Ends the session, and returns the repository.
     pub fn into_repo(self) -> R
         ensures { result ≡ repo_of self }
     {
@@ -146,7 +146,7 @@ impl<R: Repo, A: Allocator + Copy> Server<R, A> {
         repo
     }
 
-    /// Whether a pack is needed: the answer that is to be pulled has bytes of one, or may fail for want of it.
+    /// Whether a pack is needed: the answer that has to be pulled has bytes of one, or may fail because there is none.
     pub fn wants_pack(&self) -> bool
         ensures { MatchBool result (¬ OwesNoPack R.state self.now) (OwesNoPack R.state self.now) }
     {
@@ -156,7 +156,7 @@ impl<R: Repo, A: Allocator + Copy> Server<R, A> {
         }
     }
 
-    /// Whether bytes are wanted: there is no outcome yet, and all that is owed was pulled.
+    /// Whether the server wants bytes: there is no outcome yet, and everything was pulled that has to be sent.
     pub fn wants_input(&self) -> bool
         ensures value { result ≡ wants_input self.now }
         ensures waits { IsTrue result ↔ ((outcome_of self.now ≡ None) × OwesNow R.state self.now []) }
@@ -168,7 +168,7 @@ impl<R: Repo, A: Allocator + Copy> Server<R, A> {
         }
     }
 
-    /// The fault that ended the session, if one did.
+    /// The error that ended the session, if one did.
     pub fn fault(&self) -> Option<Fault>
         ensures { result ≡ refusal_in (outcome_of self.now) }
     {
@@ -179,7 +179,7 @@ impl<R: Repo, A: Allocator + Copy> Server<R, A> {
         }
     }
 
-    /// The input ends here, where bytes are wanted. Between two requests the session ends well; inside one
+    /// Ends the input. The server must want bytes. Between two requests the session ends well; inside a request
     /// it is refused as truncated, at the end of the last whole packet.
     pub fn close(&mut self)
         requires { wants_input self.old ≡ true }
@@ -206,8 +206,8 @@ impl<R: Repo, A: Allocator + Copy> Server<R, A> {
 
     /// The next packet to be sent, or what to do in its place.
     ///
-    /// No packet has more than 65,520 bytes. One of a pack has as many bytes of it as the repository gives for the 65,515 that a
-    /// packet has room for, and is written only once they are there.
+    /// No packet has more than 65,520 bytes. A packet of a pack has as many of its bytes as the repository returns for the 65,515 that fit
+    /// into a packet, and is written only after they were read.
     pub fn pull(&mut self) -> Pulled<'_>
         ensures* after { sem 𝓛 (Rests (the_row R.row A.row A.Allocator) self.entry (λ new. Pulls R.state self.old result new)) }
         ensures full { FillsOwed R.read_gives self.old (IsPulled result) }
@@ -222,7 +222,7 @@ impl<R: Repo, A: Allocator + Copy> Server<R, A> {
         }
     }
 
-    // Whether a packet is owed, and what to do if none is.
+    // Whether a packet has to be sent, and what to do if there is none.
     pub(crate) fn turn(&self) -> Turn
         ensures { result ≡ turn_in self.now.phase }
     {
@@ -234,7 +234,7 @@ impl<R: Repo, A: Allocator + Copy> Server<R, A> {
         }
     }
 
-    // The packet at the hold's front.
+    // The packet at the front of the buffer.
     pub(crate) fn packet(&self) -> &[u8]
         requires { HasFront (held_of self.now.reader) }
         ensures front { (packet : Pkt) (bytes : List ℕ) → Spells packet bytes → StartsWith (held_of self.now.reader) bytes → result.now ≡ bytes }
@@ -243,7 +243,7 @@ impl<R: Repo, A: Allocator + Copy> Server<R, A> {
         front_packet(self.reader.hold())
     }
 
-    // Puts the next packet that is owed at the hold's front.
+    // Puts the next packet that has to be sent at the front of the buffer.
     pub(crate) fn give(&mut self)
         requires { turn_in self.old.phase ≡ Turn.Packet }
         ensures gives { Gives R.state self.old self.new }
@@ -280,8 +280,8 @@ impl<R: Repo, A: Memory + Copy> Server<R, A> {
     ghost use Rattle.git_server.specs.Machine.ServerCalls.{Goes, GoesUnread, KeepsToMemory, StopsInTime};
 
     /// Takes bytes of the input, and returns how many were used: all of them, or those up to the end of a request, a flush
-    /// instead of one, or a fault. None is used while a packet waits to be pulled, nor after the end. An empty
-    /// piece changes nothing.
+    /// in place of a request, or an error. None is used while a packet waits to be pulled, nor after the session ended. An empty
+    /// chunk changes nothing.
     pub fn feed(&mut self, piece: &[u8], steps: &mut Steps) -> usize
         ensures used { result ≤ length piece.now }
         ensures goes { Goes R.state (take result piece.now) [] self.old self.new }
@@ -291,7 +291,7 @@ impl<R: Repo, A: Memory + Copy> Server<R, A> {
         ensures in_time { StopsInTime R.state self.old result piece.now (outcome_of self.new) }
         ensures stays { wants_input self.old ≡ false → (result ≡ 0) × (self.new ≡ self.old) }
 
-        // It ends the session for want of memory only where memory refused a list, which was to have no more bytes than the limit.
+        // The session ends for lack of memory only if memory for a list was refused that would have had no more bytes than the limit.
         ensures memory { KeepsToMemory R.state A.refuses self.old self.new }
         ensures nothing { length piece.now ≡ 0 → (result ≡ 0) × (self.new ≡ self.old) }
         ensures cost { Pays result steps.old steps.new (credit_of (reader_of self.old)) (credit_of (reader_of self.new)) }
@@ -303,7 +303,7 @@ impl<R: Repo, A: Memory + Copy> Server<R, A> {
         used
     }
 
-    // One packet, or all of the piece. A packet after which more is wanted has been paid for by its own bytes.
+    // Uses one packet, or the whole chunk. If the server wants more after a packet, the bytes of the packet have paid for its steps.
     fn step(&mut self, piece: &[u8], steps: &mut Steps) -> usize
         requires wants { wants_input self.old ≡ true }
         requires some { 0 < length piece.now }
@@ -345,9 +345,9 @@ impl<P: Read + Drop, A: Allocator + Copy> Server<LateRepo<P>, A> {
     ghost use Rattle.git_server.specs.Machine.Server.{Running, outcome_of, repo_of, wants_input};
     ghost use Rattle.git_server.specs.Machine.ServerCalls.{RunsUnread};
 
-    /// Reads the packs, unless that was tried before. Call it as soon as [`Server::wants_pack`] is true, before a packet of that answer
-    /// is pulled: up to there the server gives what it would give with the packs at hand. If a read fails, or memory refuses to keep what
-    /// was read, the packs are lost, and the server sends `PackSource` in place of one. An interrupted read is made again.
+    /// Reads the packs, unless that was tried before. Call it as soon as [`Server::wants_pack`] is true, before you pull a packet of that
+    /// answer: up to there the server sends what it would send if it had the packs. If a read fails, or if memory for the bytes is refused,
+    /// the packs are lost, and the server sends `PackSource` in place of a pack. An interrupted read is tried again.
     pub fn read_packs(&mut self)
         ensures runs { (s : Setting) (used : List ℕ) (over : Bool) (given : List ℕ) → RunsUnread late_state s used over given self.old
             → Running late_state (setting_with (late_state (repo_of self.new)).answers.pack s) used over given self.new }
@@ -376,7 +376,7 @@ fn following<A: Allocator + Copy>(brought: ReadGot<A>, offset: u64) -> Phase<A>
     }
 }
 
-// An error packet of the other end is not answered; any other fault is reported.
+// An error packet of the peer is not answered; any other error is reported.
 fn refusal<A: Allocator + Copy>(fault: Fault) -> Phase<A>
     ensures { result ≡ refused_by fault.kind fault }
 {
@@ -386,7 +386,7 @@ fn refusal<A: Allocator + Copy>(fault: Fault) -> Phase<A>
     }
 }
 
-// The source of the pack failed, for the request whose flush was at this offset.
+// The source of the pack failed for the request whose flush was at this offset.
 fn without_pack(flush: u64) -> Outcome
     ensures { result ≡ lost_pack flush }
 {

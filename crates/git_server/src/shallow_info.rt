@@ -1,4 +1,4 @@
-//! The section `shallow-info` in an answer to `fetch`, a packet at a time.
+//! The section `shallow-info` in an answer to `fetch`, one packet at a time.
 
 ghost use Rattle.std.specs.Prelude.{◌≡◌, false};
 ghost use Rattle.git_pkt.specs.Machine.PacketReader.{is_open};
@@ -13,8 +13,8 @@ use git_msg::{Boundary, Fetch, put_boundary};
 use git_pkt::{Packet, PacketReader};
 use std::alloc::Allocator;
 
-/// Writes the next packet of the section into the reader's hold, and returns what comes after it. An answer has the section
-/// where the shallow boundary has commits for the request.
+/// Writes the next packet of the section into the reader's buffer, and returns what comes after it. An answer has the section
+/// if the shallow boundary for the request has commits.
 pub(crate) fn write_shallow_info<R: Repo, A: Allocator + Copy>(
     repo: &R,
     request: &Fetch<A>,
@@ -44,7 +44,7 @@ pub(crate) fn write_shallow_info<R: Repo, A: Allocator + Copy>(
     }
 }
 
-// Makes the hold the line of a commit at the shallow boundary.
+// Sets the buffer to the line of a commit at the shallow boundary.
 #[tactic(auto, using(crate::proofs::WrittenHolds::line_written))]
 fn write_boundary(reader: &mut PacketReader, boundary: &Boundary)
     requires { is_open reader.old ≡ false }

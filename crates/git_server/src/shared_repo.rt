@@ -13,7 +13,7 @@ use git_names::{Format, Oid};
 use std::alloc::{AllocError, AllocFailed, Allocator, Global};
 use std::sync::Arc;
 
-/// A repository that is a few lists, kept in memory once for all who share it. Its memory is freed with the last of them.
+/// A repository that consists of a few lists, stored once in memory for all who share it. Its memory is freed with the last of them.
 #[derive(Drop)]
 pub struct SharedRepo {
     repo: Arc<ListRepo>,
@@ -23,7 +23,7 @@ impl SharedRepo {
     ghost use Rattle.git_server.specs.Machine.ListRepo.{state_of};
     ghost use Rattle.git_server.specs.Machine.SharedRepo.{shared_by, shared_state};
 
-    /// The repository, for others to share. Where memory runs out it is given back.
+    /// The repository, for others to share. If memory runs out, the error returns it.
     pub fn new(alloc: Global, repo: ListRepo) -> Result<SharedRepo, AllocFailed<ListRepo>>
         ensures repo { IfOk result (λ shared. shared_by shared ≡ repo) }
         ensures state { IfOk result (λ shared. shared_state shared ≡ state_of repo) }
@@ -33,7 +33,7 @@ impl SharedRepo {
         Ok(SharedRepo { repo })
     }
 
-    /// The same repository, for one more. This takes no memory, and fails only where 2^63 - 1 share it already.
+    /// The same repository, for one more. This takes no memory, and fails only if 2^63 - 1 share it already.
     pub fn share(&self) -> Result<SharedRepo, AllocError>
         ensures repo { IfOk result (λ shared. shared_by shared ≡ shared_by self.now) }
         ensures state { IfOk result (λ shared. shared_state shared ≡ shared_state self.now) }

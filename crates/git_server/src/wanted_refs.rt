@@ -1,4 +1,4 @@
-//! The section `wanted-refs` in an answer to `fetch`, a packet at a time.
+//! The section `wanted-refs` in an answer to `fetch`, one packet at a time.
 
 ghost use Rattle.std.specs.Prelude.{◌≡◌, false};
 ghost use Rattle.git_names.specs.RefName.{IsRefName};
@@ -16,8 +16,8 @@ use git_names::Oid;
 use git_pkt::{Packet, PacketReader};
 use std::alloc::Allocator;
 
-/// Writes the next packet of the section into the reader's hold, and returns what comes after it. An answer has the section
-/// where the request has want-ref lines, and a line for each of them whose reference there is.
+/// Writes the next packet of the section into the reader's buffer, and returns what comes after it. An answer has the section
+/// if the request has want-ref lines, with one line for each of them whose reference exists.
 pub(crate) fn write_wanted_refs<R: Repo, A: Allocator + Copy>(
     repo: &R,
     request: &Fetch<A>,
@@ -39,7 +39,7 @@ pub(crate) fn write_wanted_refs<R: Repo, A: Allocator + Copy>(
     }
 }
 
-// Writes the line of the first want-ref at `from` or after it whose reference there is, or else the delimiter.
+// Writes the line of the first want-ref at `from` or after it whose reference exists, or else the delimiter.
 fn write_from<R: Repo, A: Allocator + Copy>(
     repo: &R,
     request: &Fetch<A>,
@@ -61,7 +61,7 @@ fn write_from<R: Repo, A: Allocator + Copy>(
     SectionPart::Over
 }
 
-// Makes the hold the line of a wanted reference.
+// Sets the buffer to the line of a wanted reference.
 #[tactic(auto, using(crate::proofs::WrittenHolds::line_written))]
 fn write_wanted(reader: &mut PacketReader, id: Oid, name: &[u8])
     requires between { is_open reader.old ≡ false }

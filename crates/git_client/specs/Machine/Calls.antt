@@ -1,4 +1,4 @@
--- Calls of a client, one after the other, and what is promised after any of them.
+-- Calls of a client, one after the other, and the promises after any of them.
 use Rattle.std.specs.Prelude.{◌≡◌, ◌≢◌, ◌↔◌, ℕ, suc, ◌+◌, ◌*◌, ◌≤◌, Bool, true, false, List, [], ◌∷◌, ◌++◌, length, take, sum_by, Some, None}
 use Rattle.git_pkt.specs.Machine.Credit.{Pays, credit_of}
 use Rattle.git_pkt.specs.Machine.PacketReader.{bytes_held as held_in_packet}
@@ -18,7 +18,7 @@ use Rattle.git_client.specs.declared.client.Client.{Client}
 use Rattle.git_client.specs.declared.events.Heard.{Heard}
 use Rattle.git_client.specs.declared.events.Sent.{Sent}
 
--- a call that may change a client: what it was handed, and what it answered
+-- a call that may change a client: its arguments and its result
 pub data Call (A : Type 0) : Type 0 where
   ask : Request A → Call A
   ask_refused : (request handed_back : Request A) (fault : Fault) → Call A
@@ -28,7 +28,7 @@ pub data Call (A : Type 0) : Type 0 where
   close : Fault → Call A
 
 module _ {A : Type 0} where
-  -- what a call of `close` does, which is made where input is wanted
+  -- the effect of a call of `close`, which is made when input is wanted
   pub record Closes (old : Client A) (fault : Fault) (new : Client A) : Type 0 where
     pub waits : wants_input old ≡ true
     pub carries : HearsOn old [] [] new
@@ -38,7 +38,7 @@ module _ {A : Type 0} where
         → fault.offset + length rest ≡ length h.used
     pub credit : credit_of (reader_of new) ≤ credit_of (reader_of old)
 
-  -- each call did to the client what the contract of its method states; `feed` alone has the counter, which the others leave as it is
+  -- each call changed the client as the contract of its method states; only `feed` has the counter, and the other calls leave it unchanged
   abbrev pub Makes : Call A → ℕ → Client A → ℕ → Client A → Type 0
   Makes (ask request) before old after new = Asks old request new × (after ≡ before)
   Makes (ask_refused request handed_back fault) before old after new = RefusesToAsk old request handed_back fault new × (after ≡ before)
@@ -49,7 +49,7 @@ module _ {A : Type 0} where
       × Pays answer.used before after (credit_of (reader_of old)) (credit_of (reader_of new))
   Makes (close fault) before old after new = Closes old fault new × (after ≡ before)
 
-  -- what a call adds to the history
+  -- the effect of a call on the history
   abbrev pub after_call : History → Call A → History
   after_call h (ask request) = record h { asked = h.asked ++ asked_of request ∷ [] }
   after_call h (ask_refused request handed_back fault) = h
@@ -58,7 +58,7 @@ module _ {A : Type 0} where
   after_call h (feed piece answer) = record h { used = h.used ++ take answer.used piece; events = h.events ++ events_of answer.got }
   after_call h (close fault) = h
 
-  -- what calls one after the other add to it
+  -- the effect of calls on the history, one after the other
   abbrev pub history_after : History → List (Call A) → History
   history_after h [] = h
   history_after h (call ∷ calls) = history_after (after_call h call) calls
@@ -73,48 +73,48 @@ module _ {A : Type 0} where
   feeds_by (feed piece answer) = 1
   feeds_by call = 0
 
-  -- how many of the calls are of `feed`
+  -- the number of calls of `feed` among them
   abbrev pub feeds_in : List (Call A) → ℕ
   feeds_in calls = sum_by feeds_by calls
 
-  -- the client has failed where its input ended
+  -- the client has failed because its input ended
   abbrev pub IsTruncated : Client A → Type 0
   IsTruncated client = (fault : Fault) × (fault_of client ≡ Some fault) × (fault.kind ≡ Truncated)
 
-  -- What is promised of a client after any calls: these resulted in this history, so many of them were of `feed`, and the counter of steps
+  -- The promises about a client after any calls: the calls resulted in this history, `feeds` of them were of `feed`, and the counter of steps
   -- went from `before` to `after`.
   pub record Headline (t : Terms) (h : History) (feeds before after : ℕ) (client : Client A) : Type 0 where
     -- the client has no more bytes than the longest packet and the limit of the request that it asks
     pub held : bytes_held client ≤ 65520 + limit_of client
-    -- of packets it has no more than the longest, whatever was received
+    -- it has no more bytes of packets than the longest packet, whatever was received
     pub hold : held_in_packet (reader_of client) ≤ 65520
-    -- of the request it stores no more bytes than the argument lines have, and these have no more than the limit
+    -- it stores no more bytes of the request than the argument lines have, and these have no more than the limit
     pub stored : stored_in (request_of client) ≤ kept_by client
     pub kept : kept_by client ≤ limit_of client
     -- all calls together took at most 64 steps for each byte used and for each call of `feed`, and none set the counter back
     pub rises : before ≤ after
     pub steps : after ≤ before + 64 * (length h.used + feeds)
-    -- the events are those of the bytes used, up to the first packet that is refused and with what has come of an open one; the same
-    -- bytes gave what was noted
+    -- the events are those of the bytes used, up to the first packet that is refused and with the received bytes of an open one; the
+    -- noted capabilities are those of the same bytes
     pub events : HasEvents t h.asked h.used h.events
     pub noted : HasNoted t h.asked h.used (caps_of client)
-    -- where no packet is owed, just what is written of the requests was given, and the flush where the client has left
+    -- if no packet is left to send, exactly the written form of the requests was sent, and the flush if the client has left
     pub given : left_to_say client ≡ [] → h.given ≡ spelled (said_of t.format (caps_of client) h.asked h.left)
     -- the pack bytes among the events are the pack of the bytes used: at any time, and after a refusal too
     pub pack : HasPack t h.asked h.used (pack_bytes h.events)
-    -- where the client can ask, each response is whole
+    -- if the client can ask, each response is whole
     pub whole : can_ask client ≡ true → IsConversation t h.asked h.used h.events
-    -- it can ask exactly where it has not failed or left, and has received the advertisement and a whole response to each request
+    -- it can ask if and only if it has neither failed nor left, and has received the advertisement and a whole response to each request
     pub turn : (can_ask client ≡ true) ↔ ((fault_of client ≡ None) × (h.left ≡ false) × (turns_of h.events ≡ suc (length h.asked)))
-    -- it waits for input only where more is due after the bytes used, and all that is written of the requests was given
+    -- it waits for input only if more is expected after the bytes used, and the whole written form of the requests was sent
     pub due : wants_input client ≡ true → GoesOn t h.asked h.used h.events
     pub waits : wants_input client ≡ true → h.given ≡ spelled (said_of t.format (caps_of client) h.asked h.left)
-    -- where it neither can ask nor waits for input, it has a packet to give, unless it has failed or left
+    -- if it neither can ask nor waits for input, it has a packet to send, unless it has failed or left
     pub owes : fault_of client ≡ None → h.left ≡ false → can_ask client ≡ false → wants_input client ≡ false → left_to_say client ≢ []
-    -- a client that has refused did so at the first malformed packet, and one that has not received none
+    -- a client that has refused something did so at the first malformed packet, and any other client has received none
     pub refused : (fault : Fault) → fault_of client ≡ Some fault → FirstMalformed t h.asked h.used fault
     pub unrefused : fault_of client ≡ None → GoesWell t h.asked h.used h.events
-    -- the bytes have no other first malformed packet; an end of the input or of the stream's positions has one offset
+    -- the bytes have no other first malformed packet; `Truncated` and `StreamTooLong` have one offset each
     pub one_refusal : (fault other : Fault) → fault_of client ≡ Some fault → FirstMalformed t h.asked h.used other
         → fault.kind ≢ Truncated → fault.kind ≢ StreamTooLong → fault ≡ other
     pub one_by_name : (fault other : Fault) → fault_of client ≡ Some fault → FirstMalformed t h.asked h.used other

@@ -1,5 +1,5 @@
--- What a client represents: what it was asked to ask, the bytes that it used, the events that it handed out and the bytes
--- that it gave.
+-- The history that a client represents: the requests that it was asked to send, the bytes that it used, the events that it returned and the
+-- bytes that it sent.
 use Rattle.std.specs.Prelude.{◌≡◌, ◌≢◌, ◌⊎◌, ℕ, suc, ◌+◌, ◌-◌, ◌<◌, ◌≤◌, Bool, true, false, List, [], ◌∷◌, ◌++◌, length, map, take, drop, flat_map, Option}
 use Rattle.std.specs.Prelude.{Some, None, Result, Ok, Err}
 use Rattle.git_names.specs.declared.object_format.Format.{Format}
@@ -57,7 +57,7 @@ use Rattle.git_client.specs.declared.events.HeardGot.TheVariants.{More, Event as
 use Rattle.git_client.specs.declared.events.Sent.{Sent}
 use Rattle.git_client.specs.declared.events.Sent.TheVariants.{Packet, NeedInput, CanAsk, Finished, Failed as FailedSent}
 
--- all that came and went between a client and those around it
+-- everything that went in and out of a client
 pub record History : Type 0 where
   pub asked : List Asked
   pub left : Bool
@@ -72,11 +72,11 @@ nothing_yet = record { asked = []; left = false; used = []; events = []; given =
 abbrev pub spelled : List Pkt → List ℕ
 spelled = flat_map spelling_of
 
--- what is written of each request, where this was advertised
+-- the written form of each request, if this was advertised
 abbrev pub questions_of : Format → Caps → List Asked → List Pkt
 questions_of format caps = flat_map (lines_written caps.agent caps.object_format format)
 
--- what is written at leaving: the flush of a request for nothing
+-- the written form of leaving: the flush of a request for nothing
 abbrev pub farewell : Bool → List Pkt
 farewell true = flush ∷ []
 farewell false = []
@@ -85,7 +85,7 @@ farewell false = []
 abbrev pub said_of : Format → Caps → List Asked → Bool → List Pkt
 said_of format caps asked left = questions_of format caps asked ++ farewell left
 
--- 1 where a response end is due, whose flush is counted already; else 0
+-- 1 if a response end is expected, since its flush is counted already; otherwise 0
 abbrev pub awaits_end : Due → ℕ
 awaits_end ResponseEnd = 1
 awaits_end due = 0
@@ -95,7 +95,7 @@ pub record IsInside (section : Section) (message : List Pkt) : Type 0 where
   pub inside : is_header_due message ≡ false
   pub begun : section_of message ≡ Some section
 
--- after these packets of a message that belong to this part, this is due
+-- after these packets of a message, which belong to this part, this is expected
 abbrev pub IsDueIn : Part → List Pkt → Due → Type 0
 IsDueIn opening message Version = Unit {0}
 IsDueIn advertisement message Capabilities = Unit {0}
@@ -111,7 +111,7 @@ IsDueIn informing message Sizes = is_empty message ≡ false
 IsDueIn closing message ResponseEnd = Unit {0}
 IsDueIn part message due = ⊥
 
--- this is due after these packets, as many messages as were asked for aside
+-- this is expected after these packets, which have as many whole messages as there are requests
 pub record IsDue (t : Terms) (asked : List Asked) (before : List Pkt) (due : Due) : Type 0 where
   pub part : Part
   pub is_part : part_of t asked before ≡ Some part
@@ -134,34 +134,34 @@ pub record IsAsked (t : Terms) (asked : List Asked) (before : List Pkt) (questio
   pub whole : AreWhole t earlier before
 
 module _ {A : Type 0} where
-  -- how many bytes are stored of a request that is asked
+  -- the number of bytes stored of a request that is being asked
   abbrev pub stored_in : Option (Request A) → ℕ
   stored_in None = 0
   stored_in (Some request) = stored_of request
 
-  -- how many bytes its argument lines have
+  -- the number of bytes in its argument lines
   abbrev pub kept_in : Option (Request A) → ℕ
   kept_in None = 0
   kept_in (Some request) = kept_of request
 
-  -- how many bytes they may have
+  -- the maximum number of bytes in them
   abbrev pub limit_in : Option (Request A) → ℕ
   limit_in None = 0
   limit_in (Some request) = request_limit request
 
-  -- the fault that ended the conversation
+  -- the error that ended the conversation
   abbrev pub fault_of : Client A → Option Fault
   fault_of client = fault_in client.phase
 
-  -- the advertisement is whole, as is the response to each request, and the client has not left
+  -- the advertisement and the response to each request are whole, and the client has not left
   abbrev pub can_ask : Client A → Bool
   can_ask client = is_ready client.phase
 
-  -- bytes of the server are due
+  -- bytes of the server are expected
   abbrev pub wants_input : Client A → Bool
   wants_input client = takes_packets client.phase
 
-  -- the conversation was left
+  -- the client has left the conversation
   abbrev pub has_left : Client A → Bool
   has_left client = has_left_in client.phase
 
@@ -173,11 +173,11 @@ module _ {A : Type 0} where
   abbrev pub ending_of : Client A → Ending
   ending_of client = client.ending
 
-  -- how many bytes were used
+  -- the number of bytes used
   abbrev pub bytes_used : Client A → ℕ
   bytes_used client = position_of client.reader
 
-  -- what was noted of the advertisement
+  -- the capabilities noted from the advertisement
   abbrev pub caps_of : Client A → Caps
   caps_of client = client.caps
 
@@ -188,7 +188,7 @@ module _ {A : Type 0} where
   abbrev pub phase_of : Client A → Phase
   phase_of client = client.phase
 
-  -- what the last packet was found to contain
+  -- the contents of the last packet, as the judge found them
   abbrev pub said_last : Client A → Said
   said_last client = client.said
 
@@ -196,15 +196,15 @@ module _ {A : Type 0} where
   abbrev pub request_of : Client A → Option (Request A)
   request_of client = client.request
 
-  -- the packets that are still to be pulled
+  -- the packets that still have to be pulled
   abbrev pub left_to_say : Client A → List Pkt
   left_to_say client = left_in client.phase client.request
 
-  -- how many bytes the client has: those of the hold of its packet reader, and those stored of the request that it asks
+  -- the number of bytes that the client has: those in the buffer of its packet reader, and those stored of the request that it asks
   abbrev pub bytes_held : Client A → ℕ
   bytes_held client = held_in_packet client.reader + stored_in client.request
 
-  -- the same with each field named, so that none can be added without being counted
+  -- the same with each field named, so that no field can be added without being counted
   abbrev pub bytes_held_by_fields : Client A → ℕ
   bytes_held_by_fields client =
       let record {
@@ -227,22 +227,22 @@ module _ {A : Type 0} where
       } = client in
       held_in_packet reader + stored_in request
 
-  -- how many bytes the argument lines of that request have, or 0 where none is asked
+  -- the number of bytes in the argument lines of that request, or 0 if there is none
   abbrev pub kept_by : Client A → ℕ
   kept_by client = kept_in client.request
 
-  -- the limit of that request, or 0 where none is asked
+  -- the limit of that request, or 0 if there is none
   abbrev pub limit_of : Client A → ℕ
   limit_of client = limit_in client.request
 
--- what packets, the nearest first, come before this phase
+-- the packets that come before this phase, the nearest first
 abbrev pub Behind : Terms → List Asked → List Pkt → Option Asked → Phase → Type 0
 Behind t asked before question (Hearing due) = IsDue t asked before due
 Behind t asked before question (Asking writer) = IsAsked t asked before question
 Behind t asked before question (FailedPhase fault) = ⊥
 Behind t asked before question phase = AreWhole t asked before
 
--- the packet after the clean ones is refused; nothing was used after it, and it lies in the hold
+-- the packet after the clean ones is refused; nothing was used after it, and it is in the buffer
 pub record RefusedPacket (t : Terms) (asked : List Asked) (clean given : List Given) (rest : List ℕ) (fault : Fault) (reader : PacketReader) : Type 0 where
   pub bad : Given
   pub cut : given ≡ clean ++ bad ∷ []
@@ -251,13 +251,13 @@ pub record RefusedPacket (t : Terms) (asked : List Asked) (clean given : List Gi
   pub at : fault.offset ≡ bad.offset
   pub held : Spells bad.packet (held_of reader)
 
--- the bytes after the packets, of which none is refused, are no packet and can't become one, or ended in one
+-- no packet is refused, but the bytes after the packets are no packet and cannot become one, or the input ended in one
 pub record RefusedBytes (t : Terms) (asked : List Asked) (clean given : List Given) (rest : List ℕ) (end : ℕ) (fault : Fault) : Type 0 where
   pub cut : given ≡ clean
   pub due : HasDue t asked (nearest clean [])
   pub by : StopsBy (end - length rest) rest end fault.kind fault.offset
 
--- the input ended after a whole packet, where more was due
+-- the input ended after a whole packet, although more was expected
 pub record EndedEarly (t : Terms) (asked : List Asked) (clean given : List Given) (rest : List ℕ) (end : ℕ) (fault : Fault) : Type 0 where
   pub cut : given ≡ clean
   pub nothing : rest ≡ []
@@ -265,7 +265,7 @@ pub record EndedEarly (t : Terms) (asked : List Asked) (clean given : List Given
   pub kind : fault.kind ≡ Truncated
   pub at : fault.offset ≡ end
 
--- no packet so far has a fault, and neither have the bytes after them; none have come where no input is wanted
+-- no packet so far has an error, and neither have the bytes after them; there are no such bytes if no input is wanted
 pub record Goes (t : Terms) (asked : List Asked) (clean given : List Given) (rest : List ℕ)
     (question : Option Asked) (phase : Phase) (reader : PacketReader) : Type 0 where
   pub cut : given ≡ clean
@@ -273,20 +273,20 @@ pub record Goes (t : Terms) (asked : List Asked) (clean given : List Given) (res
   pub behind : Behind t asked (nearest clean []) question phase
   pub shut : takes_packets phase ≡ false → rest ≡ []
 
--- what holds of the conversation in this phase
+-- the conditions on the conversation in this phase
 abbrev pub StandsIn : Phase → Terms → List Asked → List Given → List Given → List ℕ → ℕ → Option Asked → PacketReader → Type 0
 StandsIn (FailedPhase fault) t asked clean given rest end question reader =
     RefusedPacket t asked clean given rest fault reader
     ⊎ (RefusedBytes t asked clean given rest end fault ⊎ EndedEarly t asked clean given rest end fault)
 StandsIn phase t asked clean given rest end question reader = Goes t asked clean given rest question phase reader
 
--- the events of an answer
+-- the events of a result of `feed`
 abbrev pub events_of : HeardGot → List EventValue
 events_of More = []
 events_of (EventGot event) = values_of event
 events_of (Failed fault) = []
 
--- the bytes of an answer of `pull`
+-- the bytes of a result of `pull`
 abbrev pub given_by : Sent → List ℕ
 given_by (Packet bytes) = bytes.now
 given_by sent = []
@@ -305,7 +305,7 @@ outcome_judged offset said (Ok turn) = outcome_said said
 outcome_judged offset said (Err kind) = FailedNow (record { kind = kind; offset = offset })
 
 module _ {A : Type 0} where
-  -- what holds of a client on these terms after this history
+  -- the conditions on a client with these terms after this history
   pub record Converses (t : Terms) (h : History) (client : Client A) : Type 0 where
     pub given : List Given
     pub rest : List ℕ
@@ -321,26 +321,26 @@ module _ {A : Type 0} where
     pub left : h.left ≡ has_left client
     pub spoken : h.given ++ spelled (left_to_say client) ≡ spelled (said_of t.format (caps_of client) h.asked h.left)
 
-  -- whatever the history was, it goes on by a request
+  -- whatever the history was, it continues with a request
   abbrev pub AsksOn : Client A → Asked → Client A → Type 0
   AsksOn old question new =
       (t : Terms) (h : History) → Converses t h old → Converses t (record h { asked = h.asked ++ question ∷ [] }) new
 
-  -- it goes on by leaving
+  -- it continues with leaving
   abbrev pub LeavesOn : Client A → Client A → Type 0
   LeavesOn old new = (t : Terms) (h : History) → Converses t h old → Converses t (record h { left = true }) new
 
-  -- it goes on by the bytes used and the events handed out
+  -- it continues with the bytes used and the events returned
   abbrev pub HearsOn : Client A → List ℕ → List EventValue → Client A → Type 0
   HearsOn old used more new =
       (t : Terms) (h : History) → Converses t h old → Converses t (record h { used = h.used ++ used; events = h.events ++ more }) new
 
-  -- it goes on by the bytes given
+  -- it continues with the bytes sent
   abbrev pub SaysOn : Client A → List ℕ → Client A → Type 0
   SaysOn old more new = (t : Terms) (h : History) → Converses t h old → Converses t (record h { given = h.given ++ more }) new
 
-  -- what refuses a request: its format, its command and then its arguments where they are not offered, and what is
-  -- judged at a request's end
+  -- the reasons to refuse a request: its format, then its command and its arguments if they are not advertised, and then the checks
+  -- at a request's end
   abbrev pub ask_checks : Format → Caps → Request A → List Check
   ask_checks format caps request =
       check (request_format request ≡ format) (request_format request ≢ format) WrongFormat
@@ -348,7 +348,7 @@ module _ {A : Type 0} where
       ∷ check (AreOffered (noted_offer caps format) (asked_of request)) (¬ AreOffered (noted_offer caps format) (asked_of request)) NotAdvertised
       ∷ end_checks (asked_of request)
 
-  -- a request that was taken: all of it is owed
+  -- a request that was accepted: all of it has to be sent
   pub record Asks (old : Client A) (request : Request A) (new : Client A) : Type 0 where
     pub passes : Passes (ask_checks (format_of old) (caps_of old) request)
     pub asks : AsksOn old (asked_of request) new
@@ -356,14 +356,14 @@ module _ {A : Type 0} where
     pub no_more : can_ask new ≡ false
     pub credit : credit_of (reader_of new) ≤ credit_of (reader_of old)
 
-  -- a request that was refused: it is handed back, and the client stays as it was
+  -- a request that was refused: it is returned, and the client stays unchanged
   pub record RefusesToAsk (old : Client A) (request handed_back : Request A) (fault : Fault) (new : Client A) : Type 0 where
     pub refused : RefusesBy (ask_checks (format_of old) (caps_of old) request) fault.kind
     pub at : fault.offset ≡ bytes_used old
     pub back : handed_back ≡ request
     pub stays : new ≡ old
 
-  -- what a call of `leave` does
+  -- the effect of a call of `leave`
   pub record Leaves (old new : Client A) : Type 0 where
     pub leaves : LeavesOn old new
     pub owes : left_to_say new ≡ flush ∷ []
@@ -376,30 +376,30 @@ module _ {A : Type 0} where
   LeavesAfter Ended new = can_ask new ≡ true
   LeavesAfter event new = wants_input new ≡ true
 
-  -- bytes that passed: they are the last of those used, and all that the piece, or the stream, has of their packet from there on
+  -- bytes that passed: they are the last ones of those used, and all bytes of their packet from there on that the chunk, or the stream, has
   pub record IsPassed (bytes : List ℕ) (used : ℕ) (piece : List ℕ) (new : Client A) : Type 0 where
     pub front : List ℕ
     pub lies : take used piece ≡ front ++ bytes
     pub all : is_open (reader_of new) ≡ true → (used ≡ length piece) ⊎ (bytes_used new ≡ last_position)
 
-  -- after an event no packet is open, but after bytes of the pack or of the progress more of theirs may come
+  -- after an event no packet is open, but after bytes of the pack or of the progress more of their packet may come
   abbrev pub EndsAt : Event → ℕ → List ℕ → Client A → Type 0
   EndsAt (PackEvent bytes) used piece new = IsPassed bytes.now used piece new
   EndsAt (ProgressEvent bytes) used piece new = IsPassed bytes.now used piece new
   EndsAt event used piece new = is_open (reader_of new) ≡ false
 
-  -- what each answer of `feed` means; there is something to each event
+  -- the meaning of each result of `feed`; no event is empty
   abbrev pub Tells : HeardGot → ℕ → List ℕ → Client A → Client A → Type 0
   Tells More used piece old new = wants_input old ≡ true → (used ≡ length piece) × (wants_input new ≡ true)
   Tells (EventGot event) used piece old new =
       (0 < used) × EndsAt event used piece new × (values_of event ≢ []) × LeavesAfter event new
   Tells (Failed fault) used piece old new = fault_of new ≡ Some fault
 
-  -- a client that had no fault reports only a fault that the piece shows
+  -- a client that had no error reports only an error that the chunk shows
   abbrev pub IsNews : Client A → List ℕ → Heard → Type 0
   IsNews old piece heard = (f : Fault) → fault_of old ≡ None → heard.got ≡ Failed f → ShownByFeed f heard.used piece
 
-  -- a client with this fault uses nothing and answers it again
+  -- a client with this error uses nothing and returns the error again
   abbrev pub Repeats : Client A → Heard → Client A → Type 0
   Repeats old heard new = (f : Fault) → fault_of old ≡ Some f → (heard.used ≡ 0) × (heard.got ≡ Failed f) × (new ≡ old)
 
@@ -408,7 +408,7 @@ module _ {A : Type 0} where
   Waits old heard new =
       wants_input old ≡ false → fault_of old ≡ None → (heard.used ≡ 0) × (heard.got ≡ More) × (new ≡ old)
 
-  -- what a call of `feed` does
+  -- the effect of a call of `feed`
   pub record Feeds (old : Client A) (piece : List ℕ) (heard : Heard) (new : Client A) : Type 0 where
     pub hears : HearsOn old (take heard.used piece) (events_of heard.got) new
     pub tells : Tells heard.got heard.used piece old new
@@ -416,7 +416,7 @@ module _ {A : Type 0} where
     pub stays : Repeats old heard new
     pub waits : Waits old heard new
 
-  -- one packet of those that were owed was given; the client receives after the last of a request, and has left after the flush
+  -- one of the packets that had to be sent was sent; after the last one of a request the client receives, and after the flush it has left
   pub record GivesOne (old new : Client A) (bytes : List ℕ) : Type 0 where
     pub packet : Pkt
     pub first : left_to_say old ≡ packet ∷ left_to_say new
@@ -425,7 +425,7 @@ module _ {A : Type 0} where
     pub sound : fault_of new ≡ None
     pub not_ready : can_ask new ≡ false
 
-  -- what each answer of `pull` means
+  -- the meaning of each result of `pull`
   abbrev pub TellsSent : Sent → Client A → Client A → Type 0
   TellsSent (Packet bytes) old new = GivesOne old new bytes.now
   TellsSent NeedInput old new = (wants_input old ≡ true) × (new ≡ old)
@@ -433,13 +433,13 @@ module _ {A : Type 0} where
   TellsSent Finished old new = (has_left old ≡ true) × (left_to_say old ≡ []) × (new ≡ old)
   TellsSent (FailedSent fault) old new = (fault_of old ≡ Some fault) × (new ≡ old)
 
-  -- what a call of `pull` does
+  -- the effect of a call of `pull`
   pub record Pulls (old : Client A) (sent : Sent) (new : Client A) : Type 0 where
     pub says : SaysOn old (given_by sent) new
     pub tells : TellsSent sent old new
     pub credit : credit_of (reader_of new) ≤ credit_of (reader_of old)
 
-  -- a client that owes a packet has put it into its hold
+  -- a client that has a packet to send has put it into its buffer
   pub record Puts (old new : Client A) : Type 0 where
     pub says : SaysOn old (held_of (reader_of new)) new
     pub gives : GivesOne old new (held_of (reader_of new))
@@ -451,7 +451,7 @@ IsMessage RemoteError line message = IsErrorOf (text_of line) message
 IsMessage RemoteFatal line message = line ≡ 3 ∷ message
 IsMessage kind line message = ⊥
 
--- the bytes end with a packet in which the server reports a fault, with this message
+-- the bytes end with a packet in which the server reports an error, with this message
 pub record EndsWithMessage (t : Terms) (asked : List Asked) (bytes message : List ℕ) : Type 0 where
   pub clean : List Given
   pub bad : Given
@@ -463,18 +463,18 @@ pub record EndsWithMessage (t : Terms) (asked : List Asked) (bytes message : Lis
   pub packet : bad.packet ≡ payload line
   pub says : IsMessage kind line message
 
--- by these names the server reports its own faults
+-- the names of the errors that the server reports itself
 abbrev pub is_told : Kind → Bool
 is_told RemoteError = true
 is_told RemoteFatal = true
 is_told kind = false
 
 module _ {A : Type 0} where
-  -- the conversation was not ended by a fault that the server reported
+  -- the conversation was not ended by an error that the server reported
   abbrev pub EndsWithoutMessage : Client A → Type 0
   EndsWithoutMessage client = (f : Fault) → fault_of client ≡ Some f → is_told f.kind ≡ false
 
-  -- the events of an outcome, whose bytes lie in the hold, or are the last of those used
+  -- the events of an outcome; their bytes are in the buffer, or are the last of those used
   abbrev pub Comes : Outcome → List EventValue → ℕ → List ℕ → Client A → Type 0
   Comes NothingYet events used piece new = events ≡ []
   Comes (PassedNow passed) events used piece new =
@@ -485,7 +485,7 @@ module _ {A : Type 0} where
       × Fits (said_last new) (drop 4 (held_of (reader_of new)))
   Comes (FailedNow fault) events used piece new = events ≡ []
 
-  -- a packet that was judged is settled; the reader is left alone
+  -- a packet that was judged is settled; the reader stays unchanged
   pub record Settles (old : Client A) (judged : Result Turn Kind) (offset : ℕ) (outcome : Outcome) (new : Client A) : Type 0 where
     pub reader : reader_of new ≡ reader_of old
     pub format : format_of new ≡ format_of old
@@ -496,7 +496,7 @@ module _ {A : Type 0} where
     pub said : said_last new ≡ said_last old
     pub tells : outcome ≡ outcome_judged offset (said_last old) judged
 
-  -- whether the client can ask or receives more, after a packet that contained this
+  -- whether the client can ask or receives more, after a packet with these contents
   abbrev pub StandsAfter : Said → Client A → Type 0
   StandsAfter OfferedSaid new = can_ask new ≡ true
   StandsAfter EndedSaid new = can_ask new ≡ true
@@ -509,7 +509,7 @@ module _ {A : Type 0} where
   LeavesStep (PassedNow passed) used piece new = (0 < used) × (wants_input new ≡ true)
   LeavesStep (FailedNow fault) used piece new = (fault_of new ≡ Some fault) × ShownByFeed fault used piece
 
-  -- a client that waits for input has used some of the piece
+  -- a client that waits for input has used some bytes of the chunk
   pub record Takes (old : Client A) (piece : List ℕ) (step : Advance) (new : Client A) : Type 0 where
     pub events : List EventValue
     pub comes : Comes step.outcome events step.used piece new

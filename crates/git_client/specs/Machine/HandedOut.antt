@@ -1,4 +1,4 @@
--- Bytes that passed, as they are handed out.
+-- Bytes that passed, as they are returned.
 use Rattle.std.specs.Prelude.{◌≡◌, ◌≢◌, ℕ, ◌-◌, ◌≤◌, List, take, drop}
 use Rattle.git_pkt.specs.declared.band.Band.{Band}
 use Rattle.git_pkt.specs.declared.band.Band.TheVariants.{Pack, Progress, Fatal}
@@ -9,7 +9,7 @@ use Rattle.git_client.specs.declared.events.Event.TheVariants.{Pack as PackEvent
 use Rattle.git_client.specs.declared.events.HeardGot.{HeardGot}
 use Rattle.git_client.specs.declared.events.HeardGot.TheVariants.{More as MoreGot, Event as EventGot, Failed as FailedGot}
 
--- the bytes that passed are among those used, and on a band whose bytes pass
+-- the bytes that passed are among those used, and are on a band whose bytes pass
 abbrev pub HasPart : Outcome → ℕ → Type 0
 HasPart (Passed passed) used = (passed.count ≤ used) × (passed.band ≢ Fatal)
 HasPart outcome used = Unit {0}
@@ -20,7 +20,7 @@ Shows Pack bytes (PackEvent shown) = shown.now ≡ bytes
 Shows Progress bytes (ProgressEvent shown) = shown.now ≡ bytes
 Shows band bytes event = ⊥
 
--- what came of a step is handed out: of bytes that passed the last of those used of the piece
+-- the result of a step is returned: if bytes passed, they are the last of those used of the chunk
 abbrev pub HandsOut : Outcome → ℕ → List ℕ → HeardGot → Type 0
 HandsOut (Passed passed) used piece (EventGot event) = Shows passed.band (take (used - (used - passed.count)) (drop (used - passed.count) piece)) event
 HandsOut (Failed f) used piece (FailedGot g) = f ≡ g
@@ -28,7 +28,7 @@ HandsOut More used piece MoreGot = Unit {0}
 HandsOut Event used piece MoreGot = Unit {0}
 HandsOut outcome used piece got = ⊥
 
--- the event is lent of the client: it is none of bytes that pass
+-- the event is borrowed from the client: it is not one of bytes that pass
 abbrev pub IsLent : EventLent → Type 0
 IsLent (PackEvent bytes) = ⊥
 IsLent (ProgressEvent bytes) = ⊥

@@ -1,4 +1,4 @@
--- The parts that a line of text is written in, and lines that wait for their writer.
+-- The parts of a written line of text, and lines that wait for their writer.
 use Rattle.std.specs.Prelude.{◌≡◌, ℕ, Bool, false, List, [], ◌∷◌, ◌++◌, codes, decimal, Option, Some, None}
 use Rattle.git_names.specs.ObjectName.{ObjectName, hex_of}
 use Rattle.git_pkt.specs.Escape.{escaped_of}
@@ -19,7 +19,7 @@ abbrev pub line_shown : List Part → List ℕ
 line_shown [] = codes "\n"
 line_shown (part ∷ parts) = part_shown part ++ line_shown parts
 
--- the object of an event after its word: a reference that has none is unborn
+-- the object of an event after its word: a reference without one is unborn
 abbrev pub object_shown : EventKind → Option ObjectName → List ℕ
 object_shown kind (Some id) = codes " " ++ hex_of id
 object_shown EventKind.Reference None = codes " unborn"
@@ -30,19 +30,19 @@ abbrev pub text_word : EventKind → List ℕ
 text_word EventKind.Capability = codes "="
 text_word kind = codes " symref-target:"
 
--- the size of an object, or that it is not there
+-- the size of an object, or a dash if the line about an object has none
 abbrev pub size_after : EventKind → Option ℕ → List ℕ
 size_after kind (Some size) = codes " " ++ decimal size
 size_after EventKind.Info None = codes " -"
 size_after kind None = []
 
--- a number of the line of a response's end
+-- a number in the line at a response's end
 abbrev pub count_after : EventKind → ℕ → List ℕ
 count_after EventKind.Ended count = codes " " ++ decimal count
 count_after kind count = []
 
--- The bytes came to those that waited for the writer: of all these the first were written, and the others wait. Where a write failed, a
--- front of the first was written.
+-- The bytes were appended to those that waited for the writer: the first of all these were written, and the others wait. If a write failed, a
+-- prefix of the first was written.
 pub record PutAs (broken : Bool) (stream : Flow) (before bytes after : List ℕ) : Type 0 where
   pub sent : List ℕ
   pub rest : List ℕ

@@ -1,4 +1,4 @@
--- What the steps of a run do: a client receives the next response, and sends the next request.
+-- The steps of a run: a client receives the next response, and sends the next request.
 use Rattle.std.specs.Prelude.{◌≡◌, ◌⊎◌, ℕ, ◌+◌, ◌-◌, ◌≤◌, ◌<◌, Bool, true, false, List, [], ◌∷◌, ◌++◌, length, take, drop, Some, None, Result, Ok, Err}
 use Rattle.std.specs.Io.KnownBytes.{Appends, Consumes}
 use Rattle.git_pkt.specs.Packets.{Pkt, spelling_of}
@@ -30,23 +30,23 @@ counts_with counts events = record {
   progress = counts.progress + length (progress_bytes events);
 }
 
--- the counts do not reach their end by these events
+-- the counts do not overflow with these events
 pub record CanCount (counts : Counts) (events : List EventValue) : Type 0 where
   pub pack : counts.pack + length (pack_bytes events) ≤ 18446744073709551615
   pub progress : counts.progress + length (progress_bytes events) ≤ 18446744073709551615
 
--- the events are all of one response, or of the advertisement: its end is the last, and after it alone the client can ask
+-- all events are of one response, or of the advertisement: the end of it is the last event, and only after it the client can ask
 abbrev pub IsOneTurn : List EventValue → Bool → Type 0
 IsOneTurn [] asks = asks ≡ false
 IsOneTurn (offered ∷ events) asks = (events ≡ []) × (asks ≡ true)
 IsOneTurn (response_ended ∷ events) asks = (events ≡ []) × (asks ≡ true)
 IsOneTurn (event ∷ events) asks = IsOneTurn events asks
 
--- the bytes of a piece that nobody used yet
+-- the bytes of a chunk that were not used yet
 abbrev pub window_of : Window → List ℕ → List ℕ
 window_of window piece = take (window.end - window.start) (drop window.start piece)
 
--- of the packets given all before the last were written whole, and of that one a front
+-- all packets before the last were written whole, and of the last a prefix
 pub record BreaksOff (stream : Flow) (given : List ℕ) : Type 0 where
   pub whole : List ℕ
   pub front : List ℕ
@@ -56,8 +56,8 @@ pub record BreaksOff (stream : Flow) (given : List ℕ) : Type 0 where
   pub one_packet : (front ++ rest ≡ []) ⊎ ((packet : Pkt) × (front ++ rest ≡ spelling_of packet))
 
 module _ {A : Type 0} where
-  -- These bytes were received, and the client owes nothing: the lines of the transcript for them were written, after what was counted of the
-  -- response before, and their bytes of the pack and of the progress
+  -- These bytes were received, and the client has nothing to send: the transcript lines for them were written, with the counts of the
+  -- response so far, and their bytes of the pack and of the progress
   pub record HearsBytes (broken : Bool) (old new : Client A) (counts counts_after : Counts) (used : List ℕ) (out packs progress : Flow) : Type 0 where
     pub events : List EventValue
     pub hears : HearsOn old used events new
@@ -68,7 +68,7 @@ module _ {A : Type 0} where
     pub sent : WrittenAs broken packs (pack_bytes events)
     pub reported : WrittenAs broken progress (progress_bytes events)
 
-  -- all of the piece was used, or the client can ask
+  -- all of the chunk was used, or the client can ask
   pub record HearsInPiece (old new : Client A) (counts counts_after : Counts) (piece : List ℕ) (used : ℕ) (out packs progress : Flow) : Type 0 where
     pub hears : HearsBytes false old new counts counts_after (take used piece) out packs progress
     pub within : used ≤ length piece
@@ -77,20 +77,20 @@ module _ {A : Type 0} where
     pub whole : wants_input new ≡ false → can_ask new ≡ true
     pub moves : 0 < length piece → 0 < used
 
-  -- a fault was met in the piece
+  -- there was an error in the chunk
   pub record HearsToFault (fault : Fault) (old new : Client A) (counts counts_after : Counts) (piece : List ℕ) (out packs progress : Flow) : Type 0 where
     pub used : ℕ
     pub hears : HearsBytes false old new counts counts_after (take used piece) out packs progress
     pub told : fault_of new ≡ Some fault
     pub shown : ShownByFeed fault used piece
 
-  -- a write or a flush failed; a fault that the client has is one that the piece shows
+  -- a write or a flush failed; if the client has an error, the chunk shows it
   pub record HearsPieceBroken (old new : Client A) (counts counts_after : Counts) (piece : List ℕ) (out packs progress : Flow) : Type 0 where
     pub used : ℕ
     pub hears : HearsBytes true old new counts counts_after (take used piece) out packs progress
     pub shown : (fault : Fault) → fault_of new ≡ Some fault → ShownByFeed fault used piece
 
-  -- how a piece was received
+  -- how a chunk was received
   abbrev pub HearsPieceTo : Result ℕ RunFault → Client A → Client A → Counts → Counts → List ℕ → Flow → Flow → Flow → Type 0
   HearsPieceTo (Ok used) old new counts counts_after piece out packs progress = HearsInPiece old new counts counts_after piece used out packs progress
   HearsPieceTo (Err WriteFault) old new counts counts_after piece out packs progress = HearsPieceBroken old new counts counts_after piece out packs progress
@@ -98,11 +98,11 @@ module _ {A : Type 0} where
       HearsToFault fault old new counts counts_after piece out packs progress
   HearsPieceTo (Err fault) old new counts counts_after piece out packs progress = ⊥
 
-  -- a fault that the client has is truncated only where the input has ended, and too long only where one more byte was read
+  -- an error of the client is that of truncation only if the input has ended, and that of a stream too long only if one more byte was read
   abbrev pub FaultsInTime : Client A → Bool → List ℕ → Type 0
   FaultsInTime client ended unused = (fault : Fault) → fault_of client ≡ Some fault → IsTimely fault.kind ended unused
 
-  -- of the bytes that waited and those that came, all but the last were received
+  -- a prefix of the bytes that waited and those that came was received
   pub record HearsFrom (broken : Bool) (old new : Client A) (waiting unused : List ℕ) (reader out packs progress : Flow) : Type 0 where
     pub came : List ℕ
     pub used : List ℕ
@@ -118,19 +118,19 @@ module _ {A : Type 0} where
     pub within : window.end ≤ length piece
     pub can_ask_on : can_ask new ≡ true
 
-  -- all bytes were received, and more are due
+  -- all bytes were received, and more are expected
   pub record HearsAll (old new : Client A) (waiting : List ℕ) (reader out packs progress : Flow) : Type 0 where
     pub hears : HearsFrom false old new waiting [] reader out packs progress
     pub due : wants_input new ≡ true
 
-  -- a fault was met
+  -- there was an error
   pub record HearsFault (fault : Fault) (ended : Bool) (old new : Client A) (waiting : List ℕ) (reader out packs progress : Flow) : Type 0 where
     pub unused : List ℕ
     pub hears : HearsFrom false old new waiting unused reader out packs progress
     pub told : fault_of new ≡ Some fault
     pub timely : IsTimely fault.kind ended unused
 
-  -- a write or a flush failed; a fault that the client has came in time
+  -- a write or a flush failed; if the client has an error, it came in time
   pub record HearsBroken (ended : Bool) (old new : Client A) (waiting : List ℕ) (reader out packs progress : Flow) : Type 0 where
     pub unused : List ℕ
     pub hears : HearsFrom true old new waiting unused reader out packs progress
@@ -144,7 +144,7 @@ module _ {A : Type 0} where
   HearsTo (Err WriteFault) ended old new waiting piece reader out packs progress = HearsBroken ended old new waiting reader out packs progress
   HearsTo (Err (Refused fault)) ended old new waiting piece reader out packs progress = HearsFault fault ended old new waiting reader out packs progress
 
-  -- packets that were owed were given, and written; all of them, unless a write failed, and then no more were given than that
+  -- packets that had to be sent were taken and written; all of them, unless a write failed, and then no more were taken after that
   pub record Says (broken : Bool) (old new : Client A) (writer : Flow) : Type 0 where
     pub given : List ℕ
     pub written : WrittenAs broken writer given
@@ -155,8 +155,8 @@ module _ {A : Type 0} where
     pub sound : fault_of new ≡ None
     pub not_ready : can_ask new ≡ false
 
-  -- the request may be asked and was, with its line in the transcript; also where a write failed the client has no fault, and can ask
-  -- no other
+  -- the request may be asked and was, with its line in the transcript; even if a write failed the client has no error, and can ask
+  -- no other request
   pub record AsksNext (broken : Bool) (old new : Client A) (request : Request A) (writer out : Flow) : Type 0 where
     pub passes : Passes (ask_checks (format_of old) (caps_of old) request)
     pub given : List ℕ
@@ -168,7 +168,7 @@ module _ {A : Type 0} where
     pub goes : (t : Terms) (h : History) → Converses t h old
         → Converses t (record h { asked = h.asked ++ asked_of request ∷ []; given = h.given ++ given }) new
 
-  -- the request was refused, and nothing is changed
+  -- the request was refused, and nothing changed
   pub record AsksNot (fault : Fault) (old new : Client A) (request : Request A) (writer out : Flow) : Type 0 where
     pub refused : RefusesBy (ask_checks (format_of old) (caps_of old) request) fault.kind
     pub at : fault.offset ≡ bytes_used old

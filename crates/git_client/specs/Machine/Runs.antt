@@ -1,4 +1,4 @@
--- What a run of a client over its streams results in: what it asked and received, what it sent, the transcript, the pack and the progress.
+-- The results of a run of a client over its streams: what it asked, received and sent, the transcript, the pack and the progress.
 use Rattle.std.specs.Prelude.{◌≡◌, ◌⊎◌, ◌≤◌, All, Bool, true, false, ℕ, List, [], ◌∷◌, ◌++◌, length, Some, Result, Ok, Err, map}
 use Rattle.git_pkt.specs.Streams.{IsTimely}
 use Rattle.git_pkt.specs.declared.fault.Fault.{Fault}
@@ -18,23 +18,23 @@ use Rattle.git_client.specs.declared.client.Client.{Client}
 use Rattle.git_client.specs.declared.events.Ending.{Ending}
 use Rattle.git_client.specs.declared.events.Ending.TheVariants.{FlushOnly, ResponseEnd}
 
--- after the last response the client leaves, but not where each request has a connection of its own
+-- after the last response the client leaves, unless each request has a connection of its own
 abbrev pub leaves_last : Ending → Bool
 leaves_last FlushOnly = true
 leaves_last ResponseEnd = false
 
--- all that is due was sent: what is written of each request, and after leaving the flush
+-- everything expected was sent: the written form of each request, and the flush after leaving
 pub record HasSaid (t : Terms) (h : History) : Type 0 where
   pub caps : Caps
   pub noted : HasNoted t h.asked h.used caps
   pub said : h.given ≡ spelled (said_of t.format caps h.asked h.left)
 
--- what was received is refused for its first fault: truncated only where the input has ended, too long only where one more byte was read
+-- the received bytes are refused for their first error: truncated only if the input has ended, too long only if one more byte was read
 pub record IsMalformed (t : Terms) (ended : Bool) (unused : List ℕ) (h : History) (fault : Fault) : Type 0 where
   pub first : FirstMalformed t h.asked h.used fault
   pub timely : IsTimely fault.kind ended unused
 
--- all that was read was used, nothing of it has a fault, more is due, and all that was to be sent was sent
+-- all bytes that were read were used, they have no error, more is expected, and everything that had to be sent was sent
 pub record IsInterrupted (t : Terms) (unused : List ℕ) (h : History) : Type 0 where
   pub all : unused ≡ []
   pub goes_on : GoesOn t h.asked h.used h.events
@@ -42,8 +42,8 @@ pub record IsInterrupted (t : Terms) (unused : List ℕ) (h : History) : Type 0 
   pub said : HasSaid t h
 
 module _ {A : Type 0} where
-  -- of the requests these were not asked, and all before them were: each may be asked by what was advertised, and there are no more
-  -- of them than one for the advertisement and one for each whole response
+  -- the requests in `rest` were not asked, and all before them were: the advertisement allows each of those, and there is at most one of
+  -- them for the advertisement and one for each whole response
   pub record HasAsked (t : Terms) (requests rest : List (Request A)) (h : History) : Type 0 where
     pub front : List (Request A)
     pub all : requests ≡ front ++ rest
@@ -51,7 +51,7 @@ module _ {A : Type 0} where
     pub may_be : (caps : Caps) → HasNoted t h.asked h.used caps → All (λ request. Passes (ask_checks t.format caps request)) front
     pub in_turn : length h.asked ≤ turns_of h.events
 
-  -- after the responses to all that was asked, the next request was refused
+  -- after the responses to all earlier requests, the next request was refused
   pub record IsRefusedRequest (t : Terms) (rest : List (Request A)) (h : History) (fault : Fault) : Type 0 where
     pub request : Request A
     pub later : List (Request A)
@@ -69,11 +69,11 @@ module _ {A : Type 0} where
     pub leaves : h.left ≡ leaves_last t.ending
     pub said : HasSaid t h
 
-  -- a write failed: the client has left only after the response to the last request, and not where each request has a connection of its own
+  -- a write failed: the client has left only after the response to the last request, and not if each request has a connection of its own
   pub record IsBrokenRun (t : Terms) (rest : List (Request A)) (h : History) : Type 0 where
     pub left_last : h.left ≡ true → (rest ≡ []) × IsConversation t h.asked h.used h.events × (leaves_last t.ending ≡ true)
 
-  -- how a run ended, where these requests were not asked
+  -- how a run ended if these requests were not asked
   abbrev pub EndsAs : Terms → Result (Unit {0}) RunFault → Bool → List ℕ → List (Request A) → History → Type 0
   EndsAs t (Ok done) ended unused rest h = IsWholeRun t rest h
   EndsAs t (Err ReadFault) ended unused rest h = IsInterrupted t unused h
@@ -82,7 +82,7 @@ module _ {A : Type 0} where
   EndsAs t (Err (Refused fault)) ended unused rest h =
       (IsMalformed t ended unused h fault ⊎ IsRefusedRequest t rest h fault) × (h.left ≡ false) × HasSaid t h
 
-  -- the client that a run hands back: it waits for more, has the fault that was reported, or can be asked another request than the
+  -- the client that a run returns: it waits for more, has the error that was reported, or can ask a request other than the
   -- refused one
   abbrev pub IsHandedBack : Result (Unit {0}) RunFault → Client A → Type 0
   IsHandedBack (Ok done) client = Unit {0}
@@ -91,8 +91,8 @@ module _ {A : Type 0} where
   IsHandedBack (Err WriteFault) client = Unit {0}
   IsHandedBack (Err (Refused fault)) client = (fault_of client ≡ Some fault) ⊎ (can_ask client ≡ true)
 
-  -- what a client that was asked these requests has to do with the bytes of its run: it used those read but the last of them, and
-  -- the bytes given are what it sent, the transcript, the pack, and the progress; a fault that it has came in time
+  -- the relation between a client that was asked these requests and the bytes of its run: the client used a prefix of the bytes read, and
+  -- the bytes given are those that it sent, the transcript, the pack, and the progress; if it has an error, the error came in time
   pub record Conversed (t : Terms) (requests : List (Request A)) (result : Result (Unit {0}) RunFault) (ended : Bool) (client : Client A)
       (read given : List (List ℕ)) : Type 0 where
     pub h : History

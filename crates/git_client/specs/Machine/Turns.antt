@@ -1,4 +1,4 @@
--- What the judge of packets answers by what is due, without the packets before.
+-- The judge's results for packets, by what is expected, without the packets before.
 use Rattle.std.specs.Prelude.{◌≡◌, ℕ, ◌+◌, ◌<◌, ◌≤◌, Bool, true, false, List, [], ◌∷◌, length, take, drop, Option, Some, None, map, Result, Ok, Err}
 use Rattle.std.specs.Prelude.{if◌then◌else◌}
 use Rattle.std.specs.Option.{option_copied}
@@ -46,7 +46,7 @@ use Rattle.git_client.specs.declared.phase.CapabilityPlaces.{CapabilityPlaces}
 use Rattle.git_client.specs.declared.phase.Turn.{Turn}
 use Rattle.git_client.specs.declared.phase.Turn.TheVariants.{Hearing as HearingTurn, Ready as ReadyTurn}
 
--- the place where this is due
+-- the place at which this is expected
 abbrev pub place_due : Caps → Format → Due → Place
 place_due caps format Version = version
 place_due caps format Capabilities = capabilities (is_spoken caps format)
@@ -60,13 +60,13 @@ place_due caps format SizeLine = size_line
 place_due caps format Sizes = sizes
 place_due caps format ResponseEnd = response_end
 
--- text lines are due
+-- text lines are expected
 abbrev pub TakesLines : Due → Type 0
 TakesLines Packfile = ⊥
 TakesLines ResponseEnd = ⊥
 TakesLines due = Unit {0}
 
--- the value of a capability line whose parts lie there
+-- the value of a capability line with its parts at these places
 abbrev pub value_at : CapabilityPlaces → List ℕ → Option (List ℕ)
 value_at places text = if places.has_value then Some (drop (places.key_length + 1) text) else None
 
@@ -97,29 +97,29 @@ pub record LiesIn (places : CapabilityPlaces) (text : List ℕ) : Type 0 where
   pub key : places.key_length ≤ length text
   pub value : places.has_value ≡ true → places.key_length < length text
 
--- what a text line was found to contain lies within it
+-- the places found in a text line are within it
 abbrev pub FitsLine : Said → List ℕ → Type 0
 FitsLine (SaidCapability places) text = LiesIn places text
 FitsLine (Reference places) text = FitsIn places (length text)
 FitsLine (WantedRef id) text = digits_of id.format < length text
 FitsLine said text = Unit {0}
 
--- what a payload was found to contain lies within it
+-- the places found in a payload are within it
 abbrev pub Fits : Said → List ℕ → Type 0
 Fits said bytes = FitsLine said (text_of bytes)
 
--- a text line at the place was found to contain this
+-- a text line at the place was found to have these contents
 pub record Says (place : Place) (format : Format) (text : List ℕ) (said : Said) : Type 0 where
   pub says : SaysLine place format text (line_events said text)
   pub fits : FitsLine said text
 
--- a capability line was found, after which this is noted
+-- a capability line was found, and these capabilities are noted after it
 pub record FindsCapability (caps : Caps) (text : List ℕ) (places : CapabilityPlaces) (after : Caps) : Type 0 where
   pub is_line : IsCapability text (take places.key_length text) (value_at places text)
   pub within : LiesIn places text
   pub notes : (packets : List Pkt) (line : List ℕ) → text_of line ≡ text → caps ≡ noted_of packets → after ≡ noted_of (payload line ∷ packets)
 
--- what is due after the header of a section
+-- what is expected after the header of a section
 abbrev pub due_in : Allowed → Section → Due
 due_in allowed AcknowledgmentsSection = Acknowledgments (record { any = false; nak = false; ready = false })
 due_in allowed ShallowInfoSection = ShallowInfo (next_allowed allowed ShallowInfoSection)
@@ -130,7 +130,7 @@ abbrev pub due_after_header : Allowed → Option Section → Due
 due_after_header allowed None = Header allowed
 due_after_header allowed (Some section) = due_in allowed section
 
--- what is due after a text line
+-- what is expected after a text line
 abbrev pub due_after_line : Due → List ℕ → Due
 due_after_line Version text = Capabilities
 due_after_line (Header allowed) text = due_after_header allowed (section_named text)
@@ -138,18 +138,18 @@ due_after_line (Acknowledgments told) text = Acknowledgments (acks_with told tex
 due_after_line SizeLine text = Sizes
 due_after_line due text = due
 
--- after the acknowledgments each other section may come
+-- after the acknowledgments every other section may come
 abbrev pub after_acknowledgments : Allowed
 after_acknowledgments = record { acknowledgments = false; shallow_info = true; wanted_refs = true }
 
--- what is due after a delimiter
+-- what is expected after a delimiter
 abbrev pub due_after_delimiter : Due → Due
 due_after_delimiter (Acknowledgments told) = Header after_acknowledgments
 due_after_delimiter (ShallowInfo allowed) = Header allowed
 due_after_delimiter (WantedRefs allowed) = Header allowed
 due_after_delimiter due = due
 
--- the phase of a conversation where it is this one's turn
+-- the phase of a conversation in this turn
 abbrev pub phase_in : Turn → Phase
 phase_in (HearingTurn due) = Hearing due
 phase_in ReadyTurn = ReadyPhase
@@ -159,7 +159,7 @@ abbrev pub phase_after_response : Ending → Phase
 phase_after_response FlushOnly = ReadyPhase
 phase_after_response WithResponseEnd = Hearing ResponseEnd
 
--- the phase of a conversation after a packet that has no fault
+-- the phase of a conversation after a packet without an error
 abbrev pub phase_after : Ending → Due → Pkt → Phase
 phase_after ending due (payload bytes) = Hearing (due_after_line due (text_of bytes))
 phase_after ending due delim = Hearing (due_after_delimiter due)
@@ -167,35 +167,35 @@ phase_after ending Capabilities flush = ReadyPhase
 phase_after ending due flush = phase_after_response ending
 phase_after ending due resp_end = ReadyPhase
 
--- what the flush of a response contains
+-- the contents of a response's flush
 abbrev pub said_after_flush : Ending → Said
 said_after_flush FlushOnly = Ended
 said_after_flush WithResponseEnd = Nothing
 
--- what is noted after a packet that has no fault: a line of the advertisement adds to it
+-- the capabilities noted after a packet without an error: a line of the advertisement adds to them
 abbrev pub NotesAfter : Due → Caps → Pkt → Caps → Type 0
 NotesAfter Capabilities caps (payload line) after = (packets : List Pkt) → caps ≡ noted_of packets → after ≡ noted_of (payload line ∷ packets)
 NotesAfter due caps p after = after ≡ caps
 
--- what the judge found of a packet that has no fault: what it contains, what is noted after it, and whose turn it is then
+-- the findings of the judge for a packet without an error: its contents, the capabilities noted after it, and whose turn it is then
 pub record IsTurn (format : Format) (ending : Ending) (due : Due) (caps : Caps) (p : Pkt) (said : Said) (after : Caps) (turn : Turn) : Type 0 where
   pub gives : Gives format ending (place_due caps format due) p (events_at said (body_of p))
   pub fits : Fits said (body_of p)
   pub notes : NotesAfter due caps p after
   pub next : phase_in turn ≡ phase_after ending due p
 
--- what the judge answers of a packet: of one that is refused nothing is noted
+-- the judge's result for a packet: a refused packet adds nothing to the noted capabilities
 abbrev pub Judges : Format → Ending → Due → Caps → Pkt → Said → Caps → Result Turn Kind → Type 0
 Judges format ending due caps p said after (Ok turn) = IsTurn format ending due caps p said after turn
 Judges format ending due caps p said after (Err kind) = Refuses format ending (place_due caps format due) p kind × (after ≡ caps)
 
--- what it found of a text line
+-- its findings for a text line
 pub record IsLineTurn (format : Format) (due : Due) (caps : Caps) (text : List ℕ) (said : Said) (after : Caps) (turn : Turn) : Type 0 where
   pub says : Says (place_due caps format due) format text said
   pub notes : (line : List ℕ) → text_of line ≡ text → NotesAfter due caps (payload line) after
   pub next : phase_in turn ≡ Hearing (due_after_line due text)
 
--- what it answers of one
+-- its result for a text line
 abbrev pub JudgesLine : Format → Due → Caps → List ℕ → Said → Caps → Result Turn Kind → Type 0
 JudgesLine format due caps text said after (Ok turn) = IsLineTurn format due caps text said after turn
 JudgesLine format due caps text said after (Err kind) = IsLineFault (place_due caps format due) format text kind × (after ≡ caps)
@@ -210,7 +210,7 @@ abbrev pub takes_bands : Phase → Bool
 takes_bands (Hearing Packfile) = true
 takes_bands _ = false
 
--- the fault of a phase
+-- the error of a phase
 abbrev pub fault_in : Phase → Option Fault
 fault_in (Failed fault) = Some fault
 fault_in phase = None
@@ -228,18 +228,18 @@ has_left_in Leaving = true
 has_left_in Left = true
 has_left_in phase = false
 
--- the packets that are still owed in a phase
+-- the packets that still have to be sent in a phase
 abbrev pub left_in : {A : Type 0} → Phase → Option (Request A) → List Pkt
 left_in (Asking writer) (Some request) = left_to_write writer request
 left_in Leaving request = flush ∷ []
 left_in phase request = []
 
--- what is asked by the request that is kept
+-- the contents of the stored request
 abbrev pub question_in : {A : Type 0} → Option (Request A) → Option Asked
 question_in None = None
 question_in (Some request) = Some (asked_of request)
 
--- what is due first of a response
+-- what is expected first of a response
 abbrev pub first_due : Asked → Due
 first_due (ls_refs q) = References
 first_due (fetch q) = Header (allowed_after q.done [])
@@ -249,7 +249,7 @@ first_due (object_info q) = SizeLine
 abbrev pub capability_value : Capability → EventValue
 capability_value c = capability c.key.now (option_copied c.value)
 
--- the events of a borrowed one: of bytes of the pack or of the progress one for each byte
+-- the events of a borrowed one: one for each byte of the pack or of the progress
 abbrev pub values_of : Event → List EventValue
 values_of (CapabilityEvent c) = capability_value c ∷ []
 values_of OfferedEvent = offered ∷ []

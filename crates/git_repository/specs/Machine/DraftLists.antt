@@ -1,4 +1,4 @@
--- What a clause sees of a `Draft`.
+-- The values of a `Draft` that contracts refer to.
 use Rattle.git_server.specs.Lists.{Lists, lists_in}
 use Rattle.git_repository.specs.declared.drafts.Draft.{Draft}
 

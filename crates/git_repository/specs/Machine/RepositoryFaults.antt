@@ -1,4 +1,4 @@
--- How the reading of a repository's text ends.
+-- The results of reading a repository's text.
 use Rattle.std.specs.Prelude.{ℕ, List}
 use Rattle.git_server.specs.declared.list_repo.ListRepo.{ListRepo}
 use Rattle.git_server.specs.Machine.ListRepo.{lists_of}

@@ -1,4 +1,4 @@
--- What the lines of a repository's text that have ended contain, and what has begun after them.
+-- The contents of the lines of a repository's text that have ended, and the bytes of the line that has begun after them.
 use Rattle.std.specs.Prelude.{◌≡◌, ◌⊎◌, ℕ, ◌+◌, ◌<◌, List, [], ◌∷◌, ◌++◌, length}
 use Rattle.git_names.specs.declared.object_format.Format.{Format}
 use Rattle.git_repository.specs.RepositoryLines.{Said, longest_line}
@@ -10,7 +10,7 @@ use Rattle.git_repository.specs.declared.text_faults.TextFault.{TextFault}
 use Rattle.git_repository.specs.declared.text_faults.TextFault.TheVariants.{Bad, OutOfMemory}
 use Rattle.git_repository.specs.LinesTold.{AreTold}
 
--- the fault shows in these lines
+-- the error is in these lines
 abbrev pub IsLinesFault : List (List ℕ) → TextFault → Type 0
 IsLinesFault lines (Bad number) = HasNoFormat lines number ⊎ HasBadLine lines number
 IsLinesFault lines OutOfMemory = WantsMemory lines
@@ -21,17 +21,17 @@ HasRead Start lines = lines ≡ []
 HasRead (Lines draft) lines = AreTold lines (drafted draft)
 HasRead (Failed fault) lines = IsLinesFault lines fault
 
--- lines are none, or they begin a text
+-- there are no lines, or they begin a text
 abbrev pub MayGoOn : List (List ℕ) → Type 0
 MayGoOn lines = (lines ≡ []) ⊎ ((format : Format) × (said : List Said) × Begins format lines said)
 
--- the line that has begun after these is already longer than a line may be, which is the fault
+-- the line that has begun after these is already longer than a line may be, which is the error
 pub record IsTooLong (ended : List (List ℕ)) (begun : List ℕ) (fault : TextFault) : Type 0 where
   pub may_go_on : MayGoOn ended
   pub long : longest_line < length begun
   pub at_number : fault ≡ Bad (length ended + 1)
 
--- these lines were read, and of this one what has come
+-- these lines were read, and the bytes of this one that have come
 abbrev pub HasReadTo : Progress → List (List ℕ) → List ℕ → Type 0
 HasReadTo Start ended begun = ended ≡ []
 HasReadTo (Lines draft) ended begun = AreTold ended (drafted draft)
@@ -43,7 +43,7 @@ HasFailed Start = ⊥
 HasFailed (Lines draft) = ⊥
 HasFailed (Failed fault) = Unit {0}
 
--- what is held is the line that has begun; after a fault what is held does not matter
+-- the buffered bytes are the line that has begun; after an error they do not matter
 abbrev pub IsBegun : Progress → List ℕ → List ℕ → Type 0
 IsBegun Start held begun = held ≡ begun
 IsBegun (Lines draft) held begun = held ≡ begun

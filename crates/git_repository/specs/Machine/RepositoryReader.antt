@@ -1,4 +1,4 @@
--- What a `RepositoryReader` has read.
+-- The text that a `RepositoryReader` has read.
 use Rattle.std.specs.Prelude.{◌≡◌, ℕ, ◌+◌, ◌<◌, List, length, vec_capacity}
 use Rattle.git_msg.specs.Texts.{parts_of}
 use Rattle.git_repository.specs.Machine.RepositoryProgress.{HasFailed, Stands}
@@ -8,19 +8,19 @@ use Rattle.git_repository.specs.declared.repository_reader.RepositoryReader.{Rep
 abbrev pub HasRefused : RepositoryReader → Type 0
 HasRefused reader = HasFailed reader.progress
 
--- there is no room for so many bytes beside the line that is open
+-- there is no room for so many bytes after the line that is open
 abbrev pub LacksRoom : RepositoryReader → ℕ → Type 0
 LacksRoom reader bytes = vec_capacity reader.begun < length reader.begun.items + bytes
 
--- how many bytes it has of the line that is open
+-- the number of buffered bytes of the line that is open
 abbrev pub open_bytes : RepositoryReader → ℕ
 open_bytes reader = length reader.begun.items
 
--- the reader was fed this text, or as much of it as shows the line that it refused
+-- the reader was fed this text, or enough of it to show the line that it refused
 abbrev pub Reads : RepositoryReader → List ℕ → Type 0
 Reads reader text = Stands reader.progress reader.begun.items (parts_of 10 text)
 
--- what was read and what has begun are as they were
+-- the contents that were read and the line that has begun are unchanged
 pub record Stays (old new : RepositoryReader) : Type 0 where
   pub progress : new.progress ≡ old.progress
   pub begun : new.begun.items ≡ old.begun.items

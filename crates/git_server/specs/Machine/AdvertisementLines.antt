@@ -57,7 +57,7 @@ abbrev pub advertisement_after : Offer → Option AdvertisementLine → List Pkt
 advertisement_after offer (Some next) = advertisement_from offer next
 advertisement_after offer None = []
 
--- what comes before one more feature of a command: `=` before the first, a space before the others
+-- the separator before the next feature of a command: `=` before the first, a space before the others
 abbrev pub separator_after : Bool → List ℕ
 separator_after false = codes "="
 separator_after true = codes " "

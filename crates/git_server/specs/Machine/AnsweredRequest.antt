@@ -1,4 +1,4 @@
--- A request that is answered, and one packet more of its answer.
+-- A request that is being answered, and one more packet of its answer.
 use Rattle.std.specs.Prelude.{◌≡◌, ◌<◌, ℕ, Option, Some, None, List, [], ◌∷◌, ◌++◌, drop, length, map}
 use Rattle.git_pkt.specs.Packets.{Pkt, flush}
 use Rattle.git_pkt.specs.declared.reader.PacketReader.{PacketReader}
@@ -42,19 +42,19 @@ AreSizesFrom whole q repo place later = later ≡ sizes_from q repo place
 AreSizesFrom broken q repo place later = ⊥
 
 module _ {A : Type 0} where
-  -- how many bytes the argument lines of the request have
+  -- the number of bytes in the argument lines of the request
   abbrev pub kept_with : Answer A → ℕ
   kept_with (References request place) = request.kept
   kept_with (Fetching request place) = request.kept
   kept_with (Sizes request place) = request.kept
 
-  -- how many bytes are stored of the request
+  -- the number of bytes stored of the request
   abbrev pub stored_with : Answer A → ℕ
   stored_with (References request place) = request.stored
   stored_with (Fetching request place) = request.stored
   stored_with (Sizes request place) = request.stored
 
-  -- the answer to a request, of which nothing was given
+  -- the answer to a request, before its first packet
   abbrev pub answer_to : Request A → Answer A
   answer_to (OfLsRefs request) = References request First
   answer_to (OfFetch request) = Fetching request (first_place request.asked)
@@ -66,47 +66,47 @@ module _ {A : Type 0} where
   IsAnswerFrom manner repo (Fetching request place) later = IsFetchFrom manner repo request.asked place later
   IsAnswerFrom manner repo (Sizes request place) later = AreSizesFrom manner request.asked repo place later
 
-  -- no more packets than these end it
+  -- the maximum number of packets that end it
   abbrev pub most_from : Repository → Answer A → ℕ
   most_from repo (References request place) = length (references_from request.asked repo place)
   most_from repo (Fetching request place) = most_fetch repo request.asked place
   most_from repo (Sizes request place) = length (sizes_from request.asked repo place)
 
--- the packets from a place on, or none where the answer ended
+-- the packets from a place on, or none if the answer ended
 abbrev pub references_after : LsRefsAsked → Repository → Option ReferencesPlace → List Pkt
 references_after q repo (Some place) = references_from q repo place
 references_after q repo None = []
 
--- the first packet of what is owed was written, and this place is the next
+-- the first of the remaining packets was written, and this place is the next
 pub record AnswersOne (asked : LsRefsAsked) (repo : Repository) (place : ReferencesPlace) (old : PacketReader) (after : Option ReferencesPlace)
     (new : PacketReader) : Type 0 where
   pub packet : Pkt
   pub owed : references_from asked repo place ≡ packet ∷ references_after asked repo after
   pub writes : Writes old packet new
 
--- the packets from a place on, or none where the answer ended
+-- the packets from a place on, or none if the answer ended
 abbrev pub sizes_after : ObjectInfoAsked → Repository → Option SizesPlace → List Pkt
 sizes_after q repo (Some next) = sizes_from q repo next
 sizes_after q repo None = []
 
--- the packet is the next one of what is owed from a place on, which becomes less by it, or ends with it
+-- the packet is the next one from a place on; there are fewer packets to send after it, or the answer ends with it
 abbrev pub IsNext : {P : Type 0} → (Manner → P → List Pkt → Type 0) → (P → ℕ) → P → Answered → P → Pkt → Type 0
 IsNext OwesFrom most old Part new packet =
     ((manner : Manner) (later : List Pkt) → OwesFrom manner new later → OwesFrom manner old (packet ∷ later)) × (most new < most old)
 IsNext OwesFrom most old Whole new packet = OwesFrom whole old (packet ∷ [])
 IsNext OwesFrom most old Broken new packet = OwesFrom broken old (packet ∷ [])
 
--- a read failed exactly where the answer broke off
+-- a read failed if and only if the answer broke off
 abbrev pub FailsBy : Answered → ℕ → ℕ → Type 0
 FailsBy Broken before now = before < now
 FailsBy _ before now = now ≡ before
 
--- what a repository answers stays, and a read failed exactly where the answer broke off
+-- the repository's answers stay the same, and a read failed if and only if the answer broke off
 pub record ReadsPack (answered : Answered) (old new : RepoState) : Type 0 where
   pub answers : new.answers ≡ old.answers
   pub failures : FailsBy answered old.failures new.failures
 
--- the next packet of what is owed from a place on was written
+-- the next packet from a place on was written
 pub record WritesNext {P : Type 0} (OwesFrom : Manner → P → List Pkt → Type 0) (most : P → ℕ) (repo_old : RepoState) (old : P) (reader_old : PacketReader)
     (answered : Answered) (repo_new : RepoState) (new : P) (reader_new : PacketReader) : Type 0 where
   pub packet : Pkt

@@ -1,4 +1,4 @@
--- What a clause sees of a `Faulty`.
+-- The values of a `Faulty` that contracts refer to.
 use Rattle.std.specs.Prelude.{ℕ, ◌+◌}
 use Rattle.git_server.specs.declared.faulty.Faulty.{Faulty}
 use Rattle.git_server.specs.Repository.{RepoState}
@@ -8,15 +8,15 @@ module _ {R : Type 0} where
   abbrev pub inner_of : Faulty R → R
   inner_of faulty = faulty.inner
 
-  -- how many more reads it passes on
+  -- the number of reads that it still passes on
   abbrev pub reads_left : Faulty R → ℕ
   reads_left faulty = faulty.reads_left
 
-  -- how many bytes a read gives at most
+  -- the maximum number of bytes that a read returns
   abbrev pub most_of : Faulty R → ℕ
   most_of faulty = faulty.most
 
-  -- what it answers: all that the inner repository does, and the reads that it failed itself count too
+  -- its answers: those of the inner repository; the reads that it failed itself count as failures too
   abbrev pub faulty_state : (R → RepoState) → Faulty R → RepoState
   faulty_state state faulty = record {
     answers = (state faulty.inner).answers;

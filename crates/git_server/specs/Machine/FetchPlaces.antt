@@ -1,4 +1,4 @@
--- What is owed of the answer to a fetch, by the place that it has reached.
+-- The rest of the answer to a fetch, by the place that it has reached.
 use Rattle.std.specs.Prelude.{◌≡◌, ℕ, ◌+◌, ◌-◌, ◌<◌, Bool, true, false, Option, MatchOption, List, [], ◌∷◌, ◌++◌, drop, length, slice_index_or, codes, map}
 use Rattle.std.specs.List.{filter_map}
 use Rattle.git_names.specs.ObjectName.{ObjectName}
@@ -27,18 +27,18 @@ use Rattle.git_server.specs.FetchAnswers.{common, is_ready_for, nak_or_acks, neg
 
 -- Acknowledgments.
 
--- the lines of these common objects, where some were sent before them or none was
+-- the lines of these common objects, by whether some were sent before them
 abbrev pub acks_by : Bool → List ObjectName → List Pkt
 acks_by true ids = map ack_packet ids
 acks_by false ids = nak_or_acks ids
 
--- the section of acknowledgments from a place on, but for its end
+-- the section of acknowledgments from a place on, without its end
 abbrev pub acknowledgments_from : Repository → FetchAsked → AcknowledgmentsPlace → List Pkt
 acknowledgments_from repo q AcknowledgmentsHeader = acknowledgments repo q
 acknowledgments_from repo q (Have next told) = acks_by told (common repo.has (drop next q.haves))
 acknowledgments_from repo q Through = []
 
--- the packet is the next one of the section, or its end: what came of it shows whether the pack follows
+-- the packet is the next one of the section, or its end: the result shows whether the pack follows
 abbrev pub IsNextAcknowledgment : Repository → FetchAsked → AcknowledgmentsPlace → Acknowledged → Pkt → Type 0
 IsNextAcknowledgment repo q place (Part next) packet = acknowledgments_from repo q place ≡ packet ∷ acknowledgments_from repo q next
 IsNextAcknowledgment repo q place Ready packet =
@@ -57,7 +57,7 @@ pub record IsNextCommon (has : ObjectName → Bool) (haves : List ObjectName) (f
   pub within : at < length haves
   pub first : (d : ObjectName) → common has (drop from haves) ≡ slice_index_or haves at d ∷ common has (drop (at + 1) haves)
 
--- where that is, or that there is none
+-- the index of that object, or that there is none
 abbrev pub NextCommon : (ObjectName → Bool) → List ObjectName → ℕ → Option ℕ → Type 0
 NextCommon has haves from found = MatchOption found (common has (drop from haves) ≡ []) (IsNextCommon has haves from)
 
@@ -73,7 +73,7 @@ abbrev pub wanted_from : Repository → List (List ℕ) → SectionPlace → Lis
 wanted_from repo names Header = wanted_refs repo names
 wanted_from repo names (Line next) = filter_map (wanted_packet repo) (drop next names) ++ delim ∷ []
 
--- of a section of which this is owed, by place, the next packet was written, or the answer does not have it
+-- the next packet of a section, which has these packets by place, was written, or the answer does not have the section
 abbrev pub WritesSection : (SectionPlace → List Pkt) → SectionPlace → PacketReader → SectionPart → PacketReader → Type 0
 WritesSection owed place old Absent new = (owed place ≡ []) × (new ≡ old)
 WritesSection owed place old (WroteLine next) new = WritesFirst (owed place) old (owed (Line next)) new
@@ -86,14 +86,14 @@ abbrev pub IsPackfileFrom : Manner → List ℕ → PackPlace → List Pkt → T
 IsPackfileFrom manner pack PackHeader later = IsPackfile manner pack later
 IsPackfileFrom manner pack (Pack offset) later = EndsPack manner (drop offset pack) later
 
--- no more packets than these end it
+-- the maximum number of packets that end it
 abbrev pub most_packets : List ℕ → PackPlace → ℕ
 most_packets pack PackHeader = length pack + 2
 most_packets pack (Pack offset) = length pack - offset + 1
 
 -- The whole answer.
 
--- where an answer begins
+-- the first place of an answer
 abbrev pub place_by : Bool → FetchPlace
 place_by true = Acknowledgments AcknowledgmentsHeader
 place_by false = ShallowInfo Header
@@ -109,7 +109,7 @@ IsFetchFrom manner repo q (ShallowInfo place) later = IsAfter (boundary_from (re
 IsFetchFrom manner repo q (WantedRefs place) later = IsAfter (wanted_from repo q.want_refs place) (IsPackfile manner (repo.pack q)) later
 IsFetchFrom manner repo q (Packfile place) later = IsPackfileFrom manner (repo.pack q) place later
 
--- no more packets than these end it
+-- the maximum number of packets that end it
 abbrev pub most_from_refs : Repository → FetchAsked → SectionPlace → ℕ
 most_from_refs repo q place = length (wanted_from repo q.want_refs place) + most_packets (repo.pack q) PackHeader
 

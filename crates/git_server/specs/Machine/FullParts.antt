@@ -1,4 +1,4 @@
--- That a packet of a pack has all that the repository gave for it.
+-- A packet of a pack has all bytes that the repository returned for it.
 use Rattle.std.specs.Prelude.{◌≡◌, ◌≤◌, ◌⊎◌, ℕ, List, length}
 use Rattle.git_pkt.specs.Packets.{Pkt, body_of, flush, longest_payload}
 use Rattle.git_pkt.specs.Bands.{band_packet}
@@ -14,7 +14,7 @@ use Rattle.git_server.specs.declared.answer.Answer.TheVariants.{References, Fetc
 use Rattle.git_server.specs.declared.server.Phase.{Phase}
 use Rattle.git_server.specs.declared.server.Phase.TheVariants.{Advertising, Between, Within, Answering, Refusing, Ended}
 
--- the packet has as many bytes of the pack as a read into all the room of a packet may give, or it ends the section
+-- the packet has as many bytes of the pack as a read for a whole packet may return, or it ends the section
 abbrev pub IsFullPart : (ℕ → ℕ → Type 0) → Pkt → Type 0
 IsFullPart gives packet =
     ((part : List ℕ) × (packet ≡ band_packet PackBand part) × gives 65515 (length part)) ⊎ (packet ≡ flush) ⊎ (packet ≡ pack_source_packet)
@@ -26,7 +26,7 @@ pub record HasFullPart (gives : ℕ → ℕ → Type 0) (Is : Pkt → Type 0) : 
   pub is : Is packet
   pub full : IsFullPart gives packet
 
--- there is, where the pack is owed from an offset on
+-- there is one, if the pack is sent next, from an offset on
 abbrev pub FillsPart : (ℕ → ℕ → ℕ → Type 0) → PackPlace → (Pkt → Type 0) → Type 0
 FillsPart gives Header Is = Unit {0}
 FillsPart gives (Pack offset) Is = HasFullPart (gives offset) Is

@@ -1,4 +1,4 @@
--- Packs that are not known yet, and what has none of their bytes.
+-- Packs that are not known yet, and answers without any of their bytes.
 use Rattle.std.specs.Prelude.{◌≡◌, ℕ, Bool, false, List}
 use Rattle.git_msg.specs.Asked.{FetchAsked}
 use Rattle.git_msg.specs.declared.offers.Offer.{Offer}
@@ -20,11 +20,11 @@ with_packs packs repo = record repo { pack = packs }
 abbrev pub setting_with : (FetchAsked → List ℕ) → Setting → Setting
 setting_with packs s = record s { repo = with_packs packs s.repo }
 
--- what a repository answers, with these packs
+-- the repository's answers, with these packs
 abbrev pub state_with : {R : Type 0} → (FetchAsked → List ℕ) → (R → RepoState) → R → RepoState
 state_with packs state repo = record { answers = with_packs packs (state repo).answers; failures = (state repo).failures }
 
--- what a session rests on that begins with this repository
+-- the setting of a session that begins with this repository
 abbrev pub first_setting : {R : Type 0} → (R → RepoState) → R → Offer → ℕ → Bool → Setting
 first_setting state repo offer limit advertise = record {
   offer = offer;
@@ -43,13 +43,13 @@ HasNoPackFrom repo q (WantedRefs place) = ⊥
 HasNoPackFrom repo q (Packfile place) = ⊥
 
 module _ {A : Type 0} where
-  -- nor has the answer, from its place on
+  -- the answer has none either, from its place on
   abbrev pub HasNoPack : Repository → Answer A → Type 0
   HasNoPack repo (References request place) = Unit {0}
   HasNoPack repo (Fetching request place) = HasNoPackFrom repo request.asked place
   HasNoPack repo (Sizes request place) = Unit {0}
 
-  -- nor what is owed in this phase
+  -- nor have the packets that are sent in this phase
   abbrev pub OwesNoPackIn : Repository → Phase A → Type 0
   OwesNoPackIn repo (Answering answer offset) = HasNoPack repo answer
   OwesNoPackIn repo (Advertising line) = Unit {0}

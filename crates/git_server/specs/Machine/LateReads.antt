@@ -1,4 +1,4 @@
--- Whether packs that are read late were read, and what failed of that.
+-- Whether packs that are read late were read, and whether that failed.
 use Rattle.std.specs.Prelude.{Bool, true, false, Option, Some, None}
 use Rattle.git_server.specs.Machine.PackSources.{has_failure, readers_of}
 use Rattle.git_server.specs.declared.late_repo.LatePacks.{LatePacks}

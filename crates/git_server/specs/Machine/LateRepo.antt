@@ -1,4 +1,4 @@
--- What a clause sees of a `LateRepo`.
+-- The values of a `LateRepo` that contracts refer to.
 use Rattle.std.specs.Prelude.{◌≡◌, ℕ, Bool, Option, List}
 use Rattle.git_server.specs.Lists.{Lists}
 use Rattle.git_server.specs.Repository.{RepoState}
@@ -9,15 +9,15 @@ use Rattle.git_server.specs.Machine.PackSources.{AreReadFrom}
 use Rattle.git_server.specs.declared.late_repo.LateRepo.{LateRepo}
 
 module _ {P : Type 0} where
-  -- the lists that it is made of
+  -- the lists that it consists of
   abbrev pub late_lists : LateRepo P → Lists
   late_lists repo = lists_of repo.lists
 
-  -- what it answers, and how many reads of a pack failed
+  -- its answers, and how many reads of a pack failed
   abbrev pub late_state : LateRepo P → RepoState
   late_state repo = record { answers = answers_from (late_lists repo); failures = repo.failed }
 
-  -- where the packs are to be read from, while that was not tried
+  -- the readers of the packs, until the packs are read
   abbrev pub unread_in : LateRepo P → Option (P × Option P)
   unread_in repo = unread_among repo.packs
 
@@ -25,7 +25,7 @@ module _ {P : Type 0} where
   abbrev pub has_packs : LateRepo P → Bool
   has_packs repo = are_read repo.packs
 
-  -- a read of one of them failed, other than by an interruption, or memory refused to keep what was read
+  -- a read of one of them failed, other than by an interruption, or memory for the bytes was refused
   abbrev pub pack_failed : LateRepo P → Bool
   pack_failed repo = have_failure repo.packs
 
@@ -33,7 +33,7 @@ module _ {P : Type 0} where
   abbrev pub AreReadOf : (P → Option (List ℕ)) → P × Option P → Lists → Type 0
   AreReadOf remaining sources lists = AreReadFrom remaining sources lists.pack lists.filtered
 
--- what a repository answers stays, but for its packs, and none of its reads failed
+-- the repository's answers stay the same, except for its packs, and none of its reads failed
 pub record SettlesPacks (old new : RepoState) : Type 0 where
   pub answers : new.answers ≡ with_packs new.answers.pack old.answers
   pub failures : new.failures ≡ old.failures

@@ -1,4 +1,4 @@
--- What a clause sees of a `ListRepo`.
+-- The values of a `ListRepo` that contracts refer to.
 use Rattle.std.specs.Prelude.{◌≡◌, ◌<◌, ℕ, Bool, true, false, List, Option, Some, None, filter, length, unwrap_or, if◌then◌else◌}
 use Rattle.std.proofs.Common.{refl}
 use Rattle.std.specs.Option.{ForSome}
@@ -10,11 +10,11 @@ use Rattle.git_server.specs.Lists.{Lists, lists_in, pack_for}
 use Rattle.git_server.specs.Objects.{has_object, object_of, size_among}
 use Rattle.git_server.specs.ToldBoundary.{boundary_for, is_enough}
 
--- the lists that it is made of
+-- the lists that it consists of
 abbrev pub lists_of : ListRepo → Lists
 lists_of repo = lists_in repo.lists
 
--- what a repository of these lists answers
+-- the answers of a repository of these lists
 abbrev pub answers_from : Lists → Repository
 answers_from lists = record {
   format = lists.format;
@@ -27,11 +27,11 @@ answers_from lists = record {
   pack = pack_for lists;
 }
 
--- what it answers: none of its reads fails
+-- its answers: none of its reads fails
 abbrev pub state_of : ListRepo → RepoState
 state_of repo = record { answers = answers_from (lists_of repo); failures = 0 }
 
--- what holds of its answers
+-- the conditions that its answers meet
 pub is_sound : (repo : ListRepo) → IsSound (state_of repo).answers
 is_sound repo = record {
   rising = repo.fit.rising_refs;
@@ -43,7 +43,7 @@ is_sound repo = record {
   unshallow = λ request. told_unshallow (lists_of repo).boundaries request;
 }
 
--- the pack that is given where there is another is short if both are
+-- the pack that a request gets, of one or two, is short if both are
 short_pack : (is_unfiltered : Bool) (pack : List ℕ) (filtered : Option (List ℕ)) → length pack < 9223372036854775808
     → ForSome filtered (λ other. length other < 9223372036854775808)
     → length (if is_unfiltered then pack else unwrap_or filtered pack) < 9223372036854775808

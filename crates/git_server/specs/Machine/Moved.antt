@@ -1,4 +1,4 @@
--- The states that a server has for a run, and the laws by which its calls join.
+-- The states of a server in a run, and the laws by which its calls join.
 use Rattle.std.specs.Prelude.{◌≡◌, ℕ, Bool, true, List, [], ◌++◌, Option, Some, IsSome}
 use Rattle.std.proofs.Common.{sym, append_assoc, append-nil, subst}
 use Rattle.std.specs.Io.{StartsWith}
@@ -18,7 +18,7 @@ use Rattle.git_server.specs.declared.server.Phase.{Phase}
 use Rattle.git_server.specs.declared.server.Phase.TheVariants.{Advertising, Between, Within, Answering, Refusing, Ended}
 use Rattle.git_server.specs.declared.server.Server.{Server}
 
--- the session ended, since the stream is too long
+-- the session ended because the stream is too long
 abbrev pub IsTooLong : Option Outcome → Type 0
 IsTooLong o = (fault : Fault) × (o ≡ Some (Refused fault)) × (fault.kind ≡ StreamTooLong)
 
@@ -31,11 +31,11 @@ waits_in (Refusing fault) waits ends = absurd (cc)
 waits_in (Ended outcome) waits ends = absurd (cc)
 
 module _ {R A : Type 0} where
-  -- all is given, and the session has an outcome
+  -- everything was sent, and the session has an outcome
   abbrev pub HasFinished : Server R A → Type 0
   HasFinished server = (outcome : Outcome) × (turn_in server.phase ≡ Finished outcome)
 
-  -- the hold begins with a packet of these bytes
+  -- the buffer begins with a packet of these bytes
   abbrev pub LendsPacket : Server R A → List ℕ → Type 0
   LendsPacket server bytes = (packet : Pkt) × Spells packet bytes × StartsWith (held_of server.reader) bytes
 
@@ -43,7 +43,7 @@ module _ {R A : Type 0} where
   pub waits_open : (server : Server R A) → wants_input server ≡ true → IsSome (outcome_of server) → ⊥
   waits_open server waits ends = waits_in server.phase waits ends
 
-  -- some bytes used and given lead to this state
+  -- some bytes used and sent lead to this state
   pub record IsOfASession (state : R → RepoState) (server : Server R A) : Type 0 where
     pub s : Setting
     pub used : List ℕ

@@ -1,4 +1,4 @@
--- What is written of what a server owes, without bytes or after some.
+-- Writing the packets that a server has to send, without new input or after some.
 use Rattle.std.specs.Prelude.{◌≡◌, ℕ, Bool, true, false, List, [], ◌++◌, length, Option, Some, None}
 use Rattle.git_msg.specs.Asked.{FetchAsked}
 use Rattle.git_pkt.specs.Streams.{Flow, WrittenAs}
@@ -9,18 +9,18 @@ use Rattle.git_server.specs.Machine.ServerCalls.{EndsAs, Goes, OwesNoPack, OwesN
 use Rattle.git_server.specs.declared.outcome.Outcome.{Outcome}
 use Rattle.git_server.specs.declared.server.Server.{Server}
 
--- the bytes were used, and what was given for them was written; where a write failed, a front of it
+-- the bytes were used, and the packets for them were written; a prefix of these if a write failed
 pub record WritesOn {R A : Type 0} (broken : Bool) (state : R → RepoState) (old new : Server R A) (bytes : List ℕ) (writer : Flow) : Type 0 where
   pub given : List ℕ
   pub written : WrittenAs broken writer given
   pub goes : Goes state bytes given old new
 
--- nothing was used, what was given was written, whatever the packs are, and no byte of a pack is owed; where a write failed, a front of it
+-- nothing was used; the packets were written, or a prefix of them if a write failed, whatever the packs are; no byte of a pack is left to send
 pub record WritesUnread {R A : Type 0} (broken : Bool) (state : R → RepoState) (old new : Server R A) (writer : Flow) : Type 0 where
   pub writes : (packs : FetchAsked → List ℕ) → WritesOn broken (state_with packs state) old new [] writer
   pub owes : OwesNoPack state new
 
--- a front of the bytes was used, and what was given for it was written; where a write failed, a front of it
+-- a prefix of the bytes was used, and the packets for it were written; a prefix of these if a write failed
 pub record WritesPart {R A : Type 0} (broken : Bool) (state : R → RepoState) (old new : Server R A) (bytes : List ℕ) (writer : Flow) : Type 0 where
   pub used : List ℕ
   pub unused : List ℕ
@@ -28,12 +28,12 @@ pub record WritesPart {R A : Type 0} (broken : Bool) (state : R → RepoState) (
   pub writes : WritesOn broken state old new used writer
 
 module _ {R A : Type 0} (state : R → RepoState) (old new : Server R A) (bytes : List ℕ) (writer : Flow) where
-  -- all the bytes were used, and all that was given for them was written
+  -- all the bytes were used, and all packets for them were written
   pub record WritesAll : Type 0 where
     pub writes : WritesOn false state old new bytes writer
     pub wants : wants_input new ≡ true
 
-  -- a front of the bytes was used, the session ended so, and all that was given was written
+  -- a prefix of the bytes was used, the session ended so, and all packets were written
   pub record WritesItsEnd (outcome : Outcome) : Type 0 where
     pub part : WritesPart false state old new bytes writer
     pub ends : outcome_of new ≡ Some outcome
@@ -41,7 +41,7 @@ module _ {R A : Type 0} (state : R → RepoState) (old new : Server R A) (bytes 
     pub session : EndsAs state new outcome
     pub in_time : StopsInTime state old (length part.used) bytes (Some outcome)
 
-  -- what was written, where the session goes on or ended
+  -- the packets written, by whether the session goes on or ended
   abbrev pub WritesFor : Option Outcome → Type 0
   WritesFor None = WritesAll
   WritesFor (Some outcome) = WritesItsEnd outcome

@@ -1,4 +1,4 @@
--- A part of a pack: what a read of it gave, and the packet that reports it.
+-- A part of a pack: the result of a read of it, and the packet that reports it.
 use Rattle.std.specs.Prelude.{◌≡◌, ◌<◌, ◌≤◌, ℕ, List, length, take}
 use Rattle.std.specs.Io.{StartsWith}
 use Rattle.git_pkt.specs.Packets.{Pkt, flush, spelling_of}
@@ -14,31 +14,31 @@ use Rattle.git_server.specs.declared.answer.Answered.TheVariants.{Part, Whole, B
 use Rattle.git_server.specs.declared.packfile.PartRead.{PartRead}
 use Rattle.git_server.specs.declared.packfile.PartRead.TheVariants.{Bytes, End, Failed}
 
--- how far an answer came with it
+-- the state of the answer after it
 abbrev pub answered_by : PartRead → Answered
 answered_by (Bytes count) = Part
 answered_by End = Whole
 answered_by Failed = Broken
 
--- the packet that reports it: the bytes that were put in front of the room, or that there are no more, or that the source failed
+-- the packet that reports it: the bytes at the front of the room, or that there are no more, or that the source failed
 abbrev pub part_packet : List ℕ → PartRead → Pkt
 part_packet room (Bytes count) = band_packet PackBand (take count room)
 part_packet room End = flush
 part_packet room Failed = pack_source_packet
 
--- a packet has room for the bytes
+-- the bytes fit into a packet
 abbrev pub FitsRoom : PartRead → Type 0
 FitsRoom (Bytes count) = count ≤ 65515
 FitsRoom End = Unit {0}
 FitsRoom Failed = Unit {0}
 
--- what was read of the pack from an offset on, to the front of the room
+-- the part read from the pack from an offset on, to the front of the room
 abbrev pub IsPartRead : List ℕ → ℕ → List ℕ → PartRead → Type 0
 IsPartRead pack offset room (Bytes count) = (0 < count) × IsPackPart pack offset count room
 IsPartRead pack offset room End = length pack ≤ offset
 IsPartRead pack offset room Failed = Unit {0}
 
--- it is what a read into all of the room may give
+-- a read into all of the room may return it
 abbrev pub IsGiven : (ℕ → ℕ → Type 0) → PartRead → Type 0
 IsGiven gives (Bytes count) = gives 65515 count
 IsGiven gives End = Unit {0}
@@ -51,7 +51,7 @@ pub record ReadsPart (gives : ℕ → ℕ → Type 0) (pack : List ℕ) (offset 
   pub given : IsGiven gives part
   pub reads : ReadsPack (answered_by part) repo_old repo_new
 
--- a part was read, and the hold begins with its packet
+-- a part was read, and the buffer begins with its packet
 pub record PutsPart (gives : ℕ → ℕ → Type 0) (pack : List ℕ) (offset : ℕ)
     (repo_old : RepoState) (part : PartRead) (repo_new : RepoState) (held : List ℕ) : Type 0 where
   pub room : List ℕ

@@ -1,4 +1,4 @@
--- What a clause sees of a `PackSources`.
+-- The values of a `PackSources` that contracts refer to.
 use Rattle.std.specs.Prelude.{◌≡◌, ◌||◌, ℕ, Bool, false, Option, Some, None, IfSome, List}
 use Rattle.std.specs.Option.{option_map}
 use Rattle.git_pkt.specs.Machine.Told.{has_failed, inner_of as in_told}
@@ -8,7 +8,7 @@ use Rattle.git_pkt.specs.declared.told.Told.{Told}
 use Rattle.git_server.specs.Machine.Growths.{has_refused}
 use Rattle.git_server.specs.declared.pack_sources.PackSources.{PackSources}
 
--- what was read are all bytes that its reader had, where these are known
+-- the bytes read are all bytes of the reader, if these are known
 abbrev pub IsReadFrom : Option (List ℕ) → List ℕ → Type 0
 IsReadFrom remaining read = IfSome remaining (λ bytes. read ≡ bytes)
 
@@ -24,11 +24,11 @@ module _ {P : Type 0} where
   has_failed_filtered None = false
   has_failed_filtered (Some told) = has_failed told
 
-  -- a read of one of the packs failed, other than by an interruption, or memory refused to keep what was read
+  -- a read of one of the packs failed, other than by an interruption, or memory for the bytes was refused
   abbrev pub has_failure : PackSources P → Bool
   has_failure sources = has_failed sources.pack || has_failed_filtered sources.filtered || has_refused sources.growths
 
-  -- the one pack was read from the one reader, and the other from the other, where there is one
+  -- one pack was read from one reader, and the other from the other, if there is another
   abbrev pub IsFilteredReadFrom : (P → Option (List ℕ)) → Option P → Option (List ℕ) → Type 0
   IsFilteredReadFrom remaining None read = read ≡ None
   IsFilteredReadFrom remaining (Some reader) None = ⊥

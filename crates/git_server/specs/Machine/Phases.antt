@@ -1,4 +1,4 @@
--- How far a server has come in its session.
+-- The phases of a server in its session.
 use Rattle.std.specs.Prelude.{◌≡◌, ◌≢◌, ℕ, Bool, true, false, Option, Some, None, List, [], ◌∷◌, length}
 use Rattle.git_pkt.specs.Packets.{Pkt}
 use Rattle.git_pkt.specs.Splits.{Given}
@@ -22,12 +22,12 @@ use Rattle.git_server.specs.declared.server.Turn.TheVariants.{NeedInput, Finishe
 use Rattle.git_server.specs.declared.server.Phase.{Phase}
 use Rattle.git_server.specs.declared.server.Phase.TheVariants.{Advertising, Between, Within, Answering, Refusing, Ended}
 
--- the fault of an outcome, if it has one
+-- the error of an outcome, if it has one
 abbrev pub refusal_in : Option Outcome → Option Fault
 refusal_in (Some (Refused fault)) = Some fault
 refusal_in _ = None
 
--- the outcome where the source of a pack failed
+-- the outcome if the source of a pack failed
 abbrev pub lost_pack : ℕ → Outcome
 lost_pack flush_offset = Refused (record { kind = PackSource; offset = flush_offset })
 
@@ -51,7 +51,7 @@ module _ {A : Type 0} where
   outcome_in (Ended outcome) = Some outcome
   outcome_in _ = None
 
-  -- in this phase these packets may be all that is still to be pulled, in this order
+  -- in this phase these packets may be all that still have to be pulled, in this order
   abbrev pub Owes : Offer → Repository → Phase A → List Pkt → Type 0
   Owes offer repo (Advertising line) later = later ≡ advertisement_from offer line
   Owes offer repo (Answering answer offset) later = IsAnswerFrom whole repo answer later
@@ -63,20 +63,20 @@ module _ {A : Type 0} where
   MayBreak repo (Answering answer offset) later = IsAnswerFrom broken repo answer later
   MayBreak repo _ later = ⊥
 
-  -- how many packets wait at the most
+  -- the maximum number of packets that wait
   abbrev pub most_owed : Offer → Repository → Phase A → ℕ
   most_owed offer repo (Advertising line) = length (advertisement_from offer line)
   most_owed offer repo (Answering answer offset) = most_from repo answer
   most_owed offer repo (Refusing fault) = 1
   most_owed offer repo _ = 0
 
-  -- how many bytes the argument lines of the request have that is answered
+  -- the number of bytes in the argument lines of the request that is being answered
   abbrev pub kept_in : Phase A → ℕ
   kept_in (Answering answer offset) = kept_with answer
   kept_in _ = 0
 
-  -- how many bytes are stored of the request that is answered. Each phase is named with its parts, so that none can be added without being
-  -- counted.
+  -- the number of bytes stored of the request that is being answered. Each phase is named with its parts, so that no part can be added
+  -- without being counted.
   abbrev pub stored_in : Phase A → ℕ
   stored_in (Advertising line) = 0
   stored_in Between = 0
@@ -85,17 +85,17 @@ module _ {A : Type 0} where
   stored_in (Refusing fault) = 0
   stored_in (Ended outcome) = 0
 
-  -- of a request that is not whole, whether some packets came
+  -- whether some packets of a request that is not whole came
   abbrev pub LeftIn : Phase A → List Given → Type 0
   LeftIn Within left = left ≢ []
   LeftIn _ left = left ≡ []
 
-  -- of a request that is answered, where its flush was: the last of the packets taken
+  -- the place of the flush of a request that is being answered: it is the last of the packets taken
   abbrev pub FlushIsAt : Phase A → List Given → Type 0
   FlushIsAt (Answering answer offset) packets = IsLastAt offset packets
   FlushIsAt _ packets = Unit {0}
 
-  -- an error packet ends the session at once; any other fault is reported to the other end
+  -- an error packet ends the session at once; any other error is reported to the peer
   abbrev pub refused_by : Kind → Fault → Phase A
   refused_by RemoteError fault = Ended (Refused fault)
   refused_by _ fault = Refusing fault
@@ -112,7 +112,7 @@ module _ {A : Type 0} where
   advertising_phase (Some next) = Advertising next
   advertising_phase None = Between
 
-  -- whether a packet is owed, and what to do if none is
+  -- whether a packet has to be sent, and what to do if there is none
   abbrev pub turn_in : Phase A → Turn
   turn_in Between = NeedInput
   turn_in Within = NeedInput

@@ -1,4 +1,4 @@
--- What a server represents: the bytes that it used, and those that it gave.
+-- The state that a server represents: the bytes that it used, and those that it sent.
 use Rattle.std.specs.Prelude.{◌≡◌, ◌<◌, ◌≤◌, ◌+◌, ℕ, Bool, false, Option, Some, None, List, []}
 use Rattle.git_pkt.specs.Packets.{Pkt}
 use Rattle.git_pkt.specs.Splits.{Given}
@@ -20,17 +20,17 @@ use Rattle.git_msg.specs.declared.offers.Offer.{Offer}
 use Rattle.git_server.specs.declared.server.Phase.{Phase}
 use Rattle.git_server.specs.declared.server.Server.{Server}
 
--- a session ended since the source of a pack failed
+-- a session ended because the source of a pack failed
 abbrev pub IsPackLost : Option Outcome → Type 0
 IsPackLost o = (fault : Fault) × (o ≡ Some (Refused fault)) × (fault.kind ≡ PackSource)
 
--- more reads of the repository have failed than before exactly where the session ended since the source of a pack failed
+-- more reads of the repository have failed than before if and only if the session ended because the source of a pack failed
 pub record HasFailed (o : Option Outcome) (before now : ℕ) : Type 0 where
   pub risen : IsPackLost o → before < now
   pub same : ¬ IsPackLost o → now ≡ before
 
 module _ {R A : Type 0} where
-  -- what reads its packets
+  -- the reader of its packets
   abbrev pub reader_of : Server R A → PacketReader
   reader_of server = server.reader
 
@@ -46,19 +46,19 @@ module _ {R A : Type 0} where
   abbrev pub outcome_of : Server R A → Option Outcome
   outcome_of server = outcome_in server.phase
 
-  -- how many bytes of argument lines are kept: of the request that is read, and of the one that is answered
+  -- the number of bytes in argument lines: of the request that is being read, and of the one that is being answered
   abbrev pub kept_by : Server R A → ℕ
   kept_by server = kept_so_far server.requests + kept_in server.phase
 
-  -- how many bytes are stored of their values
+  -- the number of bytes stored of their values
   abbrev pub stored_by : Server R A → ℕ
   stored_by server = stored_so_far server.requests + stored_in server.phase
 
-  -- how many bytes the server has: those of the hold of its packet reader, and those stored of both requests
+  -- the number of bytes that the server has: those in the buffer of its packet reader, and those stored of both requests
   abbrev pub bytes_held : Server R A → ℕ
   bytes_held server = held_in_packet server.reader + stored_by server
 
-  -- the same with each field named, so that none can be added without being counted
+  -- the same with each field named, so that no field can be added without being counted
   abbrev pub bytes_held_by_fields : Server R A → ℕ
   bytes_held_by_fields server =
       let record {
@@ -74,7 +74,7 @@ module _ {R A : Type 0} where
       } = server in
       held_in_packet reader + (stored_so_far requests + stored_in phase)
 
-  -- the session goes on: the bytes were read, and what is owed was asked for or is the advertisement
+  -- the session goes on: the bytes were read, and the packets that are left to send were asked for or are the advertisement
   pub record Serves (s : Setting) (used given : List ℕ) (server : Server R A) : Type 0 where
     pub asked : List Asked
     pub packets : List Given
@@ -98,7 +98,7 @@ module _ {R A : Type 0} where
   StandsBy (Some outcome) s used over given server =
       (owed : List Pkt) → Owes server.offer s.repo server.phase owed → IsEnding s used over given outcome owed
 
-  -- the server has used these bytes, and `over` if the input ended with them, and has given those
+  -- the server has used these bytes, with `over` if the input ended with them, and has sent those
   pub record Running (state : R → RepoState) (s : Setting) (used : List ℕ) (over : Bool) (given : List ℕ) (server : Server R A) : Type 0 where
     pub offer : server.offer ≡ s.offer
     pub reads_for : offer_of server.requests ≡ s.offer
@@ -110,7 +110,7 @@ module _ {R A : Type 0} where
     pub fits : held_in_packet server.reader ≤ 65520
     pub stands : StandsBy (outcome_of server) s used over given server
 
-  -- nothing was used or given yet
+  -- nothing was used or sent yet
   pub record IsFresh (repo : R) (offer : Offer) (limit : ℕ) (phase : Phase A) (server : Server R A) : Type 0 where
     pub repo_is : server.repo ≡ repo
     pub offer_is : server.offer ≡ offer

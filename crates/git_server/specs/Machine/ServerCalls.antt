@@ -1,4 +1,4 @@
--- What each call does to all that a server used and gave.
+-- The effect of each call on the bytes that a server used and sent.
 use Rattle.std.specs.Prelude.{◌≡◌, ◌⊎◌, ℕ, ◌<◌, ◌≤◌, Bool, true, List, [], ◌∷◌, ◌++◌, length, Option, Some, None}
 use Rattle.std.specs.Io.{StartsWith}
 use Rattle.git_pkt.specs.Machine.Credit.{credit_of}
@@ -25,34 +25,34 @@ use Rattle.git_server.specs.declared.server.Pulled.TheVariants.{Packet, NeedInpu
 abbrev pub IsClosing : Option Outcome → Type 0
 IsClosing o = (o ≡ Some Closed) ⊎ ((fault : Fault) × (o ≡ Some (Refused fault)) × (fault.kind ≡ Truncated))
 
--- what a pull makes of the outcome: once there is one it stays, and by a pull none comes but that of a pack whose source
+-- the effect of a pull on the outcome: an outcome stays, and a pull brings a new one only if the source of a pack
 -- failed
 abbrev pub IsAfterPull : Option Outcome → Option Outcome → Type 0
 IsAfterPull (Some outcome) now = now ≡ Some outcome
 IsAfterPull None now = (now ≡ None) ⊎ IsPackLost now
 
--- what was pulled, as bytes
+-- the bytes of a pulled result
 abbrev pub given_by : Pulled → List ℕ
 given_by (Packet bytes) = bytes.now
 given_by NeedInput = []
 given_by (Finished outcome) = []
 
--- what was pulled is this packet
+-- the pulled result is this packet
 abbrev pub IsPulled : Pulled → Pkt → Type 0
 IsPulled pulled packet = given_by pulled ≡ spelling_of packet
 
 module _ {R A : Type 0} where
-  -- the session did not end for want of memory, unless a list of at most as many bytes as the limit has was refused
+  -- the session did not end for lack of memory, unless memory was refused for a list of at most as many bytes as the limit
   abbrev pub EndsByRefusal : (ℕ → Type 0) → ℕ → Server R A → Type 0
   EndsByRefusal refuses limit server = FaultNeedsRefusal refuses limit (refusal_in (outcome_of server))
 
-  -- where that held of a session before the call it holds after it
+  -- if that held of a session before the call, it holds after it
   abbrev pub KeepsToMemory : (R → RepoState) → (ℕ → Type 0) → Server R A → Server R A → Type 0
   KeepsToMemory state refuses old new =
       (s : Setting) (so_far : List ℕ) (over : Bool) (before : List ℕ) → Running state s so_far over before old
       → EndsByRefusal refuses s.limit old → EndsByRefusal refuses s.limit new
 
-  -- the call used and gave these bytes: what held before holds with them
+  -- the call used and sent these bytes: the relation that held before also holds with them
   abbrev pub Goes : (R → RepoState) → List ℕ → List ℕ → Server R A → Server R A → Type 0
   Goes state used given old new =
       (s : Setting) (so_far : List ℕ) (over : Bool) (before : List ℕ) → Running state s so_far over before old
@@ -62,15 +62,15 @@ module _ {R A : Type 0} where
   abbrev pub GoesUnread : (R → RepoState) → List ℕ → List ℕ → Server R A → Server R A → Type 0
   GoesUnread state used given old new = (packs : FetchAsked → List ℕ) → Goes (state_with packs state) used given old new
 
-  -- the server has used and given these bytes, whatever the packs are
+  -- the server has used and sent these bytes, whatever the packs are
   abbrev pub RunsUnread : (R → RepoState) → Setting → List ℕ → Bool → List ℕ → Server R A → Type 0
   RunsUnread state s used over given server = (packs : FetchAsked → List ℕ) → Running (state_with packs state) (setting_with packs s) used over given server
 
-  -- no byte of a pack is owed
+  -- no byte of a pack has to be sent
   abbrev pub OwesNoPack : (R → RepoState) → Server R A → Type 0
   OwesNoPack state server = OwesNoPackIn (state server.repo).answers server.phase
 
-  -- these bytes were given whatever the packs are, and no byte of one is owed after them
+  -- these bytes were sent whatever the packs are, and no byte of a pack has to be sent after them
   pub record GivesUnread (state : R → RepoState) (old : Server R A) (given : List ℕ) (new : Server R A) : Type 0 where
     pub goes : GoesUnread state [] given old new
     pub owes : OwesNoPack state new
@@ -85,21 +85,21 @@ module _ {R A : Type 0} where
   abbrev pub ClosesUnread : (R → RepoState) → Server R A → Server R A → Type 0
   ClosesUnread state old new = (packs : FetchAsked → List ℕ) → Closes (state_with packs state) old new
 
-  -- the stream is too long only where there was one byte more than was used
+  -- the stream is too long only if there was one byte more than was used
   abbrev pub StopsInTime : (R → RepoState) → Server R A → ℕ → List ℕ → Option Outcome → Type 0
   StopsInTime state old used piece outcome =
       (s : Setting) (so_far : List ℕ) (over : Bool) (before : List ℕ) → Running state s so_far over before old → wants_input old ≡ true
       → (fault : Fault) → outcome ≡ Some (Refused fault) → fault.kind ≡ StreamTooLong → used < length piece
 
-  -- these packets may be all that is still to be pulled, in this order
+  -- these packets may be all that still have to be pulled, in this order
   abbrev pub OwesNow : (R → RepoState) → Server R A → List Pkt → Type 0
   OwesNow state server later = Owes server.offer (state server.repo).answers server.phase later
 
-  -- how many wait at the most
+  -- the maximum number of packets that wait
   abbrev pub most_left : (R → RepoState) → Server R A → ℕ
   most_left state server = most_owed server.offer (state server.repo).answers server.phase
 
-  -- the packet that waits: where it is of a pack, it has all that the repository gives for one
+  -- the packet that waits: if it is one of a pack, it has all that the repository returns for a packet
   abbrev pub FillsOwed : (R → FetchAsked → ℕ → ℕ → ℕ → Type 0) → Server R A → (Pkt → Type 0) → Type 0
   FillsOwed gives server Is = FillsPhase (gives server.repo) server.phase Is
 
@@ -118,12 +118,12 @@ module _ {R A : Type 0} where
   abbrev pub ComesFirst : (R → RepoState) → Pkt → Server R A → Server R A → Type 0
   ComesFirst state packet old new = ComesBefore state packet old new ⊎ BreaksOff state packet old new
 
-  -- what was used and given is a session that ended so
+  -- the bytes used and sent are a session that ended so
   abbrev pub EndsAs : (R → RepoState) → Server R A → Outcome → Type 0
   EndsAs state server outcome =
       (s : Setting) (used : List ℕ) (over : Bool) (given : List ℕ) → Running state s used over given server → IsSession s used over given outcome
 
-  -- what each answer of `pull` means
+  -- the meaning of each result of `pull`
   abbrev pub TellsPulled : (R → RepoState) → Server R A → Pulled → Server R A → Type 0
   TellsPulled state old (Packet bytes) new =
       (packet : Pkt) × ComesFirst state packet old new × (bytes.now ≡ spelling_of packet) × (most_left state new < most_left state old)
@@ -131,7 +131,7 @@ module _ {R A : Type 0} where
   TellsPulled state old (Finished outcome) new =
       (outcome_of old ≡ Some outcome) × OwesNow state old [] × (new ≡ old) × EndsAs state old outcome
 
-  -- what a call of `pull` does
+  -- the effect of a call of `pull`
   pub record Pulls (state : R → RepoState) (old : Server R A) (pulled : Pulled) (new : Server R A) : Type 0 where
     pub goes : Goes state [] (given_by pulled) old new
     pub unread : OwesNoPack state old → GivesUnread state old (given_by pulled) new
@@ -140,19 +140,19 @@ module _ {R A : Type 0} where
     pub fits : length (given_by pulled) ≤ 65520
     pub credit : credit_of new.reader ≤ credit_of old.reader
 
-  -- the reader used these bytes, which gave these packets; the offer and the repository are as they were
+  -- the reader used these bytes, which gave these packets; the offer and the repository are unchanged
   pub record ReadsFor (state : R → RepoState) (old : Server R A) (used : List ℕ) (packets : List Given) (new : Server R A) : Type 0 where
     pub offer : new.offer ≡ old.offer
     pub repo : state new.repo ≡ state old.repo
     pub reads : ReadsOn old.reader used packets new.reader
 
-  -- the offer, the repository and what was taken of a request are as they were
+  -- the offer, the repository and the stored part of a request are unchanged
   pub record Keeps (state : R → RepoState) (old new : Server R A) : Type 0 where
     pub offer : new.offer ≡ old.offer
     pub repo : state new.repo ≡ state old.repo
     pub requests : new.requests ≡ old.requests
 
-  -- the hold begins with the next packet that is owed, which is given with it
+  -- the buffer begins with the next packet that has to be sent, which counts as sent
   pub record Gives (state : R → RepoState) (old new : Server R A) : Type 0 where
     pub packet : Pkt
     pub owed : ComesFirst state packet old new

@@ -1,4 +1,4 @@
--- What a clause sees of a `SharedRepo`.
+-- The values of a `SharedRepo` that contracts refer to.
 use Rattle.git_server.specs.declared.list_repo.ListRepo.{ListRepo}
 use Rattle.git_server.specs.declared.shared_repo.SharedRepo.{SharedRepo}
 use Rattle.git_server.specs.Machine.ListRepo.{state_of}
@@ -8,6 +8,6 @@ use Rattle.git_server.specs.Repository.{RepoState}
 abbrev pub shared_by : SharedRepo → ListRepo
 shared_by shared = shared.repo.value
 
--- what it answers: what the repository does
+-- its answers: those of the shared repository
 abbrev pub shared_state : SharedRepo → RepoState
 shared_state shared = state_of (shared_by shared)

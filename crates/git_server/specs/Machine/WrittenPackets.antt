@@ -1,4 +1,4 @@
--- What writing a packet into a reader's hold does to the reader.
+-- The effect on a reader of writing a packet into its buffer.
 use Rattle.std.specs.Prelude.{◌≡◌, ◌≤◌, ℕ, false, List, ◌∷◌, length}
 use Rattle.std.specs.Io.{StartsWith}
 use Rattle.git_pkt.specs.Packets.{Pkt, spelling_of, body_of, longest_payload}
@@ -6,7 +6,7 @@ use Rattle.git_pkt.specs.Splits.{Given}
 use Rattle.git_pkt.specs.Machine.PacketReader.{Reads, bytes_held, held_of, fault_of, is_open, passes_of, position_of}
 use Rattle.git_pkt.specs.declared.reader.PacketReader.{PacketReader}
 
--- the hold begins with the packet's spelling
+-- the buffer begins with the packet's spelling
 abbrev pub IsAtFront : PacketReader → Pkt → Type 0
 IsAtFront reader packet = StartsWith (held_of reader) (spelling_of packet)
 
@@ -21,7 +21,7 @@ pub record Writes (old : PacketReader) (packet : Pkt) (new : PacketReader) : Typ
   pub holds : bytes_held new ≤ 65520
   pub reads : (start : ℕ) (bytes : List ℕ) (given : List Given) (rest : List ℕ) → Reads old start bytes given rest → Reads new start bytes given rest
 
--- the first of the packets that are owed was written, and these others are owed then
+-- the first of the packets that have to be sent was written, and these others are left
 pub record WritesFirst (owed : List Pkt) (old : PacketReader) (others : List Pkt) (new : PacketReader) : Type 0 where
   pub packet : Pkt
   pub comes_first : owed ≡ packet ∷ others
