@@ -62,7 +62,7 @@ fn explain_line(rt: &HostRuntime, path: &str, number: u64, text: Text) -> io::Re
     eprintln!(rt; "line {number} of {shown}: {reason}")
 }
 
-/// Reads a file once more, up to this line and a piece of it at least. What is no regular file, as a pipe, cannot be read again.
+/// Reads a file once more, up to this line and a chunk of it at least. What is no regular file, as a pipe, cannot be read again.
 fn read_again(rt: &HostRuntime, path: &str, number: u64) -> io::Result<Vec<u8>> {
     if !fs::metadata(rt, path)?.is_file() {
         return Err(io::ErrorKind::NotSeekable.into());
@@ -84,7 +84,7 @@ fn read_again(rt: &HostRuntime, path: &str, number: u64) -> io::Result<Vec<u8>> 
     Ok(text)
 }
 
-/// How many lines end in a piece of a text.
+/// How many lines end in a chunk of a text.
 fn count_lines(piece: &[u8]) -> u64 {
     piece.iter().filter(|byte| **byte == b'\n').count() as u64
 }

@@ -126,7 +126,7 @@ fn ask_all<O: Write + Drop, E: Output>(
     done.map_err(|fault| Failure::of_run(fault, wire.or(files)))
 }
 
-/// A writer over this one that passes on what it has at each flush, and before that only by large pieces.
+/// A writer over this one that passes on what it has at each flush, and before that only by large chunks.
 fn buffered<O: Write + Drop>(rt: &HostRuntime, inner: O) -> Result<BufWriter<O>, ProgramFault> {
     BufWriter::with_capacity(rt.alloc(), PIECE, inner).map_err(|_| ProgramFault::OutOfMemory)
 }

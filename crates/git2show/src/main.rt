@@ -34,13 +34,13 @@ use std::{env, fs, io};
 /// How many bytes are read at a time.
 const PIECE: usize = 65_536;
 
-/// How many reads a run makes at the most.
+/// How many reads a run makes at most.
 const TURNS: u64 = 1_073_741_824;
 
 /// The most bytes that the texts of a request's argument lines may have.
 const MOST_KEPT: u32 = 1_073_741_824;
 
-/// The most bytes of a piece in which a played conversation goes over, and as many as it has by default.
+/// The most bytes of a chunk in which a played conversation goes over, and as many as it has by default.
 const LONGEST_CUT: u32 = 65_536;
 
 /// The status where the command line is refused.
@@ -252,7 +252,7 @@ fn run_check(rt: &HostRuntime, matches: &ArgMatches<'_>) -> Result<(), Failure> 
     done.map_err(|fault| Failure::of_run(fault, inputs.or(output.failed_call())))
 }
 
-/// Opens the file that an argument names, to be read by pieces.
+/// Opens the file that an argument names, to be read in chunks.
 fn watched_file(
     rt: &HostRuntime,
     matches: &ArgMatches<'_>,
@@ -288,7 +288,7 @@ fn open(
     File::open(rt, path).map_err(|error| Failure::of_file(argument, error))
 }
 
-/// Standard output, where what is written goes out by large pieces and at each flush. The buffer is no longer than the longest packet,
+/// Standard output, where what is written goes out by large chunks and at each flush. The buffer is no longer than the longest packet,
 /// which is so written from where it lies.
 fn buffered_output(rt: &HostRuntime) -> Result<Watched<BufWriter<Stdout>>, ProgramFault> {
     match BufWriter::with_capacity(rt.alloc(), LONGEST_PACKET, rt.stdout()) {
@@ -297,7 +297,7 @@ fn buffered_output(rt: &HostRuntime) -> Result<Watched<BufWriter<Stdout>>, Progr
     }
 }
 
-/// A file that is read by pieces.
+/// A file that is read in chunks.
 type WatchedFile = Watched<Retries<File>>;
 
 /// A server of a repository in files.
@@ -563,7 +563,7 @@ fn judge_repository(text: RepositoryReader, packs: Packs) -> Result<ListRepo, Pr
     }
 }
 
-/// Reads the text of a repository by pieces, but nothing after a line that is refused.
+/// Reads the text of a repository in chunks, but nothing after a line that is refused.
 fn read_text(rt: &HostRuntime, file: File) -> Result<RepositoryReader, Failure> {
     let mut file = Retries::new(file);
     let mut reader = RepositoryReader::new(rt.alloc());
@@ -576,7 +576,7 @@ fn read_text(rt: &HostRuntime, file: File) -> Result<RepositoryReader, Failure> 
     Err(ProgramFault::File.into())
 }
 
-/// Reads the next piece of the text of a repository. Answers whether there was one.
+/// Reads the next chunk of the text of a repository. Returns whether there was one.
 fn read_piece(
     file: &mut Retries<File>,
     piece: &mut [u8],
@@ -604,7 +604,7 @@ fn read_whole(
     fs::read(rt, path).map_err(|error| Failure::of_file(argument, error))
 }
 
-/// Does what the command line asks for. Answers the status.
+/// Does what the command line asks for. Returns the exit status.
 fn run(rt: &HostRuntime, matches: &ArgMatches<'_>) -> u8 {
     let Some((name, words)) = matches.subcommand() else {
         return BAD_COMMAND_LINE;
@@ -659,7 +659,7 @@ impl From<io::Error> for NotTaken {
     }
 }
 
-/// Reads the command line and does what it asks for. Answers the status.
+/// Reads the command line and does what it asks for. Returns the exit status.
 fn run_command_line(rt: &HostRuntime) -> Result<u8, NotTaken> {
     let alloc = rt.alloc();
     let words: Vec<String> = env::args(rt)?.collect(alloc)?;
@@ -667,7 +667,7 @@ fn run_command_line(rt: &HostRuntime) -> Result<u8, NotTaken> {
     Ok(run(rt, &matches))
 }
 
-/// Reports why the command line was not taken, by clap's own text. Answers the status.
+/// Reports why the command line was not taken, by clap's own text. Returns the exit status.
 fn tell(rt: &HostRuntime, error: NotTaken) -> u8 {
     match error {
         NotTaken::Memory => tell_fault(rt, ProgramFault::OutOfMemory),
@@ -693,7 +693,7 @@ fn tell(rt: &HostRuntime, error: NotTaken) -> u8 {
 }
 
 /// Reports a failure: by its fault's line and, where standard error is a terminal, by a second one that says more. The words are those
-/// after the command, where the command line was taken. Answers the status.
+/// after the command, where the command line was taken. Returns the exit status.
 fn tell_failure(rt: &HostRuntime, words: Option<&ArgMatches<'_>>, failure: &Failure) -> u8 {
     let status = tell_fault(rt, failure.fault);
     if rt.stderr().is_terminal() {
@@ -702,7 +702,7 @@ fn tell_failure(rt: &HostRuntime, words: Option<&ArgMatches<'_>>, failure: &Fail
     status
 }
 
-/// Writes a fault's line on standard error. Answers the status.
+/// Writes a fault's line on standard error. Returns the exit status.
 fn tell_fault(rt: &HostRuntime, fault: ProgramFault) -> u8 {
     report(&fault, &mut Told::new(rt.stderr()))
 }

@@ -13,7 +13,7 @@ use git_server::{Repo, Server};
 use std::alloc::Allocator;
 use std::io::Read;
 
-/// Which bytes of a piece were read after a request.
+/// Which bytes of a chunk were read after a request.
 #[derive(Clone, Copy, Debug)]
 pub(crate) struct Left {
     /// The place of the first of them.
@@ -28,10 +28,10 @@ impl Left {
 }
 
 /// Feeds a server that waits for a request what a reader gives, until it has an answer or a refusal to give, or the session has
-/// ended. Nothing more is read then; what was read after the request lies in the piece, where it is returned. The piece is where the
+/// ended. Nothing more is read then; what was read after the request lies in the chunk, where it is returned. The chunk is where the
 /// bytes that are read go; it may not be empty.
 ///
-/// `ReadFault` where a read fails, and `ReadLimit` where a further read than the `turns` that are allowed would be needed. The
+/// `ReadFault` if a read fails, and `ReadLimit` where a further read than the `turns` that are allowed would be needed. The
 /// server waits for input then.
 pub(crate) fn take_request<In: Read, R: Repo, A: Allocator + Copy>(
     reader: &mut Told<In>,

@@ -6,7 +6,7 @@ use std::io::{self, Write};
 const PREFIX: &[u8; 8] = b"remote: ";
 
 /// A writer that puts `remote: ` before each line and passes bytes on, but shows each control byte other than the line ends, which are
-/// line feed and carriage return, as a question mark: what a stranger sends may not steer the terminal.
+/// line feed and carriage return, as a question mark: what a peer sends may not steer the terminal.
 #[derive(Debug, Drop)]
 pub(crate) struct RemoteLines<W> {
     inner: W,

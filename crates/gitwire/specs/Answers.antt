@@ -59,7 +59,7 @@ what_number NeedSize = 42
 what_number OutOfOrder = 43
 what_number NotShallow = 44
 
--- what is reported of a piece where nothing else is: more is to come, or none was due
+-- what is reported of a chunk where nothing else is: more is to come, or none was expected
 abbrev pub more_of : Bool → What
 more_of true = More
 more_of false = NotNow
@@ -68,11 +68,11 @@ more_of false = NotNow
 abbrev pub answering : What → GitwireAnswer
 answering what = record { used = 0; offset = 0; length = 0; kind = what_number what; fault = 0 }
 
--- what came of a piece of which so many bytes were used, and nothing more
+-- what came of a chunk of which so many bytes were used, and nothing more
 abbrev pub answering_used : ℕ → What → GitwireAnswer
 answering_used used what = record { used = used; offset = 0; length = 0; kind = what_number what; fault = 0 }
 
--- a packet at this offset, of which so many bytes are in the room
+-- a packet at this offset, of which so many bytes are in the buffer
 abbrev pub answering_packet : ℕ → ℕ → ℕ → What → GitwireAnswer
 answering_packet used offset filled what = record { used = used; offset = offset; length = filled; kind = what_number what; fault = 0 }
 

@@ -5,7 +5,7 @@ use Rattle.gitwire.specs.declared.answer.GitwireAnswer.{GitwireAnswer}
 use Rattle.gitwire.specs.declared.answer.What.{What}
 use Rattle.gitwire.specs.declared.answer.What.TheVariants.{Done, NoHandle, OutOfMemory}
 
--- the handle has nothing: that is reported, and the room stays
+-- the handle has nothing: that is reported, and the buffer stays
 abbrev pub HasNone : List ℕ → GitwireAnswer → List ℕ → Type 0
 HasNone room answer filled = (answer ≡ answering NoHandle) × (filled ≡ room)
 

@@ -34,41 +34,41 @@ use Rattle.gitwire.specs.declared.answer.What.TheVariants as What
 abbrev pub endings : List Ending
 endings = FlushOnly ∷ ResponseEnd ∷ []
 
--- a client on these terms, before the first byte, or none where memory ran out
+-- a client on these terms, before the first byte, or none if memory ran out
 abbrev pub Begins : Terms → ℕ → Option (Client Global) → Type 0
 Begins t answer None = answer ≡ what_number What.OutOfMemory
 Begins t answer (Some client) = (answer ≡ what_number What.Done) × Converses t nothing_yet client × (wants_input client ≡ true)
 
--- the same by what two numbers mean; nothing changes where one of them means nothing
+-- the same by what two numbers mean; nothing changes if one of them means nothing
 abbrev pub BeginsBy : Option Format → Option Ending → Option (Client Global) → ℕ → Option (Client Global) → Type 0
 BeginsBy (Some format) (Some ending) old answer new = Begins (terms_of format ending) answer new
 BeginsBy format ending old answer new = (answer ≡ what_number What.BadValue) × (new ≡ old)
 
--- what is reported to C of what was received, by whether bytes were due
+-- what is reported to C of what was received, by whether bytes were expected
 abbrev pub answer_of : Bool → ℕ → HeardGot → GitwireEvent
 answer_of due used Got.More = telling_none used (more_of due)
 answer_of due used (Got.Event event) = telling_parts used (parts_of event)
 answer_of due used (Got.Failed fault) = answering_refusal used fault
 
--- the room: the texts of an event are at its front
+-- the buffer: the texts of an event are at its front
 abbrev pub filled_by : HeardGot → List ℕ → List ℕ
 filled_by Got.More room = room
 filled_by (Got.Event event) room = put_before (bytes_shown (parts_of event)) room
 filled_by (Got.Failed fault) room = room
 
--- the room where bytes that pass are left in the piece: theirs stays as it was
+-- the buffer where bytes that pass are left in the chunk: theirs stays as it was
 abbrev pub filled_beside : HeardGot → List ℕ → List ℕ
 filled_beside (Got.Event (Event.Pack bytes)) room = room
 filled_beside (Got.Event (Event.Progress bytes)) room = room
 filled_beside got room = filled_by got room
 
--- bytes of the pack or of the progress are the last of those used of the piece
+-- bytes of the pack or of the progress are the last of those used of the chunk
 abbrev pub LieInPiece : HeardGot → ℕ → List ℕ → Type 0
 LieInPiece (Got.Event (Event.Pack bytes)) used piece = (front : List ℕ) × (take used piece ≡ front ++ bytes.now)
 LieInPiece (Got.Event (Event.Progress bytes)) used piece = (front : List ℕ) × (take used piece ≡ front ++ bytes.now)
 LieInPiece got used piece = Unit {0}
 
--- the client receives more, and it is reported to C what came, whose texts have no more bytes than a payload; the room is filled by what came
+-- the client receives more, and it is reported to C what came, whose texts have no more bytes than a payload; the buffer is filled by what came
 pub record FeedsAnswers (filled_with : HeardGot → List ℕ → List ℕ) (old : Client Global) (piece room : List ℕ) (answer : GitwireEvent) (filled : List ℕ)
     (new : Client Global) : Type 0 where
   pub heard : Heard
@@ -79,13 +79,13 @@ pub record FeedsAnswers (filled_with : HeardGot → List ℕ → List ℕ) (old 
   pub room_is : filled ≡ filled_with heard.got room
   pub lies : LieInPiece heard.got heard.used piece
 
--- nothing happens where the room is too small for the parts of some event
+-- nothing happens if the buffer is too small for the parts of some event
 pub record FeedsInRoom (filled_with : HeardGot → List ℕ → List ℕ) (old : Client Global) (piece room : List ℕ) (answer : GitwireEvent) (filled : List ℕ)
     (new : Client Global) : Type 0 where
   pub small : length room < longest_payload → (answer ≡ telling_none 0 What.RoomTooSmall) × (filled ≡ room) × (new ≡ old)
   pub large : longest_payload ≤ length room → FeedsAnswers filled_with old piece room answer filled new
 
--- the handle has nothing: that is reported, and the room stays
+-- the handle has nothing: that is reported, and the buffer stays
 abbrev pub HearsNone : List ℕ → GitwireEvent → List ℕ → Type 0
 HearsNone room answer filled = (answer ≡ telling_none 0 What.NoHandle) × (filled ≡ room)
 
@@ -97,7 +97,7 @@ answer_of_sent Sent.CanAsk = answering What.CanAsk
 answer_of_sent Sent.Finished = answering What.Finished
 answer_of_sent (Sent.Failed fault) = answering_fault 0 fault
 
--- the room: a packet is at its front
+-- the buffer: a packet is at its front
 abbrev pub filled_by_sent : Sent → List ℕ → List ℕ
 filled_by_sent (Sent.Packet bytes) room = put_before bytes.now room
 filled_by_sent sent room = room
@@ -110,7 +110,7 @@ pub record PullsAnswers (old : Client Global) (room : List ℕ) (answer : Gitwir
   pub answer_is : answer ≡ answer_of_sent sent
   pub room_is : filled ≡ filled_by_sent sent room
 
--- nothing happens where the room is too small for the longest packet
+-- nothing happens if the buffer is too small for the longest packet
 pub record PullsInRoom (old : Client Global) (room : List ℕ) (answer : GitwireAnswer) (filled : List ℕ) (new : Client Global) : Type 0 where
   pub small : length room < 65520 → (answer ≡ answering What.RoomTooSmall) × (filled ≡ room) × (new ≡ old)
   pub large : 65520 ≤ length room → PullsAnswers old room answer filled new
@@ -148,7 +148,7 @@ pub record LeavesAnswers (old : Client Global) (answer : ℕ) (new : Client Glob
   pub not_now : can_ask old ≡ false → (answer ≡ what_number What.NotNow) × (new ≡ old)
   pub leaves : can_ask old ≡ true → (answer ≡ what_number What.Done) × Leaves old new
 
--- the input ends where more was due: at the end of the last whole packet
+-- the input ends where more was expected: at the end of the last whole packet
 pub record CutsShort (old : Client Global) (answer : GitwireAnswer) (new : Client Global) : Type 0 where
   pub fault : Fault
   pub carries : HearsOn old [] [] new
@@ -163,7 +163,7 @@ pub record ClosesAnswers (old : Client Global) (answer : GitwireAnswer) (new : C
   pub not_now : wants_input old ≡ false → (answer ≡ answering What.NotNow) × (new ≡ old)
   pub cut : wants_input old ≡ true → CutsShort old answer new
 
--- a message, if there is one, is put into the room, if that is large enough
+-- a message, if there is one, is put into the buffer, if that is large enough
 pub record PutsMessage (message room : List ℕ) (answer : GitwireAnswer) (filled : List ℕ) : Type 0 where
   pub small : length room < length message → (answer ≡ answering What.RoomTooSmall) × (filled ≡ room)
   pub large : length message ≤ length room → (answer ≡ answering_packet 0 0 (length message) What.Done) × (filled ≡ put_before message room)

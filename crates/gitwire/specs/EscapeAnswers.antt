@@ -6,7 +6,7 @@ use Rattle.gitwire.specs.Rooms.{put_before}
 use Rattle.gitwire.specs.declared.answer.GitwireAnswer.{GitwireAnswer}
 use Rattle.gitwire.specs.declared.answer.What.TheVariants.{Done, More, RoomTooSmall}
 
--- so many bytes of the text, the first ones, are escaped, and their escapes are at the front of the room: all of them, or as many as fit
+-- so many bytes of the text, the first ones, are escaped, and their escapes are at the front of the buffer: all of them, or as many as fit
 pub record EscapesFront (bytes room : List ℕ) (used : ℕ) (answer : GitwireAnswer) (filled : List ℕ) : Type 0 where
   pub within : used ≤ length bytes
   pub fits : length (escaped_of (take used bytes)) ≤ length room
@@ -15,7 +15,7 @@ pub record EscapesFront (bytes room : List ℕ) (used : ℕ) (answer : GitwireAn
   pub some : used < length bytes → answer ≡ answering_packet used 0 (length (escaped_of (take used bytes))) More
   pub most : used < length bytes → length room < length (escaped_of (take (used + 1) bytes))
 
--- as many bytes are escaped as the room has room for; it is too small where it has none for the longest escape
+-- as many bytes are escaped as the buffer has room for; it is too small where it has none for the longest escape
 pub record Escapes (bytes room : List ℕ) (answer : GitwireAnswer) (filled : List ℕ) : Type 0 where
   pub escaped : 4 ≤ length room → EscapesFront bytes room answer.used answer filled
   pub too_small : length room < 4 → (answer ≡ answering RoomTooSmall) × (filled ≡ room)

@@ -9,7 +9,7 @@ abbrev pub IsKindOf : ℕ → Option Kind → Type 0
 IsKindOf number None = (kind : Kind) → kind_number kind ≢ number
 IsKindOf number (Some kind) = kind_number kind ≡ number
 
--- the text of a kind is in the room; or there is none, and nothing is written
+-- the text of a kind is in the buffer; or there is none, and nothing is written
 abbrev pub PutsOf : (Kind → List ℕ) → Option Kind → List ℕ → ℕ → List ℕ → Type 0
 PutsOf text None room answer filled = (answer ≡ 0) × (filled ≡ room)
 PutsOf text (Some kind) room answer filled = Puts (text kind) room answer filled

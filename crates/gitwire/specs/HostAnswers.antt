@@ -57,7 +57,7 @@ MakesHost offer limit advertise old answer new =
 
 -- ---- the client's bytes
 
--- the server uses bytes of the piece, and it is reported to C how many
+-- the server uses bytes of the chunk, and it is reported to C how many
 pub record FeedsAnswers (old : HostServer Global) (piece : List ℕ) (answer : GitwireAnswer) (new : HostServer Global) : Type 0 where
   pub used : ℕ
   pub answer_is : answer ≡ answering_used used (more_of (reads_on old))
@@ -106,7 +106,7 @@ stepping HostStep.Asked asked bytes = asking asked
 stepping (HostStep.Need need) asked bytes = needing need
 stepping (HostStep.Ended outcome) asked bytes = ending outcome
 
--- the room: a packet is at its front
+-- the buffer: a packet is at its front
 abbrev pub filled_at : HostStep → List ℕ → List ℕ → List ℕ
 filled_at HostStep.Packet bytes room = put_before bytes room
 filled_at step bytes room = room
@@ -118,11 +118,11 @@ pub record PullsAnswers (old : HostServer Global) (room : List ℕ) (answer : Gi
   pub answer_is : answer ≡ stepping step (request_of new) (bytes_of new)
   pub room_is : filled ≡ filled_at step (bytes_of new) room
 
--- nothing happens, and the room is reported to be too small
+-- nothing happens, and the buffer is reported to be too small
 abbrev pub IsTooSmall : HostServer Global → List ℕ → GitwireAnswer → List ℕ → HostServer Global → Type 0
 IsTooSmall old room answer filled new = (answer ≡ answering What.RoomTooSmall) × (filled ≡ room) × (new ≡ old)
 
--- nothing happens where the room is too small for the longest packet
+-- nothing happens if the buffer is too small for the longest packet
 pub record PullsInRoom (old : HostServer Global) (room : List ℕ) (answer : GitwireAnswer) (filled : List ℕ) (new : HostServer Global) : Type 0 where
   pub small : length room < 65520 → IsTooSmall old room answer filled new
   pub large : 65520 ≤ length room → PullsAnswers old room answer filled new
@@ -152,7 +152,7 @@ pub record AcceptsAnswers (old : HostServer Global) (answer : ℕ) (new : HostSe
   pub accepts : AcceptsHost old accepted new
   pub answer_is : answer ≡ done_where accepted
 
--- what is reported to C of a refusal, and left in the room
+-- what is reported to C of a refusal, and left in the buffer
 abbrev pub refusing : Bool → List ℕ → GitwireAnswer
 refusing true bytes = answering_packet 0 0 (length bytes) What.Packet
 refusing false bytes = answering What.NotNow
@@ -173,7 +173,7 @@ pub record RefusesAnswers (text : List ℕ) (old : HostServer Global) (room : Li
 abbrev pub refused_as : Kind → GitwireAnswer
 refused_as kind = answering_fault 0 (record { kind = kind; offset = 0 })
 
--- the same; nothing happens where the room is too small, or the text is longer than that of an error packet may be
+-- the same; nothing happens if the buffer is too small, or the text is longer than that of an error packet may be
 pub record RefusesInRoom (text : List ℕ) (old : HostServer Global) (room : List ℕ) (answer : GitwireAnswer) (filled : List ℕ)
     (new : HostServer Global) : Type 0 where
   pub small : length room < 65520 → IsTooSmall old room answer filled new
@@ -204,7 +204,7 @@ abbrev pub filled_by : HostReported → List ℕ → List ℕ → List ℕ
 filled_by HostReported.Packet bytes room = put_before bytes room
 filled_by reported bytes room = room
 
--- the server takes the report, and its packet is at the front of the room, if it has one
+-- the server takes the report, and its packet is at the front of the buffer, if it has one
 pub record ReportsAnswers (report : Report) (old : HostServer Global) (room : List ℕ) (answer : GitwireAnswer) (filled : List ℕ)
     (new : HostServer Global) : Type 0 where
   pub reported : HostReported
@@ -212,13 +212,13 @@ pub record ReportsAnswers (report : Report) (old : HostServer Global) (room : Li
   pub answer_is : answer ≡ reporting reported (length (part_of (bytes_in report))) (length (bytes_in report)) (length (bytes_of new))
   pub room_is : filled ≡ filled_by reported (bytes_of new) room
 
--- nothing happens where the room is too small for the longest packet
+-- nothing happens if the buffer is too small for the longest packet
 pub record ReportsInRoom (report : Report) (old : HostServer Global) (room : List ℕ) (answer : GitwireAnswer) (filled : List ℕ)
     (new : HostServer Global) : Type 0 where
   pub small : length room < 65520 → IsTooSmall old room answer filled new
   pub large : 65520 ≤ length room → ReportsAnswers report old room answer filled new
 
--- ---- reports whose texts C gives
+-- ---- reports whose texts C passes
 
 -- what the texts mean: a report, or why there is none
 abbrev pub Meant : Type 0
@@ -239,7 +239,7 @@ pub record ReportsMeant (Means : Meant → Type 0) (old : HostServer Global) (ro
   pub means : Means meant
   pub reports : ReportsBy meant old room answer filled new
 
--- nothing happens where the room is too small for the longest packet
+-- nothing happens if the buffer is too small for the longest packet
 pub record ReportsMeantInRoom (Means : Meant → Type 0) (old : HostServer Global) (room : List ℕ) (answer : GitwireAnswer) (filled : List ℕ)
     (new : HostServer Global) : Type 0 where
   pub small : length room < 65520 → IsTooSmall old room answer filled new

@@ -1,4 +1,4 @@
--- What the numbers that C gives mean: a number is a place in these lists, and one past the end means nothing.
+-- What the numbers that C passes mean: a number is a place in these lists, and one past the end means nothing.
 use Rattle.std.specs.Prelude.{ℕ, List, [], ◌∷◌}
 use Rattle.git_names.specs.declared.object_format.Format.{Format}
 use Rattle.git_names.specs.declared.object_format.Format.TheVariants.{Sha1, Sha256}

@@ -1,4 +1,4 @@
--- What a server offers, as C gives it, and what was noted of an advertisement, as C is shown it: a bit for each feature.
+-- What a server offers, as C passes it, and what was noted of an advertisement, as C is shown it: a bit for each feature.
 use Rattle.std.specs.Prelude.{ℕ, ◌+◌, Bool, true, false, not, ◌==◌, nat_lt, if◌then◌else◌, Option, None, slice_get}
 use Rattle.std.specs.Int.Bits.{bit_and}
 use Rattle.std.specs.Option.{option_map}

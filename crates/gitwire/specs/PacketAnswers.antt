@@ -14,7 +14,7 @@ use Rattle.gitwire.specs.Answers.{answering, answering_fault, answering_packet, 
 use Rattle.gitwire.specs.declared.answer.GitwireAnswer.{GitwireAnswer}
 use Rattle.gitwire.specs.declared.answer.What.TheVariants as What
 
--- a reader of a stream of which nothing has come, or none where memory ran out
+-- a reader of a stream of which nothing has come, or none if memory ran out
 abbrev pub Begins : ℕ → Option PacketReader → Type 0
 Begins answer None = answer ≡ what_number What.OutOfMemory
 Begins answer (Some reader) = (answer ≡ what_number What.Done) × Reads reader 0 [] [] [] × (fault_of reader ≡ None)
@@ -28,7 +28,7 @@ answer_of used (Packet RespEnd offset) = answering_packet used offset 0 What.Res
 answer_of used (Packet (Payload bytes) offset) = answering_packet used offset (length bytes.now) What.Payload
 answer_of used (Failed fault) = answering_fault used fault
 
--- the room: a payload is at its front
+-- the buffer: a payload is at its front
 abbrev pub filled_by : Got → List ℕ → List ℕ
 filled_by More room = room
 filled_by (Packet Flush offset) room = room
@@ -37,7 +37,7 @@ filled_by (Packet RespEnd offset) room = room
 filled_by (Packet (Payload bytes) offset) room = put_before bytes.now room
 filled_by (Failed fault) room = room
 
--- the reader reads on, and it is reported to C what came, with no more bytes used than the piece has
+-- the reader reads on, and it is reported to C what came, with no more bytes used than the chunk has
 pub record FeedsAnswers (old : PacketReader) (piece room : List ℕ) (answer : GitwireAnswer) (filled : List ℕ) (new : PacketReader) : Type 0 where
   pub fed : Fed
   pub feeds : Feeds old piece fed new
@@ -45,7 +45,7 @@ pub record FeedsAnswers (old : PacketReader) (piece room : List ℕ) (answer : G
   pub answer_is : answer ≡ answer_of fed.used fed.got
   pub room_is : filled ≡ filled_by fed.got room
 
--- nothing happens where the room is too small for the longest payload
+-- nothing happens if the buffer is too small for the longest payload
 pub record FeedsInRoom (old : PacketReader) (piece room : List ℕ) (answer : GitwireAnswer) (filled : List ℕ) (new : PacketReader) : Type 0 where
   pub small : length room < longest_payload → (answer ≡ answering What.RoomTooSmall) × (filled ≡ room) × (new ≡ old)
   pub large : longest_payload ≤ length room → FeedsAnswers old piece room answer filled new

@@ -15,7 +15,7 @@ pub record RefusesText (text : List ℕ) (answer : GitwireAnswer) : Type 0 where
   pub refused : IsTextFault text (Bad line)
   pub answer_is : answer ≡ answering_packet 0 line 0 What.Failed
 
--- the packs that C gives: one for each fetch, and another for each that has a filter, or none
+-- the packs that C passes: one for each fetch, and another for each that has a filter, or none
 abbrev pub packs_given : List ℕ → Option (List ℕ) → PackBytes
 packs_given pack filtered = record { pack = pack; filtered = filtered }
 

@@ -29,7 +29,7 @@ abbrev pub telling_result : Result (Unit {0}) Kind → GitwireAnswer
 telling_result (Ok done) = answering What.Done
 telling_result (Err kind) = answering_fault 0 (record { kind = kind; offset = 0 })
 
--- the handle has the value, or none where memory ran out
+-- the handle has the value, or none if memory ran out
 abbrev pub HasOrNone : {X : Type 0} → ℕ → X → Option X → Type 0
 HasOrNone answer value new =
     ((answer ≡ what_number What.Done) × (new ≡ Some value)) ⊎ ((answer ≡ what_number What.OutOfMemory) × (new ≡ None))

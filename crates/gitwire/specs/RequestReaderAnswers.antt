@@ -37,7 +37,7 @@ MakesReader offer limit old answer new =
     (MeanNoReader offer limit × (answer ≡ what_number What.BadValue) × (new ≡ old))
     ⊎ ((reader : RequestStream Global) × MeanReader offer limit reader × HasOrNone answer reader new)
 
--- what is reported to C of an answer, by whether input was due
+-- what is reported to C of an answer, by whether input was expected
 abbrev pub telling_read : Bool → ℕ → ReadGot Global → GitwireAnswer
 telling_read due used More = answering_used used (more_of due)
 telling_read due used (RequestGot request) = answering_used used What.Request
@@ -65,7 +65,7 @@ abbrev pub Holds : Option (Request Global) → Request Global → Type 0
 Holds None held = IsEmpty Command.LsRefs Format.Sha1 0 held
 Holds (Some request) held = held ≡ request
 
--- a reader and a handle for its requests; where there is no memory for that one's first request, nothing is read
+-- a reader and a handle for its requests; if there is no memory for that one's first request, nothing is read
 abbrev pub FeedsHandle : RequestStream Global → List ℕ → Option (Request Global) → GitwireAnswer
     → Option (RequestStream Global) → Option (Request Global) → Type 0
 FeedsHandle old piece request answer new kept =

@@ -28,23 +28,23 @@ pub record Starts (repository : SharedRepo) (limit : ℕ) (advertise : Bool) (se
       }) [] false [] server
   pub shares : shared_by (repo_of server) ≡ shared_by repository
 
--- such a server, or none where memory ran out
+-- such a server, or none if memory ran out
 abbrev pub Begins : SharedRepo → ℕ → Bool → ℕ → Option (Server SharedRepo Global) → Type 0
 Begins repository limit advertise answer None = answer ≡ what_number What.OutOfMemory
 Begins repository limit advertise answer (Some server) = (answer ≡ what_number What.Done) × Starts repository limit advertise server
 
--- nothing changes where the limit is more than one may be
+-- nothing changes if the limit is more than one may be
 pub record BeginsWithin (repository : SharedRepo) (limit : ℕ) (advertise : Bool) (old : Option (Server SharedRepo Global)) (answer : ℕ)
     (new : Option (Server SharedRepo Global)) : Type 0 where
   pub too_much : most_limit < limit → (answer ≡ what_number What.BadValue) × (new ≡ old)
   pub in_range : limit ≤ most_limit → Begins repository limit advertise answer new
 
--- a server over the repository of a handle; nothing changes where that has none
+-- a server over the repository of a handle; nothing changes if that has none
 abbrev pub BeginsOver : Option SharedRepo → ℕ → Bool → Option (Server SharedRepo Global) → ℕ → Option (Server SharedRepo Global) → Type 0
 BeginsOver None limit advertise old answer new = (answer ≡ what_number What.NoHandle) × (new ≡ old)
 BeginsOver (Some repository) limit advertise old answer new = BeginsWithin repository limit advertise old answer new
 
--- the server uses bytes of the piece, and it is reported to C how many
+-- the server uses bytes of the chunk, and it is reported to C how many
 pub record FeedsAnswers (old : Server SharedRepo Global) (piece : List ℕ) (answer : GitwireAnswer) (new : Server SharedRepo Global) : Type 0 where
   pub used : ℕ
   pub answer_is : answer ≡ answering_used used (more_of (wants_input old))
@@ -69,7 +69,7 @@ answer_of (Finished Flush) = answering What.EndedByFlush
 answer_of (Finished Closed) = answering What.EndedByClose
 answer_of (Finished (Refused fault)) = answering_fault 0 fault
 
--- the room: a packet is at its front
+-- the buffer: a packet is at its front
 abbrev pub filled_by : Pulled → List ℕ → List ℕ
 filled_by (Packet bytes) room = put_before bytes.now room
 filled_by NeedInput room = room
@@ -83,7 +83,7 @@ pub record PullsAnswers (old : Server SharedRepo Global) (room : List ℕ) (answ
   pub answer_is : answer ≡ answer_of pulled
   pub room_is : filled ≡ filled_by pulled room
 
--- nothing happens where the room is too small for the longest packet
+-- nothing happens if the buffer is too small for the longest packet
 pub record PullsInRoom (old : Server SharedRepo Global) (room : List ℕ) (answer : GitwireAnswer) (filled : List ℕ)
     (new : Server SharedRepo Global) : Type 0 where
   pub small : length room < 65520 → (answer ≡ answering What.RoomTooSmall) × (filled ≡ room) × (new ≡ old)

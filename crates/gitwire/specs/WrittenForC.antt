@@ -1,4 +1,4 @@
--- The packets that are written for C, each to the front of a room: what the values mean that C gives, and what is reported to C.
+-- The packets that are written for C, each to the front of a buffer: what the values mean that C passes, and what is reported to C.
 use Rattle.std.specs.Prelude.{◌≡◌, ◌≢◌, ℕ, ◌<◌, ◌≤◌, Bool, true, false, List, [], ◌∷◌, ◌++◌, length, codes, slice_get}
 use Rattle.std.specs.Prelude.{Option, Some, None, IsSome, Result, Ok, Err}
 use Rattle.std.specs.Bool.{then_some}
@@ -28,7 +28,7 @@ use Rattle.gitwire.specs.declared.answer.What.TheVariants.{Done, NoHandle, OutOf
 use Rattle.gitwire.specs.declared.written.Unwritten.{Unwritten}
 use Rattle.gitwire.specs.declared.written.Unwritten.TheVariants.{BadValue, Refused}
 
--- what values mean that C gives: a packet, or why there is none
+-- what values mean that C passes: a packet, or why there is none
 abbrev pub Meant : Type 0
 Meant = Result Pkt Unwritten
 
@@ -46,13 +46,13 @@ abbrev pub Tells : Meant → List ℕ → GitwireAnswer → List ℕ → Type 0
 Tells (Ok packet) room answer filled = (length (body_of packet) ≤ longest_payload) × Fills (spelling_of packet) room answer filled
 Tells (Err why) room answer filled = (answer ≡ telling_why why) × (filled ≡ room)
 
--- the packet that the values mean is at the front of the room, or it is reported to C why not
+-- the packet that the values mean is at the front of the buffer, or it is reported to C why not
 pub record Writes (Means : Meant → Type 0) (room : List ℕ) (answer : GitwireAnswer) (filled : List ℕ) : Type 0 where
   pub meant : Meant
   pub means : Means meant
   pub tells : Tells meant room answer filled
 
--- what is reported and left in the room follows from the values and the room
+-- what is reported and left in the buffer follows from the values and the buffer
 abbrev pub IsDetermined : (Meant → Type 0) → Type 0
 IsDetermined Means = (room : List ℕ) (answer other : GitwireAnswer) (filled others : List ℕ)
     → Writes Means room answer filled → Writes Means room other others → (answer ≡ other) × (filled ≡ others)
@@ -68,12 +68,12 @@ Advertises None room answer filled = (answer ≡ answering a_bad_value) × (fill
 Advertises (Some offer) room answer filled =
     (length (spelled (advertisement_of offer)) < 200) × Fills (spelled (advertisement_of offer)) room answer filled
 
--- a handle has a writer, or none where memory ran out
+-- a handle has a writer, or none if memory ran out
 abbrev pub BeginsToWrite : ℕ → Option (List ℕ) → Type 0
 BeginsToWrite answer None = answer ≡ what_number OutOfMemory
 BeginsToWrite answer (Some held) = answer ≡ what_number Done
 
--- a handle with a writer does this to the room, and keeps it; where it has none, that is reported, and nothing is written
+-- a handle with a writer does this to the buffer, and keeps it; where it has none, that is reported, and nothing is written
 abbrev pub WritesIn : Option (List ℕ) → (List ℕ → GitwireAnswer → List ℕ → Type 0) → List ℕ → GitwireAnswer → List ℕ → Option (List ℕ) → Type 0
 WritesIn None Does room answer filled new = (answer ≡ answering NoHandle) × (filled ≡ room) × (new ≡ None)
 WritesIn (Some held) Does room answer filled new = Does room answer filled × IsSome new

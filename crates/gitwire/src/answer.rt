@@ -9,11 +9,11 @@ use git_pkt::Fault;
 #[repr(C)]
 #[derive(Clone, Copy, Debug)]
 pub struct GitwireAnswer {
-    /// How many bytes of the piece were used.
+    /// How many bytes of the chunk were used.
     pub used: usize,
     /// A place in the stream, or a number.
     pub offset: u64,
-    /// How many bytes were written to the front of the room.
+    /// How many bytes were written to the front of the buffer.
     pub length: usize,
     /// The number of a [`What`].
     pub kind: u8,
@@ -26,13 +26,13 @@ pub struct GitwireAnswer {
 pub enum What {
     /// All went well.
     Done,
-    /// So many bytes of the piece were used, and nothing else is to be reported.
+    /// So many bytes of the chunk were used, and nothing else is to be reported.
     More,
     /// The library refuses: `fault` is why, and `offset` where.
     Failed,
     /// The handle has nothing: it was never made, or was freed.
     NoHandle,
-    /// The room is too small. Nothing was used or changed.
+    /// The buffer is too small. Nothing was used or changed.
     RoomTooSmall,
     /// The call may not be made at this moment. Nothing changed.
     NotNow,
@@ -42,7 +42,7 @@ pub enum What {
     BadValue,
     /// There is no such item.
     Nothing,
-    /// A packet with a payload, which is in the room.
+    /// A packet with a payload, which is in the buffer.
     Payload,
     /// A flush packet.
     Flush,
@@ -52,9 +52,9 @@ pub enum What {
     ResponseEnd,
     /// A whole request.
     Request,
-    /// The other end leaves.
+    /// The peer leaves.
     Stop,
-    /// A packet to be sent, which is in the room.
+    /// A packet to be sent, which is in the buffer.
     Packet,
     /// Nothing is to be sent before more bytes have come.
     NeedInput,
@@ -95,7 +95,7 @@ pub enum What {
 impl What {
     ghost use Rattle.gitwire.specs.Answers.{more_of, what_number};
 
-    /// What is reported of a piece where nothing else is: more is to come, or none was due.
+    /// What is reported of a chunk where nothing else is: more is to come, or none was expected.
     pub(crate) fn more(due: bool) -> What
         ensures { result ≡ more_of due }
     {
@@ -169,14 +169,14 @@ impl GitwireAnswer {
         GitwireAnswer::of_used(0, what)
     }
 
-    /// What came of a piece of which so many bytes were used, and nothing more.
+    /// What came of a chunk of which so many bytes were used, and nothing more.
     pub(crate) fn of_used(used: usize, what: What) -> GitwireAnswer
         ensures { result ≡ answering_used used what }
     {
         GitwireAnswer::of_packet(used, 0, 0, what)
     }
 
-    /// A packet at this offset, of which so many bytes are in the room.
+    /// A packet at this offset, of which so many bytes are in the buffer.
     pub(crate) fn of_packet(used: usize, offset: u64, length: usize, what: What) -> GitwireAnswer
         ensures { result ≡ answering_packet used offset length what }
     {

@@ -23,7 +23,7 @@ use git_pkt::LONGEST_PACKET;
 use std::alloc::Global;
 use std::mem::replace;
 
-/// How many bytes the parts of an event have at the most: those of the longest payload.
+/// How many bytes the parts of an event have at most: those of the longest payload.
 const LONGEST_PARTS: usize = 65_516;
 
 /// What was noted of an advertisement.
@@ -71,7 +71,7 @@ pub extern "C" fn gitwire_client_new(
     fill(client, alloc, made).number()
 }
 
-/// The ending that C means by this number; none where there is no such ending.
+/// The ending that C means by this number; none if there is no such ending.
 fn ending_numbered(number: u8) -> Option<Ending>
     ensures { result ≡ slice_get endings number }
 {
@@ -82,8 +82,8 @@ fn ending_numbered(number: u8) -> Option<Ending>
     }
 }
 
-/// Reads on, to the next event, and writes its texts to the front of the room. `More`, `Failed` or the event: `Capability` to
-/// `Ended`; `NotNow` where no bytes are due; `NoHandle`; and `RoomTooSmall` where the room has less than 65,516 bytes.
+/// Reads on, to the next event, and writes its texts to the front of the buffer. `More`, `Failed` or the event: `Capability` to
+/// `Ended`; `NotNow` if no bytes are expected; `NoHandle`; and `RoomTooSmall` if the buffer has fewer than 65,516 bytes.
 #[unsafe(no_mangle)]
 pub extern "C" fn gitwire_client_feed(
     alloc: Global,
@@ -103,7 +103,7 @@ pub extern "C" fn gitwire_client_feed(
 }
 
 /// Reads on, as `gitwire_client_feed` does, but leaves the bytes of `Pack` and `Progress` where they are: the last `text_length`
-/// of those used of the piece. The room stays as it was then.
+/// of those used of the chunk. The buffer stays as it was then.
 #[unsafe(no_mangle)]
 pub extern "C" fn gitwire_client_feed_in_place(
     alloc: Global,
@@ -165,8 +165,8 @@ fn show_in_place(event: Event<'_>, used: usize, room: &mut [u8]) -> GitwireEvent
     }
 }
 
-/// What is to be done next: `Packet`, and the packet to be sent is at the front of the room, `NeedInput`, `CanAsk`, `Finished` or
-/// `Failed`; `NoHandle`; and `RoomTooSmall` where the room has less than 65,520 bytes.
+/// What is to be done next: `Packet`, and the packet to be sent is at the front of the buffer, `NeedInput`, `CanAsk`, `Finished` or
+/// `Failed`; `NoHandle`; and `RoomTooSmall` if the buffer has fewer than 65,520 bytes.
 #[unsafe(no_mangle)]
 pub extern "C" fn gitwire_client_pull(
     alloc: Global,
@@ -201,8 +201,8 @@ fn pull(client: &mut Client<Global>, room: &mut [u8]) -> GitwireAnswer
     }
 }
 
-/// Asks for what the handle of a request has. `Done`, and that handle has none; or `NotNow`, where the client cannot ask, or
-/// `Failed`, and the request stays there; or `NoHandle`, where one of the two has nothing.
+/// Asks for what the handle of a request has. `Done`, and that handle has none; or `NotNow`, if the client cannot ask, or
+/// `Failed`, and the request stays there; or `NoHandle`, if one of the two has nothing.
 #[unsafe(no_mangle)]
 pub extern "C" fn gitwire_client_ask(
     alloc: Global,
@@ -252,7 +252,7 @@ fn ask(
     }
 }
 
-/// Leaves: the flush that ends the conversation is to be pulled. `Done`, `NotNow` where the client cannot ask, or `NoHandle`.
+/// Leaves: the flush that ends the conversation is to be pulled. `Done`, `NotNow` if the client cannot ask, or `NoHandle`.
 #[unsafe(no_mangle)]
 pub extern "C" fn gitwire_client_leave(alloc: Global, client: &mut GitwireClient) -> u8
     ensures { On (client_in client.old) (client_in client.new) (λ old new. LeavesAnswers old result new) (result ≡ what_number What.NoHandle) }
@@ -275,7 +275,7 @@ fn leave(client: &mut Client<Global>) -> u8
     What::Done.number()
 }
 
-/// The input ends here. `Failed`, where more was due; `NotNow` where the client does not wait for input: then all is
+/// The input ends here. `Failed`, if more was expected; `NotNow` if the client does not wait for input: then all is
 /// well, or the conversation has failed already; or `NoHandle`.
 #[unsafe(no_mangle)]
 pub extern "C" fn gitwire_client_close(alloc: Global, client: &mut GitwireClient) -> GitwireAnswer
@@ -298,7 +298,7 @@ fn close(client: &mut Client<Global>) -> GitwireAnswer
     GitwireAnswer::of_fault(0, client.close())
 }
 
-/// Writes the server's message on the fault that ended the conversation to the front of the room. `Done`, `Nothing` where there
+/// Writes the server's message on the fault that ended the conversation to the front of the buffer. `Done`, `Nothing` if there
 /// is none, `RoomTooSmall` or `NoHandle`.
 #[unsafe(no_mangle)]
 pub extern "C" fn gitwire_client_message(

@@ -105,7 +105,7 @@ pub extern "C" fn gitwire_host_boundary(
     answer
 }
 
-/// The boundary has no more lines: `Packet`, the delimiter of its section, or `More` where it has none at all.
+/// The boundary has no more lines: `Packet`, the delimiter of its section, or `More` if it has none at all.
 #[unsafe(no_mangle)]
 pub extern "C" fn gitwire_host_boundary_end(
     alloc: Global,
@@ -133,7 +133,7 @@ pub extern "C" fn gitwire_host_pack(
 }
 
 /// A text for the client's user: `Packet`, and `used` of its bytes are in it, 65,515 at most. No bytes at all are `More`, and all of them are
-/// used up by `More` where the request has `no-progress`.
+/// used up by `More` if the request has `no-progress`.
 #[unsafe(no_mangle)]
 pub extern "C" fn gitwire_host_progress(
     alloc: Global,
@@ -161,8 +161,8 @@ pub extern "C" fn gitwire_host_pack_end(
 }
 
 /// A reference, by the digits of its object, its name, the name that it points to, if it is symbolic, and the digits of the object that it
-/// peels to, if it is an annotated tag: `Packet` where the request asks for it, and else `More`. The parts are checked from left to right:
-/// `Failed` by `BadObjectName` or `BadRefName`. `OutOfOrder`, where its name does not come after that of the one reported before it, or it is a
+/// peels to, if it is an annotated tag: `Packet` if the request asks for it, and else `More`. The parts are checked from left to right:
+/// `Failed` by `BadObjectName` or `BadRefName`. `OutOfOrder`, if its name does not come after that of the one reported before it, or it is a
 /// `HEAD` that was reported as unborn; and `OutOfMemory`: nothing changed.
 #[unsafe(no_mangle)]
 pub extern "C" fn gitwire_host_reference(
@@ -186,7 +186,7 @@ pub extern "C" fn gitwire_host_reference(
     answer
 }
 
-/// `HEAD` is unborn, and points to this name, which is reported before any reference: `Packet` where the request asks for it, and else
+/// `HEAD` is unborn, and points to this name, which is reported before any reference: `Packet` if the request asks for it, and else
 /// `More`. `Failed` by `BadRefName`, and nothing changed.
 #[unsafe(no_mangle)]
 pub extern "C" fn gitwire_host_unborn(
@@ -248,8 +248,8 @@ pub extern "C" fn gitwire_host_fail(
     report_in(alloc, host, Report::Failed, room)
 }
 
-// Takes what the host reports, and copies its packet to the front of the room, if it has one. `Packet`, `More`, `NotNow`, `OutOfOrder`,
-// `NotShallow`, `OutOfMemory` or `Failed`; `RoomTooSmall` where the room has less than 65,520 bytes; or `NoHandle`.
+// Takes what the host reports, and copies its packet to the front of the buffer, if it has one. `Packet`, `More`, `NotNow`, `OutOfOrder`,
+// `NotShallow`, `OutOfMemory` or `Failed`; `RoomTooSmall` if the buffer has fewer than 65,520 bytes; or `NoHandle`.
 fn report_in(
     alloc: Global,
     host: &mut GitwireHost,
@@ -280,7 +280,7 @@ fn report_within(
     report_to(server, report, room)
 }
 
-// The same, where the room has space for each packet.
+// The same, if the buffer has space for each packet.
 fn report_to(server: &mut HostServer<Global>, report: Report<'_>, room: &mut [u8]) -> GitwireAnswer
     requires { 65520 ≤ length room.old }
     ensures { ReportsAnswers report.entry server.old room.old result room.new server.new }

@@ -1,4 +1,4 @@
-//! What the texts of a report mean that C gives.
+//! What the texts of a report mean that C passes.
 
 ghost use Rattle.std.specs.Prelude.{◌≡◌};
 ghost use Rattle.git_pkt.specs.NameFaults.{kind_of};

@@ -7,8 +7,8 @@ use crate::answer::What;
 use crate::rooms::put_bytes;
 use git_client::EventKind;
 
-/// Writes the name of a kind of what is reported to the front of the room, as `NeedInput`, and returns how long it is: 0 where no kind has
-/// the number, or the room is too small.
+/// Writes the name of a kind of what is reported to the front of the buffer, as `NeedInput`, and returns how long it is: 0 where no kind has
+/// the number, or the buffer is too small.
 #[unsafe(no_mangle)]
 pub extern "C" fn gitwire_kind_name(kind: u8, room: &mut [u8]) -> usize
     ensures { TellsKind kind room.old result room.new }

@@ -1,5 +1,5 @@
 //! Git's wire protocol, for programs in C: each export does to what its handle has what a library's method does,
-//! and checks the handle, the rooms and the numbers that it is given.
+//! and checks the handle, the buffers and the numbers that it is given.
 #![tactic(auto)]
 
 mod answer;

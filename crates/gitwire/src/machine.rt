@@ -23,7 +23,7 @@ pub(crate) enum Machine {
     Empty,
 }
 
-/// What a writer has: room for one packet.
+/// What a writer has: a buffer for one packet.
 #[derive(Drop)]
 pub(crate) struct PacketBuffer {
     pub(crate) hold: Hold,

@@ -1,4 +1,4 @@
-//! What a server offers, as C gives it.
+//! What a server offers, as C passes it.
 
 ghost use Rattle.std.specs.Prelude.{◌≡◌, ◌≤◌};
 ghost use Rattle.gitwire.specs.Offers.{features_shown, where_shown};
@@ -43,7 +43,7 @@ pub struct GitwireOffer {
 impl GitwireOffer {
     ghost use Rattle.gitwire.specs.Offers.{has_feature, offer_meant};
 
-    /// The offer that is meant; none where the number is no format's, or a bit is no feature's.
+    /// The offer that is meant; none if the number is no format's, or a bit is no feature's.
     pub(crate) fn meant(self) -> Option<Offer>
         ensures { result ≡ offer_meant self }
     {

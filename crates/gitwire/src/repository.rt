@@ -66,7 +66,7 @@ fn begin(
     GitwireAnswer::of(fill(repository, alloc, made))
 }
 
-/// The packs, in memory of their own; none where it runs out.
+/// The packs, in memory of their own; none if it runs out.
 fn copy_packs(alloc: Global, pack: &[u8], filtered: Option<&[u8]>) -> Option<Packs>
     ensures { IfSome result (λ packs. packs_of packs ≡ packs_given pack.now (option_copied filtered.entry)) }
 {
@@ -88,7 +88,7 @@ fn copy_packs(alloc: Global, pack: &[u8], filtered: Option<&[u8]>) -> Option<Pac
     }
 }
 
-/// The repository of the text, with these packs; or what is reported to C where there is none.
+/// The repository of the text, with these packs; or what is reported to C if there is none.
 fn read(alloc: Global, text: &[u8], packs: Packs) -> Result<SharedRepo, GitwireAnswer>
     ensures { MatchResult result (λ made. Begins text.now (packs_of packs) (answering What.Done) (Some made))
         (λ answer. Begins text.now (packs_of packs) answer None) }

@@ -47,7 +47,7 @@ pub extern "C" fn gitwire_request_new(
     fill(request, alloc, made).number()
 }
 
-/// The empty request that is meant; none where a number means nothing or the limit is more than one may be.
+/// The empty request that is meant; none if a number means nothing or the limit is more than one may be.
 fn request_meant(alloc: Global, command: u8, format: u8, limit: u32) -> Option<Request<Global>>
     ensures { MatchOption result (MeanNoRequest command format limit) (MeanRequest command format limit) }
 {
@@ -193,7 +193,7 @@ fn has_flag(request: &Request<Global>, number: u8) -> bool
     }
 }
 
-/// A number of the request, `DEEPEN` or `DEEPEN_SINCE`: `Done`, and `offset` is the number; `Nothing` where it was not given;
+/// A number of the request, `DEEPEN` or `DEEPEN_SINCE`: `Done`, and `offset` is the number; `Nothing` if it was not given;
 /// `BadValue`; or `NoHandle`.
 #[unsafe(no_mangle)]
 pub extern "C" fn gitwire_request_number(
@@ -227,7 +227,7 @@ fn given_number(request: &Request<Global>, which: u8) -> GitwireAnswer
     }
 }
 
-/// Writes the text at a place of a list, from `REF_PREFIXES` to `FILTERS`, to the front of the room, an object name as its digits.
+/// Writes the text at a place of a list, from `REF_PREFIXES` to `FILTERS`, to the front of the buffer, an object name as its digits.
 /// `Done`, and `length` is how many bytes it has; `Nothing` past the end of the list; `RoomTooSmall`; `BadValue`; or `NoHandle`.
 #[unsafe(no_mangle)]
 pub extern "C" fn gitwire_request_item(

@@ -37,7 +37,7 @@ pub extern "C" fn gitwire_request_reader_new(
     fill(reader, alloc, made).number()
 }
 
-/// The reader that is meant; none where the offer has no format or the limit is more than one may be.
+/// The reader that is meant; none if the offer has no format or the limit is more than one may be.
 fn reader_meant(alloc: Global, offer: GitwireOffer, limit: u32) -> Option<RequestStream<Global>>
     ensures { MatchOption result (MeanNoReader offer limit) (MeanReader offer limit) }
 {
@@ -51,9 +51,9 @@ fn reader_meant(alloc: Global, offer: GitwireOffer, limit: u32) -> Option<Reques
 }
 
 /// Reads on, to the end of the next request. `Request`, and the handle for requests has it, instead of what that had before;
-/// `More` with the whole piece used; `NotNow` after a `Stop`; `Stop` at a flush instead of a request; `Failed` at the
+/// `More` with the whole chunk used; `NotNow` after a `Stop`; `Stop` at a flush instead of a request; `Failed` at the
 /// first fault, and again from then on; or `NoHandle`. A handle for requests that has none is given an empty one first;
-/// `OutOfMemory` where there is no memory for that, and then nothing was read.
+/// `OutOfMemory` if there is no memory for that, and then nothing was read.
 #[unsafe(no_mangle)]
 pub extern "C" fn gitwire_request_reader_feed(
     alloc: Global,
@@ -76,7 +76,7 @@ pub extern "C" fn gitwire_request_reader_feed(
     answer
 }
 
-/// The request of the handle, or an empty one; none where there is no memory for that.
+/// The request of the handle, or an empty one; none if there is no memory for that.
 fn take_request(alloc: Global, request: &mut GitwireRequest) -> Option<Taken<Request<Global>>>
     ensures request { MatchOption result (request_in request.old ≡ None) (λ taken. Holds (request_in request.old) taken.inner.value) }
     ensures taken { request_in request.new ≡ None }
