@@ -53,7 +53,7 @@ what_name What.NeedSize = codes "NeedSize"
 what_name What.OutOfOrder = codes "OutOfOrder"
 what_name What.NotShallow = codes "NotShallow"
 
--- what has the number, or nothing has it
+-- what has this number, or nothing has it
 abbrev pub IsWhatOf : ℕ → Option What → Type 0
 IsWhatOf number None = (what : What) → what_number what ≢ number
 IsWhatOf number (Some what) = what_number what ≡ number

@@ -1,4 +1,4 @@
--- Bytes that are given to C.
+-- Bytes for C.
 use Rattle.std.specs.Prelude.{◌≡◌, ℕ, ◌≤◌, ◌<◌, List, ◌++◌, length, drop}
 use Rattle.gitwire.specs.Answers.{answering, answering_packet}
 use Rattle.gitwire.specs.declared.answer.GitwireAnswer.{GitwireAnswer}

@@ -1,4 +1,4 @@
--- What is reported to C of a server's calls.
+-- What is reported to C for a server's calls.
 use Rattle.std.specs.Prelude.{◌≡◌, ◌⊎◌, ℕ, ◌≤◌, ◌<◌, Bool, true, false, List, [], length, take, Option, Some, None, IsSome}
 use Rattle.std.specs.Global.{Global}
 use Rattle.git_msg.specs.Advertisement.{everything}
@@ -16,7 +16,7 @@ use Rattle.gitwire.specs.Answers.{more_of, answering, answering_fault, answering
 use Rattle.gitwire.specs.declared.answer.GitwireAnswer.{GitwireAnswer}
 use Rattle.gitwire.specs.declared.answer.What.TheVariants as What
 
--- a server at the beginning of its session over the repository, which offers all
+-- a server at the beginning of its session over the repository, which advertises all
 pub record Starts (repository : SharedRepo) (limit : ℕ) (advertise : Bool) (server : Server SharedRepo Global) : Type 0 where
   pub running : Running shared_state
       (record {
@@ -33,7 +33,7 @@ abbrev pub Begins : SharedRepo → ℕ → Bool → ℕ → Option (Server Share
 Begins repository limit advertise answer None = answer ≡ what_number What.OutOfMemory
 Begins repository limit advertise answer (Some server) = (answer ≡ what_number What.Done) × Starts repository limit advertise server
 
--- nothing changes if the limit is more than one may be
+-- nothing changes if the limit is above the maximum
 pub record BeginsWithin (repository : SharedRepo) (limit : ℕ) (advertise : Bool) (old : Option (Server SharedRepo Global)) (answer : ℕ)
     (new : Option (Server SharedRepo Global)) : Type 0 where
   pub too_much : most_limit < limit → (answer ≡ what_number What.BadValue) × (new ≡ old)
@@ -56,12 +56,12 @@ pub record FeedsAnswers (old : Server SharedRepo Global) (piece : List ℕ) (ans
   pub stays : wants_input old ≡ false → (used ≡ 0) × (new ≡ old)
   pub nothing : length piece ≡ 0 → (used ≡ 0) × (new ≡ old)
 
--- the input ends where the server waits for it
+-- the input ends when the server expects input
 pub record ClosesAnswers (old : Server SharedRepo Global) (answer : ℕ) (new : Server SharedRepo Global) : Type 0 where
   pub due : wants_input old ≡ true → (answer ≡ what_number What.Done) × Closes shared_state old new × IsSome (outcome_of new)
   pub not_now : wants_input old ≡ false → (answer ≡ what_number What.NotNow) × (new ≡ old)
 
--- what is reported to C of what is pulled
+-- what is reported to C about what is pulled
 abbrev pub answer_of : Pulled → GitwireAnswer
 answer_of (Packet bytes) = answering_packet 0 0 (length bytes.now) What.Packet
 answer_of NeedInput = answering What.NeedInput
@@ -75,7 +75,7 @@ filled_by (Packet bytes) room = put_before bytes.now room
 filled_by NeedInput room = room
 filled_by (Finished outcome) room = room
 
--- the server gives a packet or returns what to do instead, and that is reported to C
+-- the server returns a packet or what to do instead, and that is reported to C
 pub record PullsAnswers (old : Server SharedRepo Global) (room : List ℕ) (answer : GitwireAnswer) (filled : List ℕ)
     (new : Server SharedRepo Global) : Type 0 where
   pub pulled : Pulled

@@ -21,8 +21,8 @@ use git_names::{Format, NameFault, Oid, RefName, Steps};
 use git_pkt::Hold;
 use std::alloc::Global;
 
-/// Writes a reference's line, of an answer to `ls-refs`, to the front of the buffer. An object of no digits is none: the reference is
-/// unborn. A target of no bytes is none, and so is a peeled object of no digits. The parts are checked from left to right:
+/// Writes a reference's line, of an answer to `ls-refs`, to the front of the buffer. An object without digits is none: the reference is
+/// unborn. A target without bytes is none, and so is a peeled object without digits. The parts are checked from left to right:
 /// BadObjectName or BadRefName.
 #[tactic(auto, using(crate::proofs::Handing::writes))]
 #[unsafe(no_mangle)]
@@ -48,7 +48,7 @@ pub extern "C" fn gitwire_put_reference(
     answer
 }
 
-/// Writes the line that acknowledges an object, of the section `acknowledgments`, to the front of the buffer.
+/// Writes the line of the section `acknowledgments` that acknowledges an object to the front of the buffer.
 #[tactic(auto, using(crate::proofs::Handing::writes))]
 #[unsafe(no_mangle)]
 pub extern "C" fn gitwire_put_ack(
@@ -114,8 +114,8 @@ pub extern "C" fn gitwire_put_wanted(
     answer
 }
 
-/// Writes a line of the response to `object-info` to the front of the buffer: the object and its size, or the object alone,
-/// which means that the server does not have it.
+/// Writes a line of the response to `object-info` to the front of the buffer: the object and its size, or the object alone if the server
+/// does not have it.
 #[tactic(auto, using(crate::proofs::Handing::writes))]
 #[unsafe(no_mangle)]
 pub extern "C" fn gitwire_put_info(

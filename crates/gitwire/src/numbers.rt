@@ -80,7 +80,7 @@ pub(crate) enum Given {
 }
 
 impl Given {
-    /// The one of this number.
+    /// The one with this number.
     pub(crate) fn numbered(number: u8) -> Option<Given>
         ensures { result ≡ slice_get given_numbers number }
     {
@@ -106,7 +106,7 @@ pub(crate) enum ItemList {
 }
 
 impl ItemList {
-    /// The list of this number.
+    /// The list with this number.
     pub(crate) fn numbered(number: u8) -> Option<ItemList>
         ensures { result ≡ slice_get item_lists number }
     {

@@ -14,7 +14,7 @@ use git_msg::Request;
 use git_names::Oid;
 use std::alloc::Global;
 
-/// Writes the item at a place of the list of this number to the front of the buffer.
+/// Writes the item at an index of the list of this number to the front of the buffer.
 pub(crate) fn put_item(
     request: &Request<Global>,
     list: u8,

@@ -9,12 +9,12 @@ use crate::rooms::fill;
 use git_names::NameFault;
 use git_pkt::{Fault, Hold, Kind};
 
-/// Why values that C passes mean no packet.
+/// Why the values that C passes mean no packet.
 #[derive(Clone, Copy, Debug)]
 pub(crate) enum Unwritten {
     /// A number means nothing.
     BadValue,
-    /// A text is none of the packet's kind, by this name.
+    /// A text is not allowed in the packet, by this kind of error.
     Refused(Kind),
 }
 
