@@ -1,7 +1,7 @@
 /*
- * Git's wire protocol, version 2 (fetch side), for programs in C: packets, requests, a server, a client, and the lines
- * that a host of its own writes. Each call is a method of a library that is proved to meet its contract: docs/PROMISES.md
- * has the whole promises, docs/PROTOCOL.md the rules and the errors. Files are named as in the project's repository;
+ * Git's wire protocol, version 2 (fetch side), for programs in C: packets, requests, a server, a client, and the packets
+ * that a host writes itself. Each call is a method of a library that is proved to meet its contract: docs/PROMISES.md has
+ * the promises in full, docs/PROTOCOL.md the rules and the errors. Files are named as in the project's repository;
  * docs/PROMISES.md, docs/PROTOCOL.md, examples/ and sample/repository-text.sh are installed in share/doc/gitwire.
  *
  * The library is sans-I/O: it reads and writes no stream, starts no thread and keeps nothing but what its handles have. A
