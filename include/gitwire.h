@@ -1,11 +1,12 @@
 /*
- * Git's wire protocol, version 2 (fetch side), for programs in C: packets, requests, a server, a client, and the lines
- * that a host of its own writes. Each call is a method of a library that is proved to meet its contract; docs/PROMISES.md
- * has the promises whole, docs/PROTOCOL.md the rules and the faults. Files are named as in the project's repository;
- * docs/PROMISES.md, docs/PROTOCOL.md, examples/ and sample/repository-text.sh are installed, in share/doc/gitwire. The library reads and
- * writes no stream, starts no thread and keeps nothing but what its handles have: a program feeds it what it has read, in
- * pieces of any size, and writes what it gives. Each end is a loop over what its pull returns, as in examples/daemon.c and
- * examples/list.c:
+ * Git's wire protocol, version 2 (fetch side), for programs in C: packets, requests, a server, a client, and the packets
+ * that a host writes itself. Each call is a method of a library that is proved to meet its contract: docs/PROMISES.md has
+ * the promises in full, docs/PROTOCOL.md the rules and the errors. Files are named as in the project's repository;
+ * docs/PROMISES.md, docs/PROTOCOL.md, examples/ and sample/repository-text.sh are installed in share/doc/gitwire.
+ *
+ * The library is sans-I/O: it reads and writes no stream, starts no thread and keeps nothing but what its handles have. A
+ * program feeds it what it has read, in chunks of any size, and writes what it returns. Each side is a loop over what its
+ * pull returns, as in examples/daemon.c and examples/list.c:
  *
  *     a server   PACKET       write it to the client
  *                NEED_INPUT   read from the client and feed what came; at the input's end close
@@ -15,45 +16,46 @@
  *                NEED_INPUT   read from the server and feed what came, which returns an event; at the input's end close
  *                FINISHED, FAILED: the conversation is over
  *
- * A server over a store of the host's own (gitwire_host) is asked what it needs of it, by that same loop.
+ * In that same loop, a server over a store of the host's own (gitwire_host) asks for what it needs from the store.
  *
- * Of every call:
+ * For every call:
  *
- *   - It returns, whatever the bytes are. What is not allowed at a moment, a room that is too small, a number that means
- *     nothing and a handle with nothing in it are reported by a code, and then nothing was used or changed: by false of
- *     gitwire_request_flag and gitwire_host_flag, and by 0 of gitwire_fault_name, gitwire_fault_text and gitwire_kind_name. A feed that is not due
- *     uses nothing, and returns NOT_NOW, or the fault that there was: a loop that feeds until all is used might not end.
- *   - A text is a pointer and a length, and has no NUL at its end. A room is where a call writes: a pointer and how many
- *     bytes are there. What it writes is at the front of the room, and it reports how many bytes that are; those after
- *     them stay as they were.
+ *   - It returns, whatever the bytes are. A code reports a call that is not allowed at the moment, a buffer that is too
+ *     small, a number that means nothing and a handle with nothing in it; nothing was used or changed then. Instead of a
+ *     code, gitwire_request_flag and gitwire_host_flag return false, and gitwire_fault_name, gitwire_fault_text and
+ *     gitwire_kind_name 0. A feed when no input is expected uses nothing, and returns NOT_NOW or the earlier error: a loop
+ *     that feeds until all is used might not end.
+ *   - A text is a pointer and a length, without a NUL at its end. A buffer (`room`) is where a call writes: a pointer and
+ *     how many bytes are there. The call writes at the front of the buffer and reports how many bytes it wrote; the bytes
+ *     after them are unchanged. A chunk (`piece`) is the bytes that one call is fed.
  *
- * What a program has to see to, since no call can:
+ * A program has to see to the following, since no call can:
  *
- *   - A handle begins as GITWIRE_NONE, or as memory of zeros, which is the same. Its fields are touched by nobody else. It may
- *     be moved, as by realloc; of two copies only one is used from then on, and freed. It is freed once it is no more needed;
- *     to free it twice does no harm, and a call on what was freed returns NO_HANDLE.
- *   - No pointer to a handle or to a gitwire_caps is NULL, but for those of calls `_free`.
- *   - A handle is used by one thread at a time. Each call writes to each handle that it is given, also one that only asks: so
- *     two threads that make servers of one repository's handle need a lock. A handle may go from one thread to another, by a
+ *   - A handle begins as GITWIRE_NONE, or as zeroed memory, which is the same. Nobody else touches its fields. It may be
+ *     moved, as by realloc; after a copy only one of the two is used and freed. Free it when it is no longer needed; to free
+ *     it twice does no harm, and a call on a freed handle returns NO_HANDLE.
+ *   - No pointer to a handle or to a gitwire_caps is NULL, except in the calls `_free`.
+ *   - One thread at a time uses a handle. Each call writes to each of its handles, even a call that only asks: so two
+ *     threads that make servers of one repository's handle need a lock. A handle may go from one thread to another by a
  *     lock, a thread's start or end, or an atomic of sequentially consistent order. Servers of one repository may be used at
  *     the same time, and while its handle is used or freed.
- *   - Each text and each room has its whole length at its pointer, and no pointer is NULL where the length is above 0. No room
- *     overlaps a text, another room or a handle, and no two handles of a call are one. Nobody else writes to a text or
- *     touches a room while the call runs.
+ *   - Each text and each buffer has its whole length at its pointer, and no pointer is NULL if the length is above 0. No
+ *     buffer overlaps a text, another buffer or a handle, and no two handles of a call are the same. Nobody else writes to a
+ *     text or touches a buffer while the call runs.
  *   - Each field of a gitwire_offer is set.
- *   - Numbers of several kinds begin at 0: a format where a command or an ending is due is taken for one.
- *   - The stack has room for a call. A thread with the 16 KiB of PTHREAD_STACK_MIN makes each of them, as tested.
+ *   - Numbers of several kinds begin at 0: a format that is passed as a command or an ending is taken for one.
+ *   - The stack has space for a call. The tests make each call in a thread with the 16 KiB of PTHREAD_STACK_MIN.
  *   - malloc, realloc and free are those of one allocator, which aligns as the C standard requires. No call is made from a
  *     signal handler, nor in the child of a fork of a process with more than one thread.
  *
  * This header is for C11, C++11 and later.
  *
- * Since 0.1.0: what a server offers, and what a client noted of that, is a set of bits (GITWIRE_FEATURE_*) instead of a field
- * each, so that a further feature breaks no program; `unborn`, `wait-for-done` and `filter` are known (GITWIRE_LIST_FILTERS,
- * gitwire_repository_new_filtered), and a reference may have no object (`id_length` 0, in gitwire_put_reference too); a feed that is
- * not due returns NOT_NOW, where it returned MORE; gitwire_kind_name and gitwire_escape; calls `_free` take NULL; calls that no program should
- * make with NULL, or whose answer none should pass over, are marked for the compilers that can check it; what a call returns is
- * `gitwire_answer`, which was `gitwire_told`.
+ * Since 0.1.0: what a server advertises, and what a client noted of that, is a set of bits (GITWIRE_FEATURE_*) instead of a
+ * field each, so that a further feature breaks no program; `unborn`, `wait-for-done` and `filter` are known
+ * (GITWIRE_LIST_FILTERS, gitwire_repository_new_filtered), and a reference may have no object (`id_length` 0, in
+ * gitwire_put_reference too); a feed when no input is expected returns NOT_NOW, where it returned MORE; gitwire_kind_name and
+ * gitwire_escape; calls `_free` take NULL; calls that no program should make with NULL, or whose result none should ignore,
+ * are marked for the compilers that can check this; a call returns a `gitwire_answer`, which was `gitwire_told`.
  */
 #ifndef GITWIRE_H
 #define GITWIRE_H
@@ -69,7 +71,7 @@ extern "C" {
 #define GITWIRE_STATIC_ASSERT _Static_assert
 #endif
 
-/* What compilers can check of a call: its handle is given, and its answer is looked at. */
+/* What compilers can check about a call: its handle is not NULL, and its result is used. */
 #if defined(__GNUC__)
 #define GITWIRE_GIVEN __attribute__((nonnull(1)))
 #define GITWIRE_LOOKED_AT __attribute__((nonnull(1), warn_unused_result))
@@ -78,34 +80,34 @@ extern "C" {
 #define GITWIRE_LOOKED_AT
 #endif
 
-/* The version, which is that of the library beside which this header is installed. */
+/* The version of the library with which this header is installed. */
 #define GITWIRE_VERSION "0.2.0"
 #define GITWIRE_VERSION_MAJOR 0
 #define GITWIRE_VERSION_MINOR 2
 #define GITWIRE_VERSION_PATCH 0
 
-/* How many bytes a payload has at the most, and a packet, with its four digits. Rooms of these sizes always suffice. */
+/* The maximum length of a payload, and of a packet with its four digits. Buffers of these sizes always suffice. */
 #define GITWIRE_PAYLOAD_ROOM 65516
 #define GITWIRE_PACKET_ROOM 65520
 
-/* Rooms that suffice for smaller things. */
+/* Sizes of buffers that suffice for smaller things. */
 #define GITWIRE_OBJECT_NAME_ROOM 64         /* the digits of an object name of either format */
 #define GITWIRE_REFERENCE_NAME_ROOM 32000   /* a reference name, and each other item of a request's lists */
-#define GITWIRE_FAULT_NAME_ROOM 32          /* what gitwire_fault_name writes */
-#define GITWIRE_FAULT_TEXT_ROOM 64          /* what gitwire_fault_text writes */
-#define GITWIRE_KIND_NAME_ROOM 32           /* what gitwire_kind_name writes */
-#define GITWIRE_ESCAPE_ROOM 4               /* what gitwire_escape writes of one byte */
-#define GITWIRE_ADVERTISEMENT_ROOM 200      /* what gitwire_put_advertisement writes */
+#define GITWIRE_FAULT_NAME_ROOM 32          /* the name that gitwire_fault_name writes */
+#define GITWIRE_FAULT_TEXT_ROOM 64          /* the text that gitwire_fault_text writes */
+#define GITWIRE_KIND_NAME_ROOM 32           /* the name that gitwire_kind_name writes */
+#define GITWIRE_ESCAPE_ROOM 4               /* the escape that gitwire_escape writes for one byte */
+#define GITWIRE_ADVERTISEMENT_ROOM 200      /* the packets that gitwire_put_advertisement writes */
 
-/* How many bytes the texts of a request's argument lines may have together: a usual limit, and the greatest one. */
+/* How many bytes the texts of a request's argument lines may have together: the default limit, and the maximum one. */
 #define GITWIRE_USUAL_LIMIT 16777216
 #define GITWIRE_MOST_LIMIT 1073741824
 
-/* What came of a call: `kind` of what it returned, or its answer. */
+/* The result of a call: what it returns, or the `kind` of what it returns. */
 enum {
 	GITWIRE_DONE = 0,
-	GITWIRE_MORE = 1,             /* go on: `used` bytes of the piece were used, and there is nothing else to report */
-	GITWIRE_FAILED = 2,           /* refused: `fault` is why, `offset` where (of a repository's text: `offset` alone) */
+	GITWIRE_MORE = 1,             /* go on: `used` bytes of the chunk were used, and there is nothing else to report */
+	GITWIRE_FAILED = 2,           /* refused: `fault` is why, `offset` where (for a repository's text only `offset`) */
 	GITWIRE_NO_HANDLE = 3,        /* the handle has nothing: it was never made, or was freed */
 	GITWIRE_ROOM_TOO_SMALL = 4,   /* nothing was used or changed */
 	GITWIRE_NOT_NOW = 5,          /* the call may not be made at this moment; nothing changed */
@@ -119,43 +121,43 @@ enum {
 	GITWIRE_RESPONSE_END = 12,
 	/* requests */
 	GITWIRE_REQUEST = 13,         /* a whole request */
-	GITWIRE_STOP = 14,            /* a flush in the place of a request, by which the other end leaves */
-	/* what is to be done next */
-	GITWIRE_PACKET = 15,          /* this packet is to be sent */
-	GITWIRE_NEED_INPUT = 16,      /* bytes of the other end are due */
-	GITWIRE_ENDED_BY_FLUSH = 17,  /* the session ended with a flush alone, and all was given */
-	GITWIRE_ENDED_BY_CLOSE = 18,  /* it ended where the input did, between two requests, and all was given */
-	GITWIRE_CAN_ASK = 19,         /* a request can be asked, or the conversation be left */
-	GITWIRE_FINISHED = 20,        /* nothing more is to be sent, and the last packet was given */
+	GITWIRE_STOP = 14,            /* a flush instead of a request: the peer leaves */
+	/* what to do next */
+	GITWIRE_PACKET = 15,          /* send this packet */
+	GITWIRE_NEED_INPUT = 16,      /* bytes from the peer are expected */
+	GITWIRE_ENDED_BY_FLUSH = 17,  /* the session ended with a flush alone, and every packet was returned */
+	GITWIRE_ENDED_BY_CLOSE = 18,  /* it ended where the input did, between two requests, and every packet was returned */
+	GITWIRE_CAN_ASK = 19,         /* a request can be asked, or the conversation left */
+	GITWIRE_FINISHED = 20,        /* nothing more is to be sent, and the last packet was returned */
 	/* what a client receives */
 	GITWIRE_CAPABILITY = 21,      /* a line of the advertisement */
 	GITWIRE_OFFERED = 22,         /* the advertisement is whole */
 	GITWIRE_REFERENCE = 23,
-	GITWIRE_ACK = 24,             /* both ends have this object */
-	GITWIRE_NAK = 25,             /* none of the objects that the request lists as the client's is common */
+	GITWIRE_ACK = 24,             /* both sides have this object */
+	GITWIRE_NAK = 25,             /* no object that the request lists as the client's is common */
 	GITWIRE_READY = 26,           /* enough is common: a pack follows */
 	GITWIRE_SHALLOW = 27,         /* the parents of this commit are not sent */
-	GITWIRE_UNSHALLOW = 28,       /* the parents of this commit, which had none, are sent now */
-	GITWIRE_WANTED_REF = 29,      /* a reference that was asked for by its name */
+	GITWIRE_UNSHALLOW = 28,       /* this commit had no parents at the client; they are sent now */
+	GITWIRE_WANTED_REF = 29,      /* a reference that was requested by its name */
 	GITWIRE_INFO = 30,            /* the size of an object */
 	GITWIRE_PACK = 31,            /* bytes of the pack */
 	GITWIRE_PROGRESS = 32,        /* bytes of a text for the user */
 	GITWIRE_ENDED = 33,           /* the response is whole */
 	/* what a host is asked */
 	GITWIRE_ASKED = 34,           /* a whole request came: gitwire_host_accept, gitwire_host_refuse */
-	GITWIRE_NEED_WANT = 35,       /* whether the store has the object at a place of LIST_WANTS: gitwire_host_want */
-	GITWIRE_NEED_WANT_REF = 36,   /* the object of the reference at a place of LIST_WANT_REFS: gitwire_host_want_ref */
-	GITWIRE_NEED_HAVE = 37,       /* whether the store has the object at a place of LIST_HAVES: gitwire_host_have */
+	GITWIRE_NEED_WANT = 35,       /* whether the store has the object at this index of LIST_WANTS: gitwire_host_want */
+	GITWIRE_NEED_WANT_REF = 36,   /* the object of the reference at this index of LIST_WANT_REFS: gitwire_host_want_ref */
+	GITWIRE_NEED_HAVE = 37,       /* whether the store has the object at this index of LIST_HAVES: gitwire_host_have */
 	GITWIRE_NEED_READY = 38,      /* whether enough is common to make a pack: gitwire_host_ready */
 	GITWIRE_NEED_BOUNDARY = 39,   /* the next line of the shallow boundary, or its end: gitwire_host_boundary, _boundary_end */
 	GITWIRE_NEED_PACK = 40,       /* bytes of the pack or of progress, or the end: gitwire_host_pack, _progress, _pack_end */
 	GITWIRE_NEED_REFERENCE = 41,  /* the next reference, or the end: gitwire_host_reference, _unborn, _references_end */
-	GITWIRE_NEED_SIZE = 42,       /* the size of the object at a place of LIST_OIDS: gitwire_host_size */
-	GITWIRE_OUT_OF_ORDER = 43,    /* a reference does not come after the one that was reported before it; nothing changed */
+	GITWIRE_NEED_SIZE = 42,       /* the size of the object at this index of LIST_OIDS: gitwire_host_size */
+	GITWIRE_OUT_OF_ORDER = 43,    /* a reference does not come after the one reported before it; nothing changed */
 	GITWIRE_NOT_SHALLOW = 44      /* an `unshallow` line of a commit that the request does not call shallow; nothing changed */
 };
 
-/* Why something was refused: `fault` of what is returned. docs/PROTOCOL.md lists where the offset of each is. */
+/* Why something was refused: `fault` of what is returned. docs/PROTOCOL.md states the offset of each. */
 enum {
 	GITWIRE_FAULT_BAD_DIGIT = 1,
 	GITWIRE_FAULT_BAD_LENGTH = 2,
@@ -182,38 +184,38 @@ enum {
 	GITWIRE_FAULT_REMOTE_ERROR = 23,
 	GITWIRE_FAULT_UNKNOWN_REF = 24,
 	GITWIRE_FAULT_NOT_OURS = 25,
-	GITWIRE_FAULT_PACK_SOURCE = 26,   /* of a gitwire_host alone: a gitwire_server has its pack in memory */
+	GITWIRE_FAULT_PACK_SOURCE = 26,   /* only from a gitwire_host: a gitwire_server has its pack in memory */
 	GITWIRE_FAULT_NOT_VERSION_2 = 27,
 	GITWIRE_FAULT_UNEXPECTED_SECTION = 28,
 	GITWIRE_FAULT_BAD_LINE = 29,
 	GITWIRE_FAULT_OUT_OF_MEMORY = 30,
 	GITWIRE_FAULT_REMOTE_FATAL = 31,
-	/* of runs over streams, as git2show's: they have names and texts, and no call reports them */
+	/* errors of runs over streams, such as git2show's: they have names and texts, and no call reports them */
 	GITWIRE_FAULT_READ_FAULT = 32,
 	GITWIRE_FAULT_WRITE_FAULT = 33,
 	GITWIRE_FAULT_READ_LIMIT = 34
 };
 
 /*
- * Object formats, commands of requests, and how each response ends: with its flush alone, or with one response-end packet more,
- * which Git's stateless-connect helpers put after each response, gitremote-helpers(7). gitwire_server gives none, nor does Git's
- * server: a program whose client has this ending, over a connection for each request, feeds it `0002` after each response, but
- * not after the advertisement.
+ * Object formats, commands of requests, and how each response ends: with its flush alone, or with one more packet, the
+ * response-end packet that Git's stateless-connect helpers put after each response, gitremote-helpers(7). gitwire_server
+ * sends none, nor does Git's server: if a client has this ending, over a connection for each request, its program feeds it
+ * `0002` after each response, but not after the advertisement.
  */
 enum { GITWIRE_SHA1 = 0, GITWIRE_SHA256 = 1 };
 enum { GITWIRE_LS_REFS = 0, GITWIRE_FETCH = 1, GITWIRE_OBJECT_INFO = 2 };
 enum { GITWIRE_ENDS_BY_FLUSH = 0, GITWIRE_ENDS_BY_RESPONSE_END = 1 };
 
-/* What one call did. Fields without a meaning are 0. */
+/* The result of one call. Fields without a meaning are 0. */
 typedef struct {
-	size_t used;       /* how many bytes of the piece were used */
-	uint64_t offset;   /* a place in the stream, counted in bytes from 0; or the number that was asked for */
-	size_t length;     /* how many bytes are at the front of the room */
+	size_t used;       /* how many bytes of the chunk were used */
+	uint64_t offset;   /* an offset in the stream, counted in bytes from 0; or the number that was asked for */
+	size_t length;     /* how many bytes are at the front of the buffer */
 	uint8_t kind;
 	uint8_t fault;
 } gitwire_answer;
 
-/* What a server may offer beside `agent` and the commands `ls-refs` and `fetch`, which are in every offer: a bit for each. */
+/* What a server may advertise beside `agent` and the commands `ls-refs` and `fetch`, which it always advertises: a bit for each. */
 enum {
 	GITWIRE_FEATURE_UNBORN = 1,          /* of `ls-refs` */
 	GITWIRE_FEATURE_SHALLOW = 2,         /* of `fetch` */
@@ -225,13 +227,13 @@ enum {
 	GITWIRE_FEATURES_ALL = 127
 };
 
-/* What a server offers. A bit that means no feature is a BAD_VALUE. */
+/* What a server advertises. A bit that means no feature is a BAD_VALUE. */
 typedef struct {
 	uint32_t features;
-	uint8_t format;    /* the object format that is spoken */
+	uint8_t format;    /* the object format */
 } gitwire_offer;
 
-/* The handles. Their fields are the library's own. */
+/* The handles. Their fields belong to the library. */
 #define GITWIRE_NONE { NULL, false }
 typedef struct { void *at_; bool is_made_; } gitwire_packet_reader;
 typedef struct { void *at_; bool is_made_; } gitwire_request_reader;
@@ -243,12 +245,12 @@ typedef struct { void *at_; bool is_made_; } gitwire_writer;
 typedef struct { void *at_; bool is_made_; } gitwire_host;
 
 /*
- * Making and freeing, of each kind of handle.
+ * Each kind of handle is made and freed as follows.
  *
- * A call `_new` frees what the handle had, and makes it a new one: DONE. OUT_OF_MEMORY where memory for it cannot be had, and
- * then the handle has nothing. BAD_VALUE, and NO_HANDLE where another handle that it needs has nothing: then it stays as it was.
- * A call `_free` frees what it has, and then it has nothing; where it had nothing, and for NULL, nothing happens. It is a function of
- * this header over the library's call `_clear`, which does the same but for NULL.
+ * A call `_new` frees what the handle had, and gives it a new value: DONE. OUT_OF_MEMORY if there is no memory for it; then
+ * the handle has nothing. BAD_VALUE, or NO_HANDLE if another handle that it needs has nothing; then the handle is unchanged.
+ * A call `_free` frees what the handle has, and leaves it with nothing; for a handle that has nothing, and for NULL, it does
+ * nothing. It is a function of this header over the library's call `_clear`, which does the same except for NULL.
  */
 #define GITWIRE_FREES(handle) \
 	void handle##_clear(handle *it) GITWIRE_GIVEN; \
@@ -259,20 +261,20 @@ typedef struct { void *at_; bool is_made_; } gitwire_host;
 	}
 
 /*
- * Packets: the packets and offsets given are those of the one split of the bytes fed, however these were cut. The first
- * malformed packet is refused at its offset, as soon as its bytes show it, and a reader that has refused stays refused:
- * each later feed and close uses nothing and reports that fault again.
+ * Packets: however the bytes fed are cut into chunks, the packets and offsets returned are those of their one split. The
+ * first malformed packet is refused at its offset, as soon as its bytes show it. A reader that has refused stays refused:
+ * each later feed and close uses nothing and reports that error again.
  */
 
-/* A reader of a stream of which nothing has come. */
+/* A reader of a stream before its first byte. */
 GITWIRE_LOOKED_AT
 uint8_t gitwire_packet_reader_new(gitwire_packet_reader *reader);
 
 /*
- * Reads on to the end of a packet, the end of the piece or the first fault, whichever comes first: `used` is how many
- * bytes. It is to be called again with those that were not used. The room has GITWIRE_PAYLOAD_ROOM bytes at least.
+ * Reads up to the end of a packet, the end of the chunk or the first error, whichever comes first: `used` is how many bytes
+ * it used. Call it again with the others. The buffer needs at least GITWIRE_PAYLOAD_ROOM bytes.
  *
- * MORE: the piece is used up. PAYLOAD: `length` bytes in the room, none for the packet `0004`. FLUSH, DELIM,
+ * MORE: the chunk is used up. PAYLOAD: `length` bytes in the buffer, none for the packet `0004`. FLUSH, DELIM,
  * RESPONSE_END: these packets. `offset` is that of the packet's first digit. FAILED: BadDigit, BadLength, TooLong, and
  * after a close Truncated; StreamTooLong at the byte after 2^63 - 1 others. NO_HANDLE, ROOM_TOO_SMALL.
  */
@@ -281,8 +283,8 @@ gitwire_answer gitwire_packet_reader_feed(gitwire_packet_reader *reader, const u
 	uint8_t *room, size_t room_length);
 
 /*
- * The input ends here. DONE between two packets, and nothing changes. FAILED inside one, with Truncated where
- * the last whole packet ended, and of a reader that has refused, with its fault. NO_HANDLE.
+ * Reports the end of the input. DONE between two packets, and nothing changes. FAILED inside a packet, with Truncated at the
+ * end of the last whole packet, and for a reader that has refused, with its error. NO_HANDLE.
  */
 GITWIRE_GIVEN
 gitwire_answer gitwire_packet_reader_close(gitwire_packet_reader *reader);
@@ -290,36 +292,36 @@ gitwire_answer gitwire_packet_reader_close(gitwire_packet_reader *reader);
 GITWIRE_FREES(gitwire_packet_reader)
 
 /*
- * Requests out of bytes: those handed out are the whole requests of the bytes fed, in order, however these were cut. The
- * first fault is reported by name and offset, and stays. The texts of a request's argument lines are within the limit.
+ * Reads requests: however the bytes fed are cut into chunks, the requests returned are their whole requests, in order. The
+ * first error is reported by name and offset, and stays. The texts of a request's argument lines are within the limit.
  */
 
 /*
- * A reader against this offer. `limit` is how many bytes the texts of a request's argument lines may have together. BAD_VALUE for
- * a format or a feature that is none and for a limit above GITWIRE_MOST_LIMIT.
+ * A reader of requests against this offer. `limit` is how many bytes the texts of a request's argument lines may have
+ * together. BAD_VALUE for a format or a feature that does not exist, and for a limit above GITWIRE_MOST_LIMIT.
  */
 GITWIRE_LOOKED_AT
 uint8_t gitwire_request_reader_new(gitwire_request_reader *reader, gitwire_offer offer, uint32_t limit);
 
 /*
- * Reads on to the end of a request, a flush in the place of one, the end of the piece or the first fault, whichever comes
- * first: `used` is how many bytes. It is to be called again with those that were not used.
+ * Reads up to the end of a request, a flush instead of one, the end of the chunk or the first error, whichever comes first:
+ * `used` is how many bytes it used. Call it again with the others.
  *
- * MORE: the piece is used up. REQUEST: a whole request, which is what the request handle has now; what it had is freed. STOP: the
- * other end leaves, and nothing is read after it: NOT_NOW from then on. FAILED: what refuses a request, by its first bad packet,
- * and again from then on. OUT_OF_MEMORY: there is no memory for what the request handle has to have
- * before anything is read; nothing was used or changed, and the call can be made again. NO_HANDLE.
+ * MORE: the chunk is used up. REQUEST: a whole request, which the request handle has now; what that had is freed. STOP: the
+ * peer leaves, and nothing is read after it: NOT_NOW from then on. FAILED: the error at the first bad packet of a request,
+ * and again from then on. OUT_OF_MEMORY: there is no memory for what the request handle must have before anything is read;
+ * nothing was used or changed, and the call can be made again. NO_HANDLE.
  *
- * No other answer than REQUEST gives the request handle a request that was read. After MORE, NOT_NOW, STOP and FAILED one that had
- * nothing has an empty request, which nobody asked.
+ * Only REQUEST gives the request handle a request that was read. After MORE, NOT_NOW, STOP and FAILED a request handle that
+ * had nothing has an empty request, which nobody sent.
  */
 GITWIRE_LOOKED_AT
 gitwire_answer gitwire_request_reader_feed(gitwire_request_reader *reader, gitwire_request *request,
 	const uint8_t *piece, size_t piece_length);
 
 /*
- * The input ends here. DONE between two requests, and nothing changes. FAILED inside one, with Truncated where
- * the last whole packet ended. NOT_NOW after a fault, and once the other end has left. NO_HANDLE.
+ * Reports the end of the input. DONE between two requests, and nothing changes. FAILED inside a request, with Truncated at
+ * the end of the last whole packet. NOT_NOW after an error, and once the peer has left. NO_HANDLE.
  */
 GITWIRE_GIVEN
 gitwire_answer gitwire_request_reader_close(gitwire_request_reader *reader);
@@ -327,39 +329,39 @@ gitwire_answer gitwire_request_reader_close(gitwire_request_reader *reader);
 GITWIRE_FREES(gitwire_request_reader)
 
 /*
- * A request: what a reader of requests hands out, or what a client is to ask. One that is made has no arguments. One that a
- * reader handed out has the reader's limit. The lists of each keep the order of their lines, and repeats.
+ * A request: what a reader of requests returns, or what a client is to ask. A new request has no arguments. One that a
+ * reader returned has the reader's limit. Each list keeps the order of its lines, and repeats.
  */
 
 /*
- * An empty request. `limit` is how many bytes the texts of its argument lines may have together. BAD_VALUE for a command or a
- * format that is none, and for a limit above GITWIRE_MOST_LIMIT.
+ * An empty request. `limit` is how many bytes the texts of its argument lines may have together. BAD_VALUE for a command or
+ * a format that does not exist, and for a limit above GITWIRE_MOST_LIMIT.
  */
 GITWIRE_LOOKED_AT
 uint8_t gitwire_request_new(gitwire_request *request, uint8_t command, uint8_t format, uint32_t limit);
 
 /*
- * Adds an argument, a line as gitprotocol-v2(5) has it, without LF: `want ` and an object name, `done`, `ref-prefix refs/`.
- * DONE. FAILED: what refuses the line, at offset 0, TooMuchKept and OutOfMemory among them, and the request is as it was.
- * NO_HANDLE.
+ * Adds an argument: a line as in gitprotocol-v2(5), without LF, such as `want ` and an object name, `done`, or
+ * `ref-prefix refs/`. DONE. FAILED, at offset 0: the error in the line, TooMuchKept or OutOfMemory, and the request is
+ * unchanged. NO_HANDLE.
  */
 GITWIRE_LOOKED_AT
 gitwire_answer gitwire_request_add(gitwire_request *request, const uint8_t *line, size_t line_length);
 
 /*
- * Checks what a reader checks where a request ends, and changes nothing. DONE, or FAILED, at offset 0, with DeepenConflict, NoWants
- * or NoSize. NO_HANDLE.
+ * Checks what a reader checks at the end of a request, and changes nothing. DONE, or FAILED, at offset 0, with
+ * DeepenConflict, NoWants or NoSize. NO_HANDLE.
  */
 GITWIRE_LOOKED_AT
 gitwire_answer gitwire_request_end(gitwire_request *request);
 
-/* DONE with `offset` the number of its command; of its object format. NO_HANDLE. */
+/* The number of its command; of its object format: DONE with it in `offset`. NO_HANDLE. */
 GITWIRE_LOOKED_AT
 gitwire_answer gitwire_request_command(gitwire_request *request);
 GITWIRE_LOOKED_AT
 gitwire_answer gitwire_request_format(gitwire_request *request);
 
-/* Whether a flag is set. false for a flag that its command does not have, a number that is none, and where there is no request. */
+/* Whether a flag is set. false for a flag that its command does not have, for a number that is no flag, and without a request. */
 enum {
 	GITWIRE_FLAG_SYMREFS = 0,
 	GITWIRE_FLAG_PEEL = 1,
@@ -377,17 +379,17 @@ GITWIRE_LOOKED_AT
 bool gitwire_request_flag(gitwire_request *request, uint8_t flag);
 
 /*
- * The depth in commits (DEEPEN), or the time in seconds since 1970 (DEEPEN_SINCE), that the request gives: DONE with it in
- * `offset`; of several the last counts. NOTHING where it gives none. BAD_VALUE, NO_HANDLE.
+ * The depth in commits (DEEPEN), or the time in seconds since 1970 (DEEPEN_SINCE), of the request: DONE with it in
+ * `offset`; of several the last counts. NOTHING if the request has none. BAD_VALUE, NO_HANDLE.
  */
 enum { GITWIRE_NUMBER_DEEPEN = 0, GITWIRE_NUMBER_DEEPEN_SINCE = 1 };
 GITWIRE_LOOKED_AT
 gitwire_answer gitwire_request_number(gitwire_request *request, uint8_t which);
 
 /*
- * An item of a list, counted from 0. DONE with `length` bytes in the room, of an object name its digits; or NOTHING past the
- * list's end, and of a list that its command does not have. GITWIRE_REFERENCE_NAME_ROOM bytes always suffice.
- * ROOM_TOO_SMALL, BAD_VALUE, NO_HANDLE.
+ * An item of a list, counted from 0. DONE with `length` bytes in the buffer: an object name is its digits. NOTHING past the
+ * end of the list, and for a list that the request's command does not have. GITWIRE_REFERENCE_NAME_ROOM bytes always
+ * suffice. ROOM_TOO_SMALL, BAD_VALUE, NO_HANDLE.
  */
 enum {
 	GITWIRE_LIST_REF_PREFIXES = 0,
@@ -397,7 +399,7 @@ enum {
 	GITWIRE_LIST_DEEPEN_NOTS = 4,
 	GITWIRE_LIST_WANT_REFS = 5,
 	GITWIRE_LIST_OIDS = 6,
-	GITWIRE_LIST_FILTERS = 7      /* filter specifications as they came, which no call looks into */
+	GITWIRE_LIST_FILTERS = 7      /* filter specifications as received, which no call looks into */
 };
 GITWIRE_LOOKED_AT
 gitwire_answer gitwire_request_item(gitwire_request *request, uint8_t list, size_t index, uint8_t *room, size_t room_length);
@@ -405,14 +407,15 @@ gitwire_answer gitwire_request_item(gitwire_request *request, uint8_t list, size
 GITWIRE_FREES(gitwire_request)
 
 /*
- * A repository: a few lists in memory, read from a text, and one pack, or one for fetches without `filter` and one for those with.
- * No pack is looked into. The text is that of docs/PROTOCOL.md, which sample/repository-text.sh writes of a Git repository. A
- * repository is never changed, and servers share it: each keeps it for as long as it needs it, also after the handle was freed.
+ * A repository: a few lists in memory, read from a text, and either one pack, or one for fetches without `filter` and one
+ * for fetches with it. No call looks into a pack. docs/PROTOCOL.md has the format of the text, which
+ * sample/repository-text.sh writes for a Git repository. A repository never changes, and servers share it: each keeps it for
+ * as long as it needs it, even after the handle was freed.
  */
 
 /*
- * A repository whose pack is the same for every fetch, with `filter` or without. It copies what it keeps, so that the text and the
- * pack need not last. What the handle had is freed before the text is read. DONE. FAILED: the text is refused, with `offset` the
+ * A repository with the same pack for every fetch, with `filter` or without. It copies what it keeps: the text and the pack
+ * need not last. What the handle had is freed before the text is read. DONE. FAILED: the text is refused, with `offset` the
  * number of its first bad line, from 1, and `fault` 0. OUT_OF_MEMORY. After these two the handle has nothing.
  */
 GITWIRE_LOOKED_AT
@@ -420,8 +423,9 @@ gitwire_answer gitwire_repository_new(gitwire_repository *repository, const uint
 	const uint8_t *pack, size_t pack_length);
 
 /*
- * The same, but with two packs: `pack` for fetches without `filter`, and `filtered` for those with one or more, whatever these contain
- * and whatever is wanted. So a client that then fetches what was left out, with a `filter` and by its name, gets `filtered` once more.
+ * The same, but with two packs: `pack` for fetches without `filter`, and `filtered` for those with one or more, whatever
+ * these contain and whatever is wanted. So a client that then fetches an object that was left out, by its name and with a
+ * `filter`, gets `filtered` once more.
  */
 GITWIRE_LOOKED_AT
 gitwire_answer gitwire_repository_new_filtered(gitwire_repository *repository, const uint8_t *text, size_t text_length,
@@ -430,49 +434,50 @@ gitwire_answer gitwire_repository_new_filtered(gitwire_repository *repository, c
 GITWIRE_FREES(gitwire_repository)
 
 /*
- * The server's end of a conversation, over a repository: however the input is cut, the output is exactly the session that
- * the input calls for. The texts of the argument lines that it keeps have together at most as many bytes as its limit, at every
- * return; beside them it has one buffer of GITWIRE_PACKET_ROOM bytes.
+ * The server's side of a conversation, over a repository: however the input is cut into chunks, the output is exactly the
+ * session that the input calls for. At every return the texts of the argument lines that it keeps have together at most as
+ * many bytes as its limit; beside them it has one buffer of GITWIRE_PACKET_ROOM bytes.
  *
- * One pull can take long. For `ls-refs` the first one puts the prefixes of the request in order, a million of them in about a second,
- * and each reference is then looked up among them by binary search. For a `fetch` that cuts the history off, each pull of a line of
- * `shallow-info` compares each `unshallow` line of the repository with each `shallow` of the request. The limit bounds how many
- * prefixes and `shallow` lines these can be: a program that serves many in one thread gives a low one.
+ * One pull can take long. For `ls-refs` the first one sorts the prefixes of the request, a million of them in about a
+ * second, and each reference is then looked up among them by binary search. For a `fetch` that cuts the history off, each
+ * pull of a line of `shallow-info` compares each `unshallow` line of the repository with each `shallow` of the request. The
+ * limit bounds how many prefixes and `shallow` lines these can be: a program that serves many clients in one thread sets a
+ * low one.
  *
- * It offers what `git2show serve` does: all features, and the repository's format.
+ * It advertises what `git2show serve` does: all features, and the repository's format.
  */
 
 /*
- * A server at the beginning of a session, which gives its advertisement first where `advertise` is set. NO_HANDLE where the
- * repository's handle has nothing, BAD_VALUE for a limit above GITWIRE_MOST_LIMIT. What the repository's handle has stays there.
+ * A server at the beginning of a session, which sends its advertisement first if `advertise` is set. NO_HANDLE if the
+ * repository's handle has nothing, BAD_VALUE for a limit above GITWIRE_MOST_LIMIT. The repository's handle is unchanged.
  */
 GITWIRE_LOOKED_AT
 uint8_t gitwire_server_new(gitwire_server *server, gitwire_repository *repository, uint32_t limit, bool advertise);
 
 /*
- * Takes bytes of the input: MORE, and `used` is how many, those up to the end of a request, a flush in the place of
- * one, or a fault, or all. NOT_NOW, and none is used, while a packet waits to be pulled and after the end: so pull until NEED_INPUT
- * before you feed the others. NO_HANDLE.
+ * Takes bytes of the input: MORE, and `used` is how many: up to the end of a request, a flush instead of one, or an error,
+ * or all. NOT_NOW, and none is used, while a packet waits to be pulled and after the end: so pull until NEED_INPUT before
+ * you feed the others. NO_HANDLE.
  */
 GITWIRE_LOOKED_AT
 gitwire_answer gitwire_server_feed(gitwire_server *server, const uint8_t *piece, size_t piece_length);
 
 /*
- * The input ends here, where the server needs input: DONE. Between two requests the session ends well, and no packet
- * is owed; inside one it is refused as Truncated, and the error packet that reports it is to be pulled. NOT_NOW where a packet
- * waits to be pulled and after the end, NO_HANDLE.
+ * Reports the end of the input, when the server needs input: DONE. Between two requests the session ends well, without
+ * another packet; inside a request the session is refused as Truncated, and the error packet that reports this is to be pulled.
+ * NOT_NOW while a packet waits to be pulled and after the end. NO_HANDLE.
  */
 GITWIRE_GIVEN
 uint8_t gitwire_server_close(gitwire_server *server);
 
 /*
- * The next packet to be sent, or what to do in its place. Each packet is given once. The room has GITWIRE_PACKET_ROOM bytes
- * at least.
+ * The next packet to be sent, or what to do instead. Each packet is returned once. The buffer needs at least
+ * GITWIRE_PACKET_ROOM bytes.
  *
- * PACKET: `length` bytes in the room. NEED_INPUT: nothing is owed until more is fed, or the input is closed.
- * ENDED_BY_FLUSH, ENDED_BY_CLOSE: the session ended well, and all was given. FAILED: it was refused; the last packet given was
- * an error packet that reports the fault, or, where the client itself had sent an error packet (RemoteError), there was none.
- * NO_HANDLE, ROOM_TOO_SMALL.
+ * PACKET: `length` bytes in the buffer. NEED_INPUT: nothing is to be sent until more is fed, or the input is closed.
+ * ENDED_BY_FLUSH, ENDED_BY_CLOSE: the session ended well, and every packet was returned. FAILED: the session was refused;
+ * the last packet returned was an error packet that reports the error, except if the client itself had sent an error packet
+ * (RemoteError). NO_HANDLE, ROOM_TOO_SMALL.
  */
 GITWIRE_LOOKED_AT
 gitwire_answer gitwire_server_pull(gitwire_server *server, uint8_t *room, size_t room_length);
@@ -480,9 +485,9 @@ gitwire_answer gitwire_server_pull(gitwire_server *server, uint8_t *room, size_t
 GITWIRE_FREES(gitwire_server)
 
 /*
- * A server over a store of the host's own: one with millions of objects, whose references change, whose packs come out of a process. It reads
- * requests as a gitwire_server does, and for each it asks what it needs of the store, one thing after another; the host reports it when it has
- * it. However the input is cut, the output is the session that the input and what was reported call for: its sections in their
+ * A server over a store of the host's own, such as one with millions of objects, references that change, and packs that a process writes. It
+ * reads requests as a gitwire_server does. For each it asks for what it needs from the store, one thing after another, and the host reports each
+ * when it has it. However the input is cut into chunks, the output is the session that the input and the reports call for: its sections in their
  * order, with each line that belongs there and no other. Its loop is over what gitwire_host_pull returns:
  *
  *     PACKET       write it to the client
@@ -491,20 +496,20 @@ GITWIRE_FREES(gitwire_server)
  *     NEED_..      report what is asked
  *     ENDED_BY_FLUSH, ENDED_BY_CLOSE, FAILED: the session is over
  *
- * A call that reports returns PACKET, with `length` bytes in the room that are to be sent now, or MORE: there is nothing to send yet. It may be
- * made where a pull would return what it is named after, and else it returns NOT_NOW: so no order of calls gives a wrong answer. No pull is
- * needed between two reports of references, of objects or of bytes of a pack; a line of the boundary may come after a header, and is to be pulled.
- * What is reported may differ from what was reported for an earlier request of the session. Of it only the name of the last reference is kept once
- * its packet was given, and the objects of wanted references, which are 33 bytes each. No call waits for anything: a host may serve many clients in
+ * A call that reports returns PACKET, with `length` bytes in the buffer to be sent now, or MORE: there is nothing to send yet. It is allowed when
+ * a pull would return what it is named after, and otherwise returns NOT_NOW: so no order of calls gives a wrong answer. No pull is needed between
+ * two reports of references, of objects or of bytes of a pack; a line of the boundary may come after a header, and then it is to be pulled. A
+ * report may differ from that for an earlier request of the session. Once the packet of a report was returned, the server keeps of it only the
+ * name of the last reference, and the objects of wanted references, 33 bytes each. No call waits for anything: a host may serve many clients in
  * one thread, and report to each when its store has answered.
  *
- * A call that reports changes nothing where it returns NOT_NOW, FAILED, OUT_OF_ORDER, NOT_SHALLOW, OUT_OF_MEMORY, ROOM_TOO_SMALL or NO_HANDLE.
- * The room of each has GITWIRE_PACKET_ROOM bytes at least. Objects are named by their digits, of either case and of the offer's format: else
- * BadObjectName.
+ * A call that reports changes nothing if it returns NOT_NOW, FAILED, OUT_OF_ORDER, NOT_SHALLOW, OUT_OF_MEMORY, ROOM_TOO_SMALL or NO_HANDLE. The
+ * buffer of each needs at least GITWIRE_PACKET_ROOM bytes. An object is named by its digits, of either case and of the offer's format; anything
+ * else is BadObjectName.
  */
 
-/* A host's server at the beginning of a session, which gives the advertisement of the offer first where `advertise` is set. BAD_VALUE for a
- * format or a feature that is none, and for a limit above GITWIRE_MOST_LIMIT. */
+/* A host's server at the beginning of a session, which sends the advertisement of the offer first if `advertise` is set. BAD_VALUE for a
+ * format or a feature that does not exist, and for a limit above GITWIRE_MOST_LIMIT. */
 GITWIRE_LOOKED_AT
 uint8_t gitwire_host_new(gitwire_host *host, gitwire_offer offer, uint32_t limit, bool advertise);
 
@@ -516,16 +521,16 @@ GITWIRE_GIVEN
 uint8_t gitwire_host_close(gitwire_host *host);
 
 /*
- * The next packet to be sent, or what is to be done in its place: called again before that is done, it returns the same. PACKET, NEED_INPUT,
- * ENDED_BY_FLUSH, ENDED_BY_CLOSE: as of gitwire_server_pull. ASKED: `offset` is the request's command. NEED_WANT, NEED_WANT_REF, NEED_HAVE,
- * NEED_SIZE: `offset` is the place of what is asked in its list. NEED_READY, NEED_BOUNDARY, NEED_PACK, NEED_REFERENCE. FAILED: the input was
- * refused; or the request was, by NotOurs, UnknownRef or PackSource at its flush. ROOM_TOO_SMALL, NO_HANDLE.
+ * The next packet to be sent, or what to do instead: until that is done, each call returns the same. PACKET, NEED_INPUT, ENDED_BY_FLUSH,
+ * ENDED_BY_CLOSE: as for gitwire_server_pull. ASKED: `offset` is the number of the request's command. NEED_WANT, NEED_WANT_REF, NEED_HAVE,
+ * NEED_SIZE: `offset` is the index in the list. NEED_READY, NEED_BOUNDARY, NEED_PACK, NEED_REFERENCE. FAILED: the input was refused; or the request
+ * was, by NotOurs, UnknownRef or PackSource at its flush. ROOM_TOO_SMALL, NO_HANDLE.
  */
 GITWIRE_LOOKED_AT
 gitwire_answer gitwire_host_pull(gitwire_host *host, uint8_t *room, size_t room_length);
 
-/* The request that is ASKED or answered, looked at as by gitwire_request_command, _flag, _number and _item: NOTHING, or false, where there is
- * none. Once it is accepted, the prefixes of one for references are in the order of their bytes, without those that begin with another. */
+/* The request that is ASKED or answered, by calls as gitwire_request_command, _flag, _number and _item: NOTHING, or false, if there is none. Once
+ * an `ls-refs` request is accepted, its prefixes are in the order of their bytes, without those that begin with another. */
 GITWIRE_LOOKED_AT
 gitwire_answer gitwire_host_command(gitwire_host *host);
 GITWIRE_LOOKED_AT
@@ -535,39 +540,39 @@ gitwire_answer gitwire_host_number(gitwire_host *host, uint8_t which);
 GITWIRE_LOOKED_AT
 gitwire_answer gitwire_host_item(gitwire_host *host, uint8_t list, size_t index, uint8_t *room, size_t room_length);
 
-/* The request that is ASKED is answered from now on: DONE. Or it is refused: PACKET, an error packet with this text, and the session is over
- * (NotOurs); a text of more than 65,511 bytes is BadLine. NOT_NOW where none is ASKED. */
+/* Accepts the request that is ASKED, which is answered from now on: DONE. Or refuses it: PACKET, an error packet with this text, and the session
+ * is over (NotOurs); a text of more than 65,511 bytes is BadLine. NOT_NOW if none is ASKED. */
 GITWIRE_LOOKED_AT
 uint8_t gitwire_host_accept(gitwire_host *host);
 GITWIRE_LOOKED_AT
 gitwire_answer gitwire_host_refuse(gitwire_host *host, const uint8_t *text, size_t text_length, uint8_t *room, size_t room_length);
 
 /* For `fetch`: whether the store has the wanted object that is asked about; and the object of the wanted reference that is asked for, or a length
- * of 0. MORE. Where it has none the error packet is to be pulled, and the session is over (NotOurs, UnknownRef). OUT_OF_MEMORY of a reference. */
+ * of 0 if there is none. MORE. If there is no such object or reference, the error packet is to be pulled, and the session is over (NotOurs,
+ * UnknownRef). OUT_OF_MEMORY for a reference. */
 GITWIRE_LOOKED_AT
 gitwire_answer gitwire_host_want(gitwire_host *host, bool has, uint8_t *room, size_t room_length);
 GITWIRE_LOOKED_AT
 gitwire_answer gitwire_host_want_ref(gitwire_host *host, const uint8_t *id, size_t id_length, uint8_t *room, size_t room_length);
 
-/* Whether the store has the object of the client that is asked about: PACKET, its `ACK`, or MORE. Then whether enough is common to make a pack,
- * which then follows: PACKET, `ready`, or the flush that ends the answer. */
+/* Whether the store has the client's object that is asked about: PACKET, its `ACK`, or MORE. Then whether enough is common to make a pack: PACKET,
+ * `ready`, and the pack follows; or the flush that ends the answer. */
 GITWIRE_LOOKED_AT
 gitwire_answer gitwire_host_have(gitwire_host *host, bool has, uint8_t *room, size_t room_length);
 GITWIRE_LOOKED_AT
 gitwire_answer gitwire_host_ready(gitwire_host *host, bool ready, uint8_t *room, size_t room_length);
 
-/* A line of the shallow boundary, `shallow` or else `unshallow`: PACKET, its line or, of the first, the header of the section; then that line is
- * to be pulled before anything else is reported. NOT_SHALLOW for an `unshallow` line of a commit that the request does not call shallow. And that
- * there are no more: PACKET, or MORE where there was none. */
+/* A line of the shallow boundary, `shallow` or else `unshallow`: PACKET, its line. For the first line that is the section's header, and the line
+ * itself is to be pulled before anything else is reported. NOT_SHALLOW for an `unshallow` line of a commit that the request does not call shallow.
+ * And the end of the lines: PACKET, or MORE if there was none. */
 GITWIRE_LOOKED_AT
 gitwire_answer gitwire_host_boundary(gitwire_host *host, bool shallow, const uint8_t *id, size_t id_length, uint8_t *room, size_t room_length);
 GITWIRE_LOOKED_AT
 gitwire_answer gitwire_host_boundary_end(gitwire_host *host, uint8_t *room, size_t room_length);
 
 /*
- * Bytes of the pack, or of a text for the client's user: PACKET, and `used` of them are in it, 65,515 at most. The others are reported by a further
- * call. No bytes are MORE; so is a text where the request has `no-progress`, and all of it is used. The pack's end: PACKET, the flush that ends the
- * answer.
+ * Bytes of the pack, or of a text for the client's user: PACKET, and `used` of them are in it, at most 65,515. A further call reports the others.
+ * No bytes are MORE; so is a text if the request has `no-progress`, and all of it is used. The pack's end: PACKET, the flush that ends the answer.
  */
 GITWIRE_LOOKED_AT
 gitwire_answer gitwire_host_pack(gitwire_host *host, const uint8_t *bytes, size_t length, uint8_t *room, size_t room_length);
@@ -577,10 +582,10 @@ GITWIRE_LOOKED_AT
 gitwire_answer gitwire_host_pack_end(gitwire_host *host, uint8_t *room, size_t room_length);
 
 /*
- * For `ls-refs`: any reference of the store, in the order of the bytes of their names. PACKET where the request asks for it, else MORE. A target or a
- * peeled object of length 0 is none. Parts are checked from left to right: BadObjectName, BadRefName. OUT_OF_ORDER where its name does not come
- * after that of the one before it, or it is a `HEAD` that was reported as unborn. OUT_OF_MEMORY. What an unborn `HEAD` points to is reported before
- * any reference. Their end: PACKET, the flush that ends the answer.
+ * For `ls-refs`: any reference of the store, in the order of the bytes of their names. PACKET if the request asks for it, else MORE. A target or a
+ * peeled object of length 0 is none. Parts are checked from left to right: BadObjectName, BadRefName. OUT_OF_ORDER if its name does not come after
+ * that of the one before it, or it is a `HEAD` that was reported as unborn. OUT_OF_MEMORY. The target of an unborn `HEAD` is reported before any
+ * reference. The end of the references: PACKET, the flush that ends the answer.
  */
 GITWIRE_LOOKED_AT
 gitwire_answer gitwire_host_reference(gitwire_host *host, const uint8_t *id, size_t id_length, const uint8_t *name, size_t name_length,
@@ -590,37 +595,37 @@ gitwire_answer gitwire_host_unborn(gitwire_host *host, const uint8_t *target, si
 GITWIRE_LOOKED_AT
 gitwire_answer gitwire_host_references_end(gitwire_host *host, uint8_t *room, size_t room_length);
 
-/* For `object-info`: the size of the object that is asked about, where the store has it. PACKET. */
+/* For `object-info`: the size of the object that is asked about, if the store has it. PACKET. */
 GITWIRE_LOOKED_AT
 gitwire_answer gitwire_host_size(gitwire_host *host, bool has_size, uint64_t size, uint8_t *room, size_t room_length);
 
-/* What is asked cannot be had, as where a disk or a process failed: where any NEED_.. is asked. PACKET, and the session is over (PackSource): an
- * error packet, or where NEED_PACK is asked a text on the band of fatal errors. A request that is ASKED can be refused. */
+/* Reports, while any NEED_.. is asked, that what is asked cannot be had, as when a disk or a process failed. PACKET, and the session is over
+ * (PackSource): an error packet, or while NEED_PACK is asked a text on the band of fatal errors. A request that is ASKED can be refused. */
 GITWIRE_LOOKED_AT
 gitwire_answer gitwire_host_fail(gitwire_host *host, uint8_t *room, size_t room_length);
 
 GITWIRE_FREES(gitwire_host)
 
 /*
- * The client's end of a conversation: for every cutting of the advertisement and the responses, the events handed out are
- * those of the bytes fed, under what was asked; the first fault is reported by name and offset, and stays; the pack is the
- * bytes of PACK, in order. Beside one request that it is asking it has one buffer of GITWIRE_PACKET_ROOM bytes.
+ * The client's side of a conversation: however the advertisement and the responses are cut into chunks, the events returned
+ * are those of the bytes fed, under what was asked. The first error is reported by name and offset, and stays. The pack is
+ * the bytes of PACK, in order. Beside the one request that it is asking, it has one buffer of GITWIRE_PACKET_ROOM bytes.
  */
 
-/* A client before the first byte. BAD_VALUE for a format or an ending that is none. */
+/* A client before the first byte. BAD_VALUE for a format or an ending that does not exist. */
 GITWIRE_LOOKED_AT
 uint8_t gitwire_client_new(gitwire_client *client, uint8_t format, uint8_t ending);
 
 /*
- * One event. Its parts lie in the room one after another: id, name, text, peeled, of these lengths, 0 for a part that it has not.
+ * One event. Its parts lie in the buffer one after another: id, name, text, peeled, of these lengths, 0 for a missing part.
  *
- *   CAPABILITY   the name is its key, the text its value, where it has one
- *   REFERENCE    id, name, the target of a symbolic reference (text), what an annotated tag peels to (peeled); no id where it is
+ *   CAPABILITY   the name is its key, the text its value, if it has one
+ *   REFERENCE    id, name, the target of a symbolic reference (text), what an annotated tag peels to (peeled); no id if it is
  *                unborn, as HEAD is while its branch has no commit
  *   ACK, SHALLOW, UNSHALLOW   id
  *   WANTED_REF   id, name
- *   INFO         id; the size, where the server has the object (`has_size`)
- *   PACK, PROGRESS   text: one byte at least, and all that the piece has of one packet's; the rest comes as further events
+ *   INFO         id; the size, if the server has the object (`has_size`)
+ *   PACK, PROGRESS   text: at least one byte, and all that the chunk has of one packet's; the rest comes as further events
  *   OFFERED, NAK, READY, ENDED   nothing
  *
  * An object name is its digits. `has_text` is whether there is a text, which may be empty. Fields without a meaning are 0.
@@ -640,9 +645,9 @@ typedef struct {
 } gitwire_event;
 
 /*
- * Reads on to an event, the end of the piece or the first fault, whichever comes first: `used` is how many bytes. It is to be
- * called again with those that were not used. A client that waits for no input uses nothing, and returns NOT_NOW, or its fault
- * again; gitwire_client_pull returns what it waits for. The room has GITWIRE_PAYLOAD_ROOM bytes at least.
+ * Reads up to an event, the end of the chunk or the first error, whichever comes first: `used` is how many bytes it used.
+ * Call it again with the others. A client that expects no input uses nothing, and returns NOT_NOW, or its error again;
+ * gitwire_client_pull returns what it waits for. The buffer needs at least GITWIRE_PAYLOAD_ROOM bytes.
  *
  * MORE, an event, or FAILED. NOT_NOW, NO_HANDLE, ROOM_TOO_SMALL.
  */
@@ -651,49 +656,50 @@ gitwire_event gitwire_client_feed(gitwire_client *client, const uint8_t *piece, 
 	uint8_t *room, size_t room_length);
 
 /*
- * The same, but the bytes of PACK and PROGRESS are not copied: they are the last `text_length` of those used, so they begin at
- * `piece + used - text_length`, and the room stays as it was. The texts of all other events lie in the room.
+ * The same, but the bytes of PACK and PROGRESS are not copied: they are the last `text_length` of those used, so they begin
+ * at `piece + used - text_length`, and the buffer is unchanged. The texts of all other events lie in the buffer.
  */
 GITWIRE_LOOKED_AT
 gitwire_event gitwire_client_feed_in_place(gitwire_client *client, const uint8_t *piece, size_t piece_length,
 	uint8_t *room, size_t room_length);
 
 /*
- * What is to be done next. PACKET: `length` bytes in the room are to be sent; each packet is given once. NEED_INPUT: bytes
- * of the server are due. CAN_ASK: a request can be asked, or the conversation be left. FINISHED: nothing more is to be sent. FAILED: the
- * conversation was refused. The room has GITWIRE_PACKET_ROOM bytes at least. NO_HANDLE, ROOM_TOO_SMALL.
+ * What to do next. PACKET: send the `length` bytes in the buffer; each packet is returned once. NEED_INPUT: bytes from the
+ * server are expected. CAN_ASK: a request can be asked, or the conversation left. FINISHED: nothing more is to be sent.
+ * FAILED: the conversation was refused. The buffer needs at least GITWIRE_PACKET_ROOM bytes. NO_HANDLE, ROOM_TOO_SMALL.
  */
 GITWIRE_LOOKED_AT
 gitwire_answer gitwire_client_pull(gitwire_client *client, uint8_t *room, size_t room_length);
 
 /*
- * Asks a request, whose packets are to be pulled then, and whose response is due after them. It is the client's from then
- * on, and the request's handle has nothing: DONE. FAILED, at the client's position, in this order: WrongFormat,
- * NotAdvertised, and what gitwire_request_end refuses; the client and the request stay as they were. NOT_NOW where none
- * can be asked. NO_HANDLE where either handle has nothing.
+ * Asks a request: its packets are to be pulled next, and its response is expected after them. The client takes the request,
+ * and the request's handle has nothing: DONE. FAILED, at the client's position, in this order: WrongFormat, NotAdvertised,
+ * and what gitwire_request_end refuses; the client and the request are unchanged. NOT_NOW if no request can be asked.
+ * NO_HANDLE if either handle has nothing.
  */
 GITWIRE_LOOKED_AT
 gitwire_answer gitwire_client_ask(gitwire_client *client, gitwire_request *request);
 
-/* Leaves: the flush that ends the conversation is to be pulled, and nothing is asked any more. DONE, NOT_NOW, NO_HANDLE. */
+/* Leaves: the flush that ends the conversation is to be pulled, and no request can be asked any more. DONE, NOT_NOW, NO_HANDLE. */
 GITWIRE_GIVEN
 uint8_t gitwire_client_leave(gitwire_client *client);
 
 /*
- * The input ends here, where more was due: FAILED with Truncated, where the last whole packet ended. NOT_NOW where
- * no bytes are due, NO_HANDLE.
+ * Reports the end of the input, when more was expected: FAILED with Truncated, at the end of the last whole packet. NOT_NOW
+ * if no bytes are expected, NO_HANDLE.
  */
 GITWIRE_GIVEN
 gitwire_answer gitwire_client_close(gitwire_client *client);
 
 /*
- * The server's message for the fault that ended the conversation, RemoteError or RemoteFatal: DONE with `length` bytes in the room,
- * of which GITWIRE_PAYLOAD_ROOM always suffice. NOTHING after another fault and before any. ROOM_TOO_SMALL, NO_HANDLE.
+ * The server's message for the error that ended the conversation, RemoteError or RemoteFatal: DONE with `length` bytes in
+ * the buffer; GITWIRE_PAYLOAD_ROOM bytes always suffice. NOTHING after another error and before any. ROOM_TOO_SMALL,
+ * NO_HANDLE.
  */
 GITWIRE_LOOKED_AT
 gitwire_answer gitwire_client_message(gitwire_client *client, uint8_t *room, size_t room_length);
 
-/* What the advertisement had, of all that is known here: what some line of it names. */
+/* What the advertisement has that is known here: what some line of it names. */
 typedef struct {
 	uint32_t features;    /* as those of a gitwire_offer */
 	bool agent;
@@ -711,37 +717,37 @@ uint8_t gitwire_client_caps(gitwire_client *client, gitwire_caps *caps);
 GITWIRE_FREES(gitwire_client)
 
 /*
- * Packets for a host that keeps its references and packs in its own way: each call puts one whole packet at the front of the
- * room, or the packets of an advertisement. DONE with `length`; what is written contains its value, and no other. BAD_VALUE where a
- * number means nothing. FAILED, at offset 0, where a name or a text is not allowed there, the first from left to right:
- * BadObjectName, BadRefName, and what is stated below. ROOM_TOO_SMALL; GITWIRE_PACKET_ROOM bytes always suffice. NO_HANDLE. An
- * object name is given as its digits, of either case, and written in lower case.
+ * Packets for a host that keeps its references and packs in its own way: each call writes one whole packet, or the packets
+ * of an advertisement, at the front of the buffer. DONE with `length`; what is written contains its value, and no other.
+ * BAD_VALUE if a number means nothing. FAILED, at offset 0, if a name or a text is not allowed there, the first from left to
+ * right: BadObjectName, BadRefName, and what is stated below. ROOM_TOO_SMALL; GITWIRE_PACKET_ROOM bytes always suffice.
+ * NO_HANDLE. An object name is passed as its digits, of either case, and written in lower case.
  */
 
-/* A writer: a buffer of GITWIRE_PACKET_ROOM bytes, in which each packet is made. What a call writes depends on no call before. */
+/* A writer: a buffer of GITWIRE_PACKET_ROOM bytes, in which each packet is made. What a call writes depends on no earlier call. */
 GITWIRE_LOOKED_AT
 uint8_t gitwire_writer_new(gitwire_writer *writer);
 
 GITWIRE_FREES(gitwire_writer)
 
-/* The packet of a kind PAYLOAD, FLUSH, DELIM or RESPONSE_END: a payload of more than 65,516 bytes is TooLong, and bytes of
- * another kind BAD_VALUE. A payload without bytes is written as `0004`, which by Git's documents should not be sent. */
+/* A packet of the kind PAYLOAD, FLUSH, DELIM or RESPONSE_END: a payload of more than 65,516 bytes is TooLong, and bytes with
+ * another kind are BAD_VALUE. A payload without bytes is written as `0004`, which by Git's documents should not be sent. */
 GITWIRE_LOOKED_AT
 gitwire_answer gitwire_put_packet(gitwire_writer *writer, uint8_t kind, const uint8_t *payload, size_t payload_length,
 	uint8_t *room, size_t room_length);
 
-/* All packets of an advertisement, below GITWIRE_ADVERTISEMENT_ROOM bytes. */
+/* All packets of an advertisement, fewer than GITWIRE_ADVERTISEMENT_ROOM bytes. */
 GITWIRE_LOOKED_AT
 gitwire_answer gitwire_put_advertisement(gitwire_writer *writer, gitwire_offer offer, uint8_t *room, size_t room_length);
 
-/* A reference, with its object, the target of a symbolic one and what an annotated tag peels to; a length of 0 is none: a
+/* A reference, with its object, the target of a symbolic one and what an annotated tag peels to; a length of 0 means none: a
  * reference without an object is unborn. */
 GITWIRE_LOOKED_AT
 gitwire_answer gitwire_put_reference(gitwire_writer *writer, uint8_t format, const uint8_t *id, size_t id_length,
 	const uint8_t *name, size_t name_length, const uint8_t *target, size_t target_length, const uint8_t *peeled,
 	size_t peeled_length, uint8_t *room, size_t room_length);
 
-/* `ACK` and an object that both ends have. */
+/* `ACK` and an object that both sides have. */
 GITWIRE_LOOKED_AT
 gitwire_answer gitwire_put_ack(gitwire_writer *writer, uint8_t format, const uint8_t *id, size_t id_length, uint8_t *room,
 	size_t room_length);
@@ -756,7 +762,7 @@ GITWIRE_LOOKED_AT
 gitwire_answer gitwire_put_wanted(gitwire_writer *writer, uint8_t format, const uint8_t *id, size_t id_length,
 	const uint8_t *name, size_t name_length, uint8_t *room, size_t room_length);
 
-/* An object, and its size where the host has it (`has_size`). */
+/* An object, and its size if the host has it (`has_size`). */
 GITWIRE_LOOKED_AT
 gitwire_answer gitwire_put_info(gitwire_writer *writer, uint8_t format, const uint8_t *id, size_t id_length, bool has_size,
 	uint64_t size, uint8_t *room, size_t room_length);
@@ -778,25 +784,26 @@ gitwire_answer gitwire_put_line(gitwire_writer *writer, const uint8_t *text, siz
 	size_t room_length);
 
 /*
- * A fault's name, as `Truncated`, and what users see of it, as `Truncated at 994`: how many bytes are in the room; 0 where there
- * is no such fault, or the room is too small. GITWIRE_FAULT_NAME_ROOM and GITWIRE_FAULT_TEXT_ROOM bytes suffice.
+ * An error's name, such as `Truncated`, and what users see of it, such as `Truncated at 994`. Each returns how many bytes are
+ * in the buffer: 0 if there is no such error, or the buffer is too small. GITWIRE_FAULT_NAME_ROOM and GITWIRE_FAULT_TEXT_ROOM
+ * bytes suffice.
  */
 size_t gitwire_fault_name(uint8_t fault, uint8_t *room, size_t room_length);
 size_t gitwire_fault_text(uint8_t fault, uint64_t offset, uint8_t *room, size_t room_length);
 
 /*
- * The name of a `kind` of what is returned, as `NeedInput`, for messages: how many bytes are in the room; 0 where there is no such kind,
- * or the room is too small. GITWIRE_KIND_NAME_ROOM bytes suffice.
+ * The name of a `kind` of what is returned, such as `NeedInput`, for messages. Returns how many bytes are in the buffer: 0 if
+ * there is no such kind, or the buffer is too small. GITWIRE_KIND_NAME_ROOM bytes suffice.
  */
 size_t gitwire_kind_name(uint8_t kind, uint8_t *room, size_t room_length);
 
 /*
- * A stranger's bytes as a text that may be shown on a terminal, or be a line of a log, as `git2show show` shows them: LF is `\n`, a backslash
- * is two, other bytes from 0x20 to 0x7e stay as they are, and each other one is `\x` and two digits. The room has GITWIRE_ESCAPE_ROOM bytes
- * at least; so many for each byte always suffice for all.
+ * Untrusted bytes as a text that may be shown on a terminal, or be a line of a log, as `git2show show` shows them: LF is
+ * `\n`, a backslash is two, other bytes from 0x20 to 0x7e are unchanged, and each other one is `\x` and two digits. The
+ * buffer needs at least GITWIRE_ESCAPE_ROOM bytes; so many for each byte always suffice for all.
  *
- * DONE: the escapes of all bytes, `length` in the room. MORE: there is room for those of the first `used` bytes alone; it is to be called
- * again with the others. ROOM_TOO_SMALL.
+ * DONE: the escapes of all bytes, `length` in the buffer. MORE: the buffer has space only for those of the first `used`
+ * bytes; call it again with the others. ROOM_TOO_SMALL.
  */
 gitwire_answer gitwire_escape(const uint8_t *bytes, size_t bytes_length, uint8_t *room, size_t room_length);
 

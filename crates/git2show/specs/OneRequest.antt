@@ -1,4 +1,4 @@
--- What is taken of a reader where a server answers one request alone.
+-- What is taken from a reader if a server answers only one request.
 use Rattle.std.specs.Prelude.{◌≡◌, ℕ, Bool, true, false, Result, Ok, Err, List, [], ◌++◌, drop, take}
 use Rattle.std.specs.Io.KnownBytes.{Consumes}
 use Rattle.git_pkt.specs.Streams.{Flow}
@@ -9,13 +9,13 @@ use Rattle.git_server.specs.Machine.ServerCalls.{RunsUnread}
 use Rattle.git_server.specs.declared.server.Server.{Server}
 use Rattle.git2show.specs.declared.one_request.Left.{Left}
 
--- what was read after the request: these bytes of the piece
+-- what was read after the request: these bytes of the chunk
 abbrev pub left_in : {E : Type 0} → Result Left E → List ℕ → List ℕ
 left_in (Ok left) piece = drop left.from (take left.to piece)
 left_in (Err fault) piece = []
 
--- the server used what was read but for what is left of it, and all of it where the input ended, which the reader reported; nothing was
--- given, and no byte of a pack was looked at
+-- the server used what was read except what is left of it, and all of it if the input ended, which the reader reported; nothing was sent,
+-- and no byte of a pack was looked at
 pub record TakesOne {R A : Type 0} (state : R → RepoState) (old new : Server R A) (ended : Bool) (unused : List ℕ) (reader : Flow) : Type 0 where
   pub used : List ℕ
   pub over : Bool

@@ -1,4 +1,4 @@
-//! What a second line says in words of the fault that the first one names.
+//! The second line, which explains in words the error that the first line names.
 
 use crate::failures::{Cause, FailedCall, Failure, Stream};
 use crate::line_reasons::{repository_reason, script_reason};
@@ -15,15 +15,15 @@ use std::io::{self, Read};
 /// How many bytes of a text are read at a time: more than a line may have.
 const PART: usize = LONGEST_LINE + 1;
 
-/// A text whose lines are judged.
+/// A text whose lines are checked.
 #[derive(Clone, Copy, Debug)]
 enum Text {
     Repository,
     Script(Format),
 }
 
-/// Prints on standard error what is known of a failure beside its name: which file or stream it is, and what the system reported, or
-/// which word of a line is refused, and why. The words are those after the command, where the command line was taken.
+/// Prints on standard error what is known of a failure beside its name: which file or stream it is, and what the system reported, or which
+/// word of a line is refused, and why. The words are those after the command, if the command line was accepted.
 pub(crate) fn explain(
     rt: &HostRuntime,
     words: Option<&ArgMatches<'_>>,
@@ -62,7 +62,7 @@ fn explain_line(rt: &HostRuntime, path: &str, number: u64, text: Text) -> io::Re
     eprintln!(rt; "line {number} of {shown}: {reason}")
 }
 
-/// Reads a file once more, up to this line and a piece of it at least. What is no regular file, as a pipe, cannot be read again.
+/// Reads a file once more, up to this line and a chunk of it at least. Anything but a regular file, such as a pipe, cannot be read again.
 fn read_again(rt: &HostRuntime, path: &str, number: u64) -> io::Result<Vec<u8>> {
     if !fs::metadata(rt, path)?.is_file() {
         return Err(io::ErrorKind::NotSeekable.into());
@@ -84,12 +84,12 @@ fn read_again(rt: &HostRuntime, path: &str, number: u64) -> io::Result<Vec<u8>> 
     Ok(text)
 }
 
-/// How many lines end in a piece of a text.
+/// How many lines end in a chunk of a text.
 fn count_lines(piece: &[u8]) -> u64 {
     piece.iter().filter(|byte| **byte == b'\n').count() as u64
 }
 
-/// Prints what the system reported of a call.
+/// Prints what the system reported about a call.
 fn explain_call(
     rt: &HostRuntime,
     words: Option<&ArgMatches<'_>>,

@@ -1,4 +1,4 @@
-//! Why a command failed, and what is known of it beside the fault that is reported.
+//! Why a command failed, and what is known of it beside the error that is reported.
 
 use git_names::Format;
 use git_pkt::{Kind, RunFault};
@@ -8,13 +8,13 @@ use std::io::{self, Read, Write};
 /// Why a command failed.
 #[derive(Debug, Drop)]
 pub(crate) struct Failure {
-    /// The fault that is reported.
+    /// The error that is reported.
     pub(crate) fault: ProgramFault,
     /// What is known of its cause.
     pub(crate) cause: Cause,
 }
 
-/// What is known of the cause of a fault.
+/// What is known of the cause of an error.
 #[derive(Clone, Copy, Debug)]
 pub(crate) enum Cause {
     /// Nothing but its name.
@@ -25,7 +25,7 @@ pub(crate) enum Cause {
     ScriptLine(Format),
 }
 
-/// A call on a file or a stream that failed, by what the system reported.
+/// A call on a file or a stream that failed, with what the system reported.
 #[derive(Clone, Copy, Debug)]
 pub(crate) struct FailedCall {
     pub(crate) stream: Stream,
@@ -46,7 +46,7 @@ pub(crate) enum Stream {
 }
 
 impl Failure {
-    /// A file that an argument names cannot be opened, made, read or put in its place.
+    /// The failure of an argument's file that cannot be opened, made, read or put in its place.
     pub(crate) fn of_file(argument: &'static str, error: io::Error) -> Failure {
         let fault = match error.kind() {
             io::ErrorKind::OutOfMemory => ProgramFault::OutOfMemory,
@@ -59,7 +59,7 @@ impl Failure {
         }
     }
 
-    /// A run over streams ended early. The call is one on them that failed, where there is one.
+    /// The failure of a run over streams that ended early. `call` is the one on them that failed, if there is one.
     pub(crate) fn of_run<F: Into<ProgramFault> + Drop>(
         fault: F,
         call: Option<FailedCall>,
@@ -72,7 +72,7 @@ impl Failure {
         Failure { fault, cause }
     }
 
-    /// The same, but with the call that failed if it is that a pack could not be read.
+    /// The same failure, with the call that failed if the error is that a pack could not be read.
     pub(crate) fn with_pack_call(self, call: Option<FailedCall>) -> Failure {
         match (self.fault, call) {
             (ProgramFault::Run(RunFault::Refused(fault)), Some(call))
@@ -85,7 +85,7 @@ impl Failure {
     }
 }
 
-/// Whether the fault is that a call on a stream failed.
+/// Whether the error is that a call on a stream failed.
 fn names_a_call(fault: &ProgramFault) -> bool {
     matches!(
         fault,
@@ -103,8 +103,8 @@ impl From<ProgramFault> for Failure {
     }
 }
 
-/// A reader or a writer that keeps what the system reported of the last call that failed, but for one that was interrupted, which is
-/// made again.
+/// A reader or a writer that keeps what the system reported about the last call that failed, except an interrupted call, which is made
+/// again.
 #[derive(Debug, Drop)]
 pub(crate) struct Watched<T> {
     inner: T,

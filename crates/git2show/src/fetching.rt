@@ -19,12 +19,12 @@ use std::io::{self, BufWriter, IsTerminal, Write};
 /// How many bytes of a message are shown at a time.
 const PART: usize = 256;
 
-/// Room for what is shown of them.
+/// The size of a buffer for their escapes.
 const SHOWN: usize = 4 * PART;
 
-/// Sends the requests of the script that is named on standard output, and receives the answers on standard input. What comes of packs
-/// goes to the file that is named, which stays as it was where the run fails, and the transcript to one too, or to standard error.
-/// Where the command line asks for it, or standard error is a terminal, the server's progress is shown there.
+/// Sends the requests of the named script on standard output, and receives the answers on standard input. The bytes of packs go to the
+/// named file, which is unchanged if the run fails, and the transcript to a file too, or to standard error. If the command line asks for
+/// it, or standard error is a terminal, the server's progress is shown there.
 pub(crate) fn run_fetch(rt: &HostRuntime, matches: &ArgMatches<'_>) -> Result<(), Failure> {
     let requests = read_requests(rt, matches, format_of(matches))?;
     let path = matches.get_str("pack").unwrap_or("");
@@ -42,12 +42,12 @@ pub(crate) fn run_fetch(rt: &HostRuntime, matches: &ArgMatches<'_>) -> Result<()
     }
 }
 
-/// What is reported of a pack that cannot be made, or put in its place.
+/// The failure of a pack that cannot be made, or put in its place.
 fn pack_failure(error: io::Error) -> Failure {
     Failure::of_file("pack", error)
 }
 
-/// Sends the requests in their order, and writes what comes of packs, and the transcript to where the command line says.
+/// Sends the requests in their order, and writes the bytes of packs, and the transcript to where the command line says.
 fn fetch_into(
     rt: &HostRuntime,
     matches: &ArgMatches<'_>,
@@ -70,8 +70,8 @@ fn fetch_into(
     }
 }
 
-/// Sends the requests in their order, and writes what comes of packs, the transcript, and the server's progress where it is to be shown.
-/// The server's message where it refuses one goes to standard error.
+/// Sends the requests in their order, and writes the bytes of packs, the transcript, and the server's progress if it is to be shown. If the
+/// server refuses a request, its message goes to standard error.
 fn fetch<O: Write + Drop>(
     rt: &HostRuntime,
     matches: &ArgMatches<'_>,
@@ -126,7 +126,7 @@ fn ask_all<O: Write + Drop, E: Output>(
     done.map_err(|fault| Failure::of_run(fault, wire.or(files)))
 }
 
-/// A writer over this one that passes on what it has at each flush, and before that only by large pieces.
+/// A writer over this one that passes on what it has at each flush, and before that only in large chunks.
 fn buffered<O: Write + Drop>(rt: &HostRuntime, inner: O) -> Result<BufWriter<O>, ProgramFault> {
     BufWriter::with_capacity(rt.alloc(), PIECE, inner).map_err(|_| ProgramFault::OutOfMemory)
 }

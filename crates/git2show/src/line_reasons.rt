@@ -67,7 +67,7 @@ fn word_reason(word: &[u8]) -> Reason<'_> {
     }
 }
 
-/// Why a line is refused for this word, where that is no object name.
+/// Why a line is refused for this word, if it is no object name.
 fn object_name_reason(format: Format, word: &[u8]) -> Option<Reason<'_>> {
     match Oid::read(format, word, &mut Steps::new()) {
         Ok(_) => None,
@@ -75,7 +75,7 @@ fn object_name_reason(format: Format, word: &[u8]) -> Option<Reason<'_>> {
     }
 }
 
-/// Why a line is refused for this word, where that is no reference name.
+/// Why a line is refused for this word, if it is no reference name.
 fn reference_name_reason(word: &[u8]) -> Option<Reason<'_>> {
     match RefName::read(word, &mut Steps::new()) {
         Ok(_) => None,
@@ -154,7 +154,7 @@ fn ready_reason<'a>(before: &[u8], text: &'a [u8]) -> Reason<'a> {
     }
 }
 
-/// What comes after this word in the last of the lines that begins with it.
+/// What comes after this word in the last line that begins with it.
 fn last_with<'a>(lines: &'a [u8], word: &[u8]) -> Option<&'a [u8]> {
     lines
         .split(|byte| *byte == b'\n')
@@ -192,7 +192,7 @@ pub(crate) fn script_reason(format: Format, text: &[u8], number: u64) -> Reason<
     }
 }
 
-/// The command of the request that goes on after these lines, each of which ends with its LF.
+/// The command of the request that continues after these lines, each with its LF.
 fn open_command(lines: &[u8]) -> Option<Command> {
     let mut command = None;
     for line in lines.strip_suffix(b"\n")?.split(|byte| *byte == b'\n') {
@@ -204,7 +204,7 @@ fn open_command(lines: &[u8]) -> Option<Command> {
     command
 }
 
-/// Why the line of an argument is refused, by the name of the fault.
+/// Why the line of an argument is refused, by the kind of error.
 fn argument_reason(format: Format, command: Command, line: &[u8], kind: Kind) -> Reason<'_> {
     let (word, value) = split_at_first(line, b' ');
     let value = value.unwrap_or(b"");

@@ -34,19 +34,19 @@ use std::{env, fs, io};
 /// How many bytes are read at a time.
 const PIECE: usize = 65_536;
 
-/// How many reads a run makes at the most.
+/// The maximum number of reads of a run.
 const TURNS: u64 = 1_073_741_824;
 
-/// The most bytes that the texts of a request's argument lines may have.
+/// The maximum limit on the bytes of a request's argument lines.
 const MOST_KEPT: u32 = 1_073_741_824;
 
-/// The most bytes of a piece in which a played conversation goes over, and as many as it has by default.
+/// The maximum size of a chunk in a played conversation, and the default.
 const LONGEST_CUT: u32 = 65_536;
 
-/// The status where the command line is refused.
+/// The exit status if the command line is refused.
 const BAD_COMMAND_LINE: u8 = 2;
 
-/// The text below the list of commands: what a status means, and the one fault line whose word needs it.
+/// The text below the list of commands: the exit statuses, and the one error line whose word needs an explanation.
 const STATUSES: &str =
     "Status: 0 where all went well; 1 with one line on standard error where a stream or a file is at fault; 2 where the command line is.
 A fault is reported by name and offset, and on a terminal a second line says more.
@@ -55,7 +55,7 @@ A fault is reported by name and offset, and on a terminal a second line says mor
 /// The object formats, as the command line names them.
 static FORMATS: [&str; 2] = ["sha1", "sha256"];
 
-/// What the words after the program's name may be.
+/// The words that may follow the program's name.
 fn command<'a>(alloc: Global) -> Result<Command<'a>, AllocError> {
     Command::new(alloc, "git2show")
         .version("0.2.0")
@@ -73,7 +73,7 @@ fn command<'a>(alloc: Global) -> Result<Command<'a>, AllocError> {
         .subcommand(play_command(alloc)?)
 }
 
-/// What the words after `check` may be.
+/// The words that may follow `check`.
 fn check_command<'a>(alloc: Global) -> Result<Command<'a>, AllocError> {
     Command::new(alloc, "check")
         .about(
@@ -96,7 +96,7 @@ fn check_command<'a>(alloc: Global) -> Result<Command<'a>, AllocError> {
         ))
 }
 
-/// What the words after `serve` may be.
+/// The words that may follow `serve`.
 fn serve_command<'a>(alloc: Global) -> Result<Command<'a>, AllocError> {
     let command = Command::new(alloc, "serve").about(
         "Answers the requests on standard input, on standard output",
@@ -122,7 +122,7 @@ fn serve_command<'a>(alloc: Global) -> Result<Command<'a>, AllocError> {
         ))
 }
 
-/// What the words after `fetch` may be.
+/// The words that may follow `fetch`.
 fn fetch_command<'a>(alloc: Global) -> Result<Command<'a>, AllocError> {
     Command::new(alloc, "fetch")
         .about(
@@ -148,7 +148,7 @@ fn fetch_command<'a>(alloc: Global) -> Result<Command<'a>, AllocError> {
         ))
 }
 
-/// What the words after `play` may be.
+/// The words that may follow `play`.
 fn play_command<'a>(alloc: Global) -> Result<Command<'a>, AllocError> {
     let command = Command::new(alloc, "play").about(
         "Plays both ends of a conversation in memory, and prints its transcript; the pack's bytes are dropped",
@@ -168,7 +168,7 @@ fn play_command<'a>(alloc: Global) -> Result<Command<'a>, AllocError> {
         ))
 }
 
-/// A command with the files of a repository: its text, its pack, and the one for requests that have a filter.
+/// A command with the files of a repository: its text, its pack, and the pack for requests that have a filter.
 fn with_repository<'a>(alloc: Global, command: Command<'a>) -> Result<Command<'a>, AllocError> {
     command
         .arg(file_argument(alloc, "repo").help(
@@ -230,7 +230,7 @@ fn run_show(rt: &HostRuntime) -> Result<(), Failure> {
     done.map_err(|fault| Failure::of_run(fault, input.failed_call().or(output.failed_call())))
 }
 
-/// Checks the two files that are named, and writes the transcript to standard output.
+/// Checks the two named files, and writes the transcript to standard output.
 fn run_check(rt: &HostRuntime, matches: &ArgMatches<'_>) -> Result<(), Failure> {
     let mut requests = watched_file(rt, matches, "REQUESTS")?;
     let mut responses = watched_file(rt, matches, "RESPONSES")?;
@@ -252,7 +252,7 @@ fn run_check(rt: &HostRuntime, matches: &ArgMatches<'_>) -> Result<(), Failure> 
     done.map_err(|fault| Failure::of_run(fault, inputs.or(output.failed_call())))
 }
 
-/// Opens the file that an argument names, to be read by pieces.
+/// Opens the file that an argument names, to be read in chunks.
 fn watched_file(
     rt: &HostRuntime,
     matches: &ArgMatches<'_>,
@@ -288,8 +288,8 @@ fn open(
     File::open(rt, path).map_err(|error| Failure::of_file(argument, error))
 }
 
-/// Standard output, where what is written goes out by large pieces and at each flush. The buffer is no longer than the longest packet,
-/// which is so written from where it lies.
+/// Standard output: what is written goes out in large chunks and at each flush. The buffer is no longer than the longest packet, so that
+/// such a packet is written from where it lies.
 fn buffered_output(rt: &HostRuntime) -> Result<Watched<BufWriter<Stdout>>, ProgramFault> {
     match BufWriter::with_capacity(rt.alloc(), LONGEST_PACKET, rt.stdout()) {
         Ok(output) => Ok(Watched::new(Stream::Output, output)),
@@ -297,7 +297,7 @@ fn buffered_output(rt: &HostRuntime) -> Result<Watched<BufWriter<Stdout>>, Progr
     }
 }
 
-/// A file that is read by pieces.
+/// A file that is read in chunks.
 type WatchedFile = Watched<Retries<File>>;
 
 /// A server of a repository in files.
@@ -325,7 +325,7 @@ fn service_of(matches: &ArgMatches<'_>) -> Service {
     }
 }
 
-/// How much is kept of a request, by the command line. clap refuses more than the most, which is tested once more for the prover.
+/// The limit on what is kept of a request, by the command line. clap refuses more than the maximum; it is checked once more for the prover.
 fn limits_of(matches: &ArgMatches<'_>) -> Limits {
     match matches.get_one::<u32>("limit") {
         Some(args) => Limits {
@@ -335,7 +335,7 @@ fn limits_of(matches: &ArgMatches<'_>) -> Limits {
     }
 }
 
-/// Serves the repository whose files are named, on standard input and output. Nothing is read of its packs before one is needed.
+/// Serves the named repository on standard input and output. Nothing of its packs is read before one is needed.
 fn run_serve(rt: &HostRuntime, matches: &ArgMatches<'_>) -> Result<(), Failure> {
     let text = read_text(rt, open(rt, matches, "repo")?)?;
     let mut pack = watched_file(rt, matches, "pack")?;
@@ -385,7 +385,7 @@ fn serve_session(rt: &HostRuntime, server: &mut FileServer<'_>) -> Result<(), Fa
     ended(done, input.failed_call().or(output.failed_call()))
 }
 
-/// Answers each request that comes, to the session's end. The packs are read once one is needed.
+/// Answers each request that comes, up to the session's end. The packs are read once one is needed.
 fn answer_all<In: Read, W: Write>(
     input: &mut In,
     output: &mut W,
@@ -420,7 +420,7 @@ fn answer_all<In: Read, W: Write>(
     Err(RunFault::ReadLimit)
 }
 
-/// Takes one request from standard input, where the server waits for one.
+/// Takes one request from standard input, if the server waits for one.
 fn take_one_request(rt: &HostRuntime, server: &mut FileServer<'_>) -> Result<(), Failure> {
     if !server.wants_input() {
         return Ok(());
@@ -442,7 +442,7 @@ fn send_pending(rt: &HostRuntime, server: &mut FileServer<'_>) -> Result<(), Fai
     }
 }
 
-/// What is reported of a session that ended so. The call is one on its streams that failed, where there is one.
+/// What is reported for a session that ended like this. `call` is the one on its streams that failed, if there is one.
 fn ended(done: Result<Outcome, RunFault>, call: Option<FailedCall>) -> Result<(), Failure> {
     let fault = match done {
         Ok(Outcome::Flush | Outcome::Closed) => return Ok(()),
@@ -452,8 +452,8 @@ fn ended(done: Result<Outcome, RunFault>, call: Option<FailedCall>) -> Result<()
     Err(Failure::of_run(fault, call))
 }
 
-/// Plays the script that is named over the repository whose files are named, and writes the transcript to standard output. All
-/// files are read before one of them is judged.
+/// Plays the named script over the named repository, and writes the transcript to standard output. All files are read before any is
+/// checked.
 fn run_play(rt: &HostRuntime, matches: &ArgMatches<'_>) -> Result<(), Failure> {
     let text = read_text(rt, open(rt, matches, "repo")?)?;
     let packs = read_packs(rt, matches)?;
@@ -483,8 +483,7 @@ fn play_requests(
     done.map_err(|fault| Failure::of_run(fault, output.failed_call()))
 }
 
-/// How many bytes go over at a time, by the command line. clap refuses 0 and more than the longest, which is tested once more for the
-/// prover.
+/// The maximum size of a chunk, by the command line. clap refuses 0 and more than the maximum; it is checked once more for the prover.
 fn cut_of(matches: &ArgMatches<'_>) -> usize
     ensures { 0 < result }
 {
@@ -495,7 +494,7 @@ fn cut_of(matches: &ArgMatches<'_>) -> usize
     cut as usize
 }
 
-/// Reads the script that is named.
+/// Reads the named script.
 fn read_requests(
     rt: &HostRuntime,
     matches: &ArgMatches<'_>,
@@ -505,7 +504,7 @@ fn read_requests(
     judge_script(rt.alloc(), &script, format)
 }
 
-/// Reads the text of the script that is named, but nothing after a line that is too long already.
+/// Reads the text of the named script, but nothing after a line that is too long already.
 fn read_script_text(rt: &HostRuntime, matches: &ArgMatches<'_>) -> Result<Vec<u8>, Failure> {
     let mut file = Retries::new(open(rt, matches, "script")?);
     let mut text = Vec::new(rt.alloc());
@@ -544,7 +543,7 @@ fn judge_script(
     }
 }
 
-/// Reads the pack, and then the one for requests that have a filter, where a file is named for it.
+/// Reads the pack, and then the pack for requests that have a filter, if a file is named for it.
 fn read_packs(rt: &HostRuntime, matches: &ArgMatches<'_>) -> Result<Packs, Failure> {
     let pack = read_whole(rt, matches, "pack")?;
     let filtered = match matches.get_str("filtered") {
@@ -563,7 +562,7 @@ fn judge_repository(text: RepositoryReader, packs: Packs) -> Result<ListRepo, Pr
     }
 }
 
-/// Reads the text of a repository by pieces, but nothing after a line that is refused.
+/// Reads the text of a repository in chunks, but nothing after a line that is refused.
 fn read_text(rt: &HostRuntime, file: File) -> Result<RepositoryReader, Failure> {
     let mut file = Retries::new(file);
     let mut reader = RepositoryReader::new(rt.alloc());
@@ -576,7 +575,7 @@ fn read_text(rt: &HostRuntime, file: File) -> Result<RepositoryReader, Failure> 
     Err(ProgramFault::File.into())
 }
 
-/// Reads the next piece of the text of a repository. Answers whether there was one.
+/// Reads the next chunk of the text of a repository. Returns whether there was one.
 fn read_piece(
     file: &mut Retries<File>,
     piece: &mut [u8],
@@ -604,7 +603,7 @@ fn read_whole(
     fs::read(rt, path).map_err(|error| Failure::of_file(argument, error))
 }
 
-/// Does what the command line asks for. Answers the status.
+/// Does what the command line asks for. Returns the exit status.
 fn run(rt: &HostRuntime, matches: &ArgMatches<'_>) -> u8 {
     let Some((name, words)) = matches.subcommand() else {
         return BAD_COMMAND_LINE;
@@ -624,7 +623,7 @@ fn run(rt: &HostRuntime, matches: &ArgMatches<'_>) -> u8 {
     }
 }
 
-/// Why the command line was not taken.
+/// Why the command line was refused.
 #[derive(Debug, Drop)]
 enum NotTaken {
     /// Memory ran out.
@@ -659,7 +658,7 @@ impl From<io::Error> for NotTaken {
     }
 }
 
-/// Reads the command line and does what it asks for. Answers the status.
+/// Reads the command line and does what it asks for. Returns the exit status.
 fn run_command_line(rt: &HostRuntime) -> Result<u8, NotTaken> {
     let alloc = rt.alloc();
     let words: Vec<String> = env::args(rt)?.collect(alloc)?;
@@ -667,7 +666,7 @@ fn run_command_line(rt: &HostRuntime) -> Result<u8, NotTaken> {
     Ok(run(rt, &matches))
 }
 
-/// Reports why the command line was not taken, by clap's own text. Answers the status.
+/// Reports why the command line was refused, by clap's own text. Returns the exit status.
 fn tell(rt: &HostRuntime, error: NotTaken) -> u8 {
     match error {
         NotTaken::Memory => tell_fault(rt, ProgramFault::OutOfMemory),
@@ -692,8 +691,8 @@ fn tell(rt: &HostRuntime, error: NotTaken) -> u8 {
     }
 }
 
-/// Reports a failure: by its fault's line and, where standard error is a terminal, by a second one that says more. The words are those
-/// after the command, where the command line was taken. Answers the status.
+/// Reports a failure: by its error line and, if standard error is a terminal, by a second line that says more. The words are those after
+/// the command, if the command line was accepted. Returns the exit status.
 fn tell_failure(rt: &HostRuntime, words: Option<&ArgMatches<'_>>, failure: &Failure) -> u8 {
     let status = tell_fault(rt, failure.fault);
     if rt.stderr().is_terminal() {
@@ -702,7 +701,7 @@ fn tell_failure(rt: &HostRuntime, words: Option<&ArgMatches<'_>>, failure: &Fail
     status
 }
 
-/// Writes a fault's line on standard error. Answers the status.
+/// Writes an error's line on standard error. Returns the exit status.
 fn tell_fault(rt: &HostRuntime, fault: ProgramFault) -> u8 {
     report(&fault, &mut Told::new(rt.stderr()))
 }

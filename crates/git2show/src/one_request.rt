@@ -1,4 +1,4 @@
-//! One request alone, as where each has a server of its own.
+//! Only one request, as when each has a server of its own.
 
 ghost use Rattle.std.specs.Prelude.{◌≡◌, ◌<◌, ◌≤◌, true, false, length, IsTrue, IfErr, IfOk, OnErr, OnOk};
 ghost use Rattle.git_pkt.specs.Machine.Told.{inner_of, reads_of, has_failed, has_ended, has_wasted, IsNew};
@@ -13,12 +13,12 @@ use git_server::{Repo, Server};
 use std::alloc::Allocator;
 use std::io::Read;
 
-/// Which bytes of a piece were read after a request.
+/// Which bytes of a chunk were read after a request.
 #[derive(Clone, Copy, Debug)]
 pub(crate) struct Left {
-    /// The place of the first of them.
+    /// The index of the first of them.
     pub(crate) from: usize,
-    /// The place after the last.
+    /// The index after the last.
     pub(crate) to: usize,
 }
 
@@ -27,12 +27,12 @@ impl Left {
     pub(crate) const NONE: Left = Left { from: 0, to: 0 };
 }
 
-/// Feeds a server that waits for a request what a reader gives, until it has an answer or a refusal to give, or the session has
-/// ended. Nothing more is read then; what was read after the request lies in the piece, where it is returned. The piece is where the
-/// bytes that are read go; it may not be empty.
+/// Feeds a server that waits for a request with what a reader returns, until it has an answer or a refusal to send, or the session has
+/// ended. Nothing more is read then; what was read after the request stays in the chunk, and its place there is returned. The bytes that
+/// are read go to the chunk, which may not be empty.
 ///
-/// `ReadFault` where a read fails, and `ReadLimit` where a further read than the `turns` that are allowed would be needed. The
-/// server waits for input then.
+/// `ReadFault` if a read fails, and `ReadLimit` if more reads than the `turns` that are allowed would be needed. The server waits for input
+/// then.
 pub(crate) fn take_request<In: Read, R: Repo, A: Allocator + Copy>(
     reader: &mut Told<In>,
     piece: &mut [u8],

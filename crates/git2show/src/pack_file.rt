@@ -1,4 +1,4 @@
-//! The file that the bytes of packs go to.
+//! The file to which the bytes of packs go.
 
 use std::fs::{self, File, Metadata, OpenOptions, Permissions};
 use std::io::{self, ErrorKind};
@@ -9,13 +9,13 @@ const MOST_PARTS: u32 = 1_000;
 
 /// Where the bytes of packs go.
 ///
-/// A regular file, or one that is not there yet, is written beside its place, as a part, and put there once all has come. Whatever
-/// else has the name, as a device, a pipe or a link that leads nowhere, is written as it is.
+/// A regular file, or one that is not there yet, is written beside its place, as a part, and put there once all has come. Anything else
+/// with the name, such as a device, a pipe or a link that leads nowhere, is written directly.
 #[derive(Drop)]
 pub(crate) struct PackFile {
     /// The file that is written.
     pub(crate) file: File,
-    /// What is left to do with it, where it is a part.
+    /// What is left to do with it, if it is a part.
     pub(crate) part: Option<Part>,
 }
 
@@ -43,8 +43,8 @@ impl PackFile {
         }
     }
 
-    /// A file that will replace the one of this name, with its permissions. Where that may not be written, this fails. A link stays,
-    /// and the file that it leads to is replaced.
+    /// A file that will replace the one of this name, with its permissions. If that one may not be written, this fails. A link stays, and
+    /// the file that it leads to is replaced.
     fn replacing(rt: &HostRuntime, path: &str, permissions: Permissions) -> io::Result<PackFile> {
         OpenOptions::new().write(true).open(rt, path)?;
         let place = match fs::symlink_metadata(rt, path)?.is_symlink() {
@@ -66,7 +66,7 @@ impl PackFile {
 }
 
 impl Part {
-    /// Makes a new file beside this place, by a name that nothing had.
+    /// Makes a new file beside this place, with a name that nothing had.
     fn create(rt: &HostRuntime, place: String) -> io::Result<(File, Part)> {
         for number in 1..=MOST_PARTS {
             let path = format!(in rt.alloc(); "{place}.part{number}")?;
@@ -79,7 +79,7 @@ impl Part {
         Err(ErrorKind::AlreadyExists.into())
     }
 
-    /// Puts the file in its place, or removes it where that fails.
+    /// Puts the file in its place, or removes it if that fails.
     pub(crate) fn finish(self, rt: &HostRuntime) -> io::Result<()> {
         let renamed = fs::rename(rt, &self.path, &self.place);
         if renamed.is_err() {
@@ -100,7 +100,7 @@ fn is_replaced(found: &Metadata) -> bool {
     found.is_file() && found.nlink() > 0
 }
 
-/// Whether a file of this name can be made where no file is: no link has it that leads nowhere.
+/// Whether a file of this name can be made if there is none: the name is not that of a link that leads nowhere.
 fn is_free(rt: &HostRuntime, path: &str) -> bool {
     !path.is_empty() && fs::symlink_metadata(rt, path).is_err()
 }

@@ -8,13 +8,13 @@ use std::fmt::{self, Display, Formatter};
 use std::str;
 use thiserror::Error;
 
-/// The most bytes of a line that are shown.
+/// The maximum number of bytes of a line that are shown.
 const MOST_SHOWN: usize = 64;
 
-/// Room for them, each with its escape.
+/// The size of a buffer for them, each with its escape.
 const SHOWN: usize = 4 * MOST_SHOWN;
 
-/// Bytes of a text between quotes, as `show` shows them, and cut off where they are many.
+/// Bytes of a text between quotes, as `show` shows them, and cut off if they are many.
 #[derive(Clone, Copy, Debug)]
 pub(crate) struct Shown<'a>(pub(crate) &'a [u8]);
 

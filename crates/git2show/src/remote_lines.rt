@@ -5,12 +5,12 @@ use std::io::{self, Write};
 /// What each line begins with.
 const PREFIX: &[u8; 8] = b"remote: ";
 
-/// A writer that puts `remote: ` before each line and passes bytes on, but shows each control byte other than the line ends, which are
-/// line feed and carriage return, as a question mark: what a stranger sends may not steer the terminal.
+/// A writer that puts `remote: ` before each line and passes bytes on, but shows each control byte other than a line end (line feed or
+/// carriage return) as a question mark: what a peer sends may not control the terminal.
 #[derive(Debug, Drop)]
 pub(crate) struct RemoteLines<W> {
     inner: W,
-    // The last byte that came; before the first one a line end, after which a line begins.
+    // The last byte that came; before the first byte a line end, after which a line begins.
     last: u8,
 }
 
@@ -20,7 +20,7 @@ impl<W: Write> RemoteLines<W> {
         RemoteLines { inner, last: b'\n' }
     }
 
-    /// Ends the last line, where no line end has come after it.
+    /// Ends the last line, if no line end has come after it.
     pub(crate) fn end(&mut self) -> io::Result<()> {
         if !is_line_end(self.last) {
             self.last = b'\n';
@@ -52,7 +52,7 @@ fn is_line_end(byte: u8) -> bool {
     byte == b'\n' || byte == b'\r'
 }
 
-/// The byte that is shown for one that comes after another. Control bytes are those below a space, DEL, and in UTF-8 those from 0x80
+/// The byte that is shown for this one, which comes after `last`. Control bytes are those below a space, DEL, and in UTF-8 those from 0x80
 /// to 0x9f after 0xc2.
 fn shown_as(last: u8, byte: u8) -> u8 {
     let is_control = byte < b' ' || byte == 0x7f || last == 0xc2 && byte >= 0x80 && byte <= 0x9f;

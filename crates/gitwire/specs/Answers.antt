@@ -1,4 +1,4 @@
--- What is reported to C of a call.
+-- What is reported to C for a call.
 use Rattle.std.specs.Prelude.{ℕ, Bool, true, false}
 use Rattle.git_pkt.specs.FaultNames.{kind_number}
 use Rattle.git_pkt.specs.declared.fault.Fault.{Fault}
@@ -59,20 +59,20 @@ what_number NeedSize = 42
 what_number OutOfOrder = 43
 what_number NotShallow = 44
 
--- what is reported of a piece where nothing else is: more is to come, or none was due
+-- what is reported for a chunk if nothing else is: more is to come, or none was expected
 abbrev pub more_of : Bool → What
 more_of true = More
 more_of false = NotNow
 
--- what came of a call, and nothing more
+-- a result, and nothing more
 abbrev pub answering : What → GitwireAnswer
 answering what = record { used = 0; offset = 0; length = 0; kind = what_number what; fault = 0 }
 
--- what came of a piece of which so many bytes were used, and nothing more
+-- the result of a chunk: this many of its bytes were used, and nothing more
 abbrev pub answering_used : ℕ → What → GitwireAnswer
 answering_used used what = record { used = used; offset = 0; length = 0; kind = what_number what; fault = 0 }
 
--- a packet at this offset, of which so many bytes are in the room
+-- a packet at this offset, with this many bytes in the buffer
 abbrev pub answering_packet : ℕ → ℕ → ℕ → What → GitwireAnswer
 answering_packet used offset filled what = record { used = used; offset = offset; length = filled; kind = what_number what; fault = 0 }
 

@@ -1,11 +1,11 @@
--- What a call does to the handle that it is made on, by what that has before and after.
+-- What a call does to its handle, by what the handle has before and after.
 use Rattle.std.specs.Prelude.{◌≡◌, ℕ, List, Option, Some, None, IsSomeAnd}
 use Rattle.gitwire.specs.Answers.{answering}
 use Rattle.gitwire.specs.declared.answer.GitwireAnswer.{GitwireAnswer}
 use Rattle.gitwire.specs.declared.answer.What.{What}
 use Rattle.gitwire.specs.declared.answer.What.TheVariants.{Done, NoHandle, OutOfMemory}
 
--- the handle has nothing: that is reported, and the room stays
+-- the handle has nothing: that is reported, and the buffer is unchanged
 abbrev pub HasNone : List ℕ → GitwireAnswer → List ℕ → Type 0
 HasNone room answer filled = (answer ≡ answering NoHandle) × (filled ≡ room)
 
@@ -15,12 +15,12 @@ module _ {X : Type 0} where
   IsMade answer value None = answer ≡ OutOfMemory
   IsMade answer value (Some made) = (answer ≡ Done) × (made ≡ value)
 
-  -- the call does this to what the handle has; or that has nothing, and this holds
+  -- the call does this to what the handle has; or the handle has nothing, and this holds
   abbrev pub On : Option X → Option X → (X → X → Type 0) → Type 0 → Type 0
   On None new does otherwise = otherwise × (new ≡ None)
   On (Some old) new does otherwise = IsSomeAnd new (does old)
 
-  -- the call asks for this of what the handle has, which stays; or that has nothing, and this holds
+  -- the call asks this about what the handle has, which stays; or the handle has nothing, and this holds
   abbrev pub Of : Option X → Option X → (X → Type 0) → Type 0 → Type 0
   Of None new holds otherwise = otherwise × (new ≡ None)
   Of (Some had) new holds otherwise = (new ≡ Some had) × holds had

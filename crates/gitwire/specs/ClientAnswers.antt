@@ -1,4 +1,4 @@
--- What is reported to C of a client's calls.
+-- What is reported to C for a client's calls.
 use Rattle.std.specs.Prelude.{◌≡◌, ℕ, ◌+◌, ◌<◌, ◌≤◌, Bool, true, false, List, [], ◌∷◌, ◌++◌, length, take, Option, Some, None, MatchOption, IsSomeAnd}
 use Rattle.std.specs.Global.{Global}
 use Rattle.git_names.specs.declared.object_format.Format.{Format}
@@ -34,41 +34,41 @@ use Rattle.gitwire.specs.declared.answer.What.TheVariants as What
 abbrev pub endings : List Ending
 endings = FlushOnly ∷ ResponseEnd ∷ []
 
--- a client on these terms, before the first byte, or none where memory ran out
+-- a client on these terms, before the first byte, or none if memory ran out
 abbrev pub Begins : Terms → ℕ → Option (Client Global) → Type 0
 Begins t answer None = answer ≡ what_number What.OutOfMemory
 Begins t answer (Some client) = (answer ≡ what_number What.Done) × Converses t nothing_yet client × (wants_input client ≡ true)
 
--- the same by what two numbers mean; nothing changes where one of them means nothing
+-- the client that two numbers mean; nothing changes if one of them means nothing
 abbrev pub BeginsBy : Option Format → Option Ending → Option (Client Global) → ℕ → Option (Client Global) → Type 0
 BeginsBy (Some format) (Some ending) old answer new = Begins (terms_of format ending) answer new
 BeginsBy format ending old answer new = (answer ≡ what_number What.BadValue) × (new ≡ old)
 
--- what is reported to C of what was received, by whether bytes were due
+-- what is reported to C for what was received, by whether bytes were expected
 abbrev pub answer_of : Bool → ℕ → HeardGot → GitwireEvent
 answer_of due used Got.More = telling_none used (more_of due)
 answer_of due used (Got.Event event) = telling_parts used (parts_of event)
 answer_of due used (Got.Failed fault) = answering_refusal used fault
 
--- the room: the texts of an event are at its front
+-- the buffer: the texts of an event are at its front
 abbrev pub filled_by : HeardGot → List ℕ → List ℕ
 filled_by Got.More room = room
 filled_by (Got.Event event) room = put_before (bytes_shown (parts_of event)) room
 filled_by (Got.Failed fault) room = room
 
--- the room where bytes that pass are left in the piece: theirs stays as it was
+-- the buffer if bytes that pass are left in the chunk: it is unchanged for theirs
 abbrev pub filled_beside : HeardGot → List ℕ → List ℕ
 filled_beside (Got.Event (Event.Pack bytes)) room = room
 filled_beside (Got.Event (Event.Progress bytes)) room = room
 filled_beside got room = filled_by got room
 
--- bytes of the pack or of the progress are the last of those used of the piece
+-- bytes of the pack or of the progress are the last of those used of the chunk
 abbrev pub LieInPiece : HeardGot → ℕ → List ℕ → Type 0
 LieInPiece (Got.Event (Event.Pack bytes)) used piece = (front : List ℕ) × (take used piece ≡ front ++ bytes.now)
 LieInPiece (Got.Event (Event.Progress bytes)) used piece = (front : List ℕ) × (take used piece ≡ front ++ bytes.now)
 LieInPiece got used piece = Unit {0}
 
--- the client receives more, and it is reported to C what came, whose texts have no more bytes than a payload; the room is filled by what came
+-- the client receives more, and what came is reported to C; its texts have at most as many bytes as a payload, and it determines the buffer
 pub record FeedsAnswers (filled_with : HeardGot → List ℕ → List ℕ) (old : Client Global) (piece room : List ℕ) (answer : GitwireEvent) (filled : List ℕ)
     (new : Client Global) : Type 0 where
   pub heard : Heard
@@ -79,17 +79,17 @@ pub record FeedsAnswers (filled_with : HeardGot → List ℕ → List ℕ) (old 
   pub room_is : filled ≡ filled_with heard.got room
   pub lies : LieInPiece heard.got heard.used piece
 
--- nothing happens where the room is too small for the parts of some event
+-- nothing happens if the buffer is too small for the parts of some event
 pub record FeedsInRoom (filled_with : HeardGot → List ℕ → List ℕ) (old : Client Global) (piece room : List ℕ) (answer : GitwireEvent) (filled : List ℕ)
     (new : Client Global) : Type 0 where
   pub small : length room < longest_payload → (answer ≡ telling_none 0 What.RoomTooSmall) × (filled ≡ room) × (new ≡ old)
   pub large : longest_payload ≤ length room → FeedsAnswers filled_with old piece room answer filled new
 
--- the handle has nothing: that is reported, and the room stays
+-- the handle has nothing: that is reported, and the buffer is unchanged
 abbrev pub HearsNone : List ℕ → GitwireEvent → List ℕ → Type 0
 HearsNone room answer filled = (answer ≡ telling_none 0 What.NoHandle) × (filled ≡ room)
 
--- what is reported to C of what is to be done next
+-- what is reported to C about what to do next
 abbrev pub answer_of_sent : Sent → GitwireAnswer
 answer_of_sent (Sent.Packet bytes) = answering_packet 0 0 (length bytes.now) What.Packet
 answer_of_sent Sent.NeedInput = answering What.NeedInput
@@ -97,12 +97,12 @@ answer_of_sent Sent.CanAsk = answering What.CanAsk
 answer_of_sent Sent.Finished = answering What.Finished
 answer_of_sent (Sent.Failed fault) = answering_fault 0 fault
 
--- the room: a packet is at its front
+-- the buffer: a packet is at its front
 abbrev pub filled_by_sent : Sent → List ℕ → List ℕ
 filled_by_sent (Sent.Packet bytes) room = put_before bytes.now room
 filled_by_sent sent room = room
 
--- the client returns what is to be done next, and that is reported to C; a packet that is to be sent has no more bytes than one may have
+-- the client returns what to do next, and that is reported to C; a packet to be sent has at most the bytes of the longest packet
 pub record PullsAnswers (old : Client Global) (room : List ℕ) (answer : GitwireAnswer) (filled : List ℕ) (new : Client Global) : Type 0 where
   pub sent : Sent
   pub pulls : Pulls old sent new
@@ -110,7 +110,7 @@ pub record PullsAnswers (old : Client Global) (room : List ℕ) (answer : Gitwir
   pub answer_is : answer ≡ answer_of_sent sent
   pub room_is : filled ≡ filled_by_sent sent room
 
--- nothing happens where the room is too small for the longest packet
+-- nothing happens if the buffer is too small for the longest packet
 pub record PullsInRoom (old : Client Global) (room : List ℕ) (answer : GitwireAnswer) (filled : List ℕ) (new : Client Global) : Type 0 where
   pub small : length room < 65520 → (answer ≡ answering What.RoomTooSmall) × (filled ≡ room) × (new ≡ old)
   pub large : 65520 ≤ length room → PullsAnswers old room answer filled new
@@ -126,18 +126,18 @@ pub record RefusesNow (old : Client Global) (request : Request Global) (answer :
   pub refuses : RefusesToAsk old request request fault new
   pub answer_is : answer ≡ answering_fault 0 fault
 
--- a request that is not taken, now or at all: it stays as it was, and so does the client
+-- a request that is not taken, now or ever: it is unchanged, and so is the client
 pub record LeavesRequest (old : Client Global) (request : Request Global) (answer : GitwireAnswer) (new : Client Global) (kept : Request Global) : Type 0 where
   pub not_now : can_ask old ≡ false → (answer ≡ answering What.NotNow) × (new ≡ old)
   pub refused : can_ask old ≡ true → RefusesNow old request answer new
   pub stays : kept ≡ request
 
--- it is reported to C whether the request was taken: then its handle has none
+-- it is reported to C whether the request was taken: if it was, its handle has none
 abbrev pub AsksAnswers : Client Global → Request Global → GitwireAnswer → Client Global → Option (Request Global) → Type 0
 AsksAnswers old request answer new None = (answer ≡ answering What.Done) × TakesRequest old request new
 AsksAnswers old request answer new (Some kept) = LeavesRequest old request answer new kept
 
--- the handle of a client is asked for what the handle of a request has
+-- a client's handle is asked to take what a request's handle has
 abbrev pub AsksIn : Option (Client Global) → Option (Request Global) → GitwireAnswer → Option (Client Global) → Option (Request Global) → Type 0
 AsksIn None request answer new kept = (answer ≡ answering What.NoHandle) × (new ≡ None) × (kept ≡ request)
 AsksIn (Some old) None answer new kept = (answer ≡ answering What.NoHandle) × (new ≡ Some old) × (kept ≡ None)
@@ -148,7 +148,7 @@ pub record LeavesAnswers (old : Client Global) (answer : ℕ) (new : Client Glob
   pub not_now : can_ask old ≡ false → (answer ≡ what_number What.NotNow) × (new ≡ old)
   pub leaves : can_ask old ≡ true → (answer ≡ what_number What.Done) × Leaves old new
 
--- the input ends where more was due: at the end of the last whole packet
+-- the input ends when more was expected: at the end of the last whole packet
 pub record CutsShort (old : Client Global) (answer : GitwireAnswer) (new : Client Global) : Type 0 where
   pub fault : Fault
   pub carries : HearsOn old [] [] new
@@ -158,12 +158,12 @@ pub record CutsShort (old : Client Global) (answer : GitwireAnswer) (new : Clien
       → fault.offset + length rest ≡ length h.used
   pub answer_is : answer ≡ answering_fault 0 fault
 
--- it is reported to C what the end of the input results in
+-- the result of the end of the input is reported to C
 pub record ClosesAnswers (old : Client Global) (answer : GitwireAnswer) (new : Client Global) : Type 0 where
   pub not_now : wants_input old ≡ false → (answer ≡ answering What.NotNow) × (new ≡ old)
   pub cut : wants_input old ≡ true → CutsShort old answer new
 
--- a message, if there is one, is put into the room, if that is large enough
+-- a message, if there is one, is written to the buffer, if that is large enough
 pub record PutsMessage (message room : List ℕ) (answer : GitwireAnswer) (filled : List ℕ) : Type 0 where
   pub small : length room < length message → (answer ≡ answering What.RoomTooSmall) × (filled ≡ room)
   pub large : length message ≤ length room → (answer ≡ answering_packet 0 0 (length message) What.Done) × (filled ≡ put_before message room)
@@ -172,7 +172,7 @@ abbrev pub PutsMaybe : Option (List ℕ) → List ℕ → GitwireAnswer → List
 PutsMaybe None room answer filled = (answer ≡ answering What.Nothing) × (filled ≡ room)
 PutsMaybe (Some message) room answer filled = PutsMessage message room answer filled
 
--- the server's message on the fault that ended the conversation
+-- the server's message about the error that ended the conversation
 pub record MessageAnswers (client : Client Global) (room : List ℕ) (answer : GitwireAnswer) (filled : List ℕ) : Type 0 where
   pub message : Option (List ℕ)
   pub ends : (t : Terms) (h : History) → Converses t h client

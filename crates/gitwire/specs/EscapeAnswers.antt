@@ -1,4 +1,4 @@
--- The escapes of bytes that are given to C.
+-- The escapes of bytes for C.
 use Rattle.std.specs.Prelude.{◌≡◌, ℕ, ◌+◌, ◌≤◌, ◌<◌, List, length, take}
 use Rattle.git_pkt.specs.Escape.{escaped_of}
 use Rattle.gitwire.specs.Answers.{answering, answering_packet}
@@ -6,7 +6,8 @@ use Rattle.gitwire.specs.Rooms.{put_before}
 use Rattle.gitwire.specs.declared.answer.GitwireAnswer.{GitwireAnswer}
 use Rattle.gitwire.specs.declared.answer.What.TheVariants.{Done, More, RoomTooSmall}
 
--- so many bytes of the text, the first ones, are escaped, and their escapes are at the front of the room: all of them, or as many as fit
+-- this many bytes of the text, the first ones, are escaped, and their escapes are at the front of the buffer: all of them, or as many as
+-- fit
 pub record EscapesFront (bytes room : List ℕ) (used : ℕ) (answer : GitwireAnswer) (filled : List ℕ) : Type 0 where
   pub within : used ≤ length bytes
   pub fits : length (escaped_of (take used bytes)) ≤ length room
@@ -15,7 +16,7 @@ pub record EscapesFront (bytes room : List ℕ) (used : ℕ) (answer : GitwireAn
   pub some : used < length bytes → answer ≡ answering_packet used 0 (length (escaped_of (take used bytes))) More
   pub most : used < length bytes → length room < length (escaped_of (take (used + 1) bytes))
 
--- as many bytes are escaped as the room has room for; it is too small where it has none for the longest escape
+-- as many bytes are escaped as fit into the buffer; it is too small if the longest escape does not fit
 pub record Escapes (bytes room : List ℕ) (answer : GitwireAnswer) (filled : List ℕ) : Type 0 where
   pub escaped : 4 ≤ length room → EscapesFront bytes room answer.used answer filled
   pub too_small : length room < 4 → (answer ≡ answering RoomTooSmall) × (filled ≡ room)

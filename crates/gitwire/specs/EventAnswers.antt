@@ -53,6 +53,6 @@ telling_none used what = record {
   has_size = false;
 }
 
--- no event: the conversation is refused for this fault
+-- no event: the conversation is refused for this error
 abbrev pub answering_refusal : ℕ → Fault → GitwireEvent
 answering_refusal used fault = record (telling_none used What.Failed) { offset = fault.offset; fault = kind_number fault.kind }

@@ -1,20 +1,20 @@
--- The names and texts of faults, by their numbers.
+-- The names and texts of errors, by their numbers.
 use Rattle.std.specs.Prelude.{◌≡◌, ◌≢◌, ℕ, List, Option, Some, None}
 use Rattle.git_pkt.specs.FaultNames.{fault_text, kind_name, kind_number}
 use Rattle.git_pkt.specs.declared.fault.Kind.{Kind}
 use Rattle.gitwire.specs.Rooms.{Puts}
 
--- the kind that has the number, or none has it
+-- the kind with this number, or none has it
 abbrev pub IsKindOf : ℕ → Option Kind → Type 0
 IsKindOf number None = (kind : Kind) → kind_number kind ≢ number
 IsKindOf number (Some kind) = kind_number kind ≡ number
 
--- the text of a kind is in the room; or there is none, and nothing is written
+-- the text of a kind is in the buffer; or there is none, and nothing is written
 abbrev pub PutsOf : (Kind → List ℕ) → Option Kind → List ℕ → ℕ → List ℕ → Type 0
 PutsOf text None room answer filled = (answer ≡ 0) × (filled ≡ room)
 PutsOf text (Some kind) room answer filled = Puts (text kind) room answer filled
 
--- the name of the fault that has the number
+-- the name of the error with this number
 abbrev pub TellsName : ℕ → List ℕ → ℕ → List ℕ → Type 0
 TellsName number room answer filled = (kind : Option Kind) × IsKindOf number kind × PutsOf kind_name kind room answer filled
 

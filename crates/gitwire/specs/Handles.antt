@@ -57,6 +57,6 @@ host_in handle = machine_as host_of handle.handle.held.machine
 abbrev pub buffer_in : GitwireWriter → Option PacketBuffer
 buffer_in handle = machine_as buffer_of handle.handle.held.machine
 
--- what the buffer has of a handle's writer
+-- what the buffer of a handle's writer has
 abbrev pub writer_in : GitwireWriter → Option (List ℕ)
 writer_in handle = option_map (λ buffer. buffer.hold.items) (buffer_in handle)

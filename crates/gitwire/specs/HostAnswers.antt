@@ -1,4 +1,4 @@
--- What is reported to C of the calls of a host's server.
+-- What is reported to C for the calls of a host's server.
 use Rattle.std.specs.Prelude.{◌≡◌, ◌≢◌, ◌⊎◌, ℕ, ◌<◌, ◌≤◌, Bool, true, false, List, [], ◌∷◌, length, take, Option, Some, None, Result, Ok, Err}
 use Rattle.std.specs.Global.{Global}
 use Rattle.git_names.specs.NameBytes.{name_bytes}
@@ -38,11 +38,11 @@ use Rattle.gitwire.specs.declared.offer.GitwireOffer.{GitwireOffer}
 
 -- ---- a session begins
 
--- the offer has no format or a bit that is no feature's, or the limit is more than one may be
+-- the offer has no format or a bit of no feature, or the limit is above the maximum
 abbrev pub MeanNoHost : GitwireOffer → ℕ → Type 0
 MeanNoHost offer limit = (offer_meant offer ≡ None) ⊎ (most_limit < limit)
 
--- a host's server at the beginning of a session, of the offer and the limit that are meant
+-- a host's server at the beginning of a session, with the offer and the limit that these values mean
 pub record MeanHost (offer : GitwireOffer) (limit : ℕ) (advertise : Bool) (host : HostServer Global) : Type 0 where
   pub meant : Offer
   pub offer_is : offer_meant offer ≡ Some meant
@@ -57,32 +57,32 @@ MakesHost offer limit advertise old answer new =
 
 -- ---- the client's bytes
 
--- the server uses bytes of the piece, and it is reported to C how many
+-- the server uses bytes of the chunk, and it is reported to C how many
 pub record FeedsAnswers (old : HostServer Global) (piece : List ℕ) (answer : GitwireAnswer) (new : HostServer Global) : Type 0 where
   pub used : ℕ
   pub answer_is : answer ≡ answering_used used (more_of (reads_on old))
   pub within : used ≤ length piece
   pub feeds : FeedsHost (take used piece) old new
 
--- what is reported to C of a call that does something or changes nothing
+-- what is reported to C for a call that does something or changes nothing
 abbrev pub done_where : Bool → ℕ
 done_where true = what_number What.Done
 done_where false = what_number What.NotNow
 
--- the input ends where the server waits for it
+-- the input ends when the server expects input
 pub record ClosesAnswers (old : HostServer Global) (answer : ℕ) (new : HostServer Global) : Type 0 where
   pub closed : Bool
   pub closes : ClosesHost old closed new
   pub answer_is : answer ≡ done_where closed
 
--- ---- what is to be done next
+-- ---- what to do next
 
--- what is reported to C of a request that came: its command's number
+-- what is reported to C about a request that came: its command's number
 abbrev pub asking : Option Asked → GitwireAnswer
 asking (Some asked) = answering_packet 0 (command_number (command_asked asked)) 0 What.Asked
 asking None = answering What.Asked
 
--- what is reported to C of what is needed: its place in the request, where it has one
+-- what is reported to C about what is needed: its index in a list of the request, if it has one
 abbrev pub needing : Need → GitwireAnswer
 needing (Need.Want at) = answering_packet 0 at 0 What.NeedWant
 needing (Need.WantRef at) = answering_packet 0 at 0 What.NeedWantRef
@@ -98,7 +98,7 @@ ending Flush = answering What.EndedByFlush
 ending Closed = answering What.EndedByClose
 ending (Refused fault) = answering_fault 0 fault
 
--- what is reported to C of a step, where this request is at hand, and these are the bytes of the packet that was given last
+-- what is reported to C for a step, with this request at hand and the bytes of the packet that was returned last
 abbrev pub stepping : HostStep → Option Asked → List ℕ → GitwireAnswer
 stepping HostStep.Packet asked bytes = answering_packet 0 0 (length bytes) What.Packet
 stepping HostStep.NeedInput asked bytes = answering What.NeedInput
@@ -106,23 +106,23 @@ stepping HostStep.Asked asked bytes = asking asked
 stepping (HostStep.Need need) asked bytes = needing need
 stepping (HostStep.Ended outcome) asked bytes = ending outcome
 
--- the room: a packet is at its front
+-- the buffer: a packet is at its front
 abbrev pub filled_at : HostStep → List ℕ → List ℕ → List ℕ
 filled_at HostStep.Packet bytes room = put_before bytes room
 filled_at step bytes room = room
 
--- the server gives a packet or returns what to do instead, and that is reported to C
+-- the server returns a packet or what to do instead, and that is reported to C
 pub record PullsAnswers (old : HostServer Global) (room : List ℕ) (answer : GitwireAnswer) (filled : List ℕ) (new : HostServer Global) : Type 0 where
   pub step : HostStep
   pub steps : StepsHost old step new
   pub answer_is : answer ≡ stepping step (request_of new) (bytes_of new)
   pub room_is : filled ≡ filled_at step (bytes_of new) room
 
--- nothing happens, and the room is reported to be too small
+-- nothing happens, and it is reported that the buffer is too small
 abbrev pub IsTooSmall : HostServer Global → List ℕ → GitwireAnswer → List ℕ → HostServer Global → Type 0
 IsTooSmall old room answer filled new = (answer ≡ answering What.RoomTooSmall) × (filled ≡ room) × (new ≡ old)
 
--- nothing happens where the room is too small for the longest packet
+-- nothing happens if the buffer is too small for the longest packet
 pub record PullsInRoom (old : HostServer Global) (room : List ℕ) (answer : GitwireAnswer) (filled : List ℕ) (new : HostServer Global) : Type 0 where
   pub small : length room < 65520 → IsTooSmall old room answer filled new
   pub large : 65520 ≤ length room → PullsAnswers old room answer filled new
@@ -141,18 +141,18 @@ abbrev pub telling_given_at : ℕ → Option Asked → GitwireAnswer
 telling_given_at which None = answering What.Nothing
 telling_given_at which (Some asked) = telling_which which asked
 
--- the text at a place of the list, if there is a request
+-- the text at an index of the list, if there is a request
 abbrev pub PutsAt : Option ItemList → ℕ → Option Asked → List ℕ → GitwireAnswer → List ℕ → Type 0
 PutsAt list i None room answer filled = (answer ≡ answering What.Nothing) × (filled ≡ room)
 PutsAt list i (Some asked) room answer filled = PutsFrom list asked i room answer filled
 
--- the request is answered, where one is asked about
+-- the request is accepted, if one is asked about
 pub record AcceptsAnswers (old : HostServer Global) (answer : ℕ) (new : HostServer Global) : Type 0 where
   pub accepted : Bool
   pub accepts : AcceptsHost old accepted new
   pub answer_is : answer ≡ done_where accepted
 
--- what is reported to C of a refusal, and left in the room
+-- what is reported to C for a refusal, and left in the buffer
 abbrev pub refusing : Bool → List ℕ → GitwireAnswer
 refusing true bytes = answering_packet 0 0 (length bytes) What.Packet
 refusing false bytes = answering What.NotNow
@@ -161,7 +161,7 @@ abbrev pub filled_where : Bool → List ℕ → List ℕ → List ℕ
 filled_where true bytes room = put_before bytes room
 filled_where false bytes room = room
 
--- the request is refused by a text, where one is asked about
+-- the request is refused with a text, if one is asked about
 pub record RefusesAnswers (text : List ℕ) (old : HostServer Global) (room : List ℕ) (answer : GitwireAnswer) (filled : List ℕ)
     (new : HostServer Global) : Type 0 where
   pub refused : Bool
@@ -169,11 +169,11 @@ pub record RefusesAnswers (text : List ℕ) (old : HostServer Global) (room : Li
   pub answer_is : answer ≡ refusing refused (bytes_of new)
   pub room_is : filled ≡ filled_where refused (bytes_of new) room
 
--- a refusal by its name, at offset 0
+-- a refusal by a kind of error, at offset 0
 abbrev pub refused_as : Kind → GitwireAnswer
 refused_as kind = answering_fault 0 (record { kind = kind; offset = 0 })
 
--- the same; nothing happens where the room is too small, or the text is longer than that of an error packet may be
+-- the same; nothing happens if the buffer is too small, or the text is too long for an error packet
 pub record RefusesInRoom (text : List ℕ) (old : HostServer Global) (room : List ℕ) (answer : GitwireAnswer) (filled : List ℕ)
     (new : HostServer Global) : Type 0 where
   pub small : length room < 65520 → IsTooSmall old room answer filled new
@@ -188,7 +188,8 @@ bytes_in (Report.Pack bytes) = bytes.now
 bytes_in (Report.Progress bytes) = bytes.now
 bytes_in report = []
 
--- what is reported to C of a report of so many bytes, of which one packet takes so many, by what came of it; the packet has so many
+-- what is reported to C for a report of this many bytes, with how many of them one packet takes, by its result; the packet has this many
+-- bytes
 abbrev pub reporting : HostReported → ℕ → ℕ → ℕ → GitwireAnswer
 reporting HostReported.Packet part whole filled = answering_packet part 0 filled What.Packet
 reporting HostReported.Taken part whole filled = answering What.More
@@ -204,7 +205,7 @@ abbrev pub filled_by : HostReported → List ℕ → List ℕ → List ℕ
 filled_by HostReported.Packet bytes room = put_before bytes room
 filled_by reported bytes room = room
 
--- the server takes the report, and its packet is at the front of the room, if it has one
+-- the server takes the report, and its packet is at the front of the buffer, if it has one
 pub record ReportsAnswers (report : Report) (old : HostServer Global) (room : List ℕ) (answer : GitwireAnswer) (filled : List ℕ)
     (new : HostServer Global) : Type 0 where
   pub reported : HostReported
@@ -212,13 +213,13 @@ pub record ReportsAnswers (report : Report) (old : HostServer Global) (room : Li
   pub answer_is : answer ≡ reporting reported (length (part_of (bytes_in report))) (length (bytes_in report)) (length (bytes_of new))
   pub room_is : filled ≡ filled_by reported (bytes_of new) room
 
--- nothing happens where the room is too small for the longest packet
+-- nothing happens if the buffer is too small for the longest packet
 pub record ReportsInRoom (report : Report) (old : HostServer Global) (room : List ℕ) (answer : GitwireAnswer) (filled : List ℕ)
     (new : HostServer Global) : Type 0 where
   pub small : length room < 65520 → IsTooSmall old room answer filled new
   pub large : 65520 ≤ length room → ReportsAnswers report old room answer filled new
 
--- ---- reports whose texts C gives
+-- ---- reports whose texts C passes
 
 -- what the texts mean: a report, or why there is none
 abbrev pub Meant : Type 0
@@ -239,13 +240,13 @@ pub record ReportsMeant (Means : Meant → Type 0) (old : HostServer Global) (ro
   pub means : Means meant
   pub reports : ReportsBy meant old room answer filled new
 
--- nothing happens where the room is too small for the longest packet
+-- nothing happens if the buffer is too small for the longest packet
 pub record ReportsMeantInRoom (Means : Meant → Type 0) (old : HostServer Global) (room : List ℕ) (answer : GitwireAnswer) (filled : List ℕ)
     (new : HostServer Global) : Type 0 where
   pub small : length room < 65520 → IsTooSmall old room answer filled new
   pub large : 65520 ≤ length room → ReportsMeant Means old room answer filled new
 
--- the digits of a wanted reference's object, in the session's format; none mean that there is no such reference
+-- the digits of a wanted reference's object, in the session's format; no digits mean that there is no such reference
 abbrev pub MeansWantRef : Format → List ℕ → Meant → Type 0
 MeansWantRef format digits (Ok report) = (id : Option ObjectName) × (report ≡ Report.WantRef id) × IsMaybeObjectName format (given digits) id
 MeansWantRef format digits (Err why) = (why ≡ Unread.Refused BadObjectName) × (digits ≢ []) × IsNoObjectName format digits
@@ -255,7 +256,7 @@ abbrev pub MeansBoundary : Format → Bool → List ℕ → Meant → Type 0
 MeansBoundary format shallow digits (Ok report) = (id : ObjectName) × (report ≡ Report.Boundary (boundary_of shallow id)) × IsObjectName format digits id
 MeansBoundary format shallow digits (Err why) = (why ≡ Unread.Refused BadObjectName) × IsNoObjectName format digits
 
--- what an unborn `HEAD` points to
+-- the target of an unborn `HEAD`
 abbrev pub MeansUnborn : List ℕ → Meant → Type 0
 MeansUnborn text (Ok report) = (target : RefName) × (report ≡ Report.Unborn target) × (name_bytes target ≡ text) × IsRefName text
 MeansUnborn text (Err why) = (why ≡ Unread.Refused BadRefName) × ¬ IsRefName text
@@ -281,13 +282,13 @@ IsEntryRead format digits name target peeled (Ok entry) = IsEntryOf format digit
 IsEntryRead format digits name target peeled (Err (Unread.Refused kind)) = Refuses (entry_checks format digits name target peeled) kind
 IsEntryRead format digits name target peeled (Err Unread.OutOfMemory) = Unit {0}
 
--- a reference, whose parts are checked from left to right
+-- a reference; its parts are checked from left to right
 abbrev pub MeansReference : Format → List ℕ → List ℕ → List ℕ → List ℕ → Meant → Type 0
 MeansReference format digits name target peeled (Ok report) =
     (entry : Entry) × (report ≡ Report.Reference entry) × IsEntryOf format digits name target peeled entry
 MeansReference format digits name target peeled (Err why) = IsEntryRead format digits name target peeled (Err why)
 
--- the size of an object, where the store has it
+-- the size of an object, if the store has it
 abbrev pub size_given : Bool → ℕ → Option ℕ
 size_given true size = Some size
 size_given false size = None

@@ -53,12 +53,12 @@ what_name What.NeedSize = codes "NeedSize"
 what_name What.OutOfOrder = codes "OutOfOrder"
 what_name What.NotShallow = codes "NotShallow"
 
--- what has the number, or nothing has it
+-- what has this number, or nothing has it
 abbrev pub IsWhatOf : ℕ → Option What → Type 0
 IsWhatOf number None = (what : What) → what_number what ≢ number
 IsWhatOf number (Some what) = what_number what ≡ number
 
--- its name is in the room; or there is none, and nothing is written
+-- its name is in the buffer; or there is none, and nothing is written
 abbrev pub PutsName : Option What → List ℕ → ℕ → List ℕ → Type 0
 PutsName None room answer filled = (answer ≡ 0) × (filled ≡ room)
 PutsName (Some what) room answer filled = Puts (what_name what) room answer filled

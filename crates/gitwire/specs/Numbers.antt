@@ -1,4 +1,4 @@
--- What the numbers that C gives mean: a number is a place in these lists, and one past the end means nothing.
+-- What the numbers that C passes mean: a number is an index of these lists, and one past the end means nothing.
 use Rattle.std.specs.Prelude.{ℕ, List, [], ◌∷◌}
 use Rattle.git_names.specs.declared.object_format.Format.{Format}
 use Rattle.git_names.specs.declared.object_format.Format.TheVariants.{Sha1, Sha256}
@@ -11,7 +11,7 @@ use Rattle.gitwire.specs.declared.numbers.ItemList.{ItemList}
 abbrev pub formats : List Format
 formats = Sha1 ∷ Sha256 ∷ []
 
--- the place of a format
+-- the index of a format
 abbrev pub format_number : Format → ℕ
 format_number Sha1 = 0
 format_number Sha256 = 1
@@ -19,7 +19,7 @@ format_number Sha256 = 1
 abbrev pub commands : List Command
 commands = LsRefs ∷ Fetch ∷ ObjectInfo ∷ []
 
--- the place of a command
+-- the index of a command
 abbrev pub command_number : Command → ℕ
 command_number LsRefs = 0
 command_number Fetch = 1

@@ -1,4 +1,4 @@
--- What a server offers, as C gives it, and what was noted of an advertisement, as C is shown it: a bit for each feature.
+-- What a server advertises, as C passes it, and what was noted of an advertisement, as C is shown it: a bit for each feature.
 use Rattle.std.specs.Prelude.{ℕ, ◌+◌, Bool, true, false, not, ◌==◌, nat_lt, if◌then◌else◌, Option, None, slice_get}
 use Rattle.std.specs.Int.Bits.{bit_and}
 use Rattle.std.specs.Option.{option_map}
@@ -11,7 +11,7 @@ use Rattle.gitwire.specs.declared.offer.GitwireOffer.{GitwireOffer}
 abbrev pub has_feature : ℕ → ℕ → Bool
 has_feature features bit = not (bit_and features bit == 0)
 
--- the offer that is meant, if its format is one and each of its bits is a feature's
+-- the offer that these numbers mean, if the format's number means one and each bit is a feature's
 abbrev pub offer_meant : GitwireOffer → Option Offer
 offer_meant o =
     if nat_lt 127 o.features then None else option_map (λ format. record {
@@ -25,7 +25,7 @@ offer_meant o =
       server_option = has_feature o.features 16;
     }) (slice_get formats o.format)
 
--- a bit, where its feature was noted
+-- a bit, if its feature was noted
 abbrev pub where_shown : Bool → ℕ → ℕ
 where_shown true bit = bit
 where_shown false bit = 0

@@ -1,4 +1,4 @@
--- What is reported to C of a packet reader's calls.
+-- What is reported to C for a packet reader's calls.
 use Rattle.std.specs.Prelude.{◌≡◌, ℕ, ◌+◌, ◌≤◌, ◌<◌, true, false, List, [], length, Option, Some, None}
 use Rattle.git_pkt.specs.Packets.{longest_payload}
 use Rattle.git_pkt.specs.Machine.PacketReader.{Feeds, Reads, ReadsOn, fault_of, is_open, open_length, position_of}
@@ -14,12 +14,12 @@ use Rattle.gitwire.specs.Answers.{answering, answering_fault, answering_packet, 
 use Rattle.gitwire.specs.declared.answer.GitwireAnswer.{GitwireAnswer}
 use Rattle.gitwire.specs.declared.answer.What.TheVariants as What
 
--- a reader of a stream of which nothing has come, or none where memory ran out
+-- a reader of a stream before its first byte, or none if memory ran out
 abbrev pub Begins : ℕ → Option PacketReader → Type 0
 Begins answer None = answer ≡ what_number What.OutOfMemory
 Begins answer (Some reader) = (answer ≡ what_number What.Done) × Reads reader 0 [] [] [] × (fault_of reader ≡ None)
 
--- what is reported to C of an answer
+-- what is reported to C for an answer
 abbrev pub answer_of : ℕ → Got → GitwireAnswer
 answer_of used More = answering_used used What.More
 answer_of used (Packet Flush offset) = answering_packet used offset 0 What.Flush
@@ -28,7 +28,7 @@ answer_of used (Packet RespEnd offset) = answering_packet used offset 0 What.Res
 answer_of used (Packet (Payload bytes) offset) = answering_packet used offset (length bytes.now) What.Payload
 answer_of used (Failed fault) = answering_fault used fault
 
--- the room: a payload is at its front
+-- the buffer: a payload is at its front
 abbrev pub filled_by : Got → List ℕ → List ℕ
 filled_by More room = room
 filled_by (Packet Flush offset) room = room
@@ -37,7 +37,7 @@ filled_by (Packet RespEnd offset) room = room
 filled_by (Packet (Payload bytes) offset) room = put_before bytes.now room
 filled_by (Failed fault) room = room
 
--- the reader reads on, and it is reported to C what came, with no more bytes used than the piece has
+-- the reader reads, and it is reported to C what came, with no more bytes used than the chunk has
 pub record FeedsAnswers (old : PacketReader) (piece room : List ℕ) (answer : GitwireAnswer) (filled : List ℕ) (new : PacketReader) : Type 0 where
   pub fed : Fed
   pub feeds : Feeds old piece fed new
@@ -45,23 +45,23 @@ pub record FeedsAnswers (old : PacketReader) (piece room : List ℕ) (answer : G
   pub answer_is : answer ≡ answer_of fed.used fed.got
   pub room_is : filled ≡ filled_by fed.got room
 
--- nothing happens where the room is too small for the longest payload
+-- nothing happens if the buffer is too small for the longest payload
 pub record FeedsInRoom (old : PacketReader) (piece room : List ℕ) (answer : GitwireAnswer) (filled : List ℕ) (new : PacketReader) : Type 0 where
   pub small : length room < longest_payload → (answer ≡ answering What.RoomTooSmall) × (filled ≡ room) × (new ≡ old)
   pub large : longest_payload ≤ length room → FeedsAnswers old piece room answer filled new
 
--- a fault at the end: the one that the reader had, or that a packet is cut off
+-- an error at the end: the one that the reader had, or that a packet is cut off
 pub record FailsAtEnd (old : PacketReader) (fault : Fault) (new : PacketReader) : Type 0 where
   pub stays : fault_of new ≡ Some fault
   pub repeats : (earlier : Fault) → fault_of old ≡ Some earlier → (fault ≡ earlier) × (new ≡ old)
   pub truncated : fault_of old ≡ None → (is_open old ≡ true) × (fault.kind ≡ Truncated) × (fault.offset + open_length old ≡ position_of old)
 
--- how a stream ends: well, between packets, or with a fault
+-- how a stream ends: well, between packets, or with an error
 abbrev pub Ends : PacketReader → Option Fault → PacketReader → Type 0
 Ends old None new = (new ≡ old) × (fault_of old ≡ None) × (is_open old ≡ false)
 Ends old (Some fault) new = FailsAtEnd old fault new
 
--- what is reported to C of the end
+-- what is reported to C about the end
 abbrev pub answer_of_end : Option Fault → GitwireAnswer
 answer_of_end None = answering What.Done
 answer_of_end (Some fault) = answering_fault 0 fault

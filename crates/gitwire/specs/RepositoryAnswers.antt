@@ -1,4 +1,4 @@
--- What is reported to C of a repository's calls.
+-- What is reported to C for a repository's calls.
 use Rattle.std.specs.Prelude.{◌≡◌, ◌⊎◌, ℕ, List, Option, Some, None}
 use Rattle.git_server.specs.Machine.SharedRepo.{shared_by}
 use Rattle.git_server.specs.declared.shared_repo.SharedRepo.{SharedRepo}
@@ -15,11 +15,11 @@ pub record RefusesText (text : List ℕ) (answer : GitwireAnswer) : Type 0 where
   pub refused : IsTextFault text (Bad line)
   pub answer_is : answer ≡ answering_packet 0 line 0 What.Failed
 
--- the packs that C gives: one for each fetch, and another for each that has a filter, or none
+-- the packs that C passes: one for each fetch, and another for each fetch with a filter, or none
 abbrev pub packs_given : List ℕ → Option (List ℕ) → PackBytes
 packs_given pack filtered = record { pack = pack; filtered = filtered }
 
--- the repository of the text and the packs; or none, where the text is refused or memory ran out
+-- the repository of the text and the packs; or none, if the text is refused or memory ran out
 abbrev pub Begins : List ℕ → PackBytes → GitwireAnswer → Option SharedRepo → Type 0
 Begins text packs answer None = RefusesText text answer ⊎ (answer ≡ answering What.OutOfMemory)
 Begins text packs answer (Some repository) = (answer ≡ answering What.Done) × IsWholeText text packs (shared_by repository)

@@ -1,4 +1,4 @@
--- What is reported to C of a request's calls.
+-- What is reported to C for a request's calls.
 use Rattle.std.specs.Prelude.{◌≡◌, ◌⊎◌, ℕ, ◌<◌, ◌≤◌, Bool, false, List, length, Option, Some, None, Result, Ok, Err, unwrap_or, slice_get}
 use Rattle.std.specs.Option.{option_map}
 use Rattle.std.specs.Global.{Global}
@@ -24,21 +24,21 @@ use Rattle.gitwire.specs.declared.numbers.ItemList.{ItemList}
 abbrev pub telling_number : ℕ → GitwireAnswer
 telling_number number = answering_packet 0 number 0 What.Done
 
--- done, or refused by a name
+-- done, or refused by a kind of error
 abbrev pub telling_result : Result (Unit {0}) Kind → GitwireAnswer
 telling_result (Ok done) = answering What.Done
 telling_result (Err kind) = answering_fault 0 (record { kind = kind; offset = 0 })
 
--- the handle has the value, or none where memory ran out
+-- the handle has the value, or none if memory ran out
 abbrev pub HasOrNone : {X : Type 0} → ℕ → X → Option X → Type 0
 HasOrNone answer value new =
     ((answer ≡ what_number What.Done) × (new ≡ Some value)) ⊎ ((answer ≡ what_number What.OutOfMemory) × (new ≡ None))
 
--- a number means nothing, or the limit is more than one may be
+-- a number means nothing, or the limit is above the maximum
 abbrev pub MeanNoRequest : ℕ → ℕ → ℕ → Type 0
 MeanNoRequest command format limit = (slice_get commands command ≡ None) ⊎ ((slice_get formats format ≡ None) ⊎ (most_limit < limit))
 
--- the request is an empty one of the command, the format and the limit that are meant
+-- the request is an empty one with the command, the format and the limit that these values mean
 pub record MeanRequest (command format limit : ℕ) (request : Request Global) : Type 0 where
   pub command_is : slice_get commands command ≡ Some (command_of request)
   pub format_is : slice_get formats format ≡ Some (format_of request)
@@ -61,7 +61,7 @@ IsLineRefused request line kind =
     IsArgumentFault (command_of request) (everything (format_of request)) line kind
     ⊎ ((arg : Arg) × IsLineOf request line arg × IsRefused (add_checks request arg) arg kind)
 
--- the line's argument is added to the others, or the request stays as it was
+-- the line's argument is added to the others, or the request is unchanged
 abbrev pub AddsLine : Request Global → List ℕ → Result (Unit {0}) Kind → Request Global → Type 0
 AddsLine old line (Ok done) new =
     (arg : Arg) × IsLineOf old line arg × Passes (add_checks old arg) × Keeps old arg (length (written_text arg)) new
@@ -73,37 +73,37 @@ pub record AddsAnswers (old : Request Global) (line : List ℕ) (answer : Gitwir
   pub adds : AddsLine old line added new
   pub answer_is : answer ≡ telling_result added
 
--- what is asked for is whole, or it is not, by this name
+-- the request is whole, or it is not, by this kind of error
 abbrev pub JudgesEnd : Asked → Result (Unit {0}) Kind → Type 0
 JudgesEnd asked (Ok done) = Passes (end_checks asked)
 JudgesEnd asked (Err kind) = Refuses (end_checks asked) kind
 
--- it is reported to C whether what is asked for is whole
+-- it is reported to C whether the request is whole
 pub record EndsAnswers (asked : Asked) (answer : GitwireAnswer) : Type 0 where
   pub judged : Result (Unit {0}) Kind
   pub judges : JudgesEnd asked judged
   pub answer_is : answer ≡ telling_result judged
 
--- whether the flag of this number is set; a number that is no flag's is not
+-- whether the flag of this number is set; a number of no flag is not
 abbrev pub is_set : ℕ → Asked → Bool
 is_set number asked = unwrap_or (option_map (λ flag. has_flag flag asked) (slice_get flags number)) false
 
--- the number, if it was given
+-- the number, if it was set
 abbrev pub given_of : Given → Asked → Option ℕ
 given_of Given.Deepen = deepen_of
 given_of Given.DeepenSince = deepen_since_of
 
--- what is reported to C of a number that may have been given
+-- what is reported to C about a number that may have been set
 abbrev pub telling_given : Option ℕ → GitwireAnswer
 telling_given None = answering What.Nothing
 telling_given (Some number) = telling_number number
 
--- what is reported to C of the number in the request that is asked for by this number
+-- what is reported to C about the number of the request that this number selects
 abbrev pub telling_which : ℕ → Asked → GitwireAnswer
 telling_which number asked =
     unwrap_or (option_map (λ which. telling_given (given_of which asked)) (slice_get given_numbers number)) (answering What.BadValue)
 
--- the text at a place of a list; an object name as its digits
+-- the text at an index of a list; an object name as its digits
 abbrev pub item_of : ItemList → Asked → ℕ → Option (List ℕ)
 item_of ItemList.RefPrefixes asked i = slice_get (ref_prefixes_of asked) i
 item_of ItemList.Wants asked i = option_map hex_of (slice_get (wants_of asked) i)
@@ -119,7 +119,7 @@ abbrev pub PutsItem : Option (List ℕ) → List ℕ → GitwireAnswer → List 
 PutsItem None room answer filled = (answer ≡ answering What.Nothing) × (filled ≡ room)
 PutsItem (Some text) room answer filled = Fills text room answer filled
 
--- the text at a place of the list, if there is such a list
+-- the text at an index of the list, if there is such a list
 abbrev pub PutsFrom : Option ItemList → Asked → ℕ → List ℕ → GitwireAnswer → List ℕ → Type 0
 PutsFrom None asked i room answer filled = (answer ≡ answering What.BadValue) × (filled ≡ room)
 PutsFrom (Some list) asked i room answer filled = PutsItem (item_of list asked i) room answer filled

@@ -1,4 +1,4 @@
--- What is reported to C of a request reader's calls.
+-- What is reported to C for a request reader's calls.
 use Rattle.std.specs.Prelude.{◌≡◌, ◌⊎◌, ℕ, ◌<◌, ◌≤◌, Bool, true, false, List, [], length, Option, Some, None, IsSomeAnd, Result, Ok, Err}
 use Rattle.std.specs.Global.{Global}
 use Rattle.git_names.specs.declared.object_format.Format.TheVariants as Format
@@ -19,11 +19,11 @@ use Rattle.gitwire.specs.declared.offer.GitwireOffer.{GitwireOffer}
 use Rattle.gitwire.specs.declared.answer.GitwireAnswer.{GitwireAnswer}
 use Rattle.gitwire.specs.declared.answer.What.TheVariants as What
 
--- the offer has no format, or the limit is more than one may be
+-- the offer has no format or a bit of no feature, or the limit is above the maximum
 abbrev pub MeanNoReader : GitwireOffer → ℕ → Type 0
 MeanNoReader offer limit = (offer_meant offer ≡ None) ⊎ (most_limit < limit)
 
--- the reader is one before the first byte, of the offer and the limit that are meant
+-- the reader is one before the first byte, with the offer and the limit that these values mean
 pub record MeanReader (offer : GitwireOffer) (limit : ℕ) (reader : RequestStream Global) : Type 0 where
   pub offer_is : offer_meant offer ≡ Some (offer_of reader)
   pub in_range : limit ≤ most_limit
@@ -37,21 +37,21 @@ MakesReader offer limit old answer new =
     (MeanNoReader offer limit × (answer ≡ what_number What.BadValue) × (new ≡ old))
     ⊎ ((reader : RequestStream Global) × MeanReader offer limit reader × HasOrNone answer reader new)
 
--- what is reported to C of an answer, by whether input was due
+-- what is reported to C for an answer, by whether input was expected
 abbrev pub telling_read : Bool → ℕ → ReadGot Global → GitwireAnswer
 telling_read due used More = answering_used used (more_of due)
 telling_read due used (RequestGot request) = answering_used used What.Request
 telling_read due used Stop = answering_used used What.Stop
 telling_read due used (Failed fault) = answering_fault used fault
 
--- the request of a handle after an answer: a new one takes the place of the old one
+-- the request of a handle after an answer: a new one replaces the old one
 abbrev pub request_after : ReadGot Global → Request Global → Request Global
 request_after More held = held
 request_after (RequestGot request) held = request
 request_after Stop held = held
 request_after (Failed fault) held = held
 
--- the reader reads on, and it is reported to C what came
+-- the reader reads, and it is reported to C what came
 pub record FeedsAnswers (old : RequestStream Global) (piece : List ℕ) (held : Request Global) (answer : GitwireAnswer)
     (new : RequestStream Global) (kept : Request Global) : Type 0 where
   pub read : ReadRequest Global
@@ -60,12 +60,12 @@ pub record FeedsAnswers (old : RequestStream Global) (piece : List ℕ) (held : 
   pub answer_is : answer ≡ telling_read (wants_input old) read.used read.got
   pub request : kept ≡ request_after read.got held
 
--- what a handle for requests has when a reader is fed: its own, or an empty one where it has none
+-- what a handle for requests has when a reader is fed: its own request, or an empty one if it has none
 abbrev pub Holds : Option (Request Global) → Request Global → Type 0
 Holds None held = IsEmpty Command.LsRefs Format.Sha1 0 held
 Holds (Some request) held = held ≡ request
 
--- a reader and a handle for its requests; where there is no memory for that one's first request, nothing is read
+-- a reader and a handle for its requests; if there is no memory for the first request of that handle, nothing is read
 abbrev pub FeedsHandle : RequestStream Global → List ℕ → Option (Request Global) → GitwireAnswer
     → Option (RequestStream Global) → Option (Request Global) → Type 0
 FeedsHandle old piece request answer new kept =
@@ -90,7 +90,7 @@ pub record TellsClose (old : RequestStream Global) (answer : GitwireAnswer) (new
   pub closes : Closes ended old new
   pub answer_is : answer ≡ telling_end ended
 
--- the input may end only where more could come
+-- the input may end only if more could come
 pub record ClosesAnswers (old : RequestStream Global) (answer : GitwireAnswer) (new : RequestStream Global) : Type 0 where
   pub now : wants_input old ≡ true → TellsClose old answer new
   pub not_now : wants_input old ≡ false → (answer ≡ answering What.NotNow) × (new ≡ old)

@@ -1,4 +1,4 @@
--- What is reported to C of a server's calls.
+-- What is reported to C for a server's calls.
 use Rattle.std.specs.Prelude.{◌≡◌, ◌⊎◌, ℕ, ◌≤◌, ◌<◌, Bool, true, false, List, [], length, take, Option, Some, None, IsSome}
 use Rattle.std.specs.Global.{Global}
 use Rattle.git_msg.specs.Advertisement.{everything}
@@ -16,7 +16,7 @@ use Rattle.gitwire.specs.Answers.{more_of, answering, answering_fault, answering
 use Rattle.gitwire.specs.declared.answer.GitwireAnswer.{GitwireAnswer}
 use Rattle.gitwire.specs.declared.answer.What.TheVariants as What
 
--- a server at the beginning of its session over the repository, which offers all
+-- a server at the beginning of its session over the repository, which advertises all
 pub record Starts (repository : SharedRepo) (limit : ℕ) (advertise : Bool) (server : Server SharedRepo Global) : Type 0 where
   pub running : Running shared_state
       (record {
@@ -28,23 +28,23 @@ pub record Starts (repository : SharedRepo) (limit : ℕ) (advertise : Bool) (se
       }) [] false [] server
   pub shares : shared_by (repo_of server) ≡ shared_by repository
 
--- such a server, or none where memory ran out
+-- such a server, or none if memory ran out
 abbrev pub Begins : SharedRepo → ℕ → Bool → ℕ → Option (Server SharedRepo Global) → Type 0
 Begins repository limit advertise answer None = answer ≡ what_number What.OutOfMemory
 Begins repository limit advertise answer (Some server) = (answer ≡ what_number What.Done) × Starts repository limit advertise server
 
--- nothing changes where the limit is more than one may be
+-- nothing changes if the limit is above the maximum
 pub record BeginsWithin (repository : SharedRepo) (limit : ℕ) (advertise : Bool) (old : Option (Server SharedRepo Global)) (answer : ℕ)
     (new : Option (Server SharedRepo Global)) : Type 0 where
   pub too_much : most_limit < limit → (answer ≡ what_number What.BadValue) × (new ≡ old)
   pub in_range : limit ≤ most_limit → Begins repository limit advertise answer new
 
--- a server over the repository of a handle; nothing changes where that has none
+-- a server over the repository of a handle; nothing changes if that has none
 abbrev pub BeginsOver : Option SharedRepo → ℕ → Bool → Option (Server SharedRepo Global) → ℕ → Option (Server SharedRepo Global) → Type 0
 BeginsOver None limit advertise old answer new = (answer ≡ what_number What.NoHandle) × (new ≡ old)
 BeginsOver (Some repository) limit advertise old answer new = BeginsWithin repository limit advertise old answer new
 
--- the server uses bytes of the piece, and it is reported to C how many
+-- the server uses bytes of the chunk, and it is reported to C how many
 pub record FeedsAnswers (old : Server SharedRepo Global) (piece : List ℕ) (answer : GitwireAnswer) (new : Server SharedRepo Global) : Type 0 where
   pub used : ℕ
   pub answer_is : answer ≡ answering_used used (more_of (wants_input old))
@@ -56,12 +56,12 @@ pub record FeedsAnswers (old : Server SharedRepo Global) (piece : List ℕ) (ans
   pub stays : wants_input old ≡ false → (used ≡ 0) × (new ≡ old)
   pub nothing : length piece ≡ 0 → (used ≡ 0) × (new ≡ old)
 
--- the input ends where the server waits for it
+-- the input ends when the server expects input
 pub record ClosesAnswers (old : Server SharedRepo Global) (answer : ℕ) (new : Server SharedRepo Global) : Type 0 where
   pub due : wants_input old ≡ true → (answer ≡ what_number What.Done) × Closes shared_state old new × IsSome (outcome_of new)
   pub not_now : wants_input old ≡ false → (answer ≡ what_number What.NotNow) × (new ≡ old)
 
--- what is reported to C of what is pulled
+-- what is reported to C about what is pulled
 abbrev pub answer_of : Pulled → GitwireAnswer
 answer_of (Packet bytes) = answering_packet 0 0 (length bytes.now) What.Packet
 answer_of NeedInput = answering What.NeedInput
@@ -69,13 +69,13 @@ answer_of (Finished Flush) = answering What.EndedByFlush
 answer_of (Finished Closed) = answering What.EndedByClose
 answer_of (Finished (Refused fault)) = answering_fault 0 fault
 
--- the room: a packet is at its front
+-- the buffer: a packet is at its front
 abbrev pub filled_by : Pulled → List ℕ → List ℕ
 filled_by (Packet bytes) room = put_before bytes.now room
 filled_by NeedInput room = room
 filled_by (Finished outcome) room = room
 
--- the server gives a packet or returns what to do instead, and that is reported to C
+-- the server returns a packet or what to do instead, and that is reported to C
 pub record PullsAnswers (old : Server SharedRepo Global) (room : List ℕ) (answer : GitwireAnswer) (filled : List ℕ)
     (new : Server SharedRepo Global) : Type 0 where
   pub pulled : Pulled
@@ -83,7 +83,7 @@ pub record PullsAnswers (old : Server SharedRepo Global) (room : List ℕ) (answ
   pub answer_is : answer ≡ answer_of pulled
   pub room_is : filled ≡ filled_by pulled room
 
--- nothing happens where the room is too small for the longest packet
+-- nothing happens if the buffer is too small for the longest packet
 pub record PullsInRoom (old : Server SharedRepo Global) (room : List ℕ) (answer : GitwireAnswer) (filled : List ℕ)
     (new : Server SharedRepo Global) : Type 0 where
   pub small : length room < 65520 → (answer ≡ answering What.RoomTooSmall) × (filled ≡ room) × (new ≡ old)

@@ -1,4 +1,4 @@
--- The packets that are written for C, each to the front of a room: what the values mean that C gives, and what is reported to C.
+-- The packets that are written for C, each to the front of a buffer: what the values that C passes mean, and what is reported to C.
 use Rattle.std.specs.Prelude.{◌≡◌, ◌≢◌, ℕ, ◌<◌, ◌≤◌, Bool, true, false, List, [], ◌∷◌, ◌++◌, length, codes, slice_get}
 use Rattle.std.specs.Prelude.{Option, Some, None, IsSome, Result, Ok, Err}
 use Rattle.std.specs.Bool.{then_some}
@@ -28,11 +28,11 @@ use Rattle.gitwire.specs.declared.answer.What.TheVariants.{Done, NoHandle, OutOf
 use Rattle.gitwire.specs.declared.written.Unwritten.{Unwritten}
 use Rattle.gitwire.specs.declared.written.Unwritten.TheVariants.{BadValue, Refused}
 
--- what values mean that C gives: a packet, or why there is none
+-- what the values that C passes mean: a packet, or why there is none
 abbrev pub Meant : Type 0
 Meant = Result Pkt Unwritten
 
--- why a text is refused that is no name
+-- why a text that is no name is refused
 abbrev pub refused_name : NameFault → Unwritten
 refused_name fault = Refused (kind_of fault)
 
@@ -41,18 +41,18 @@ abbrev pub telling_why : Unwritten → GitwireAnswer
 telling_why BadValue = answering a_bad_value
 telling_why (Refused kind) = answering_fault 0 (record { kind = kind; offset = 0 })
 
--- what is reported to C where its values mean this
+-- what is reported to C if its values mean this
 abbrev pub Tells : Meant → List ℕ → GitwireAnswer → List ℕ → Type 0
 Tells (Ok packet) room answer filled = (length (body_of packet) ≤ longest_payload) × Fills (spelling_of packet) room answer filled
 Tells (Err why) room answer filled = (answer ≡ telling_why why) × (filled ≡ room)
 
--- the packet that the values mean is at the front of the room, or it is reported to C why not
+-- the packet that the values mean is at the front of the buffer, or it is reported to C why not
 pub record Writes (Means : Meant → Type 0) (room : List ℕ) (answer : GitwireAnswer) (filled : List ℕ) : Type 0 where
   pub meant : Meant
   pub means : Means meant
   pub tells : Tells meant room answer filled
 
--- what is reported and left in the room follows from the values and the room
+-- the values and the buffer determine what is reported and left in the buffer
 abbrev pub IsDetermined : (Meant → Type 0) → Type 0
 IsDetermined Means = (room : List ℕ) (answer other : GitwireAnswer) (filled others : List ℕ)
     → Writes Means room answer filled → Writes Means room other others → (answer ≡ other) × (filled ≡ others)
@@ -68,12 +68,12 @@ Advertises None room answer filled = (answer ≡ answering a_bad_value) × (fill
 Advertises (Some offer) room answer filled =
     (length (spelled (advertisement_of offer)) < 200) × Fills (spelled (advertisement_of offer)) room answer filled
 
--- a handle has a writer, or none where memory ran out
+-- a handle has a writer, or none if memory ran out
 abbrev pub BeginsToWrite : ℕ → Option (List ℕ) → Type 0
 BeginsToWrite answer None = answer ≡ what_number OutOfMemory
 BeginsToWrite answer (Some held) = answer ≡ what_number Done
 
--- a handle with a writer does this to the room, and keeps it; where it has none, that is reported, and nothing is written
+-- a handle with a writer does this to the buffer, and keeps it; if the handle has none, that is reported, and nothing is written
 abbrev pub WritesIn : Option (List ℕ) → (List ℕ → GitwireAnswer → List ℕ → Type 0) → List ℕ → GitwireAnswer → List ℕ → Option (List ℕ) → Type 0
 WritesIn None Does room answer filled new = (answer ≡ answering NoHandle) × (filled ≡ room) × (new ≡ None)
 WritesIn (Some held) Does room answer filled new = Does room answer filled × IsSome new
@@ -85,7 +85,7 @@ IsOfKind kind bytes delim = (kind ≡ what_number Delim) × (bytes ≡ [])
 IsOfKind kind bytes resp_end = (kind ≡ what_number ResponseEnd) × (bytes ≡ [])
 IsOfKind kind bytes (payload content) = (kind ≡ what_number Payload) × (bytes ≡ content)
 
--- a packet of a kind; a payload has to be one of a packet
+-- a packet of a kind; a payload must fit into a packet
 abbrev pub MeansPacket : ℕ → List ℕ → Meant → Type 0
 MeansPacket kind bytes (Ok packet) = IsOfKind kind bytes packet
 MeansPacket kind bytes (Err BadValue) = (packet : Pkt) → ¬ IsOfKind kind bytes packet
@@ -98,7 +98,7 @@ MeansBand number bytes (Err BadValue) = (band : Band) → number ≢ byte_of ban
 MeansBand number bytes (Err (Refused fault)) =
     (fault ≡ TooLong) × ((band : Band) × (number ≡ byte_of band)) × (longest_payload ≤ length bytes)
 
--- the line that has this text; LF takes one byte of a payload
+-- the line with this text; LF takes one byte of a payload
 abbrev pub MeansLine : List ℕ → Meant → Type 0
 MeansLine text (Ok packet) = packet ≡ text_line text
 MeansLine text (Err why) = (why ≡ Refused BadLine) × (longest_payload ≤ length text)
@@ -107,12 +107,12 @@ MeansLine text (Err why) = (why ≡ Refused BadLine) × (longest_payload ≤ len
 abbrev pub MeansError : List ℕ → Meant → Type 0
 MeansError message meant = MeansLine (codes "ERR " ++ message) meant
 
--- the digits have to be an object name of the format
+-- the digits must be an object name of the format
 abbrev pub object_name_check : Format → List ℕ → Check
 object_name_check format digits =
     check ((id : ObjectName) × IsObjectName format digits id) (IsNoObjectName format digits) BadObjectName
 
--- the text has to be a reference name
+-- the text must be a reference name
 abbrev pub ref_name_check : List ℕ → Check
 ref_name_check name = check (IsRefName name) (¬ IsRefName name) BadRefName
 
@@ -121,7 +121,7 @@ abbrev pub given : List ℕ → Option (List ℕ)
 given [] = None
 given (byte ∷ bytes) = Some (byte ∷ bytes)
 
--- what is not there is not checked
+-- a missing part is not checked
 abbrev pub where_given : List ℕ → Check → Check
 where_given text c = record { refuses = λ kind. (text ≢ []) × c.refuses kind; passes = text ≢ [] → c.passes }
 
@@ -140,13 +140,13 @@ abbrev pub Names : ℕ → List ℕ → Result ObjectName Unwritten → Type 0
 Names number digits (Ok id) = (format : Format) × (slice_get formats number ≡ Some format) × IsObjectName format digits id
 Names number digits (Err why) = IsRefusedIn number (λ format. object_name_check format digits ∷ []) why
 
--- the line that has this text of the object which the digits name
+-- the line with this text about the object that the digits name
 pub record IsLineOf (format : Format) (digits : List ℕ) (text : ObjectName → List ℕ) (packet : Pkt) : Type 0 where
   pub id : ObjectName
   pub is_id : IsObjectName format digits id
   pub line : packet ≡ text_line (text id)
 
--- a line with the name of an object, and with nothing else that can be refused
+-- a line with the name of an object, and nothing else that can be refused
 abbrev pub MeansLineOf : ℕ → List ℕ → (ObjectName → List ℕ) → Meant → Type 0
 MeansLineOf number digits text meant =
     InFormat number (λ format. object_name_check format digits ∷ []) (λ format packet. IsLineOf format digits text packet) meant
@@ -170,13 +170,13 @@ info_of size id = record { id = id; size = size }
 abbrev pub MeansInfo : ℕ → List ℕ → Bool → ℕ → Meant → Type 0
 MeansInfo number digits has_size size meant = MeansLineOf number digits (λ id. info_text (info_of (then_some has_size size) id)) meant
 
--- the line of a wanted reference, whose parts are checked from left to right
+-- the line of a wanted reference; its parts are checked from left to right
 abbrev pub MeansWanted : ℕ → List ℕ → List ℕ → Meant → Type 0
 MeansWanted number digits name meant =
     InFormat number (λ format. object_name_check format digits ∷ ref_name_check name ∷ [])
     (λ format packet. IsRefName name × IsLineOf format digits (λ id. wanted_text (wanted_of id name)) packet) meant
 
--- the line of a reference with these parts, without an object where no digits are given
+-- the line of a reference with these parts, without an object if there are no digits
 pub record IsReferenceOf (format : Format) (digits name target peeled : List ℕ) (packet : Pkt) : Type 0 where
   pub is_name : IsRefName name
   pub is_target : target ≢ [] → IsRefName target
@@ -186,7 +186,7 @@ pub record IsReferenceOf (format : Format) (digits name target peeled : List ℕ
   pub is_peeled : IsMaybeObjectName format (given peeled) peeled_id
   pub line : packet ≡ text_line (reference_text (reference_of id name (given target) peeled_id))
 
--- the line of a reference, whose parts are checked from left to right
+-- the line of a reference; its parts are checked from left to right
 abbrev pub MeansReference : ℕ → List ℕ → List ℕ → List ℕ → List ℕ → Meant → Type 0
 MeansReference number digits name target peeled meant =
     InFormat number

@@ -5,34 +5,34 @@ ghost use Rattle.std.specs.Prelude.{◌≡◌};
 use git_client::EventKind;
 use git_pkt::Fault;
 
-/// What one call did. Fields without a meaning are 0.
+/// The result of one call. Fields without a meaning are 0.
 #[repr(C)]
 #[derive(Clone, Copy, Debug)]
 pub struct GitwireAnswer {
-    /// How many bytes of the piece were used.
+    /// How many bytes of the chunk were used.
     pub used: usize,
-    /// A place in the stream, or a number.
+    /// An offset in the stream, or a number.
     pub offset: u64,
-    /// How many bytes were written to the front of the room.
+    /// How many bytes were written to the front of the buffer.
     pub length: usize,
     /// The number of a [`What`].
     pub kind: u8,
-    /// The number of a fault, from 1 to 34.
+    /// The number of an error, from 1 to 34.
     pub fault: u8,
 }
 
-/// What came of a call.
+/// The result of a call.
 #[derive(Clone, Copy, Debug)]
 pub enum What {
     /// All went well.
     Done,
-    /// So many bytes of the piece were used, and nothing else is to be reported.
+    /// These bytes of the chunk were used, and nothing else is to be reported.
     More,
     /// The library refuses: `fault` is why, and `offset` where.
     Failed,
     /// The handle has nothing: it was never made, or was freed.
     NoHandle,
-    /// The room is too small. Nothing was used or changed.
+    /// The buffer is too small. Nothing was used or changed.
     RoomTooSmall,
     /// The call may not be made at this moment. Nothing changed.
     NotNow,
@@ -42,7 +42,7 @@ pub enum What {
     BadValue,
     /// There is no such item.
     Nothing,
-    /// A packet with a payload, which is in the room.
+    /// A packet with a payload, which is in the buffer.
     Payload,
     /// A flush packet.
     Flush,
@@ -52,9 +52,9 @@ pub enum What {
     ResponseEnd,
     /// A whole request.
     Request,
-    /// The other end leaves.
+    /// The peer leaves.
     Stop,
-    /// A packet to be sent, which is in the room.
+    /// A packet to be sent, which is in the buffer.
     Packet,
     /// Nothing is to be sent before more bytes have come.
     NeedInput,
@@ -95,7 +95,7 @@ pub enum What {
 impl What {
     ghost use Rattle.gitwire.specs.Answers.{more_of, what_number};
 
-    /// What is reported of a piece where nothing else is: more is to come, or none was due.
+    /// What is reported for a chunk if nothing else is: more is to come, or none was expected.
     pub(crate) fn more(due: bool) -> What
         ensures { result ≡ more_of due }
     {
@@ -162,21 +162,21 @@ impl What {
 impl GitwireAnswer {
     ghost use Rattle.gitwire.specs.Answers.{answering, answering_used, answering_packet, answering_fault};
 
-    /// What came of a call, and nothing more.
+    /// A result, and nothing more.
     pub(crate) fn of(what: What) -> GitwireAnswer
         ensures { result ≡ answering what }
     {
         GitwireAnswer::of_used(0, what)
     }
 
-    /// What came of a piece of which so many bytes were used, and nothing more.
+    /// The result of a chunk: this many of its bytes were used, and nothing more.
     pub(crate) fn of_used(used: usize, what: What) -> GitwireAnswer
         ensures { result ≡ answering_used used what }
     {
         GitwireAnswer::of_packet(used, 0, 0, what)
     }
 
-    /// A packet at this offset, of which so many bytes are in the room.
+    /// A packet at this offset, with this many bytes in the buffer.
     pub(crate) fn of_packet(used: usize, offset: u64, length: usize, what: What) -> GitwireAnswer
         ensures { result ≡ answering_packet used offset length what }
     {

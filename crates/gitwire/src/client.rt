@@ -23,14 +23,14 @@ use git_pkt::LONGEST_PACKET;
 use std::alloc::Global;
 use std::mem::replace;
 
-/// How many bytes the parts of an event have at the most: those of the longest payload.
+/// The maximum length of the parts of an event: that of the longest payload.
 const LONGEST_PARTS: usize = 65_516;
 
 /// What was noted of an advertisement.
 #[repr(C)]
 #[derive(Clone, Copy, Debug)]
 pub struct GitwireCaps {
-    /// The sum of the features that were noted, as an offer has them.
+    /// The sum of the features that were noted, as in an offer.
     pub features: u32,
     /// The key `agent`.
     pub agent: bool,
@@ -46,9 +46,8 @@ pub struct GitwireCaps {
     pub sha256: bool,
 }
 
-/// Makes the handle's client a new one, before the first byte of the advertisement. What it had before is freed. `Done`;
-/// `BadValue`, and the handle stays as it was, for a number that means no format or no ending; or `OutOfMemory`, and the
-/// handle has none.
+/// Makes the handle's client a new one, before the first byte of the advertisement. What it had before is freed. `Done`; `BadValue`, and
+/// the handle is unchanged, for a number that means no format or no ending; or `OutOfMemory`, and the handle has none.
 #[unsafe(no_mangle)]
 pub extern "C" fn gitwire_client_new(
     alloc: Global,
@@ -71,7 +70,7 @@ pub extern "C" fn gitwire_client_new(
     fill(client, alloc, made).number()
 }
 
-/// The ending that C means by this number; none where there is no such ending.
+/// The ending that C means by this number; none if there is no such ending.
 fn ending_numbered(number: u8) -> Option<Ending>
     ensures { result ≡ slice_get endings number }
 {
@@ -82,8 +81,8 @@ fn ending_numbered(number: u8) -> Option<Ending>
     }
 }
 
-/// Reads on, to the next event, and writes its texts to the front of the room. `More`, `Failed` or the event: `Capability` to
-/// `Ended`; `NotNow` where no bytes are due; `NoHandle`; and `RoomTooSmall` where the room has less than 65,516 bytes.
+/// Reads up to the next event, and writes its texts to the front of the buffer. `More`, `Failed` or the event: `Capability` to `Ended`;
+/// `NotNow` if no bytes are expected; `NoHandle`; and `RoomTooSmall` if the buffer has fewer than 65,516 bytes.
 #[unsafe(no_mangle)]
 pub extern "C" fn gitwire_client_feed(
     alloc: Global,
@@ -102,8 +101,8 @@ pub extern "C" fn gitwire_client_feed(
     answer
 }
 
-/// Reads on, as `gitwire_client_feed` does, but leaves the bytes of `Pack` and `Progress` where they are: the last `text_length`
-/// of those used of the piece. The room stays as it was then.
+/// Reads as `gitwire_client_feed` does, but leaves the bytes of `Pack` and `Progress` where they are: the last `text_length` of those used
+/// of the chunk. The buffer is unchanged then.
 #[unsafe(no_mangle)]
 pub extern "C" fn gitwire_client_feed_in_place(
     alloc: Global,
@@ -152,7 +151,7 @@ fn feed_in_place(client: &mut Client<Global>, piece: &[u8], room: &mut [u8]) -> 
     }
 }
 
-/// Shows an event, of which bytes that pass stay where they are.
+/// Shows an event; bytes that pass stay where they are.
 fn show_in_place(event: Event<'_>, used: usize, room: &mut [u8]) -> GitwireEvent
     requires { length (bytes_shown (parts_of event)) ≤ length room.old }
     ensures answer { result ≡ telling_parts used (parts_of event.entry) }
@@ -165,8 +164,8 @@ fn show_in_place(event: Event<'_>, used: usize, room: &mut [u8]) -> GitwireEvent
     }
 }
 
-/// What is to be done next: `Packet`, and the packet to be sent is at the front of the room, `NeedInput`, `CanAsk`, `Finished` or
-/// `Failed`; `NoHandle`; and `RoomTooSmall` where the room has less than 65,520 bytes.
+/// What to do next: `Packet`, and the packet to be sent is at the front of the buffer; `NeedInput`, `CanAsk`, `Finished` or `Failed`;
+/// `NoHandle`; and `RoomTooSmall` if the buffer has fewer than 65,520 bytes.
 #[unsafe(no_mangle)]
 pub extern "C" fn gitwire_client_pull(
     alloc: Global,
@@ -201,8 +200,8 @@ fn pull(client: &mut Client<Global>, room: &mut [u8]) -> GitwireAnswer
     }
 }
 
-/// Asks for what the handle of a request has. `Done`, and that handle has none; or `NotNow`, where the client cannot ask, or
-/// `Failed`, and the request stays there; or `NoHandle`, where one of the two has nothing.
+/// Asks the request of a handle. `Done`, and that handle has none; or `NotNow`, if the client cannot ask, or `Failed`, and the request
+/// stays there; or `NoHandle`, if one of the two has nothing.
 #[unsafe(no_mangle)]
 pub extern "C" fn gitwire_client_ask(
     alloc: Global,
@@ -229,7 +228,7 @@ pub extern "C" fn gitwire_client_ask(
     }
 }
 
-/// Asks for what the handle of a request has. Where the client takes it, an empty request is left in its place.
+/// Asks the request of a handle. If the client takes it, an empty request is left in its place.
 fn ask(
     alloc: Global,
     client: &mut Client<Global>,
@@ -252,7 +251,7 @@ fn ask(
     }
 }
 
-/// Leaves: the flush that ends the conversation is to be pulled. `Done`, `NotNow` where the client cannot ask, or `NoHandle`.
+/// Leaves: the flush that ends the conversation is to be pulled. `Done`, `NotNow` if the client cannot ask, or `NoHandle`.
 #[unsafe(no_mangle)]
 pub extern "C" fn gitwire_client_leave(alloc: Global, client: &mut GitwireClient) -> u8
     ensures { On (client_in client.old) (client_in client.new) (λ old new. LeavesAnswers old result new) (result ≡ what_number What.NoHandle) }
@@ -275,8 +274,8 @@ fn leave(client: &mut Client<Global>) -> u8
     What::Done.number()
 }
 
-/// The input ends here. `Failed`, where more was due; `NotNow` where the client does not wait for input: then all is
-/// well, or the conversation has failed already; or `NoHandle`.
+/// The input ends here. `Failed`, if more was expected; `NotNow` if the client expects no input: then all is well, or the conversation has
+/// failed already; or `NoHandle`.
 #[unsafe(no_mangle)]
 pub extern "C" fn gitwire_client_close(alloc: Global, client: &mut GitwireClient) -> GitwireAnswer
     ensures { On (client_in client.old) (client_in client.new) (λ old new. ClosesAnswers old result new) (result ≡ answering What.NoHandle) }
@@ -298,8 +297,8 @@ fn close(client: &mut Client<Global>) -> GitwireAnswer
     GitwireAnswer::of_fault(0, client.close())
 }
 
-/// Writes the server's message on the fault that ended the conversation to the front of the room. `Done`, `Nothing` where there
-/// is none, `RoomTooSmall` or `NoHandle`.
+/// Writes the server's message about the error that ended the conversation to the front of the buffer. `Done`, `Nothing` if there is none,
+/// `RoomTooSmall` or `NoHandle`.
 #[unsafe(no_mangle)]
 pub extern "C" fn gitwire_client_message(
     alloc: Global,

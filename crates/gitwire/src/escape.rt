@@ -1,4 +1,4 @@
-//! A stranger's bytes as a text that may be shown.
+//! Untrusted bytes as a text that may be shown.
 
 ghost use Rattle.gitwire.specs.EscapeAnswers.{Escapes};
 
@@ -8,8 +8,8 @@ use git_pkt::{escape_into, put_at};
 /// How many bytes the longest escape has.
 const LONGEST_ESCAPE: usize = 4;
 
-/// Writes the escapes of the bytes to the front of the room, of as many as it has room for: `Done` where these are all, and else
-/// `More`. `RoomTooSmall` where the room has less than 4 bytes.
+/// Writes the escapes of the bytes to the front of the buffer, of as many bytes as fit: `Done` if these are all, and else `More`.
+/// `RoomTooSmall` if the buffer has fewer than 4 bytes.
 #[unsafe(no_mangle)]
 pub extern "C" fn gitwire_escape(bytes: &[u8], room: &mut [u8]) -> GitwireAnswer
     ensures { Escapes bytes.now room.old result room.new }

@@ -1,4 +1,4 @@
-//! How an event is shown to C: its numbers, and its texts one after another at the front of a room.
+//! How an event is shown to C: its numbers, and its texts one after another at the front of a buffer.
 
 ghost use Rattle.std.specs.Prelude.{◌≡◌, ◌+◌, ◌≤◌, ◌++◌, ℕ, List, length, take, drop};
 ghost use Rattle.std.specs.Option.{option_copied};
@@ -11,30 +11,30 @@ use git_client::{EventKind, EventParts};
 use git_names::Oid;
 use git_pkt::{Fault, put_at};
 
-/// What one call of `gitwire_client_feed` did, and the event that came. Fields without a meaning are 0 or false. The texts
-/// are at the front of the room, one after another: the object's name in lower case digits, the name, the text, and the
-/// digits of the object that a tag peels to.
+/// The result of one call of `gitwire_client_feed`, and the event that came. Fields without a meaning are 0 or false. The texts are at the
+/// front of the buffer, one after another: the object's name in lower case digits, the name, the text, and the digits of the object that a
+/// tag peels to.
 #[repr(C)]
 #[derive(Clone, Copy, Debug)]
 pub struct GitwireEvent {
-    /// How many bytes of the piece were used.
+    /// How many bytes of the chunk were used.
     pub used: usize,
-    /// Where the fault lies in the stream.
+    /// The offset of the error in the stream.
     pub offset: u64,
-    /// How many digits the object's name has: none where there is no object, as of a reference that is unborn.
+    /// How many digits the object's name has: none if there is no object, as for an unborn reference.
     pub id_length: usize,
     /// How many bytes the name has: that of a reference, or the key of a capability.
     pub name_length: usize,
     /// How many bytes the text has: the value of a capability, the target of a symbolic reference, or bytes of the pack or
     /// the progress.
     pub text_length: usize,
-    /// How many digits the name of the object has that an annotated tag peels to.
+    /// How many digits the name of the object that an annotated tag peels to has.
     pub peeled_length: usize,
     /// How many bytes the object has.
     pub size: u64,
     /// The number of a [`What`].
     pub kind: u8,
-    /// The number of a fault, from 1 to 34.
+    /// The number of an error, from 1 to 34.
     pub fault: u8,
     /// Whether there is a text: it may be empty.
     pub has_text: bool,
@@ -45,7 +45,7 @@ pub struct GitwireEvent {
 impl GitwireEvent {
     ghost use Rattle.gitwire.specs.EventAnswers.{bytes_shown, telling_none, telling_parts, answering_refusal};
 
-    /// The event: its texts are written to the front of the room, one after another.
+    /// The event: its texts are written to the front of the buffer, one after another.
     pub(crate) fn of_parts(used: usize, parts: EventParts<'_>, room: &mut [u8]) -> GitwireEvent
         requires { length (bytes_shown (parts_shown parts)) ≤ length room.old }
         ensures answer { result ≡ telling_parts used (parts_shown parts.entry) }
@@ -122,7 +122,7 @@ fn bytes_of(text: Option<&[u8]>) -> &[u8]
     }
 }
 
-/// Puts the digits of an object name at a place of the room, if there is one, and returns where they end.
+/// Puts the digits of an object name, if there is one, at a place of the buffer, and returns where they end.
 fn put_digits(room: &mut [u8], at: usize, id: Option<&Oid>) -> usize
     requires { at + length (digits_shown (option_copied id)) ≤ length room.old }
     ensures end { result ≡ at + length (digits_shown (option_copied id.entry)) }

@@ -1,12 +1,12 @@
-//! The names and texts of faults, by their numbers.
+//! The names and texts of errors, by their numbers.
 
 ghost use Rattle.gitwire.specs.FaultAnswers.{IsKindOf, TellsName, TellsText};
 
 use crate::rooms::put_bytes;
 use git_pkt::{Fault, Kind};
 
-/// Writes the fault's name to the front of the room, as `Truncated`, and returns how long it is: 0 where no fault has the number, or
-/// the room is too small.
+/// Writes an error's name, such as `Truncated`, to the front of the buffer, and returns its length: 0 if no error has the number, or the
+/// buffer is too small.
 #[unsafe(no_mangle)]
 pub extern "C" fn gitwire_fault_name(fault: u8, room: &mut [u8]) -> usize
     ensures { TellsName fault room.old result room.new }
@@ -17,8 +17,8 @@ pub extern "C" fn gitwire_fault_name(fault: u8, room: &mut [u8]) -> usize
     put_bytes(kind.name().as_bytes(), room)
 }
 
-/// Writes what users see of the fault to the front of the room, as `Truncated at 994`, and returns how long it is: 0 where no fault
-/// has the number, or the room is too small.
+/// Writes what users see of an error, such as `Truncated at 994`, to the front of the buffer, and returns its length: 0 if no error has the
+/// number, or the buffer is too small.
 #[unsafe(no_mangle)]
 pub extern "C" fn gitwire_fault_text(fault: u8, offset: u64, room: &mut [u8]) -> usize
     ensures { TellsText fault offset room.old result room.new }
@@ -30,7 +30,7 @@ pub extern "C" fn gitwire_fault_text(fault: u8, offset: u64, room: &mut [u8]) ->
     put_bytes(text.as_bytes(), room)
 }
 
-/// The kind of fault that has the number.
+/// The kind of error with this number.
 fn kind_of(number: u8) -> Option<Kind>
     ensures { IsKindOf number result }
 {

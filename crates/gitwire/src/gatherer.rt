@@ -1,11 +1,11 @@
-//! A packet reader that is fed by one call alone.
+//! A packet reader that only one call feeds.
 
 ghost use Rattle.std.specs.Prelude.{◌≡◌, false};
 ghost use Rattle.git_pkt.specs.Machine.PacketReader.{passes_of};
 
 use git_pkt::PacketReader;
 
-/// A packet reader of which each packet is gathered whole: no packet is open whose bytes pass as they come.
+/// A packet reader that gathers each packet whole: no packet is open whose bytes pass as they come.
 #[derive(Drop)]
 pub(crate) struct Gatherer {
     pub(crate) reader: PacketReader,

@@ -15,7 +15,7 @@ use git_server::{Server, SharedRepo};
 use std::alloc::Global;
 use std::mem::replace;
 
-/// A handle, which has a value of its kind or none.
+/// A handle, which has one value of its kind, or none.
 pub(crate) trait Holds: Sized {
     type Inner: Drop;
 
@@ -24,7 +24,7 @@ pub(crate) trait Holds: Sized {
     fn none(alloc: Global) -> Self
         ensures { has result ≡ None };
 
-    /// Takes out what the handle has, which is to be put back before the call ends.
+    /// Takes out what the handle has, to be put back before the call ends.
     fn take(&mut self, alloc: Global) -> Option<Taken<Self::Inner>>
         ensures taken { MatchOption result (has self.old ≡ None) (λ taken. has self.old ≡ Some taken.inner.value) }
         ensures empty { has self.new ≡ None };
@@ -33,14 +33,14 @@ pub(crate) trait Holds: Sized {
         ensures { has self.new ≡ Some taken.inner.value };
 }
 
-/// What a call takes out of a handle, and the box in which it lay, so that to put it back takes no memory.
+/// What a call takes out of a handle, and the box in which it lay, so that putting it back needs no memory.
 #[derive(Drop)]
 pub(crate) struct Taken<T> {
     pub(crate) inner: Box<T, Global>,
     shell: Shell,
 }
 
-/// Makes what is in the box that of the handle, which had none. `Done`; or `OutOfMemory`, and it has none.
+/// Gives the handle, which had none, what is in the box. `Done`; or `OutOfMemory`, and it has none.
 pub(crate) fn fill<H: Holds>(handle: &mut H, alloc: Global, inner: Box<H::Inner, Global>) -> What
     requires { H.has handle.old ≡ None }
     ensures { IsMade result inner.value (H.has handle.new) }

@@ -11,7 +11,7 @@ use std::marker::Model;
 use std::mem::replace;
 use std::ptr::null_mut;
 
-/// A machine on the heap, or none. It cannot be dropped: what has one is taken apart, and what has none is left.
+/// A machine on the heap, or none. It cannot be dropped: one with a machine is taken apart, and one without is left.
 #[repr(C)]
 pub(crate) struct Held {
     at: *mut u8,
@@ -54,7 +54,7 @@ impl Held {
         }
     }
 
-    /// Takes apart what has no machine, since nothing is to be freed then.
+    /// Takes apart one without a machine, since nothing is to be freed then.
     fn leave(self)
         requires { self.machine ≡ None }
     {
@@ -67,7 +67,7 @@ impl Held {
 
 unsafe impl Send for Held {}
 
-/// What each handle of C is: a machine or none, and which of the two. It frees its machine when it is dropped.
+/// What each handle of C is: a machine or none, and which of the two. Dropping it frees its machine.
 #[repr(C)]
 pub(crate) struct Handle {
     held: Held,

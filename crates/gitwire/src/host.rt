@@ -24,10 +24,10 @@ use git_server::Outcome;
 use std::alloc::Global;
 use std::mem::replace;
 
-/// Makes the handle's server a new one over a store that is asked, which offers this, keeps at most `limit` bytes of a request's arguments,
-/// and gives the advertisement first where `advertise` is set. What the handle had before is freed. `Done`; `BadValue`, and the handle
-/// stays as it was, where the offer has no format or a bit of no feature, or the limit is above 1,073,741,824; or `OutOfMemory`, and
-/// the handle has none.
+/// Makes the handle's server a new one over a store that is asked. It advertises this offer, keeps at most `limit` bytes of a request's
+/// arguments, and sends the advertisement first if `advertise` is set. What the handle had before is freed. `Done`; `BadValue`, and the
+/// handle is unchanged, if the offer has no format or a bit of no feature, or the limit is above 1,073,741,824; or `OutOfMemory`, and the
+/// handle has none.
 #[unsafe(no_mangle)]
 pub extern "C" fn gitwire_host_new(
     alloc: Global,
@@ -48,7 +48,7 @@ pub extern "C" fn gitwire_host_new(
     fill(host, alloc, made).number()
 }
 
-/// The server that is meant; none where the offer is none or the limit is more than one may be.
+/// The server that these values mean; none if the offer is none or the limit is above the maximum.
 fn host_meant(
     alloc: Global,
     offer: GitwireOffer,
@@ -66,8 +66,8 @@ fn host_meant(
     Some(HostServer::new(alloc, offer, Limits { args: limit }, advertise))
 }
 
-/// Takes bytes of the input: all of them, or those up to the end of a request, a flush instead of one, or a fault. None is used
-/// while a request is answered, nor after the end: `NotNow`. `More`, and how many were used; or `NoHandle`.
+/// Takes bytes of the input: all of them, or those up to the end of a request, a flush instead of one, or an error. If the server expects
+/// no bytes, none is used: `NotNow`. `More`, and how many were used; or `NoHandle`.
 #[unsafe(no_mangle)]
 pub extern "C" fn gitwire_host_feed(
     alloc: Global,
@@ -92,7 +92,7 @@ fn feed(server: &mut HostServer<Global>, piece: &[u8]) -> GitwireAnswer
     GitwireAnswer::of_used(used, What::more(due))
 }
 
-/// The input ends here. `Done`; `NotNow` where the server does not wait for bytes, and nothing changed; or `NoHandle`.
+/// The input ends here. `Done`; `NotNow` if the server expects no bytes, and nothing changed; or `NoHandle`.
 #[unsafe(no_mangle)]
 pub extern "C" fn gitwire_host_close(alloc: Global, host: &mut GitwireHost) -> u8
     ensures { On (host_in host.old) (host_in host.new) (λ old new. ClosesAnswers old result new) (result ≡ what_number What.NoHandle) }
@@ -111,7 +111,7 @@ fn close(server: &mut HostServer<Global>) -> u8
     done_where(server.close())
 }
 
-// What is reported of a call that does something or changes nothing.
+// What is reported for a call that does something or changes nothing.
 fn done_where(done: bool) -> u8
     ensures { result ≡ done_where done }
 {
@@ -121,8 +121,8 @@ fn done_where(done: bool) -> u8
     What::NotNow.number()
 }
 
-/// The next packet to be sent, copied to the front of the room, or what to do in its place. `Packet`, `NeedInput`, `Asked`, `NeedWant` to
-/// `NeedSize`, `EndedByFlush`, `EndedByClose` or `Failed`; `NoHandle`; and `RoomTooSmall` where the room has less than 65,520 bytes.
+/// The next packet to be sent, copied to the front of the buffer, or what to do instead. `Packet`, `NeedInput`, `Asked`, `NeedWant` to
+/// `NeedSize`, `EndedByFlush`, `EndedByClose` or `Failed`; `NoHandle`; and `RoomTooSmall` if the buffer has fewer than 65,520 bytes.
 #[unsafe(no_mangle)]
 pub extern "C" fn gitwire_host_pull(
     alloc: Global,
@@ -149,7 +149,7 @@ fn pull(server: &mut HostServer<Global>, room: &mut [u8]) -> GitwireAnswer
     show(server, step, room)
 }
 
-// Shows what is to be done next.
+// Shows what to do next.
 fn show(server: &HostServer<Global>, step: HostStep, room: &mut [u8]) -> GitwireAnswer
     requires { 65520 ≤ length room.old }
     ensures answer { result ≡ stepping step (request_of server.now) (bytes_of server.now) }
@@ -164,7 +164,7 @@ fn show(server: &HostServer<Global>, step: HostStep, room: &mut [u8]) -> Gitwire
     }
 }
 
-/// Copies the packet that was given last to the front of the room.
+/// Copies the packet that was returned last to the front of the buffer.
 pub(crate) fn hand_out(server: &HostServer<Global>, used: usize, room: &mut [u8]) -> GitwireAnswer
     requires { 65520 ≤ length room.old }
     ensures answer { result ≡ answering_packet used 0 (length (bytes_of server.now)) What.Packet }
@@ -210,7 +210,7 @@ fn show_end(outcome: Outcome) -> GitwireAnswer
     }
 }
 
-/// The request that came is answered. `Done`; `NotNow` where none is `Asked`, and nothing changed; or `NoHandle`.
+/// Accepts the request that came. `Done`; `NotNow` if none is `Asked`, and nothing changed; or `NoHandle`.
 #[unsafe(no_mangle)]
 pub extern "C" fn gitwire_host_accept(alloc: Global, host: &mut GitwireHost) -> u8
     ensures { On (host_in host.old) (host_in host.new) (λ old new. AcceptsAnswers old result new) (result ≡ what_number What.NoHandle) }
@@ -229,8 +229,8 @@ fn accept(server: &mut HostServer<Global>) -> u8
     done_where(server.accept())
 }
 
-/// The request that came is refused: `Packet`, an error packet with this text is at the front of the room, and the session is over. `NotNow`
-/// where none is `Asked`; `Failed` by `BadLine` for a text of more than 65,511 bytes; `RoomTooSmall` where the room has less than 65,520
+/// Refuses the request that came: `Packet`, an error packet with this text is at the front of the buffer, and the session is over. `NotNow`
+/// if none is `Asked`; `Failed` by `BadLine` for a text of more than 65,511 bytes; `RoomTooSmall` if the buffer has fewer than 65,520
 /// bytes; or `NoHandle`: nothing changed.
 #[unsafe(no_mangle)]
 pub extern "C" fn gitwire_host_refuse(
@@ -265,7 +265,7 @@ fn refuse(server: &mut HostServer<Global>, text: &[u8], room: &mut [u8]) -> Gitw
     hand_out(server, 0, room)
 }
 
-/// A refusal by its name, at offset 0.
+/// A refusal by a kind of error, at offset 0.
 pub(crate) fn refused_as(kind: Kind) -> GitwireAnswer
     ensures { result ≡ refused_as kind }
 {

@@ -20,8 +20,8 @@ use git_names::{Oid, RefName, Steps};
 use git_pkt::{Kind, LONGEST_PACKET};
 use std::alloc::Global;
 
-/// Whether the store has the wanted object that is asked about: `More`. Where it has not, the error packet is pulled next, and the session
-/// is over.
+/// Whether the store has the wanted object that is asked about: `More`. If it does not have it, the error packet is pulled next, and the
+/// session is over.
 #[unsafe(no_mangle)]
 pub extern "C" fn gitwire_host_want(
     alloc: Global,
@@ -35,7 +35,7 @@ pub extern "C" fn gitwire_host_want(
     report_in(alloc, host, Report::Want(has), room)
 }
 
-/// The object of the wanted reference that is asked for, by its digits, or by none that there is no such reference: `More`. Where there is
+/// The object of the wanted reference that is asked for, by its digits; no digits mean that there is no such reference: `More`. If there is
 /// none, the error packet is pulled next, and the session is over. `Failed` by `BadObjectName`, and `OutOfMemory`: nothing changed.
 #[unsafe(no_mangle)]
 pub extern "C" fn gitwire_host_want_ref(
@@ -55,7 +55,7 @@ pub extern "C" fn gitwire_host_want_ref(
     answer
 }
 
-/// Whether the store has the object of the client that is asked about: `Packet`, its `ACK`, or `More`.
+/// Whether the store has the client's object that is asked about: `Packet`, its `ACK`, or `More`.
 #[unsafe(no_mangle)]
 pub extern "C" fn gitwire_host_have(
     alloc: Global,
@@ -105,7 +105,7 @@ pub extern "C" fn gitwire_host_boundary(
     answer
 }
 
-/// The boundary has no more lines: `Packet`, the delimiter of its section, or `More` where it has none at all.
+/// The boundary has no more lines: `Packet`, the delimiter of its section, or `More` if it has none at all.
 #[unsafe(no_mangle)]
 pub extern "C" fn gitwire_host_boundary_end(
     alloc: Global,
@@ -118,7 +118,7 @@ pub extern "C" fn gitwire_host_boundary_end(
     report_in(alloc, host, Report::BoundaryEnd, room)
 }
 
-/// Bytes of the pack: `Packet`, and `used` of them are in it, 65,515 at most. No bytes at all are `More`.
+/// Bytes of the pack: `Packet`, and `used` of them are in it, at most 65,515. No bytes are `More`.
 #[unsafe(no_mangle)]
 pub extern "C" fn gitwire_host_pack(
     alloc: Global,
@@ -132,8 +132,8 @@ pub extern "C" fn gitwire_host_pack(
     report_in(alloc, host, Report::Pack(bytes), room)
 }
 
-/// A text for the client's user: `Packet`, and `used` of its bytes are in it, 65,515 at most. No bytes at all are `More`, and all of them are
-/// used up by `More` where the request has `no-progress`.
+/// A text for the client's user: `Packet`, and `used` of its bytes are in it, at most 65,515. No bytes are `More`; if the request has
+/// `no-progress`, all of them are used up by `More`.
 #[unsafe(no_mangle)]
 pub extern "C" fn gitwire_host_progress(
     alloc: Global,
@@ -161,9 +161,9 @@ pub extern "C" fn gitwire_host_pack_end(
 }
 
 /// A reference, by the digits of its object, its name, the name that it points to, if it is symbolic, and the digits of the object that it
-/// peels to, if it is an annotated tag: `Packet` where the request asks for it, and else `More`. The parts are checked from left to right:
-/// `Failed` by `BadObjectName` or `BadRefName`. `OutOfOrder`, where its name does not come after that of the one reported before it, or it is a
-/// `HEAD` that was reported as unborn; and `OutOfMemory`: nothing changed.
+/// peels to, if it is an annotated tag: `Packet` if the request asks for it, and else `More`. The parts are checked from left to right:
+/// `Failed` by `BadObjectName` or `BadRefName`. `OutOfOrder`, if its name does not come after that of the one reported before it, or it is
+/// a `HEAD` that was reported as unborn; and `OutOfMemory`: nothing changed.
 #[unsafe(no_mangle)]
 pub extern "C" fn gitwire_host_reference(
     alloc: Global,
@@ -186,8 +186,8 @@ pub extern "C" fn gitwire_host_reference(
     answer
 }
 
-/// `HEAD` is unborn, and points to this name, which is reported before any reference: `Packet` where the request asks for it, and else
-/// `More`. `Failed` by `BadRefName`, and nothing changed.
+/// `HEAD` is unborn and points to this name; it is reported before any reference: `Packet` if the request asks for it, and else `More`.
+/// `Failed` by `BadRefName`, and nothing changed.
 #[unsafe(no_mangle)]
 pub extern "C" fn gitwire_host_unborn(
     alloc: Global,
@@ -219,7 +219,7 @@ pub extern "C" fn gitwire_host_references_end(
     report_in(alloc, host, Report::ReferencesEnd, room)
 }
 
-/// The size of the object that is asked about, where the store has it: `Packet`.
+/// The size of the object that is asked about, if the store has it: `Packet`.
 #[unsafe(no_mangle)]
 pub extern "C" fn gitwire_host_size(
     alloc: Global,
@@ -234,8 +234,8 @@ pub extern "C" fn gitwire_host_size(
     report_in(alloc, host, Report::Size(size_given(has_size, size)), room)
 }
 
-/// What is asked cannot be had: `Packet`, and the session is over. Where bytes of a pack are asked for the packet is a text on the band of
-/// fatal errors, and else an error packet.
+/// What is asked for cannot be had: `Packet`, and the session is over. If bytes of a pack are asked for, the packet is a text on the band
+/// of fatal errors, and else an error packet.
 #[unsafe(no_mangle)]
 pub extern "C" fn gitwire_host_fail(
     alloc: Global,
@@ -248,8 +248,8 @@ pub extern "C" fn gitwire_host_fail(
     report_in(alloc, host, Report::Failed, room)
 }
 
-// Takes what the host reports, and copies its packet to the front of the room, if it has one. `Packet`, `More`, `NotNow`, `OutOfOrder`,
-// `NotShallow`, `OutOfMemory` or `Failed`; `RoomTooSmall` where the room has less than 65,520 bytes; or `NoHandle`.
+// Takes what the host reports, and copies its packet to the front of the buffer, if it has one. `Packet`, `More`, `NotNow`, `OutOfOrder`,
+// `NotShallow`, `OutOfMemory` or `Failed`; `RoomTooSmall` if the buffer has fewer than 65,520 bytes; or `NoHandle`.
 fn report_in(
     alloc: Global,
     host: &mut GitwireHost,
@@ -280,7 +280,7 @@ fn report_within(
     report_to(server, report, room)
 }
 
-// The same, where the room has space for each packet.
+// The same, if the buffer has space for each packet.
 fn report_to(server: &mut HostServer<Global>, report: Report<'_>, room: &mut [u8]) -> GitwireAnswer
     requires { 65520 ≤ length room.old }
     ensures { ReportsAnswers report.entry server.old room.old result room.new server.new }
@@ -308,7 +308,7 @@ fn part_count(report: &Report<'_>) -> usize
     LONGEST_PART.min(byte_count(report))
 }
 
-// Shows what came of a report of so many bytes, of which one packet takes so many.
+// Shows the result of a report of this many bytes, with how many of them one packet takes.
 fn show(
     server: &HostServer<Global>,
     reported: HostReported,

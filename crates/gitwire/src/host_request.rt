@@ -17,7 +17,7 @@ use crate::request_items::{put_name_if_any, put_text_if_any};
 use git_host::{HostServer, RequestAtHand};
 use std::alloc::Global;
 
-/// The command of the request that is asked about or answered: `Done`, and `offset` is its number; `Nothing` where there is none; or
+/// The command of the request that is asked about or answered: `Done`, and `offset` is its number; `Nothing` if there is none; or
 /// `NoHandle`.
 #[unsafe(no_mangle)]
 pub extern "C" fn gitwire_host_command(alloc: Global, host: &mut GitwireHost) -> GitwireAnswer
@@ -40,8 +40,8 @@ fn command(server: &HostServer<Global>) -> GitwireAnswer
     }
 }
 
-/// Whether the request that is asked about or answered has the flag of this number, from `SYMREFS` to `WAIT_FOR_DONE`. Of another number,
-/// and where there is no request, it is false.
+/// Whether the request that is asked about or answered has the flag of this number, from `SYMREFS` to `WAIT_FOR_DONE`. For another number,
+/// and without a request, it is false.
 #[unsafe(no_mangle)]
 pub extern "C" fn gitwire_host_flag(alloc: Global, host: &mut GitwireHost, flag: u8) -> bool
     ensures { Of (host_in host.old) (host_in host.new) (λ had. result ≡ has_flag_at flag (request_of had)) (result ≡ false) }
@@ -72,8 +72,8 @@ fn is_set(request: &RequestAtHand<'_, Global>, number: u8) -> bool
     }
 }
 
-/// A number of the request that is asked about or answered, `DEEPEN` or `DEEPEN_SINCE`: `Done`, and `offset` is the number; `Nothing` where it
-/// was not given, or there is no request; `BadValue`; or `NoHandle`.
+/// A number of the request that is asked about or answered, `DEEPEN` or `DEEPEN_SINCE`: `Done`, and `offset` is the number; `Nothing` if it
+/// was not set, or there is no request; `BadValue`; or `NoHandle`.
 #[unsafe(no_mangle)]
 pub extern "C" fn gitwire_host_number(
     alloc: Global,
@@ -115,9 +115,9 @@ fn given_number(request: &RequestAtHand<'_, Global>, which: u8) -> GitwireAnswer
     }
 }
 
-/// Writes the text at a place of a list of the request that is asked about or answered, from `REF_PREFIXES` to `FILTERS`, to the front of
-/// the room, an object name as its digits. `Done`, and `length` is how many bytes it has; `Nothing` past the end of the list, and where there
-/// is no request; `RoomTooSmall`; `BadValue`; or `NoHandle`.
+/// Writes the text at an index of a list of the request that is asked about or answered, from `REF_PREFIXES` to `FILTERS`, to the front of
+/// the buffer, an object name as its digits. `Done`, and `length` is how many bytes it has; `Nothing` past the end of the list, and if
+/// there is no request; `RoomTooSmall`; `BadValue`; or `NoHandle`.
 #[unsafe(no_mangle)]
 pub extern "C" fn gitwire_host_item(
     alloc: Global,

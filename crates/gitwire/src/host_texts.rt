@@ -1,4 +1,4 @@
-//! What the texts of a report mean that C gives.
+//! What the texts of a report that C passes mean.
 
 ghost use Rattle.std.specs.Prelude.{◌≡◌};
 ghost use Rattle.git_pkt.specs.NameFaults.{kind_of};
@@ -15,7 +15,7 @@ use std::alloc::Global;
 /// Why texts mean no report.
 #[derive(Clone, Copy, Debug)]
 pub(crate) enum Unread {
-    /// One is refused by this name.
+    /// One is refused by this kind of error.
     Refused(Kind),
     /// There is no memory for a copy of them.
     OutOfMemory,
@@ -43,7 +43,7 @@ impl From<NameFault> for Unread {
     }
 }
 
-/// The reference with these parts, which are checked from left to right.
+/// The reference with these parts. They are checked from left to right.
 pub(crate) fn read_entry(
     alloc: Global,
     format: Format,

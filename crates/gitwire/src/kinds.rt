@@ -7,8 +7,8 @@ use crate::answer::What;
 use crate::rooms::put_bytes;
 use git_client::EventKind;
 
-/// Writes the name of a kind of what is reported to the front of the room, as `NeedInput`, and returns how long it is: 0 where no kind has
-/// the number, or the room is too small.
+/// Writes the name of a kind of what is reported, such as `NeedInput`, to the front of the buffer, and returns its length: 0 if no kind has
+/// the number, or the buffer is too small.
 #[unsafe(no_mangle)]
 pub extern "C" fn gitwire_kind_name(kind: u8, room: &mut [u8]) -> usize
     ensures { TellsKind kind room.old result room.new }
@@ -19,7 +19,7 @@ pub extern "C" fn gitwire_kind_name(kind: u8, room: &mut [u8]) -> usize
     put_bytes(name_of(what).as_bytes(), room)
 }
 
-/// What has the number.
+/// The kind with this number.
 fn what_of(number: u8) -> Option<What>
     ensures { IsWhatOf number result }
 {

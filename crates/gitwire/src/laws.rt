@@ -7,7 +7,7 @@ ghost use Rattle.gitwire.specs.WrittenForC.{MeansLine, MeansPacket, MeansReferen
 ghost use Rattle.gitwire.specs.declared.offer.GitwireOffer.{GitwireOffer};
 ghost use Rattle.gitwire.specs.declared.answer.GitwireAnswer.{GitwireAnswer};
 
-/// What a writer reports, and what it leaves in the room, follow from the values that C gives and the room.
+/// The values that C passes and the buffer determine what a writer reports and what it leaves in the buffer.
 pub fn writers_tell_one_thing()
     ensures packet { (kind : ℕ) (payload : List ℕ) → IsDetermined (MeansPacket kind payload) }
     ensures band { (band : ℕ) (bytes : List ℕ) → IsDetermined (MeansBand band bytes) }

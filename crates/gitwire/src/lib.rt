@@ -1,5 +1,5 @@
-//! Git's wire protocol, for programs in C: each export does to what its handle has what a library's method does,
-//! and checks the handle, the rooms and the numbers that it is given.
+//! Git's wire protocol, for programs in C: each export does to what its handle has what a library's method does, and checks its handle,
+//! buffers and numbers.
 #![tactic(auto)]
 
 mod answer;

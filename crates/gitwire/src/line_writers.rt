@@ -21,8 +21,8 @@ use git_names::{Format, NameFault, Oid, RefName, Steps};
 use git_pkt::Hold;
 use std::alloc::Global;
 
-/// Writes a reference's line, of an answer to `ls-refs`, to the front of the room. An object of no digits is none: the reference is
-/// unborn. A target of no bytes is none, and so is a peeled object of no digits. The parts are checked from left to right:
+/// Writes a reference's line, of an answer to `ls-refs`, to the front of the buffer. An object without digits is none: the reference is
+/// unborn. A target without bytes is none, and so is a peeled object without digits. The parts are checked from left to right:
 /// BadObjectName or BadRefName.
 #[tactic(auto, using(crate::proofs::Handing::writes))]
 #[unsafe(no_mangle)]
@@ -48,7 +48,7 @@ pub extern "C" fn gitwire_put_reference(
     answer
 }
 
-/// Writes the line that acknowledges an object, of the section `acknowledgments`, to the front of the room.
+/// Writes the line of the section `acknowledgments` that acknowledges an object to the front of the buffer.
 #[tactic(auto, using(crate::proofs::Handing::writes))]
 #[unsafe(no_mangle)]
 pub extern "C" fn gitwire_put_ack(
@@ -69,7 +69,7 @@ pub extern "C" fn gitwire_put_ack(
     answer
 }
 
-/// Writes a line of the section `shallow-info`, `shallow` or else `unshallow`, to the front of the room.
+/// Writes a line of the section `shallow-info`, `shallow` or else `unshallow`, to the front of the buffer.
 #[tactic(auto, using(crate::proofs::Handing::writes))]
 #[unsafe(no_mangle)]
 pub extern "C" fn gitwire_put_boundary(
@@ -91,7 +91,7 @@ pub extern "C" fn gitwire_put_boundary(
     answer
 }
 
-/// Writes a line of the section `wanted-refs` to the front of the room. Its parts are checked from left to right:
+/// Writes a line of the section `wanted-refs` to the front of the buffer. Its parts are checked from left to right:
 /// BadObjectName, then BadRefName.
 #[tactic(auto, using(crate::proofs::Handing::writes))]
 #[unsafe(no_mangle)]
@@ -114,8 +114,8 @@ pub extern "C" fn gitwire_put_wanted(
     answer
 }
 
-/// Writes a line of the response to `object-info` to the front of the room: the object and its size, or the object alone,
-/// which means that the server does not have it.
+/// Writes a line of the response to `object-info` to the front of the buffer: the object and its size, or the object alone if the server
+/// does not have it.
 #[tactic(auto, using(crate::proofs::Handing::writes))]
 #[unsafe(no_mangle)]
 pub extern "C" fn gitwire_put_info(
@@ -230,7 +230,7 @@ fn read_id(number: u8, digits: &[u8]) -> Result<Oid, Unwritten>
     Ok(Oid::read(format, digits, &mut Steps::new())?)
 }
 
-/// A reference name, or none where there is no text.
+/// A reference name, or none if there is no text.
 pub(crate) fn read_target(text: &[u8]) -> Result<Option<&[u8]>, NameFault>
     ensures { MatchResult result (λ target. (option_copied target ≡ given text.now) × (text.now ≢ [] → IsRefName text.now))
         (λ fault. (fault ≡ NameFault.BadRefName) × (text.now ≢ []) × ¬ IsRefName text.now) }
@@ -242,7 +242,7 @@ pub(crate) fn read_target(text: &[u8]) -> Result<Option<&[u8]>, NameFault>
     Ok(Some(name.as_bytes()))
 }
 
-/// An object name, or none where there are no digits.
+/// An object name, or none if there are no digits.
 pub(crate) fn read_given_id(format: Format, digits: &[u8]) -> Result<Option<Oid>, NameFault>
     ensures { MatchResult result (IsMaybeObjectName format (given digits.now))
         (λ fault. (fault ≡ NameFault.BadObjectName) × (digits.now ≢ []) × IsNoObjectName format digits.now) }

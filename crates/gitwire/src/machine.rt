@@ -1,4 +1,4 @@
-//! What a handle may hold.
+//! What a handle may have.
 
 use crate::gatherer::Gatherer;
 use git_client::Client;
@@ -8,7 +8,7 @@ use git_pkt::Hold;
 use git_server::{Server, SharedRepo};
 use std::alloc::Global;
 
-/// One of the library's values, in a box of its own: so a call takes it out and puts it back by its pointer.
+/// One of the library's values, in a box of its own, so that a call takes it out and puts it back by its pointer.
 #[derive(Drop)]
 pub(crate) enum Machine {
     PacketReader(Box<Gatherer, Global>),
@@ -23,7 +23,7 @@ pub(crate) enum Machine {
     Empty,
 }
 
-/// What a writer has: room for one packet.
+/// What a writer has: a buffer for one packet.
 #[derive(Drop)]
 pub(crate) struct PacketBuffer {
     pub(crate) hold: Hold,

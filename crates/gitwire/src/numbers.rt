@@ -1,4 +1,4 @@
-//! Names for the numbers that C gives.
+//! Names for the numbers that C passes.
 
 ghost use Rattle.std.specs.Prelude.{◌≡◌, Some, slice_get};
 ghost use Rattle.gitwire.specs.Numbers.{commands, flags, formats, format_number, command_number, item_lists, given_numbers};
@@ -6,7 +6,7 @@ ghost use Rattle.gitwire.specs.Numbers.{commands, flags, formats, format_number,
 use git_msg::{Command, Flag};
 use git_names::Format;
 
-/// The format that C means by this number; none where there is no such format.
+/// The format that C means by this number; none if there is no such format.
 pub(crate) fn format_numbered(number: u8) -> Option<Format>
     ensures { result ≡ slice_get formats number }
 {
@@ -28,7 +28,7 @@ pub(crate) fn number_of_format(format: Format) -> u64
     }
 }
 
-/// The command that C means by this number; none where there is no such command.
+/// The command that C means by this number; none if there is no such command.
 pub(crate) fn command_numbered(number: u8) -> Option<Command>
     ensures { result ≡ slice_get commands number }
 {
@@ -52,7 +52,7 @@ pub(crate) fn number_of_command(command: Command) -> u64
     }
 }
 
-/// The flag that C means by this number; none where there is no such flag.
+/// The flag that C means by this number; none if there is no such flag.
 pub(crate) fn flag_numbered(number: u8) -> Option<Flag>
     ensures { result ≡ slice_get flags number }
 {
@@ -80,7 +80,7 @@ pub(crate) enum Given {
 }
 
 impl Given {
-    /// The one of this number.
+    /// The one with this number.
     pub(crate) fn numbered(number: u8) -> Option<Given>
         ensures { result ≡ slice_get given_numbers number }
     {
@@ -106,7 +106,7 @@ pub(crate) enum ItemList {
 }
 
 impl ItemList {
-    /// The list of this number.
+    /// The list with this number.
     pub(crate) fn numbered(number: u8) -> Option<ItemList>
         ensures { result ≡ slice_get item_lists number }
     {

@@ -1,4 +1,4 @@
-//! What a server offers, as C gives it.
+//! What a server advertises, as C passes it.
 
 ghost use Rattle.std.specs.Prelude.{◌≡◌, ◌≤◌};
 ghost use Rattle.gitwire.specs.Offers.{features_shown, where_shown};
@@ -30,11 +30,11 @@ pub const FILTER: u32 = 64;
 /// The sum of all features.
 pub const ALL_FEATURES: u32 = 127;
 
-/// What a server offers, beside `agent` and the commands `ls-refs` and `fetch`, which are in every offer.
+/// What a server advertises beside `agent` and the commands `ls-refs` and `fetch`, which it always advertises.
 #[repr(C)]
 #[derive(Clone, Copy)]
 pub struct GitwireOffer {
-    /// The sum of the features that are offered, [`UNBORN`] to [`FILTER`].
+    /// The sum of the features that are advertised, [`UNBORN`] to [`FILTER`].
     pub features: u32,
     /// The number of the format of object names: `SHA1` or `SHA256`.
     pub format: u8,
@@ -43,7 +43,7 @@ pub struct GitwireOffer {
 impl GitwireOffer {
     ghost use Rattle.gitwire.specs.Offers.{has_feature, offer_meant};
 
-    /// The offer that is meant; none where the number is no format's, or a bit is no feature's.
+    /// The offer that these numbers mean; none if the format's number means none, or a bit is no feature's.
     pub(crate) fn meant(self) -> Option<Offer>
         ensures { result ≡ offer_meant self }
     {
@@ -65,7 +65,7 @@ impl GitwireOffer {
         })
     }
 
-    // Whether a feature is offered.
+    // Whether a feature is advertised.
     fn has(self, feature: u32) -> bool
         ensures { result ≡ has_feature self.features feature }
     {
@@ -86,7 +86,7 @@ pub(crate) fn features_noted(caps: &Caps) -> u32
         + where_noted(caps.filter, FILTER)
 }
 
-// The feature, where it was noted.
+// The feature, if it was noted.
 fn where_noted(noted: bool, feature: u32) -> u32
     ensures value { result ≡ where_shown noted feature }
     ensures small { result ≤ feature }

@@ -33,8 +33,8 @@ pub extern "C" fn gitwire_packet_reader_new(alloc: Global, reader: &mut GitwireP
     fill(reader, alloc, made).number()
 }
 
-/// Reads on, to the end of the next packet, and copies its payload to the front of the room. `More`, `Payload`, `Flush`, `Delim`,
-/// `ResponseEnd` or `Failed`; `NoHandle`; and `RoomTooSmall` where the room has less than 65,516 bytes.
+/// Reads up to the end of the next packet, and copies its payload to the front of the buffer. `More`, `Payload`, `Flush`, `Delim`,
+/// `ResponseEnd` or `Failed`; `NoHandle`; and `RoomTooSmall` if the buffer has fewer than 65,516 bytes.
 #[unsafe(no_mangle)]
 pub extern "C" fn gitwire_packet_reader_feed(
     alloc: Global,

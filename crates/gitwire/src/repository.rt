@@ -14,9 +14,8 @@ use git_server::SharedRepo;
 use std::alloc::Global;
 use std::mem::replace;
 
-/// Makes the handle's repository that of the text, whose pack for every fetch is `pack`. What it had before is freed. `Done`; or
-/// `Failed`, and `offset` is the line of the text that is refused, counted from 1; or `OutOfMemory`. Where it is not `Done` the
-/// handle has none.
+/// Makes the handle's repository that of the text, with `pack` for every fetch. What it had before is freed. `Done`; or `Failed`, and
+/// `offset` is the line of the text that is refused, counted from 1; or `OutOfMemory`. If it is not `Done`, the handle has none.
 #[unsafe(no_mangle)]
 pub extern "C" fn gitwire_repository_new(
     alloc: Global,
@@ -29,7 +28,7 @@ pub extern "C" fn gitwire_repository_new(
     begin(alloc, repository, text, pack, None)
 }
 
-/// The same, but for each fetch that has a filter its pack is `filtered`, and `pack` for each of the others.
+/// The same, but with the pack `filtered` for each fetch that has a filter, and `pack` for the others.
 #[unsafe(no_mangle)]
 pub extern "C" fn gitwire_repository_new_filtered(
     alloc: Global,
@@ -66,7 +65,7 @@ fn begin(
     GitwireAnswer::of(fill(repository, alloc, made))
 }
 
-/// The packs, in memory of their own; none where it runs out.
+/// The packs, copied; none if memory runs out.
 fn copy_packs(alloc: Global, pack: &[u8], filtered: Option<&[u8]>) -> Option<Packs>
     ensures { IfSome result (λ packs. packs_of packs ≡ packs_given pack.now (option_copied filtered.entry)) }
 {
@@ -88,7 +87,7 @@ fn copy_packs(alloc: Global, pack: &[u8], filtered: Option<&[u8]>) -> Option<Pac
     }
 }
 
-/// The repository of the text, with these packs; or what is reported to C where there is none.
+/// The repository of the text, with these packs; or what is reported to C if there is none.
 fn read(alloc: Global, text: &[u8], packs: Packs) -> Result<SharedRepo, GitwireAnswer>
     ensures { MatchResult result (λ made. Begins text.now (packs_of packs) (answering What.Done) (Some made))
         (λ answer. Begins text.now (packs_of packs) answer None) }
@@ -106,7 +105,7 @@ fn read(alloc: Global, text: &[u8], packs: Packs) -> Result<SharedRepo, GitwireA
     Ok(shared)
 }
 
-/// Frees the handle's repository: those servers that share it keep it. The handle has none from then on.
+/// Frees the handle's repository: the servers that share it keep it. The handle has none from then on.
 #[unsafe(no_mangle)]
 pub extern "C" fn gitwire_repository_clear(alloc: Global, repository: &mut GitwireRepository)
     ensures { repository_in repository.new ≡ None }

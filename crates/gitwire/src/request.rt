@@ -21,12 +21,12 @@ use git_pkt::{Fault, Kind};
 use std::alloc::Global;
 use std::mem::replace;
 
-/// The most that a limit on the bytes of a request's arguments may be.
+/// The maximum of a limit on the bytes of a request's arguments.
 pub(crate) const MOST_LIMIT: u32 = 1_073_741_824;
 
-/// Makes the handle's request an empty one of this command, `LS_REFS`, `FETCH` or `OBJECT_INFO`, of this format and with this
-/// limit on the bytes of its argument lines. What it had before is freed. `Done`; `BadValue`, and the handle stays as it was,
-/// where a number means nothing or the limit is above 1,073,741,824; or `OutOfMemory`, and the handle has none.
+/// Makes the handle's request an empty one of this command, `LS_REFS`, `FETCH` or `OBJECT_INFO`, of this format and with this limit on the
+/// bytes of its argument lines. What it had before is freed. `Done`; `BadValue`, and the handle is unchanged, if a number means nothing or
+/// the limit is above 1,073,741,824; or `OutOfMemory`, and the handle has none.
 #[unsafe(no_mangle)]
 pub extern "C" fn gitwire_request_new(
     alloc: Global,
@@ -47,7 +47,7 @@ pub extern "C" fn gitwire_request_new(
     fill(request, alloc, made).number()
 }
 
-/// The empty request that is meant; none where a number means nothing or the limit is more than one may be.
+/// The empty request that these values mean; none if a number means nothing or the limit is above the maximum.
 fn request_meant(alloc: Global, command: u8, format: u8, limit: u32) -> Option<Request<Global>>
     ensures { MatchOption result (MeanNoRequest command format limit) (MeanRequest command format limit) }
 {
@@ -63,8 +63,8 @@ fn request_meant(alloc: Global, command: u8, format: u8, limit: u32) -> Option<R
     Some(Request::new(alloc, command, format, Limits { args: limit }))
 }
 
-/// Adds the argument of a line, which has no LF at its end: `want 1111..`, `done`, `ref-prefix refs/heads/`. `Done`; `Failed`,
-/// and the request stays as it was; or `NoHandle`.
+/// Adds the argument of a line without LF at its end: `want 1111..`, `done`, `ref-prefix refs/heads/`. `Done`; `Failed`, and the request is
+/// unchanged; or `NoHandle`.
 #[unsafe(no_mangle)]
 pub extern "C" fn gitwire_request_add(
     alloc: Global,
@@ -90,7 +90,7 @@ fn add(request: &mut Request<Global>, line: &[u8]) -> GitwireAnswer
 fn add_line(request: &mut Request<Global>, line: &[u8]) -> Result<(), Kind>
     ensures { AddsLine request.old line.now result request.new }
 {
-    // So that a line is judged by its own text alone.
+    // So that a line is checked by its own text alone.
     let offer = Offer::everything(request.format());
     match read_argument(request.command(), &offer, line, &mut Steps::new()) {
         Ok(argument) => request.add(argument),
@@ -107,7 +107,7 @@ fn tell(judged: Result<(), Kind>) -> GitwireAnswer
     }
 }
 
-/// Judges whether the request is whole. `Done`; `Failed`, by `DeepenConflict`, `NoWants` or `NoSize`; or `NoHandle`.
+/// Checks whether the request is whole. `Done`; `Failed`, by `DeepenConflict`, `NoWants` or `NoSize`; or `NoHandle`.
 #[unsafe(no_mangle)]
 pub extern "C" fn gitwire_request_end(alloc: Global, request: &mut GitwireRequest) -> GitwireAnswer
     ensures { Of (request_in request.old) (request_in request.new) (λ had. EndsAnswers (asked_of had) result) (result ≡ answering What.NoHandle) }
@@ -166,7 +166,7 @@ pub(crate) fn tell_number(number: u64) -> GitwireAnswer
     GitwireAnswer::of_packet(0, number, 0, What::Done)
 }
 
-/// Whether the request has the flag of this number, from `SYMREFS` to `WAIT_FOR_DONE`. Of another number, and of a handle that has no
+/// Whether the request has the flag of this number, from `SYMREFS` to `WAIT_FOR_DONE`. For another number, and for a handle without a
 /// request, it is false.
 #[unsafe(no_mangle)]
 pub extern "C" fn gitwire_request_flag(
@@ -193,8 +193,8 @@ fn has_flag(request: &Request<Global>, number: u8) -> bool
     }
 }
 
-/// A number of the request, `DEEPEN` or `DEEPEN_SINCE`: `Done`, and `offset` is the number; `Nothing` where it was not given;
-/// `BadValue`; or `NoHandle`.
+/// A number of the request, `DEEPEN` or `DEEPEN_SINCE`: `Done`, and `offset` is the number; `Nothing` if it was not set; `BadValue`; or
+/// `NoHandle`.
 #[unsafe(no_mangle)]
 pub extern "C" fn gitwire_request_number(
     alloc: Global,
@@ -227,7 +227,7 @@ fn given_number(request: &Request<Global>, which: u8) -> GitwireAnswer
     }
 }
 
-/// Writes the text at a place of a list, from `REF_PREFIXES` to `FILTERS`, to the front of the room, an object name as its digits.
+/// Writes the text at an index of a list, from `REF_PREFIXES` to `FILTERS`, to the front of the buffer, an object name as its digits.
 /// `Done`, and `length` is how many bytes it has; `Nothing` past the end of the list; `RoomTooSmall`; `BadValue`; or `NoHandle`.
 #[unsafe(no_mangle)]
 pub extern "C" fn gitwire_request_item(

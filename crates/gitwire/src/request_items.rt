@@ -1,4 +1,4 @@
-//! The items of a request's lists, on their way to a room of C.
+//! The items of a request's lists, on their way to a buffer of C.
 
 ghost use Rattle.std.specs.Prelude.{slice_get};
 ghost use Rattle.std.specs.Option.{option_copied, option_map};
@@ -14,7 +14,7 @@ use git_msg::Request;
 use git_names::Oid;
 use std::alloc::Global;
 
-/// Writes the item at a place of the list of this number to the front of the room.
+/// Writes the item at an index of the list of this number to the front of the buffer.
 pub(crate) fn put_item(
     request: &Request<Global>,
     list: u8,

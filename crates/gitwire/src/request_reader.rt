@@ -15,9 +15,9 @@ use git_names::{Format, Steps};
 use std::alloc::Global;
 use std::mem::replace;
 
-/// Makes the handle's reader a new one, which reads requests against this offer, with this limit on the bytes of a request's
-/// argument lines. What it had before is freed. `Done`; `BadValue`, and the handle stays as it was, where the offer's format is
-/// none or the limit is above 1,073,741,824; or `OutOfMemory`, and the handle has none.
+/// Makes the handle's reader a new one, which reads requests against this offer, with this limit on the bytes of a request's argument
+/// lines. What it had before is freed. `Done`; `BadValue`, and the handle is unchanged, if the offer has no format or a bit of no feature,
+/// or the limit is above 1,073,741,824; or `OutOfMemory`, and the handle has none.
 #[unsafe(no_mangle)]
 pub extern "C" fn gitwire_request_reader_new(
     alloc: Global,
@@ -37,7 +37,7 @@ pub extern "C" fn gitwire_request_reader_new(
     fill(reader, alloc, made).number()
 }
 
-/// The reader that is meant; none where the offer has no format or the limit is more than one may be.
+/// The reader that these values mean; none if the offer is none or the limit is above the maximum.
 fn reader_meant(alloc: Global, offer: GitwireOffer, limit: u32) -> Option<RequestStream<Global>>
     ensures { MatchOption result (MeanNoReader offer limit) (MeanReader offer limit) }
 {
@@ -50,10 +50,10 @@ fn reader_meant(alloc: Global, offer: GitwireOffer, limit: u32) -> Option<Reques
     Some(RequestStream::new(alloc, offer, Limits { args: limit }))
 }
 
-/// Reads on, to the end of the next request. `Request`, and the handle for requests has it, instead of what that had before;
-/// `More` with the whole piece used; `NotNow` after a `Stop`; `Stop` at a flush instead of a request; `Failed` at the
-/// first fault, and again from then on; or `NoHandle`. A handle for requests that has none is given an empty one first;
-/// `OutOfMemory` where there is no memory for that, and then nothing was read.
+/// Reads up to the end of the next request. `Request`, and the handle for requests has it instead of what it had before; `More` with the
+/// whole chunk used; `NotNow` after a `Stop`; `Stop` at a flush instead of a request; `Failed` at the first error, and again from then on;
+/// or `NoHandle`. A handle for requests that has none receives an empty one first; `OutOfMemory` if there is no memory for that, and then
+/// nothing was read.
 #[unsafe(no_mangle)]
 pub extern "C" fn gitwire_request_reader_feed(
     alloc: Global,
@@ -76,7 +76,7 @@ pub extern "C" fn gitwire_request_reader_feed(
     answer
 }
 
-/// The request of the handle, or an empty one; none where there is no memory for that.
+/// The request of the handle, or an empty one; none if there is no memory for that.
 fn take_request(alloc: Global, request: &mut GitwireRequest) -> Option<Taken<Request<Global>>>
     ensures request { MatchOption result (request_in request.old ≡ None) (λ taken. Holds (request_in request.old) taken.inner.value) }
     ensures taken { request_in request.new ≡ None }
@@ -112,8 +112,8 @@ fn feed(
     }
 }
 
-/// The input ends here. `Done` between two requests; `Failed` inside one, as `Truncated`; `NotNow`, and nothing
-/// changed, after a fault or a flush instead of a request; or `NoHandle`.
+/// The input ends here. `Done` between two requests; `Failed` inside one, as `Truncated`; `NotNow`, and nothing changed, after an error or
+/// a flush instead of a request; or `NoHandle`.
 #[unsafe(no_mangle)]
 pub extern "C" fn gitwire_request_reader_close(
     alloc: Global,

@@ -1,11 +1,10 @@
-//! Bytes that are given to C, at the front of the room that it lends.
+//! Bytes for C, at the front of a buffer of C.
 
 ghost use Rattle.gitwire.specs.Rooms.{Fills, Puts};
 
 use crate::answer::{GitwireAnswer, What};
 
-/// Copies the bytes to the front of the room, and returns how many they are; or 0, and nothing is written, where the room is too
-/// small.
+/// Copies the bytes to the front of the buffer, and returns how many they are; if the buffer is too small, returns 0 and writes nothing.
 pub(crate) fn put_bytes(bytes: &[u8], room: &mut [u8]) -> usize
     ensures { Puts bytes.now room.old result room.new }
 {
@@ -16,7 +15,7 @@ pub(crate) fn put_bytes(bytes: &[u8], room: &mut [u8]) -> usize
     bytes.len()
 }
 
-/// Copies the bytes to the front of the room, and reports how many they are, or that it is too small.
+/// Copies the bytes to the front of the buffer, and reports how many they are, or that the buffer is too small.
 pub(crate) fn fill(bytes: &[u8], room: &mut [u8]) -> GitwireAnswer
     ensures { Fills bytes.now room.old result room.new }
 {

@@ -15,13 +15,13 @@ use git_server::{Outcome, Pulled, Repo, Server, SharedRepo};
 use std::alloc::Global;
 use std::mem::replace;
 
-/// How much a request may keep at the most.
+/// The maximum of a limit on what is kept of a request.
 const MOST_KEPT: u32 = 1_073_741_824;
 
-/// Makes the handle's server a new one over the repository, which stays its own handle's. It offers all that the protocol has,
-/// keeps at most `limit` bytes of a request's arguments, and gives the advertisement first where `advertise` is set. What the
-/// handle had before is freed. `Done`; `NoHandle` where there is no repository and `BadValue` where the limit is above
-/// 1,073,741,824, and the handle stays as it was; or `OutOfMemory`, and the handle has none.
+/// Makes the handle's server a new one over the repository, which stays with its own handle. It advertises all that the protocol has, keeps
+/// at most `limit` bytes of a request's arguments, and sends the advertisement first if `advertise` is set. What the handle had before is
+/// freed. `Done`; `NoHandle` if there is no repository and `BadValue` if the limit is above 1,073,741,824, and the handle is unchanged; or
+/// `OutOfMemory`, and the handle has none.
 #[unsafe(no_mangle)]
 pub extern "C" fn gitwire_server_new(
     alloc: Global,
@@ -60,7 +60,7 @@ fn begin(
     fill(server, alloc, made).number()
 }
 
-/// A server at the beginning of its session; none where memory runs out.
+/// A server at the beginning of its session; none if memory runs out.
 fn make(
     alloc: Global,
     repo: &SharedRepo,
@@ -80,8 +80,8 @@ fn make(
     }
 }
 
-/// Takes bytes of the input: all of them, or those up to the end of a request, a flush instead of one, or a fault. None is
-/// used while a packet waits to be pulled, nor after the end: `NotNow`. `More`, and how many were used; or `NoHandle`.
+/// Takes bytes of the input: all of them, or those up to the end of a request, a flush instead of one, or an error. None is used while a
+/// packet waits to be pulled, nor after the end: `NotNow`. `More`, and how many were used; or `NoHandle`.
 #[unsafe(no_mangle)]
 pub extern "C" fn gitwire_server_feed(
     alloc: Global,
@@ -106,7 +106,7 @@ fn feed(server: &mut Server<SharedRepo, Global>, piece: &[u8]) -> GitwireAnswer
     GitwireAnswer::of_used(used, What::more(due))
 }
 
-/// The input ends here. `Done`; `NotNow` where the server does not wait for bytes, and nothing changed; or `NoHandle`.
+/// The input ends here. `Done`; `NotNow` if the server expects no bytes, and nothing changed; or `NoHandle`.
 #[unsafe(no_mangle)]
 pub extern "C" fn gitwire_server_close(alloc: Global, server: &mut GitwireServer) -> u8
     ensures { On (server_in server.old) (server_in server.new) (λ old new. ClosesAnswers old result new) (result ≡ what_number What.NoHandle) }
@@ -129,8 +129,8 @@ fn close(server: &mut Server<SharedRepo, Global>) -> u8
     What::Done.number()
 }
 
-/// The next packet to be sent, copied to the front of the room, or what to do in its place. `Packet`, `NeedInput`, `EndedByFlush`,
-/// `EndedByClose` or `Failed`; `NoHandle`; and `RoomTooSmall` where the room has less than 65,520 bytes.
+/// The next packet to be sent, copied to the front of the buffer, or what to do instead. `Packet`, `NeedInput`, `EndedByFlush`,
+/// `EndedByClose` or `Failed`; `NoHandle`; and `RoomTooSmall` if the buffer has fewer than 65,520 bytes.
 #[unsafe(no_mangle)]
 pub extern "C" fn gitwire_server_pull(
     alloc: Global,

@@ -1,4 +1,4 @@
-//! That what C holds may go from one thread to another.
+//! What C holds may go from one thread to another.
 
 use crate::handles::{
     GitwireClient, GitwireHost, GitwirePacketReader, GitwireRepository, GitwireRequest,

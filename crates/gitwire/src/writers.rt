@@ -18,8 +18,8 @@ use git_pkt::{Band, Hold, Kind, Packet, put, put_band};
 use git_server::put_advertisement;
 use std::alloc::Global;
 
-/// Writes a packet to the front of the room. Its kind is the number of PAYLOAD, FLUSH, DELIM or RESPONSE_END, of which only
-/// a PAYLOAD has bytes: another number, or bytes where there are none, are BadValue. More than 65,516 bytes are TooLong.
+/// Writes a packet to the front of the buffer. Its kind is the number of PAYLOAD, FLUSH, DELIM or RESPONSE_END. Another number is BadValue,
+/// and so are bytes with a kind other than PAYLOAD. More than 65,516 bytes are TooLong.
 #[tactic(auto, using(crate::proofs::Handing::writes))]
 #[unsafe(no_mangle)]
 pub extern "C" fn gitwire_put_packet(
@@ -40,7 +40,7 @@ pub extern "C" fn gitwire_put_packet(
     answer
 }
 
-/// Writes a packet with these bytes on a band, 1, 2 or 3, to the front of the room. Another number is BadValue, and then
+/// Writes a packet with these bytes on a band, 1, 2 or 3, to the front of the buffer. Another number is BadValue, and then
 /// more than 65,515 bytes are TooLong.
 #[tactic(auto, using(crate::proofs::Handing::writes))]
 #[unsafe(no_mangle)]
@@ -62,7 +62,7 @@ pub extern "C" fn gitwire_put_band(
     answer
 }
 
-/// Writes the packet of a line to the front of the room: the text and LF. More than 65,515 bytes are BadLine.
+/// Writes the packet of a line to the front of the buffer: the text and LF. More than 65,515 bytes are BadLine.
 #[tactic(auto, using(crate::proofs::Handing::writes))]
 #[unsafe(no_mangle)]
 pub extern "C" fn gitwire_put_line(
@@ -82,7 +82,7 @@ pub extern "C" fn gitwire_put_line(
     answer
 }
 
-/// Writes an error packet, gitprotocol-pack(5), to the front of the room: `ERR `, the text and LF. More than 65,511 bytes
+/// Writes an error packet, gitprotocol-pack(5), to the front of the buffer: `ERR `, the text and LF. More than 65,511 bytes
 /// are BadLine.
 #[tactic(auto, using(crate::proofs::Handing::writes))]
 #[unsafe(no_mangle)]
@@ -103,8 +103,8 @@ pub extern "C" fn gitwire_put_error(
     answer
 }
 
-/// Writes the whole advertisement of an offer, packet after packet to its flush, to the front of the room: fewer than 200
-/// bytes. An object format that is none is BadValue.
+/// Writes the whole advertisement of an offer, each packet up to its flush, to the front of the buffer: fewer than 200 bytes. An offer
+/// without a format or with a bit of no feature is BadValue.
 #[unsafe(no_mangle)]
 pub extern "C" fn gitwire_put_advertisement(
     alloc: Global,

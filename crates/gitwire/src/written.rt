@@ -1,4 +1,4 @@
-//! A packet on its way to a room of C, or why there is none.
+//! A packet on its way to a buffer of C, or why there is none.
 
 ghost use Rattle.std.specs.Prelude.{◌≡◌, IfErr, OnOk};
 ghost use Rattle.gitwire.specs.Rooms.{Fills};
@@ -9,12 +9,12 @@ use crate::rooms::fill;
 use git_names::NameFault;
 use git_pkt::{Fault, Hold, Kind};
 
-/// Why values that C gives mean no packet.
+/// Why the values that C passes mean no packet.
 #[derive(Clone, Copy, Debug)]
 pub(crate) enum Unwritten {
     /// A number means nothing.
     BadValue,
-    /// A text is none of the packet's kind, by this name.
+    /// A text is not allowed in the packet, by this kind of error.
     Refused(Kind),
 }
 
@@ -26,7 +26,7 @@ impl From<NameFault> for Unwritten {
     }
 }
 
-/// Copies the packet that was made to the front of the room, or reports why there is none.
+/// Copies the packet that was made to the front of the buffer, or reports why there is none.
 pub(crate) fn hand_out(made: Result<(), Unwritten>, hold: &Hold, room: &mut [u8]) -> GitwireAnswer
     ensures made { OnOk made (Fills hold.now.items room.old result room.new) }
     ensures unwritten { IfErr made (λ why. (result ≡ telling_why why) × (room.new ≡ room.old)) }
