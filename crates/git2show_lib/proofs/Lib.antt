@@ -3,6 +3,7 @@ pub mod OtherLines
 pub mod Turns
 pub mod PassedAnswers
 pub mod KnownLines
+pub mod KnownChecks
 pub mod JudgedSteps
 pub mod JudgedReadings
 pub mod AdvertisementNoted

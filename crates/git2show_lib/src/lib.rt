@@ -2,6 +2,7 @@
 #![tactic(auto)]
 
 mod advertisement;
+pub mod check_laws;
 mod checking;
 mod judged_requests;
 mod left_over;
