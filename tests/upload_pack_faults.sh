@@ -257,6 +257,22 @@ case_upload_pack_is_not_kept_busy() {
     [ $((SECONDS - begin)) -lt 30 ] || differs "$((SECONDS - begin)) seconds"
 }
 
+# Nothing is read that was not written, nor is anything lost.
+case_upload_pack_under_valgrind() {
+    local id request requests
+    configured history-sha1 uploadpack.allowFilter true uploadpack.allowRefInWant true uploadpack.hideRefs refs/heads/alias
+    id=$(git -C served rev-parse main)
+    requests=("$(prefixes)" "$(prefixes HEAD refs/heads/to)" "$(fetch "$id")" "$(fetch_filtered tree:1 "$id")")
+    request=${requests[2]%0009done*}
+    requests+=("$request$(packet 'deepen 2'; packet "shallow $(git -C served rev-parse main~1)"; packet 'done')"$'\n'0000)
+    requests+=("$request$(packet 'deepen-not light'; packet 'want-ref refs/heads/alone'; packet "have $(git -C served rev-parse light)")"$'\n'0000)
+    for request in "${requests[@]}"; do
+        under_valgrind bin/upload-pack --stateless-rpc served < <(printf %s "$request")
+        expect_status 0
+        expect_same 'standard error' /dev/null err
+    done
+}
+
 case_upload_pack_is_no_shell() {
     local folder='a;touch run-by-a-shell $(touch run-by-a-shell)'
     mkdir -p "$folder"
@@ -269,8 +285,8 @@ case_upload_pack_is_no_shell() {
         [ "$status" != 0 ] || differs "a folder '$folder'"
         expect_same 'standard output' /dev/null out
     done
-    run "$uploading" nowhere
-    expect 128 /dev/null <(echo "fatal: 'nowhere' does not appear to be a git repository")
+    run "$uploading" $'no\x1bwhere'
+    expect 128 /dev/null <(printf '%s\n' "fatal: 'no\\x1bwhere' does not appear to be a git repository")
 }
 
 # What a repository's own settings and files have is not trusted: no program is started for it, and it leads to no other user's.
