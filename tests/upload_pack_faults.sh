@@ -63,7 +63,7 @@ descendant() {
 # A child that is killed while the client reads slowly, and the program that is killed itself: its child goes with it.
 case_upload_pack_and_its_children_are_killed() {
     local child client
-    rm -rf ours
+    rm -rf ours slow
     mkfifo slow
     fetch "$(git -C heavy rev-parse main)" > body
     "$uploading" --stateless-rpc heavy < body > slow 2> err &
@@ -255,6 +255,18 @@ case_upload_pack_is_not_kept_busy() {
     run "$uploading" --stateless-rpc served < body
     expect_status 0
     [ $((SECONDS - begin)) -lt 30 ] || differs "$((SECONDS - begin)) seconds"
+}
+
+case_upload_pack_takes_no_more_than_its_limit() {
+    fetch "$(git -C history-sha1 rev-parse main)" > body
+    {
+        head -c -13 body # without `done` and the flush
+        awk 'BEGIN { for (i = 0; i < 400000; i++) printf "0032have %040d\n", i }'
+        tail -c 13 body
+    } > long-body
+    run "$uploading" --stateless-rpc history-sha1 < long-body
+    expect_status 128
+    grep -a -q -x '....ERR TooMuchKept at [0-9]*' out || differs 'the answer' out
 }
 
 # Nothing is read that was not written, nor is anything lost.
