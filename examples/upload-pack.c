@@ -57,17 +57,18 @@ static const char *find_wanted_references(void)
 {
 	struct texts names = { 0 };
 	char id[GITWIRE_OBJECT_NAME_ROOM + 1], head[sizeof space + 4];
-	struct found found;
+	struct found found = { .id = "" };
+	bool wants_head = false;
 	const char *name;
 
 	clear_texts(&wanted_references);
-	*wanted_head = 0;
-	snprintf(head, sizeof head, "%sHEAD", space);
-	for (size_t i = 0; (name = item(GITWIRE_LIST_WANT_REFS, i)) != NULL; i++)
+	for (size_t i = 0; (name = item(GITWIRE_LIST_WANT_REFS, i)) != NULL; i++) {
+		wants_head |= strcmp(name, "HEAD") == 0;
 		if (is_pattern(name))
 			add_text(&names, "%s%s", space, name);
-		else if (strcmp(name, "HEAD") == 0 && *wanted_head == 0 && find(head, &found))
-			strcpy(wanted_head, found.id);
+	}
+	snprintf(head, sizeof head, "%sHEAD", space);
+	strcpy(wanted_head, wants_head && find(head, &found) ? found.id : "");
 	find_references(&names, &wanted_references);
 	clear_texts(&names);
 	for (size_t i = 0; (name = item(GITWIRE_LIST_WANT_REFS, i)) != NULL; add_name(&wants, id), i++)
@@ -98,7 +99,7 @@ static const char *find_excluded(struct names *excluded)
 				add_text(&names, "%s", whole);
 	find_references(&names, &lines);
 	for (size_t i = 0; (name = item(GITWIRE_LIST_DEEPEN_NOTS, i)) != NULL; add_name(excluded, id), i++) {
-		int count = strcmp(name, "HEAD") == 0 && find(name, &found);
+		int count = i < MOST_EXCLUDED && strcmp(name, "HEAD") == 0 && find(name, &found);
 
 		if (count == 1)
 			strcpy(id, found.id);
@@ -439,7 +440,9 @@ int main(int count, char **words)
 	if (!begin())
 		return 128;
 	if (!enter(words[at], strict, &offer.format)) {
-		fprintf(stderr, "fatal: '%s' does not appear to be a git repository\n", words[at]); /* as users know it */
+		fputs("fatal: '", stderr);
+		show_bytes(stderr, (const uint8_t *)words[at], strlen(words[at]));
+		fputs("' does not appear to be a git repository\n", stderr); /* as users know it */
 		return 128;
 	}
 	read_space();

@@ -2,7 +2,8 @@
 # Tests the built program `git2show` from outside: as the real Git calls it (real_git.sh, clones.sh, partial_clones.sh and fetches.sh),
 # over HTTP (http_backend.sh, http.sh and web_servers.sh), and by hand (program.sh); our client, as it asks the real Git (asking.sh); what both
 # ends of the real Git send, as `check` judges it (recorded.sh); both of our ends against each other (playing.sh); the library for programs
-# in C, as the examples use it (library.sh), one of them as a daemon (daemon.sh), and one between both ends of the real Git (watching.sh); a
+# in C, as the examples use it (library.sh), one of them in the place of `git upload-pack` (upload_packs.sh, upload_pack_faults.sh, and folders.sh
+# behind the others), one as a daemon (daemon.sh), and one between both ends of the real Git (watching.sh); a
 # daemon and `serve` after a thousand clients that mean harm (soak.sh); and the pages of this repository beside what they speak of (pages.sh).
 #
 #     tests/run.sh [PROGRAM [LIBRARY]]

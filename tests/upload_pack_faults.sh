@@ -63,7 +63,7 @@ descendant() {
 # A child that is killed while the client reads slowly, and the program that is killed itself: its child goes with it.
 case_upload_pack_and_its_children_are_killed() {
     local child client
-    rm -rf ours
+    rm -rf ours slow
     mkfifo slow
     fetch "$(git -C heavy rev-parse main)" > body
     "$uploading" --stateless-rpc heavy < body > slow 2> err &
@@ -257,6 +257,34 @@ case_upload_pack_is_not_kept_busy() {
     [ $((SECONDS - begin)) -lt 30 ] || differs "$((SECONDS - begin)) seconds"
 }
 
+case_upload_pack_takes_no_more_than_its_limit() {
+    fetch "$(git -C history-sha1 rev-parse main)" > body
+    {
+        head -c -13 body # without `done` and the flush
+        awk 'BEGIN { for (i = 0; i < 400000; i++) printf "0032have %040d\n", i }'
+        tail -c 13 body
+    } > long-body
+    run "$uploading" --stateless-rpc history-sha1 < long-body
+    expect_status 128
+    grep -a -q -x '....ERR TooMuchKept at [0-9]*' out || differs 'the answer' out
+}
+
+# Nothing is read that was not written, nor is anything lost.
+case_upload_pack_under_valgrind() {
+    local id request requests
+    configured history-sha1 uploadpack.allowFilter true uploadpack.allowRefInWant true uploadpack.hideRefs refs/heads/alias
+    id=$(git -C served rev-parse main)
+    requests=("$(prefixes)" "$(prefixes HEAD refs/heads/to)" "$(fetch "$id")" "$(fetch_filtered tree:1 "$id")")
+    request=${requests[2]%0009done*}
+    requests+=("$request$(packet 'deepen 2'; packet "shallow $(git -C served rev-parse main~1)"; packet 'done')"$'\n'0000)
+    requests+=("$request$(packet 'deepen-not light'; packet 'want-ref refs/heads/alone'; packet "have $(git -C served rev-parse light)")"$'\n'0000)
+    for request in "${requests[@]}"; do
+        under_valgrind bin/upload-pack --stateless-rpc served < <(printf %s "$request")
+        expect_status 0
+        expect_same 'standard error' /dev/null err
+    done
+}
+
 case_upload_pack_is_no_shell() {
     local folder='a;touch run-by-a-shell $(touch run-by-a-shell)'
     mkdir -p "$folder"
@@ -269,8 +297,8 @@ case_upload_pack_is_no_shell() {
         [ "$status" != 0 ] || differs "a folder '$folder'"
         expect_same 'standard output' /dev/null out
     done
-    run "$uploading" nowhere
-    expect 128 /dev/null <(echo "fatal: 'nowhere' does not appear to be a git repository")
+    run "$uploading" $'no\x1bwhere'
+    expect 128 /dev/null <(printf '%s\n' "fatal: 'no\\x1bwhere' does not appear to be a git repository")
 }
 
 # What a repository's own settings and files have is not trusted: no program is started for it, and it leads to no other user's.
