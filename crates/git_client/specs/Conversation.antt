@@ -85,7 +85,8 @@ pub record MalformedPacket (t : Terms) (asked : List Asked) (bytes : List ℕ) (
   pub splits : Splits 0 bytes given rest
   pub first : FirstFault t asked given fault.kind fault.offset
 
--- no packet has an error, more is expected, and the bytes after them are no packet and cannot become one
+-- no packet has an error, more is expected, and reading stops at the bytes after them: they begin no packet, the stream is too long, or the input
+-- ended inside a packet
 pub record MalformedRest (t : Terms) (asked : List Asked) (bytes : List ℕ) (fault : Fault) : Type 0 where
   pub given : List Given
   pub rest : List ℕ

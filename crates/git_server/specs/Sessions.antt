@@ -64,7 +64,7 @@ pub record IsRefusedAtPacket (s : Setting) (left : List Given) (rest : List ℕ)
   pub told : IsToldFor s.offer s.limit (barred s.repo) left fault
   pub no_rest : rest ≡ []
 
--- none of the packets is refused, the bytes after them are no packet's, and the input goes on
+-- none of the packets is refused, the input goes on, and reading stops at the bytes after them: they begin no packet, or the stream is too long
 pub record IsRefusedAtByte (s : Setting) (over : Bool) (left : List Given) (rest : List ℕ) (end : ℕ) (fault : Fault) : Type 0 where
   pub goes_on : over ≡ false
   pub begins : Begins s left
@@ -126,8 +126,8 @@ pub record IsOfTheBytes (outcome : Outcome) : Type 0 where
   pub by_memory : ¬ WantsMemory outcome
   pub by_pack : ¬ WantsPack outcome
 
--- the first malformed packet of the bytes: after the whole requests a packet is refused, or the bytes are no packet's, or the input ended
--- inside a request
+-- the first malformed packet of the bytes: after the whole requests a packet is refused, or bytes that begin none, or the stream is too long, or
+-- the input ended inside a request
 pub record FirstMalformed (s : Setting) (used : List ℕ) (over : Bool) (fault : Fault) : Type 0 where
   pub asked : List Asked
   pub left : List Given
