@@ -187,46 +187,63 @@ static const char *peeled_in(struct command *from, struct shown *shown, const ch
 	return found.id;
 }
 
+/* What lists references, all at a time: where `HEAD` leads, all in their order, and what the tags among them are of. */
+struct listing {
+	struct command head, listed, checked;
+	char name[sizeof space + 4]; /* of `HEAD` */
+};
+
+/* Starts a list of all references, or of them of the branches, the tags, or both. */
+static void start_listing(struct listing *it, bool peels, bool heads, bool tags)
+{
+	const char *list[7] = { "git", "for-each-ref", "--sort=refname", "--format=%(objectname) %(refname) %(symref)" };
+	const char *check[7] = { "git", "show-ref", "--head" };
+	size_t listed = 4, checked = 3;
+
+	if (peels)
+		check[checked++] = "-d";
+	if (heads) {
+		list[listed++] = "refs/heads/";
+		check[checked++] = "--heads";
+	}
+	if (tags) {
+		list[listed++] = "refs/tags/";
+		check[checked++] = "--tags";
+	}
+	start_head(&it->head, it->name, sizeof it->name);
+	start_alone(&it->checked, TO_ERRORS, check);
+	start_alone(&it->listed, TO_ERRORS, list);
+}
+
 /*
  * All references, or of them the branches, the tags, or both: `git for-each-ref` has them in their order, and `git show-ref` what a tag is of,
  * which it knows from the packed references. It fails of a reference that is damaged, where the other passes over it.
  */
 static void answer_all(bool heads, bool tags)
 {
-	const char *list[7] = { "git", "for-each-ref", "--sort=refname", "--format=%(objectname) %(refname) %(symref)" };
-	const char *show[7] = { "git", "show-ref", "--head" };
 	static struct shown shown;
 	static char target[LINE_ROOM];
-	char name[sizeof space + 4], id[GITWIRE_OBJECT_NAME_ROOM + 1], *line, *reference;
-	size_t count = 4, shows = 3;
-	struct command head, listed, checked;
+	char id[GITWIRE_OBJECT_NAME_ROOM + 1], *line, *reference;
 	bool peels = gitwire_host_flag(&host, GITWIRE_FLAG_PEEL), is_empty;
+	struct listing it;
 
-	if (peels)
-		show[shows++] = "-d";
-	if (heads)
-		list[count++] = "refs/heads/", show[shows++] = "--heads";
-	if (tags)
-		list[count++] = "refs/tags/", show[shows++] = "--tags";
-	start_head(&head, name, sizeof name);
-	start_alone(&checked, TO_ERRORS, show);
-	start_alone(&listed, TO_ERRORS, list);
-	receive_head(&head, target, sizeof target);
-	shown.next = next_line(&checked);
-	read_shown(&checked, &shown);
+	start_listing(&it, peels, heads, tags);
+	receive_head(&it.head, target, sizeof target);
+	shown.next = next_line(&it.checked);
+	read_shown(&it.checked, &shown);
 	is_empty = shown.is_none;
-	if (is_empty || strcmp(shown.name, name) != 0)
-		answer_unborn(name, target);
+	if (is_empty || strcmp(shown.name, it.name) != 0)
+		answer_unborn(it.name, target);
 	else
-		answer_reference(shown.id, name, target, shown.peeled);
-	while ((line = next_line(&listed)) != NULL) {
+		answer_reference(shown.id, it.name, target, shown.peeled);
+	while ((line = next_line(&it.listed)) != NULL) {
 		line = cut_line(line, id);
 		reference = strsep(&line, " ");
-		answer_reference(id, reference, line, peels ? peeled_in(&checked, &shown, id, reference) : "");
+		answer_reference(id, reference, line, peels ? peeled_in(&it.checked, &shown, id, reference) : "");
 	}
 	while (!shown.is_none)
-		read_shown(&checked, &shown);
-	if (end(&listed) != 0 || end(&checked) != (is_empty ? 1 : 0)) /* 1 is that there is none */
+		read_shown(&it.checked, &shown);
+	if (end(&it.listed) != 0 || end(&it.checked) != (is_empty ? 1 : 0)) /* 1 is that there is none */
 		fail("the references cannot be read");
 }
 

@@ -42,13 +42,13 @@ case_folders_are_cloned_over_http() {
 
 case_folders_are_fetched_from_over_http() {
     write_folders
-    grow grown history-sha1
-    mv grown.git folders/grown.git
-    : > folders/grown.git/git-daemon-export-ok
+    grow expanded history-sha1
+    mv expanded.git folders/expanded.git
+    : > folders/expanded.git/git-daemon-export-ok
     start_web
     both history-sha1 --no-tags
-    git -C theirs -c protocol.version=2 fetch -q --no-tags "file://$room/folders/grown.git" '+refs/heads/*:refs/remotes/origin/*'
-    fetch_from "$web/folders/grown" ours --no-tags
+    git -C theirs -c protocol.version=2 fetch -q --no-tags "file://$room/folders/expanded.git" '+refs/heads/*:refs/remotes/origin/*'
+    fetch_from "$web/folders/expanded" ours --no-tags
     same_after_fetch
     same_objects
     both history-sha1 --depth 1 --no-single-branch
