@@ -65,8 +65,9 @@ impl From<RunFault> for CheckFault {
 /// The transcript is written to `out`: a line for each event and for each request. It is flushed before each read and at the end.
 ///
 /// A request may have what was advertised and is not known: a capability line by its key, and an argument by its first word, where that is
-/// among the words of the command. It is taken as it comes, and changes nothing. So may be a request whose first line names a command that is
-/// not known and was advertised by its key: the request passes up to its flush, and the answer to it up to what ends each response.
+/// among the words of the command. It is taken as it comes, and changes nothing, but its text counts within the limit of the request. A
+/// request whose first line names a command that is not known and was advertised by its key passes up to its flush, and the answer to it up
+/// to what ends each response; offsets count what passed.
 ///
 /// `Requests` and `Responses` with the first fault that is met in this order: a byte left over is `UnexpectedPacket` at its offset, and
 /// what [`Client::ask`] refuses of a request is a fault of the responses, at the offset where its response would begin. What an
