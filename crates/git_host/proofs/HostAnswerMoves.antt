@@ -29,6 +29,7 @@ use Rattle.git_host.specs.ReferencesPlaces.{IsToTheSame as IsToTheSameRefs, Keep
 use Rattle.git_host.specs.ReferencesPlaces.{with_ref, with_unborn}
 use Rattle.git_host.specs.SizesPlaces.{GivesSize, IsAsking, IsSizesAnswerOf, RepresentsSizes, StepsSizes}
 use Rattle.git_host.specs.HostSessions.{Facts, IsAnswerBy, of_fetch, of_references, of_sizes}
+use Rattle.git_host.specs.HostAnswers.{IsTaken}
 use Rattle.git_host.specs.HostAnswers.{EndsAs, IsWithinLimit, Terms, GivesOn, GoesOn, IsAnswering, IsAskedFor, IsGiven, ReportsBy, StepsAnswer, ended_as}
 use Rattle.git_host.specs.HostAnswers.{of_fetch_step, of_sizes_step, on_fetch, on_references, on_sizes, on_want_refs, on_wants, found_ids, part_of, part_of}
 use Rattle.git_host.specs.HostAnswers.{line_as, packet_where, progress_as, reported_as, taken_where, with_report}
@@ -171,10 +172,10 @@ module _ {A : Type 0} where
     packet_by report with bytes false asks gives ends same = (fetch_same same, λ is_wanted. absurd (let is = asks is_wanted in cc))
 
     taken_by : (report : Report) (with : FetchFacts → FetchFacts) (bytes : List ℕ) (asked : Bool) → (IsAskedFor report (Fetch a) → asked ≡ true)
-        → (ReportsAlone with a b → GoesOn (with_report report) (Fetch a) (Fetch b)) → WhereAsked asked (ReportsAlone with a b) a b
-        → ReportsBy report (Fetch a) (taken_where asked) bytes (Fetch b)
-    taken_by report with bytes true asks goes done = goes done
-    taken_by report with bytes false asks goes same = (fetch_same same, λ is_wanted. absurd (let is = asks is_wanted in cc))
+        → (ReportsAlone with a b → GoesOn (with_report report) (Fetch a) (Fetch b)) → IsTaken report (Fetch b)
+        → WhereAsked asked (ReportsAlone with a b) a b → ReportsBy report (Fetch a) (taken_where asked) bytes (Fetch b)
+    taken_by report with bytes true asks goes taken done = (goes done, taken)
+    taken_by report with bytes false asks goes taken same = (fetch_same same, λ is_wanted. absurd (let is = asks is_wanted in cc))
 
     -- a report for which a packet is given, if it was asked for
     pub fetch_packet : (old : HostAnswer A) (report : Report) (with : FetchFacts → FetchFacts) (r : HostReported) (bytes : List ℕ) (asked : Bool)
@@ -188,11 +189,11 @@ module _ {A : Type 0} where
     -- and one for which none is given
     pub fetch_taken : (old : HostAnswer A) (report : Report) (with : FetchFacts → FetchFacts) (r : HostReported) (bytes : List ℕ) (asked : Bool)
         → old ≡ Fetch a → r ≡ taken_where asked → (IsAskedFor report (Fetch a) → asked ≡ true)
-        → (ReportsAlone with a b → GoesOn (with_report report) (Fetch a) (Fetch b)) → WhereAsked asked (ReportsAlone with a b) a b
-        → ReportsBy report old r bytes (Fetch b)
-    fetch_taken old report with r bytes asked was is asks goes done =
+        → (ReportsAlone with a b → GoesOn (with_report report) (Fetch a) (Fetch b)) → IsTaken report (Fetch b)
+        → WhereAsked asked (ReportsAlone with a b) a b → ReportsBy report old r bytes (Fetch b)
+    fetch_taken old report with r bytes asked was is asks goes taken done =
         subst (λ (o : HostAnswer A). ReportsBy report o r bytes (Fetch b)) (sym was)
-        (subst (λ (x : HostReported). ReportsBy report (Fetch a) x bytes (Fetch b)) (sym is) (taken_by report with bytes asked asks goes done))
+        (subst (λ (x : HostReported). ReportsBy report (Fetch a) x bytes (Fetch b)) (sym is) (taken_by report with bytes asked asks goes taken done))
 
     line_by : (line : Boundary) (reported : BoundaryReported) (bytes : List ℕ) → is_line_asked reported ≡ is_boundary (fetch_step a)
         → ReportsLine line reported a bytes b → ReportsBy (LineOf line) (Fetch a) (line_as reported) bytes (Fetch b)
@@ -226,7 +227,7 @@ module _ {A : Type 0} where
     boundary_ends : (end : BoundaryEnd) (bytes : List ℕ) → is_asked end ≡ is_boundary (fetch_step a) → EndsBoundary end a bytes b
         → ReportsBy EndsIt (Fetch a) (ended_as end) bytes (Fetch b)
     boundary_ends EndNotAsked bytes is same = (fetch_same same, λ is_wanted. absurd (cc))
-    boundary_ends Absent bytes is goes = goes_same (Fetch a) (Fetch b) (fetch_goes (λ t. t) (λ t. refl) goes)
+    boundary_ends Absent bytes is done = (goes_same (Fetch a) (Fetch b) (fetch_goes (λ t. t) (λ t. refl) done.0), done.1)
     boundary_ends DelimGiven bytes is gives = (gives_same (Fetch a) (Fetch b) bytes (fetch_gives (λ t. t) bytes (λ t. refl) gives), tt)
 
     pub fetch_boundary : (old : HostAnswer A) (end : BoundaryEnd) (r : HostReported) (bytes : List ℕ) → old ≡ Fetch a → r ≡ ended_as end
@@ -420,7 +421,7 @@ module _ {A : Type 0} where
 
     want_by : (has asked : Bool) (bytes : List ℕ) → ReportsWant has a asked b
         → ReportsBy (Want has) (Admission a) (taken_where asked) bytes (Admission b)
-    want_by has true bytes done = want_goes has done.1
+    want_by has true bytes done = (want_goes has done.1, tt)
     want_by has false bytes done = (unchanged done.1, λ is_wanted. absurd (let unasked = done.0 in cc))
 
     pub want_reported : (old : HostAnswer A) (has asked : Bool) (r : HostReported) (bytes : List ℕ) → old ≡ Admission a → r ≡ taken_where asked
@@ -434,7 +435,7 @@ module _ {A : Type 0} where
         → r ≡ Ok RefTaken → ReportsWantRef id a r b → ReportsBy (WantRef id) old Taken bytes (Admission b)
     ref_taken {E = E} old id bytes r was is done =
         let taken : ReportsWantRef {E = E} id a (Ok RefTaken) b = subst (λ (x : Result WantRefReported E). ReportsWantRef id a x b) is done in
-        subst (λ (o : HostAnswer A). ReportsBy (WantRef id) o Taken bytes (Admission b)) (sym was) (want_ref_goes id taken.1)
+        subst (λ (o : HostAnswer A). ReportsBy (WantRef id) o Taken bytes (Admission b)) (sym was) (want_ref_goes id taken.1, tt)
 
   -- an admission that is through becomes the answer
   pub admitted_goes : (a : AdmissionMachine A) (answer : FetchAnswer A) → BecomesAnswer a answer → GoesOn (λ f. f) (Admission a) (Fetch answer)

@@ -334,7 +334,7 @@ module _ {A : Type 0} (s : HostSetting) (used : List ℕ) (over : Bool) (facts :
       → IsAtRequest s used over (with_last (with_reported r report) facts) (given ++ given_with r new) new flush (IsAnswering (terms_of s) b)
       × IsGivenWith r new × HasReason report (Answering a) r × EndsHost report r (Answering b)
   report_done report WasGiven done = (answer_gives (with_report report) done.0, handed_out (with_report report) done.0, tt, done.1)
-  report_done report Taken goes = (goes_to (with_report report) goes, tt, tt, tt)
+  report_done report Taken done = (goes_to (with_report report) done.0, tt, tt, done.1)
   report_done report Hidden done = (goes_to (with_hidden report) done.0, tt, done.1, tt)
   report_done report NotAsked done = (goes_to (λ f. f) done.0, tt, done.1, tt)
   report_done report MixedFormats done = (goes_to (λ f. f) done.0, tt, done.1, tt)

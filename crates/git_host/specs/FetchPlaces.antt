@@ -242,13 +242,6 @@ abbrev pub is_asked : BoundaryEnd → Bool
 is_asked NotAsked = false
 is_asked _ = true
 
-module _ {A : Type 0} where
-  -- what the end of the boundary does
-  abbrev pub EndsBoundary : BoundaryEnd → FetchAnswer A → List ℕ → FetchAnswer A → Type 0
-  EndsBoundary NotAsked old bytes new = new ≡ old
-  EndsBoundary Absent old bytes new = ReportsAlone (λ t. t) old new
-  EndsBoundary DelimGiven old bytes new = ReportsAndGives (λ t. t) old bytes new
-
 -- whether a line of the boundary, or progress, was asked for
 abbrev pub is_line_asked : BoundaryReported → Bool
 is_line_asked Line.NotAsked = false
@@ -314,6 +307,12 @@ after_boundary true = PackHeader
 after_boundary false = WantedHeader
 
 module _ {A : Type 0} where
+  -- what the end of the boundary does: it is over
+  abbrev pub EndsBoundary : BoundaryEnd → FetchAnswer A → List ℕ → FetchAnswer A → Type 0
+  EndsBoundary NotAsked old bytes new = new ≡ old
+  EndsBoundary Absent old bytes new = ReportsAlone (λ t. t) old new × (is_boundary (step_of new) ≡ false)
+  EndsBoundary DelimGiven old bytes new = ReportsAndGives (λ t. t) old bytes new
+
   -- what a line of the boundary does: one that no sound repository has for the request changes nothing
   abbrev pub ReportsLine : Boundary → BoundaryReported → FetchAnswer A → List ℕ → FetchAnswer A → Type 0
   ReportsLine line Line.Packet old bytes new = ReportsAndGives (with_line line) old bytes new

@@ -329,11 +329,22 @@ module _ {A : Type 0} where
   IsReason (Reference entry) (References answer) HeadTwice = IsUnsoundAfter entry answer
   IsReason report old reported = ⊥
 
-  -- the request does not ask for what was reported: progress is dropped where it wants none
+  -- the request does not ask for what was reported: a reference, or progress where it wants none
   abbrev pub IsUnwanted : Report → HostAnswer A → Type 0
   IsUnwanted (Progress bytes) (Fetch answer) = WantsNoProgress answer
-  IsUnwanted (Progress bytes) answer = ⊥
-  IsUnwanted report answer = Unit {0}
+  IsUnwanted (Reference entry) answer = Unit {0}
+  IsUnwanted (Unborn target) answer = Unit {0}
+  IsUnwanted report answer = ⊥
+
+  -- for what was reported no packet is given: what the store has of what is asked for, that a boundary has no line, and no bytes at all
+  abbrev pub IsTaken : Report → HostAnswer A → Type 0
+  IsTaken (Want has) answer = Unit {0}
+  IsTaken (WantRef id) answer = Unit {0}
+  IsTaken (Have has) answer = Unit {0}
+  IsTaken EndsBoundary (Fetch answer) = is_boundary (fetch_step answer) ≡ false
+  IsTaken (Pack bytes) answer = bytes.now ≡ []
+  IsTaken (Progress bytes) answer = bytes.now ≡ []
+  IsTaken report answer = ⊥
 
   -- the end of a pack makes the answer whole, and its loss breaks it off
   abbrev pub EndsAs : Report → HostAnswer A → Type 0
@@ -362,6 +373,6 @@ module _ {A : Type 0} where
   -- what a report does, by what came of it
   abbrev pub ReportsBy : Report → HostAnswer A → HostReported → List ℕ → HostAnswer A → Type 0
   ReportsBy report old Packet bytes new = GivesOn (with_report report) old bytes new × EndsAs report new
-  ReportsBy report old Taken bytes new = GoesOn (with_report report) old new
+  ReportsBy report old Taken bytes new = GoesOn (with_report report) old new × IsTaken report new
   ReportsBy report old Hidden bytes new = GoesOn (with_hidden report) old new × IsUnwanted report old
   ReportsBy report old reported bytes new = GoesOn (λ f. f) old new × IsReason report old reported

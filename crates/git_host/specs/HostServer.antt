@@ -17,7 +17,7 @@ use Rattle.git_server.specs.Answers.{error_packet}
 use Rattle.git_server.specs.declared.outcome.Outcome.{Outcome}
 use Rattle.git_server.specs.declared.outcome.Outcome.TheVariants.{Refused}
 use Rattle.git_host.specs.HostSessions.{AllAnswered, AtLast, Facts, HostSetting, IsHosted, StopsBy, nothing_for, refusal_packet, tail_of}
-use Rattle.git_host.specs.HostAnswers.{EndsAs, IsAnswering, IsBegun, IsNeeded, IsWithinLimit, Terms, IsReason, IsUnwanted, with_reported}
+use Rattle.git_host.specs.HostAnswers.{EndsAs, IsAnswering, IsBegun, IsNeeded, IsWithinLimit, Terms, IsReason, IsTaken, IsUnwanted, with_reported}
 use Rattle.git_host.specs.declared.host_server.Phase.{Phase}
 use Rattle.git_host.specs.declared.host_server.Phase.TheVariants.{Advertising, Reading, Asked as Whole, Answering, Refusing, Ended}
 use Rattle.git_host.specs.declared.host_server.HostServer.{HostServer}
@@ -241,17 +241,19 @@ module _ {A : Type 0} where
 
   -- why a report gave no packet, or changed nothing, if it did so
   abbrev pub HasReason : Report → Phase A → HostReported → Type 0
-  HasReason report phase WasGiven = Unit {0}
-  HasReason report phase Taken = Unit {0}
+  HasReason report (Answering answer) WasGiven = Unit {0}
+  HasReason report (Answering answer) Taken = Unit {0}
   HasReason report (Answering answer) Hidden = IsUnwanted report answer
   HasReason report (Answering answer) reported = IsReason report answer reported
   HasReason report phase reported = reported ≡ NotAsked
 
-  -- what the end of a pack leads to, and that what is asked cannot be had: the session ends, or does so once that is looked at
+  -- what a report leads to: the end of a pack, and that what is asked cannot be had, by which the session ends, or does so once that is looked at
   abbrev pub EndsHost : Report → HostReported → Phase A → Type 0
   EndsHost report WasGiven (Answering answer) = EndsAs report answer
+  EndsHost report Taken (Answering answer) = IsTaken report answer
   EndsHost Failed WasGiven (Ended outcome) = IsLost outcome
-  EndsHost Failed WasGiven phase = ⊥
+  EndsHost report WasGiven phase = ⊥
+  EndsHost report Taken phase = ⊥
   EndsHost report reported phase = Unit {0}
 
   -- what a report does, by what came of it

@@ -18,5 +18,5 @@ returns g c =
     let a = c.in-Fetch.answer in
     let b = c.not_common.new.self in
     fetch_taken a b c.args.self.now (Have c.args.has) (with_have c.args.has) c.taken_where.result _ c.not_common.result c.in-Fetch.is
-    c.taken_where.ensures (λ wanted. c.not_common.ensures.asked ∙ wanted) (λ goes. fetch_goes a b (with_have c.args.has) (λ t. refl) goes)
+    c.taken_where.ensures (λ wanted. c.not_common.ensures.asked ∙ wanted) (λ goes. fetch_goes a b (with_have c.args.has) (λ t. refl) goes) tt
     (subst (λ (has : Bool). WhereAsked c.not_common.result (ReportsAlone (with_have has) a b) a b) (sym c.if-has.false) c.not_common.ensures.reported)

@@ -1,4 +1,4 @@
-use Rattle.std.proofs.Common.{arith, rules, tests, ℕ, List, length, ◌<◌, refl, subst, sym, ◌∙◌}
+use Rattle.std.proofs.Common.{arith, rules, tests, ℕ, List, [], ◌≡◌, length, ◌<◌, refl, subst, sym, ◌∙◌}
 use Rattle.std.proofs.lemmas.Grind.{common_steps}
 use Rattle.git_pkt.specs.Packets.{longest_payload}
 use Rattle.git_host.specs.FetchPlaces.{ReportsAndGives, WhereAsked, with_pack}
@@ -14,7 +14,9 @@ pack-requires g c = record {
 }
 
 pub returns-then-is_empty : goal.returns-then-is_empty
-returns-then-is_empty g c = no_pack_goes c.args.self.now c.args.bytes.now (grind (arith, common_steps))
+returns-then-is_empty g c =
+    let none : c.args.bytes.now ≡ [] = grind (arith, common_steps) in
+    (no_pack_goes c.args.self.now c.args.bytes.now none, none)
 
 pub returns : goal.returns
 returns g c =

@@ -1,4 +1,4 @@
-use Rattle.std.proofs.Common.{arith, rules, tests, ℕ, List, length, ◌<◌, subst, sym}
+use Rattle.std.proofs.Common.{arith, rules, tests, ℕ, List, [], ◌≡◌, length, ◌<◌, subst, sym}
 use Rattle.std.proofs.lemmas.Grind.{common_steps}
 use Rattle.git_pkt.specs.Packets.{longest_payload}
 use Rattle.git_host.specs.FetchPlaces.{ReportsProgress}
@@ -12,7 +12,9 @@ progress-requires g c = record {
 }
 
 pub returns-then-is_empty : goal.returns-then-is_empty
-returns-then-is_empty g c = no_progress_goes c.args.self.now c.args.bytes.now (grind (arith, common_steps))
+returns-then-is_empty g c =
+    let none : c.args.bytes.now ≡ [] = grind (arith, common_steps) in
+    (no_progress_goes c.args.self.now c.args.bytes.now none, none)
 
 pub returns : goal.returns
 returns g c =

@@ -7,7 +7,7 @@ use Rattle.git_host.specs.HostSessions.{Facts, IsHosted}
 use Rattle.git_host.specs.HostAnswers.{FailsBy}
 use Rattle.git_host.specs.HostServer.{HasReason, HostsIn, IsLost, ended_by, with_last}
 use Rattle.git_host.specs.declared.host_answer.Failing.{Failing}
-use Rattle.git_host.specs.declared.report.HostReported.TheVariants.{NotAsked}
+use Rattle.git_host.specs.declared.report.HostReported.TheVariants.{NotAsked, Packet as WasGiven}
 use Rattle.git_host.specs.declared.report.Report.TheVariants.{Failed}
 use Rattle.git_host.specs.declared.host_server.Phase.{Phase}
 use Rattle.git_host.specs.declared.host_server.Phase.TheVariants.{Answering}
@@ -45,8 +45,9 @@ returns-in-Packet-clause-reports g c s used over facts given h =
     let fails = subst (λ (x : Failing). FailsBy c.in-Answering.answer x w.items c.fail-failing.new.self) c.in-Packet.is c.fail-failing.ensures in
     let (is, handed, ends) = fail_packet s used over facts given old.flush old.stream (c.lend.follows.lender w) w lent few c.in-Answering.answer
     c.fail-failing.new.self stands fails in
+    let answered = subst (λ (p : Phase g.row.A.Denot). HasReason Failed p WasGiven) (sym c.in-Answering.is) tt in
     let within = lent_within old.stream w (c.lend.follows.lender w) lent s h.reads_within in
-    (record { offer = h.offer; limit = h.limit; reads_within = within; stands = is }, handed, tt, ends)
+    (record { offer = h.offer; limit = h.limit; reads_within = within; stands = is }, handed, answered, ends)
 
 pub returns-in-CutShort-clause-reports : goal.returns-in-CutShort-clause-reports
 returns-in-CutShort-clause-reports g c s used over facts given h =
@@ -70,7 +71,7 @@ returns-in-CutShort-clause-reports g c s used over facts given h =
       },
       lent_handed old.stream w (c.lend.follows.lender w) lent
           (packet_some w.items (error_packet (record { kind = PackSource; offset = old.flush })) c.put_error.ensures) few,
-      tt,
+      subst (λ (p : Phase g.row.A.Denot). HasReason Failed p WasGiven) (sym c.in-Answering.is) tt,
       subst IsLost (sym c.ended_by.ensures) refl,
     )
 
