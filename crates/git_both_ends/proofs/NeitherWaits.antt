@@ -116,7 +116,8 @@ module _ {R A : Type 0} (state : R → RepoState) where
   server_gives server no_wait goes (PulledEnd outcome) new pulls = let over = pulls.tells.0 in absurd (cc)
 
   -- a call goes on with what held before it
-  runs_on : (refuses : ℕ → Type 0) (call : ServerCall) (s : Setting) (used : List ℕ) (over : Bool) (given : List ℕ) (before : ℕ) (old : Server R A) (after : ℕ) (new : Server R A)
+  runs_on : (refuses : ℕ → Type 0) (call : ServerCall) (s : Setting) (used : List ℕ) (over : Bool) (given : List ℕ)
+      (before : ℕ) (old : Server R A) (after : ℕ) (new : Server R A)
       → Makes state refuses call before old after new → Running state s used over given old
       → (ended : Bool) × Running state s (used ++ used_by call) ended (given ++ given_with call) new
   runs_on refuses (feed piece count) s used over given before old after new made r = (over, made.goes s used over given r)
@@ -366,7 +367,8 @@ module _ {R A : Type 0} (state : R → RepoState) (format : Format) (limit : ℕ
 
   -- ---- from call to call
 
-  server_keeps : (refuses : ℕ → Type 0) (h : History) (call : ServerCall) (old new : BothEnds R A) → MovesServer state refuses call old new → Agree h old → Agree h new
+  server_keeps : (refuses : ℕ → Type 0) (h : History) (call : ServerCall) (old new : BothEnds R A) → MovesServer state refuses call old new
+      → Agree h old → Agree h new
   server_keeps refuses h call old new m a =
       let s = setting_of (terms_with format) limit before true in
       let (over, runs) = runs_on state refuses call s a.used a.over a.given m.before old.server m.after new.server m.makes a.runs in
@@ -411,7 +413,8 @@ module _ {R A : Type 0} (state : R → RepoState) (format : Format) (limit : ℕ
 -- ---- after any calls
 
 module _ {R A : Type 0} (state : R → RepoState) (refuses : ℕ → Type 0) where
-  move_more : (calls : List (EitherCall A)) (call : EitherCall A) (old now next : BothEnds R A) → MoveAll state refuses calls old now → Moves state refuses call now next
+  move_more : (calls : List (EitherCall A)) (call : EitherCall A) (old now next : BothEnds R A)
+      → MoveAll state refuses calls old now → Moves state refuses call now next
       → MoveAll state refuses (calls ++ call ∷ []) old next
   move_more [] call old now next same moves = (next, subst (λ (e : BothEnds R A). Moves state refuses call e next) same moves, refl)
   move_more (first ∷ calls) call old now next (between, moved, more) moves = (between, moved, move_more calls call between now next more moves)
@@ -432,8 +435,8 @@ module _ {R A : Type 0} (state : R → RepoState) (refuses : ℕ → Type 0) whe
     values = values;
   }
 
-module _ {R A : Type 0} (state : R → RepoState) (refuses : ℕ → Type 0) (format : Format) (limit : ℕ) (before : RepoState) (calls : List (EitherCall A)) (now : BothEnds R A)
-    (met : HaveMet state refuses format limit before calls now) where
+module _ {R A : Type 0} (state : R → RepoState) (refuses : ℕ → Type 0) (format : Format) (limit : ℕ) (before : RepoState)
+    (calls : List (EitherCall A)) (now : BothEnds R A) (met : HaveMet state refuses format limit before calls now) where
   agrees : Agree state format limit before met.sound met.written met.same_format (history_of calls) now
   agrees = all_keep state format limit before met.sound met.written met.same_format refuses calls nothing_yet met.first now met.moved (record {
     used = [];

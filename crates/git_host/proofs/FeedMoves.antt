@@ -22,7 +22,8 @@ refused_fault A kind fault = refl
 pub some_fault : (A : Type 0) (phase : Phase A) (fault : Fault) → phase ≡ refused_by fault.kind fault → IsSome (fault_in phase)
 some_fault A phase fault is = subst IsSome (sym (ap fault_in is ∙ refused_fault A fault.kind fault)) refl
 
-module _ {A : Type 0} (old new : RequestStream A) (piece : List ℕ) (read : ReadRequest A) (feeds : Feeds old piece read new) (wants : wants_input old ≡ true) where
+module _ {A : Type 0} (old new : RequestStream A) (piece : List ℕ) (read : ReadRequest A)
+    (feeds : Feeds old piece read new) (wants : wants_input old ≡ true) where
   left_by : (got : ReadGot A) → read.got ≡ got → Leaves got read.used piece old new
   left_by got is = subst (λ (o : ReadGot A). Leaves o read.used piece old new) is feeds.leaves
 

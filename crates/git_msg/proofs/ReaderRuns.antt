@@ -49,7 +49,8 @@ some_run r sound gathers fits =
       splits = record { spelled = refl; ends = is.none };
       state =
           let end : ℕ = (position_of r - length (rest_of r)) + length (rest_of r) in
-          subst (λ (o : Option Fault). StandsAt o (end - length (rest_of r)) end (rest_of r) r) (sym sound) (held_rest r (rest_of r) gathers refl, is.may_go_on);
+          subst (λ (o : Option Fault). StandsAt o (end - length (rest_of r)) end (rest_of r) r) (sym sound)
+          (held_rest r (rest_of r) gathers refl, is.may_go_on);
     }
 
 -- a fault of bytes is no want of memory

@@ -23,7 +23,8 @@ use Rattle.git_msg.specs.Memory.{FaultNeedsRefusal}
 use Rattle.git_msg.specs.Requests.{IsTold}
 use Rattle.git_msg.specs.Machine.RequestReader.{Takes, offer_of as offer_in, limit_in, kept_so_far, fault_of as reader_fault, is_waiting}
 use Rattle.git_msg.specs.WholeRequests.{AreRequests}
-use Rattle.git_msg.specs.Machine.StreamStages.{AreBegun, Brings, GotNeedsRefusal, HasTaken, IsBrought, IsWithin, fault_in, goes_on, stage_brought, takes_bytes, stage_is_between}
+use Rattle.git_msg.specs.Machine.StreamStages.{AreBegun, Brings, GotNeedsRefusal, HasTaken, IsBrought, IsWithin}
+use Rattle.git_msg.specs.Machine.StreamStages.{fault_in, goes_on, stage_brought, takes_bytes, stage_is_between}
 use Rattle.git_msg.specs.Machine.RequestStreams.{EndsWith, HasRead, IsLeftIn, IsOne, Leaves, asked_by, limit_of, offer_of, wants_input}
 use Rattle.git_msg.specs.Machine.RequestStreamSteps.{StepLeaves, Steps}
 use Rattle.git_msg.specs.declared.reader.RequestReader.{RequestReader}

@@ -58,8 +58,8 @@ module _ {R A : Type 0} (state : R → RepoState) (refuses : ℕ → Type 0) whe
       (subst (λ (w : List ℕ). Running state s ((a ++ b) ++ c) over w server) (append_assoc d e f) r)
 
   -- the calls go on from what held before them
-  goes_by : (s : Setting) (calls : List Call) (before : ℕ) (old : Server R A) (after : ℕ) (new : Server R A) → MakesAll (Makes state refuses) calls before old after new
-      → (so_far : List ℕ) (over : Bool) (given : List ℕ) → Running state s so_far over given old
+  goes_by : (s : Setting) (calls : List Call) (before : ℕ) (old : Server R A) (after : ℕ) (new : Server R A)
+      → MakesAll (Makes state refuses) calls before old after new → (so_far : List ℕ) (over : Bool) (given : List ℕ) → Running state s so_far over given old
       → Running state s (so_far ++ used_in calls) (ended over calls) (given ++ given_in calls) new
   unfolding ended
   goes_by s [] before old after new (counter, same) so_far over given r =

@@ -1,4 +1,5 @@
-use Rattle.std.proofs.Common.{◌≡◌, ◌⊎◌, ◌≤◌, length, length-append, ℕ, Option, None, Some, true, false, List, [], ◌∷◌, ◌++◌, codes, refl, sym, ap, arith, ◌∙◌, inl, inr, subst}
+use Rattle.std.proofs.Common.{◌≡◌, ◌⊎◌, ◌≤◌, length, length-append, ℕ, Option, None, Some, true, false, List, [], ◌∷◌, ◌++◌, codes, refl, sym, ap}
+use Rattle.std.proofs.Common.{arith, ◌∙◌, inl, inr, subst}
 use Rattle.std.proofs.lemmas.List.Elements.{All-nil}
 use Rattle.git_pkt.proofs.Spelling.{none_begins_nothing}
 use Rattle.git_pkt.specs.Splits.{Given, Splits}
@@ -58,7 +59,12 @@ returns-clause-whole g c = record {
     lines = record { given = offer_packets; rest = []; splits = offer_splits; text_is = refl };
   });
   asks = record { packets = []; splits = record { spelled = refl; ends = none_begins_nothing }; requests = refl };
-  ends = record { answered = record { asked = refl; nothing_begun = refl; whole = whole_offer }; over = (refl, inr (refl, refl, refl)); nothing_left = refl; ended = refl };
+  ends = record {
+    answered = record { asked = refl; nothing_begun = refl; whole = whole_offer };
+    over = (refl, inr (refl, refl, refl));
+    nothing_left = refl;
+    ended = refl;
+  };
 }
 
 -- a stream of no bytes was used whole
