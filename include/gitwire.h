@@ -498,8 +498,9 @@ GITWIRE_FREES(gitwire_server)
  *
  * A call that reports returns PACKET, with `length` bytes in the buffer to be sent now, or MORE: there is nothing to send yet. It is allowed when
  * a pull would return what it is named after, and otherwise returns NOT_NOW: so no order of calls gives a wrong answer. No pull is needed between
- * two reports of references, of objects or of bytes of a pack; a line of the boundary may come after a header, and then it is to be pulled. A
- * report may differ from that for an earlier request of the session. Once the packet of a report was returned, the server keeps of it only the
+ * two reports of references, of objects or of bytes of a pack; a line of the boundary may come after a header, and then it is to be pulled; and
+ * a pull comes between the report of the last want and the next report, gitwire_host_fail too. A report may differ from that for an earlier
+ * request of the session. Once the packet of a report was returned, the server keeps of it only the
  * name of the last reference, and the objects of wanted references, 33 bytes each. No call waits for anything: a host may serve many clients in
  * one thread, and report to each when its store has answered.
  *
