@@ -1,5 +1,5 @@
 //! Memory whose refusal a contract can state.
-ghost use Rattle.std.specs.Prelude.{◌≡◌, ◌+◌, ◌*◌, ◌≤◌, ℕ, OnOk, OnErr, vec_capacity, vec_len};
+ghost use Rattle.std.specs.Prelude.{◌≡◌, ◌+◌, ◌*◌, ◌<◌, ◌≤◌, ℕ, OnOk, OnErr, vec_capacity, vec_len};
 ghost use Rattle.git_msg.specs.Memory.{bytes_each};
 
 use std::alloc::{AllocError, Allocator};
@@ -19,6 +19,7 @@ pub trait Memory: Allocator {
         ensures items { list.new.items ≡ list.old.items }
         ensures len { vec_len list.new ≡ vec_len list.old }
         ensures ok { OnOk result (vec_len list.new + more ≤ vec_capacity list.new) }
+        ensures full { OnErr result (vec_capacity list.old < vec_len list.old + more) }
         ensures refused { OnErr result (refuses ((vec_len list.old + more) * bytes_each T.row)) };
 }
 
