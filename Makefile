@@ -8,7 +8,7 @@ LIBRARY ?= crates/gitwire/out/libgitwire.a
 KIT = $(shell dirname "$$($(RT) doc)")
 VERSION = 0.2.0
 
-.PHONY: run program library install test test-program test-git-suite audit cases bench format
+.PHONY: run program library install test test-program test-git-suite audit mutants cases bench format
 
 # The crates of this repository that a crate depends on, lowest first, and it: its line of crates.txt names them in that order.
 with_those_below = $(foreach it,$(shell sed -n 's/^$(1)\( staticlib\)\{0,1\}: //p' crates.txt) $(1),$(if $(wildcard crates/$(it)),$(it)))
@@ -39,11 +39,11 @@ program:
 library:
 	$(call prove,gitwire,lib)
 
-# Installs the program with its manual page, and the library with its own, its header, what that names (the pages on the protocol and on
-# what is promised, the script that writes a repository text, the examples), and what pkg-config prints for it: a C program is then built with
-# `pkg-config --cflags --libs gitwire` and nothing of this folder. It has the library twice: as an archive, and as a shared library of
-# the same objects, which shows the calls of the header alone. What was built is taken as it is; what was not is proved first, and each
-# is reported.
+# Installs the program with its manual page and completions for shells, and the library with its own, its header, what that names (the pages
+# on the protocol and on what is promised, the script that writes a repository text, the examples), and what pkg-config prints for it: a C
+# program is then built with `pkg-config --cflags --libs gitwire` and nothing of this folder. It has the library twice: as an archive, and
+# as a shared library of the same objects, which shows the calls of the header alone. What was built is taken as it is; what was not is
+# proved first, and each is reported.
 install: prefix = $(abspath $(PREFIX))
 install: to = $(DESTDIR)$(prefix)
 install: $(PROGRAM) $(LIBRARY)
@@ -53,6 +53,9 @@ install: $(PROGRAM) $(LIBRARY)
 	done
 	@install -D -m 755 "$(PROGRAM)" "$(to)/bin/git2show"
 	@install -D -m 644 docs/git2show.1 "$(to)/share/man/man1/git2show.1"
+	@install -D -m 644 completions/git2show.bash "$(to)/share/bash-completion/completions/git2show"
+	@install -D -m 644 -t "$(to)/share/zsh/site-functions" completions/_git2show
+	@install -D -m 644 -t "$(to)/share/fish/vendor_completions.d" completions/git2show.fish
 	@install -D -m 644 docs/gitwire.3 "$(to)/share/man/man3/gitwire.3"
 	@install -D -m 644 include/gitwire.h "$(to)/include/gitwire.h"
 	@install -D -m 644 -t "$(to)/share/doc/gitwire" docs/PROTOCOL.md docs/PROMISES.md docs/STEPS.md
@@ -101,6 +104,12 @@ format:
 # CRATES names those to be tried, where not all are; LANES is how many at a time.
 audit:
 	@RT="$(RT)" wrong-bodies/audit.py $(CRATES)
+
+# Makes mutants of the public functions of CRATE by `rt plant`, and prints what its contracts let through, beside what is known to be right. ONLY
+# names the functions, where not all are to be changed; MINUTES is how long it may take after the first check.
+MINUTES ?= 60
+mutants:
+	@RT="$(RT)" wrong-bodies/mutants.py "$(CRATE)" $(if $(ONLY),--only "$(ONLY)") --max 2000 --minutes $(MINUTES)
 
 # Builds the Rattle programs, and measures them beside C and the real Git.
 bench:

@@ -3,10 +3,9 @@
  *
  *     ask PROGRAM [ARGUMENT..] < REQUEST
  *
- * Starts the program, waits for its advertisement, sends it the request, and waits for the answer and for the program's
- * end. Prints one line: `start answer packets peak`. `start` is the microseconds until the advertisement's end, `answer`
- * those from the request to the answer's end, `packets` counts the answer's data packets, and `peak` is the program's
- * greatest resident set in KiB.
+ * Starts the program, waits for its advertisement, sends it the request, and waits for the answer and for the program's end. Prints one
+ * line: `start answer packets peak`. `start` is the time in microseconds until the end of the advertisement, `answer` the time from the
+ * request to the end of the answer, `packets` counts the answer's data packets, and `peak` is the program's maximum resident set in KiB.
  */
 #include <stdlib.h>
 #include <sys/resource.h>
@@ -31,7 +30,7 @@ static uint64_t microseconds(void)
 	return (uint64_t)now.tv_sec * 1000000 + (uint64_t)now.tv_nsec / 1000;
 }
 
-/* Starts the program. What it writes comes on standard input, and what is written to the descriptor given, it reads. */
+/* Starts the program. Its output is our standard input, and it reads what is written to the descriptor. */
 static int start(char **program)
 {
 	int to[2], from[2];
@@ -55,7 +54,7 @@ static int start(char **program)
 	return to[1];
 }
 
-/* Reads the request whole, and sets its length. */
+/* Reads the whole request, and sets its length. */
 static char *read_request(size_t *length)
 {
 	size_t room = 4096;
@@ -78,7 +77,7 @@ static char *read_request(size_t *length)
 	return request;
 }
 
-/* Sends the request. The program answers nothing before it has read it whole. */
+/* Sends the request. The program answers nothing before it has read all of it. */
 static void send(int to, const char *request, size_t length)
 {
 	while (length > 0) {
@@ -104,7 +103,7 @@ static uint64_t read_message(void)
 	return packets;
 }
 
-/* Waits for the program's end, which has to be a good one. The answer is its greatest resident set in KiB. */
+/* Waits for the program's end, which has to be a good one. Returns its maximum resident set in KiB. */
 static long wait_for_end(void)
 {
 	struct rusage usage;

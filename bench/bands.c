@@ -3,8 +3,8 @@
  *
  *     bands PACK
  *
- * Reads the pack whole, advertises a version and nothing else, waits for a request, and writes the pack in packets of the
- * pack's band, as long as they may be, and a flush.
+ * Reads the whole pack, advertises a version and nothing else, waits for a request, and writes the pack in packets of the pack's band, as
+ * long as they may be, and a flush.
  */
 #include <fcntl.h>
 #include <stdio.h>
@@ -28,7 +28,7 @@ static void tell(const void *bytes, size_t length)
 		stop("the answer is not written");
 }
 
-/* Reads the file of this name whole, and sets its length. */
+/* Reads the whole file of this name, and sets its length. */
 static unsigned char *read_file(const char *name, size_t *length)
 {
 	struct stat about;

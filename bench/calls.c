@@ -1,11 +1,10 @@
 /*
- * Counts the packets of standard input and the bytes of their payloads, and prints one line, as packets.c does: by calls of the
- * library for C. What a call costs is what this takes longer than crates/bench_packets, which is the same loop over the same
- * reader in its own language.
+ * Counts the packets of standard input and the bytes of their payloads, and prints one line, as packets.c does: by calls of the library for
+ * C. The cost of the calls is the time that this takes more than crates/bench_packets, which is the same loop over the same reader in its
+ * own language.
  *
- * Both read 64 KiB at a time, and the reader gathers each packet in its hold. A call of C copies a payload from there into the
- * caller's room, where bench_packets looks at it in the hold. So `bench/run.sh` has a row for each: beside bench_packets as it
- * is, and beside `bench_packets copied`, which copies each payload into a room too.
+ * Both read 64 KiB at a time, and the reader gathers each packet in its hold, where bench_packets looks at it. A call of C gives
+ * the packets of a chunk in an array, with their payloads where they came; one that is cut is copied into the caller's buffer.
  */
 #include <gitwire.h>
 
@@ -15,17 +14,26 @@
 #include <unistd.h>
 
 #define PIECE_BYTES 65536
+#define MOST_PACKETS 256
 
 static uint8_t piece[PIECE_BYTES], room[GITWIRE_PAYLOAD_ROOM];
+static gitwire_answer listed[MOST_PACKETS];
 static uint64_t packets, bytes, checksum;
 
-/* What one packet adds to the checksum: for data the first byte (0 where there is none) and the length. */
-static uint64_t mark(gitwire_answer answer)
+/* What one packet adds to the checksum: for data the first byte (0 if there is none) and the length. */
+static uint64_t mark(gitwire_answer packet, const uint8_t *payload)
 {
-	if (answer.kind != GITWIRE_PAYLOAD)
-		return UINT64_C(0x1000000) + (uint64_t)(answer.kind - GITWIRE_FLUSH);
-	uint64_t first = answer.length ? room[0] : 0;
-	return first * 65536 + answer.length;
+	if (packet.kind != GITWIRE_PAYLOAD)
+		return UINT64_C(0x1000000) + (uint64_t)(packet.kind - GITWIRE_FLUSH);
+	uint64_t first = packet.length ? payload[0] : 0;
+	return first * 65536 + packet.length;
+}
+
+static void count_packet(gitwire_answer packet, const uint8_t *payload)
+{
+	packets++;
+	bytes += packet.length;
+	checksum = checksum * 31 + mark(packet, payload);
 }
 
 static int tell_fault(gitwire_answer answer)
@@ -51,14 +59,13 @@ int main(void)
 		if (count < 0)
 			return 1;
 		for (size_t used = 0; used < (size_t)count; used += answer.used) {
-			answer = gitwire_packet_reader_feed(&reader, piece + used, (size_t)count - used, room, sizeof room);
-			if (answer.kind == GITWIRE_MORE)
-				continue;
+			const uint8_t *part = piece + used;
+
+			answer = gitwire_packet_reader_packets(&reader, part, (size_t)count - used, listed, MOST_PACKETS, room, sizeof room);
+			for (size_t i = 0; i < answer.length; i++)
+				count_packet(listed[i], gitwire_payload(listed[i], part, room));
 			if (answer.kind == GITWIRE_FAILED)
 				return tell_fault(answer);
-			packets++;
-			bytes += answer.length;
-			checksum = checksum * 31 + mark(answer);
 		}
 	}
 	answer = gitwire_packet_reader_close(&reader);

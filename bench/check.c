@@ -3,8 +3,8 @@
  *
  *     check REQUESTS < RESPONSES
  *
- * It reads requests of ls-refs and fetch, references with their attributes, and responses to fetch that have a packfile alone. What else
- * it meets it refuses. This is what `git2show check` is measured against.
+ * It reads requests of ls-refs and fetch, references with their attributes, and responses to fetch that have only a packfile. It refuses
+ * anything else. This is what `git2show check` is measured against.
  */
 #include <fcntl.h>
 #include <stdlib.h>
@@ -38,7 +38,7 @@ static bool write_lines(void)
 	return is_written || refuse("WriteFault");
 }
 
-/* Makes room for one more line. */
+/* Makes space for one more line. */
 static bool make_room(void)
 {
 	return LINES_BYTES - lines_length >= LONGEST_LINE || write_lines();
@@ -55,7 +55,7 @@ static void put_text(const char *text)
 	put(text, strlen(text));
 }
 
-/* Whether there is a next packet. One is due. */
+/* Reads the next packet, which is expected. Returns whether there is one. */
 static bool read_packet(enum packet *packet)
 {
 	*packet = next_packet(&reader);
@@ -124,7 +124,7 @@ static bool hear_advertisement(void)
 	return true;
 }
 
-/* An attribute of a reference, of which the text begins with a space. */
+/* An attribute of a reference, whose text begins with a space. */
 static bool hear_attribute(const unsigned char *text, size_t length)
 {
 	static const char target[] = " symref-target:", peeled[] = " peeled:";

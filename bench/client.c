@@ -1,7 +1,7 @@
 /*
- * Reads what a server sends to a client that asked for a pack, and prints one line: `bytes checksum` of the pack. The checksum
- * takes the bytes at the multiples of 65,536 of the pack: so neither number depends on how a reader cuts the pack, which this
- * one does by packets. This is what `git_client::Client` is measured against; crates/bench_client prints the same line.
+ * Reads what a server sends to a client that asked for a pack, and prints one line: `bytes checksum` of the pack. The checksum is of the
+ * pack's bytes at the multiples of 65,536: so neither number depends on how a reader cuts the pack; this one cuts it by packets. This is
+ * what `git_client::Client` is measured against; crates/bench_client prints the same line.
  */
 #include "pack_counts.h"
 #include "pkt_line.h"
@@ -17,7 +17,7 @@ static bool is_line(const char *line)
 	return reader.length == length && memcmp(payload_of(&reader), line, length) == 0;
 }
 
-/* A fault that the packet last read shows. */
+/* An error that the last packet shows. */
 static bool refuse(const char *name)
 {
 	if (!reader.fault)
@@ -25,7 +25,7 @@ static bool refuse(const char *name)
 	return false;
 }
 
-/* Whether there is a next packet. One is due. */
+/* Reads the next packet, which is expected. Returns whether there is one. */
 static bool read_packet(enum packet *packet)
 {
 	*packet = next_packet(&reader);
@@ -47,7 +47,7 @@ static bool read_advertisement(void)
 	return packet == FLUSH || refuse("UnexpectedPacket");
 }
 
-/* A packet of the packfile section, by its band. Where it has nothing after the band's byte, nothing is sent. */
+/* A packet of the packfile section, by its band. If it has nothing after the band's byte, nothing was sent. */
 static bool split(void)
 {
 	const unsigned char *payload = payload_of(&reader);

@@ -1,7 +1,7 @@
 /*
  * Asks for a pack and receives the answer on standard input, as crates/bench_client does, and prints the same line: by calls of the
- * library for C, by which the bytes of the pack lie where they came, in the piece. It is measured beside client.c, which reads the
- * same answer with no library and gathers each packet.
+ * library for C, which give the events of a chunk in an array, while the bytes of the pack stay in the chunk. It is measured beside
+ * client.c, which reads the same answer without a library and gathers each packet.
  */
 #include <gitwire.h>
 
@@ -13,9 +13,11 @@
 #include "pack_counts.h"
 
 #define PIECE_BYTES 65536
+#define MOST_EVENTS 256
 
-static uint8_t piece[PIECE_BYTES], room[GITWIRE_PACKET_ROOM];
-static size_t at, end;           /* the bytes of the piece that are still to be used */
+static uint8_t piece[PIECE_BYTES], room[GITWIRE_EVENTS_ROOM(PIECE_BYTES)];
+static gitwire_event events[MOST_EVENTS];
+static size_t at, end;           /* the bytes of the chunk that are still to be used */
 static gitwire_client client = GITWIRE_NONE;
 static gitwire_request request = GITWIRE_NONE;
 static bool has_asked;
@@ -42,7 +44,7 @@ static bool tell_fault(uint8_t fault, uint64_t offset)
 	return false;
 }
 
-/* Reads the next piece, where one was used up. At the input's end the client is closed, where more was due. */
+/* Reads the next chunk, if one was used up. At the end of the input the client is closed, if it expected more. */
 static bool read_piece(void)
 {
 	ssize_t count;
@@ -63,29 +65,24 @@ static bool read_piece(void)
 	return true;
 }
 
-/* Receives what the piece contains, up to the end of the advertisement or of the response. */
+/* Receives what the chunk contains, up to the end of the advertisement or of the response. */
 static bool hear(void)
 {
-	while (at < end) {
-		gitwire_event event = gitwire_client_feed_in_place(&client, piece + at, end - at, room, sizeof room);
+	gitwire_answer answer = { .kind = GITWIRE_MORE };
 
-		at += event.used;
-		switch (event.kind) {
-		case GITWIRE_PACK:
-			count_pack(piece + at - event.text_length, event.text_length);
-			break;
-		case GITWIRE_FAILED:
-			return tell_fault(event.fault, event.offset);
-		case GITWIRE_MORE:
-		case GITWIRE_OFFERED:
-		case GITWIRE_ENDED:
-			return true;
-		}
+	while (at < end && answer.kind == GITWIRE_MORE) {
+		const uint8_t *part = piece + at;
+
+		answer = gitwire_client_events(&client, part, end - at, events, MOST_EVENTS, room, sizeof room);
+		at += answer.used;
+		for (size_t i = 0; i < answer.length; i++)
+			if (events[i].kind == GITWIRE_PACK)
+				count_pack(gitwire_texts(events[i], part, room), events[i].text_length);
 	}
-	return true;
+	return answer.kind != GITWIRE_FAILED || tell_fault(answer.fault, answer.offset);
 }
 
-/* Asks what is to be asked, and leaves after it. */
+/* Asks the request, and leaves after its response. */
 static bool go_on(void)
 {
 	gitwire_answer answer;

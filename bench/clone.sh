@@ -1,8 +1,8 @@
 # shellcheck shell=bash disable=SC2154
-# The rows `clone`, for bench/run.sh, which reads this file: what examples/upload-pack.c answers to a clone, beside the real `git upload-pack`. A
-# repository of 100,000 objects and 10,000 branches is served over one connection: the list of references, and a pack of all that they lead to.
-# It is one pack, as it was imported, and then with the index of its objects and commits that `git gc` makes, by which Git puts the pack together
-# six times as fast. The whole run is measured, from its start to its last byte.
+# The rows `clone`, for bench/run.sh, which reads this file: what examples/upload-pack.c answers to a clone, beside the real `git
+# upload-pack`. A repository of 100,000 objects and 10,000 branches is served over one connection: the list of references, and a pack of
+# everything that they lead to. It is one pack, as it was imported, and then with the index of its objects and commits that `git gc` makes;
+# with it Git makes the pack six times as fast. The whole run is measured, from its start to its last byte.
 
 clone_objects=100000
 clone_references=10000
@@ -53,7 +53,7 @@ measure_clone() {
     clone_row 'clone, the same after git gc'
 }
 
-# Prints what the rows do not: how many bytes each writes, and that what Git clones is the same.
+# Prints what the rows do not: how many bytes each writes, and that Git clones the same from both.
 tell_clone() {
     local theirs ours it
     theirs=$("${their_clone[@]}" < "$streams/clone" | wc -c)

@@ -1,4 +1,4 @@
-/* The lengths that a reader of packets goes by, and the values of the digits that begin each. */
+/* The lengths that a reader of packets needs, and the values of the digits that begin each packet. */
 #ifndef DIGITS_H
 #define DIGITS_H
 

@@ -1,7 +1,7 @@
 # shellcheck shell=bash disable=SC2154
-# The row `fetch`, for bench/run.sh, which reads this file: a pack that `git2show serve` sends, beside bands.c, which frames
-# the same pack by hand, beside the real `git upload-pack`, which sends what it asks `git pack-objects` for, and beside `cat`
-# of the same bytes. All write to a pipe; ask.c reads it, and `cat` for `cat`.
+# The row `fetch`, for bench/run.sh, which reads this file: a pack that `git2show serve` sends, beside bands.c, which frames the same pack
+# by hand, beside the real `git upload-pack`, which sends the output of `git pack-objects`, and beside `cat` of the same bytes. All write to
+# a pipe; ask.c reads it, and `cat` for `cat`.
 
 objects=1000          # blobs of 1,000,000 random bytes each, which no pack makes smaller
 most_beside_pack=8192 # the KiB that a server of one pack may take beside it

@@ -3,10 +3,9 @@
  *
  *     generate PACKETS PAYLOAD text|binary|pack
  *
- * PACKETS data packets of PAYLOAD bytes each (1 to 65,516), then a flush packet. `text` is printable words with a LF at
- * the end of each payload, `binary` is pseudo-random bytes. `pack` is what a client reads that fetches: an advertisement,
- * and a response whose packets have PAYLOAD pseudo-random bytes each (1 to 65,515) on the pack's band. The same arguments
- * always give the same bytes.
+ * PACKETS data packets of PAYLOAD bytes each (1 to 65,516), then a flush packet. `text` is printable words with a LF at the end of each
+ * payload, `binary` is pseudo-random bytes. `pack` is the input of a client that fetches: an advertisement, and a response whose packets
+ * have PAYLOAD pseudo-random bytes each (1 to 65,515) on the pack's band. The same arguments always give the same bytes.
  */
 #include <stdint.h>
 #include <stdio.h>

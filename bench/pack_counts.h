@@ -1,4 +1,4 @@
-/* What is counted of a pack, however it is cut: its bytes, and a checksum of those at the multiples of 65,536 of it. */
+/* What is counted of a pack, however it is cut: its bytes, and a checksum of those at the multiples of 65,536. */
 #ifndef PACK_COUNTS_H
 #define PACK_COUNTS_H
 
@@ -7,7 +7,7 @@
 #include <stdint.h>
 #include <stdio.h>
 
-#define MARKED_BYTES 65536       /* more than a packet has: of one, a byte at the most is marked */
+#define MARKED_BYTES 65536       /* more than a packet has: at most one byte of it is marked */
 
 static uint64_t pack_bytes, pack_checksum, pack_mark;
 

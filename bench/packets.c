@@ -7,7 +7,7 @@
 
 static struct reader reader;
 
-/* What one packet adds to the checksum: for data the first byte (0 where there is none) and the length. */
+/* What one packet adds to the checksum: for data the first byte (0 if there is none) and the length. */
 static uint64_t mark(enum packet packet, const struct reader *r)
 {
 	if (packet != DATA)

@@ -1,8 +1,8 @@
 /*
- * Reads the packets of standard input: pkt-lines, as gitprotocol-common(5) has them. The input is read 64 KiB at a
- * time, and each packet is gathered, by runs, in one buffer that is as long as the longest packet.
+ * Reads the packets of standard input: pkt-lines, as in gitprotocol-common(5). The input is read 64 KiB at a time, and each packet is
+ * gathered, by runs, in one buffer that is as long as the longest packet.
  *
- * A fault ends the reading with its name and its offset in the stream, as `git2show show` reports it.
+ * An error ends the reading with its name and its offset in the stream, as `git2show show` reports it.
  */
 #ifndef PKT_LINE_H
 #define PKT_LINE_H
@@ -21,11 +21,11 @@
 enum packet { FLUSH, DELIM, RESPONSE_END, DATA, NO_PACKET };
 
 struct reader {
-	size_t at, end;          /* the bytes of the piece that are still to be used */
+	size_t at, end;          /* the bytes of the chunk that are still to be used */
 	uint64_t offset;         /* where the packet in the hold begins */
 	uint64_t next;           /* where the packet after it begins */
 	size_t length;           /* the payload's length, 0 for a packet with none */
-	const char *fault;       /* the fault's name, or NULL where the input ended between two packets */
+	const char *fault;       /* the error's name, or NULL if the input ended between two packets */
 	uint64_t fault_offset;
 	bool has_offset;         /* a failing read has none */
 	unsigned char piece[PIECE_BYTES];
@@ -45,7 +45,7 @@ static enum packet fail(struct reader *r, const char *name, uint64_t offset)
 	return NO_PACKET;
 }
 
-/* Fills the hold from `have` up to `want` bytes; fewer where the input ended or a read failed. */
+/* Fills the hold from `have` up to `want` bytes; with fewer if the input ended or a read failed. */
 static size_t gather(struct reader *r, size_t have, size_t want)
 {
 	while (have < want) {
@@ -71,7 +71,7 @@ static size_t gather(struct reader *r, size_t have, size_t want)
 	return have;
 }
 
-/* The next packet, or NO_PACKET at the input's end and at a fault. */
+/* The next packet, or NO_PACKET at the end of the input and at an error. */
 static enum packet next_packet(struct reader *r)
 {
 	uint64_t offset = r->next;
@@ -106,7 +106,7 @@ static enum packet next_packet(struct reader *r)
 	return DATA;
 }
 
-/* Reports the fault, if there is one, on standard error. The answer is the program's status. */
+/* Reports the error, if there is one, on standard error. Returns the exit status. */
 static inline int tell_fault(const struct reader *r, const char *program)
 {
 	if (!r->fault)

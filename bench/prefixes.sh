@@ -1,12 +1,12 @@
 # shellcheck shell=bash disable=SC2154
-# The rows `prefixes`, for bench/run.sh, which reads this file: a request for references with many prefixes, to `git2show serve`
-# and to the real `git upload-pack`, over the same 100,000 references. ask.c sends it, and receives the answer: the time is from the
-# request's first byte on. One prefix shows 999 references, and so does each request: the other prefixes lie between the
-# references, in no order. Above 65,536 prefixes Git answers with all references, so there ours is measured alone.
+# The rows `prefixes`, for bench/run.sh, which reads this file: a request for references with many prefixes, to `git2show serve` and to the
+# real `git upload-pack`, over the same 100,000 references. ask.c sends it, and receives the answer: the time is from the request's first
+# byte on. One prefix shows 999 references, and so does each request: the other prefixes lie between the references, in no order. Above
+# 65,536 prefixes Git answers with all references, so only ours is measured there.
 
 listed=100000
 shown=999
-most_texts=67108864 # what the texts of a request may have: a million prefixes are more than is usual
+most_texts=67108864 # what the texts of a request may have: a million prefixes need more than the default
 
 their_listing=(git upload-pack "$streams/listed")
 our_listing=("$our_show" serve --repo "$streams/listed.repo" --pack /dev/null --limit "$most_texts")

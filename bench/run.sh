@@ -44,7 +44,7 @@ for program in packets uncopied show names client generate ask bands check; do
 done
 if [ -z "$c_only" ]; then
     taken=("$our_library" "$(dirname "$("${RT:-rt}" doc)")/c/liblibc_c.a")
-    for program in calls client_calls; do
+    for program in calls client_calls hosts; do
         ${CC:-gcc} -O3 -Wall -Wextra -I"$top/include" -o "$out/$program" "$top/bench/$program.c" "${taken[@]}"
     done
     for program in daemon upload-pack; do
@@ -77,14 +77,13 @@ microseconds() {
     echo $((end - begin))
 }
 
-# keep_least NAME TIME
-# The variable of this name keeps the least of its times, and is 0 before the first.
+# keep_least NAME TIME: the variable of this name keeps the least of its times, and is 0 before the first.
 keep_least() {
     local -n least=$1
     if [ "$least" = 0 ] || [ "$2" -lt "$least" ]; then least=$2; fi
 }
 
-# row NAME BYTES C-TIME OUR-TIME, of which one is 0 where it was not measured.
+# row NAME BYTES C-TIME OUR-TIME: a time is 0 if it was not measured.
 row() {
     awk -v name="$1" -v bytes="$2" -v c="$3" -v ours="$4" 'BEGIN {
         printf "%-34s ", name
@@ -122,8 +121,8 @@ same_output() {
         [ "$("$our_packets" bands < "$streams/$stream")" = "$("$out/uncopied" < "$streams/$stream")" ] ||
             stop "bench_packets bands and uncopied.c differ on the stream '$stream'"
     done
-    # A client hands out the bytes of a packet as they come, and client.c a packet whole: what is compared are the bytes of the pack
-    # and a checksum, which do not depend on how it is cut.
+    # A client hands out the bytes of a packet as they come, and client.c hands out whole packets: this compares the bytes of the pack and a
+    # checksum, which do not depend on how it is cut.
     for stream in large_pack small_pack; do
         counts=$("$out/client" < "$streams/$stream")
         [ "$("$our_client" < "$streams/$stream")" = "$counts" ] || stop "bench_client and client.c differ on the stream '$stream'"
@@ -137,7 +136,7 @@ same_output() {
     echo "Output: the same as C's, byte for byte, on every stream."
 }
 
-# Prints the greatest resident set, in KiB, of a program that reads standard input.
+# Prints the maximum resident set, in KiB, of a program that reads standard input.
 peak_memory() {
     if [ -x /usr/bin/time ]; then
         /usr/bin/time -f %M -o "$streams/peak" "$@" > /dev/null
@@ -160,6 +159,8 @@ source "$top/bench/check.sh"
 source "$top/bench/fetch.sh"
 # shellcheck source=bench/clone.sh
 source "$top/bench/clone.sh"
+# shellcheck source=bench/hosts.sh
+source "$top/bench/hosts.sh"
 # shellcheck source=bench/sessions.sh
 source "$top/bench/sessions.sh"
 has_git=$(command -v git || true)
@@ -175,15 +176,14 @@ measure 'bands, 50 bytes, 200 MB' small_pack "$out/uncopied" "$our_packets" band
 if [ -z "$c_only" ]; then
     measure 'calls of C, 65,515 bytes, 1 GB' large "$out/calls" "$our_packets"
     measure 'calls of C, 50 bytes, 200 MB' small "$out/calls" "$our_packets"
-    measure 'calls of C, copied, 65,515 bytes' large "$out/calls" "$our_packets" copied
-    measure 'calls of C, copied, 50 bytes' small "$out/calls" "$our_packets" copied
 fi
 measure 'client, 65,515 bytes, 1 GB' large_pack "$out/client" "$our_client"
 measure 'client, 50 bytes, 200 MB' small_pack "$out/client" "$our_client"
-# Here it is the library, called from C, that is measured beside C.
+# Here the library, called from C, is measured beside C.
 if [ -z "$c_only" ]; then
     measure 'client by calls of C, 65,515 bytes' large_pack "$out/client" "$out/client_calls"
     measure 'client by calls of C, 50 bytes' small_pack "$out/client" "$out/client_calls"
+    measure_hosts
 fi
 measure 'show, 65,515 text, 1 GB' large "$out/show" "$our_show" show
 measure 'show, 50 text, 200 MB' small "$out/show" "$our_show" show

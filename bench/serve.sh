@@ -1,7 +1,7 @@
 # shellcheck shell=bash disable=SC2154
-# The row `serve`, for bench/run.sh, which reads this file: references that `git2show serve` answers, beside the real
-# `git upload-pack`, which answers the same ones from its packed refs. Both write to a pipe, whose other end ask.c reads:
-# the answering begins with the request, when the repository text was read and the advertisement has come.
+# The row `serve`, for bench/run.sh, which reads this file: references that `git2show serve` sends, beside the real `git upload-pack`, which
+# sends the same ones from its packed refs. Both write to a pipe that ask.c reads: the measurement begins with the request, when the
+# repository text was read and the advertisement was received.
 
 references=1000000
 answer_bytes=$((references * 65 + 4)) # a packet of 65 bytes for each, and a flush
@@ -12,7 +12,7 @@ our_serve=("$our_show" serve --repo "$streams/text" --pack /dev/null)
 serve_start=0 # the best time of ours until its advertisement has come
 serve_peak=0  # its greatest resident set in KiB
 
-# Asks git upload-pack for version 2. Nobody's own configuration takes part, nor a repository that the caller is in.
+# Asks git upload-pack for version 2. No configuration of a user takes part, nor a repository around the folder.
 unset "${!GIT_@}"
 export GIT_PROTOCOL=version=2 GIT_CONFIG_NOSYSTEM=1 GIT_CONFIG_GLOBAL=/dev/null
 
@@ -56,7 +56,7 @@ measure_serve() {
     row 'serve, 1,000,000 references' "$answer_bytes" "$their_answer" "$our_answer"
 }
 
-# Prints what a server answers to the request, without its advertisement, which is all that it answers to a flush.
+# Prints what a server answers to the request, without its advertisement, which is its whole answer to a flush.
 answer_of() {
     local advertised
     advertised=$("$@" < "$streams/flush" | wc -c)

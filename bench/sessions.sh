@@ -1,10 +1,10 @@
 # shellcheck shell=bash disable=SC2154
-# What examples/daemon.c takes of memory for a hundred open sessions, for bench/run.sh, which reads this file: each has asked for the
-# pack, and does not read it, so that all that the daemon and the library keep for a client is in use.
+# How much memory examples/daemon.c takes for a hundred open sessions, for bench/run.sh, which reads this file: each has asked for the pack,
+# and does not read it, so that everything that the daemon and the library keep for a client is in use.
 
 sessions=100
 
-# Prints a number of kB that the system reports of a process: resident KIND.
+# Prints a number of kB that the system reports for a process: resident KIND.
 resident() {
     sed -n "s/^$2:[^0-9]*\([0-9]*\) kB/\1/p" "/proc/$1/status"
 }

@@ -9,7 +9,7 @@
 
 #define BLOCK 32                 /* payload bytes that are looked at together */
 #define OUT_BYTES 65536
-#define ROOM 128                 /* more than the front of a line, or an escaped block with its LF */
+#define ROOM 128                 /* more than the beginning of a line, or an escaped block with its LF */
 
 static struct reader reader;
 static char out[OUT_BYTES];

@@ -1,9 +1,9 @@
 /*
- * Splits the side bands of standard input without copying them, and prints one line: `packets bytes checksum`. Bytes of the
- * pack (band 1) and of the progress (band 2) are counted where they lie: those that a piece has of one packet count as a packet
- * does, and a packet with nothing on its band does not count. What comes of a packet's first five bytes is gathered only where a
- * piece ends among them. Any other packet is gathered whole, and counts as in packets.c. This is what `PacketReader::feed_band`
- * is measured against; crates/bench_packets prints the same line after the word `bands`, where it reads the same pieces.
+ * Splits the side bands of standard input without copying them, and prints one line: `packets bytes checksum`. Bytes of the pack (band 1)
+ * and of the progress (band 2) are counted where they are: those of one packet that are in a chunk count as a packet does, and a packet
+ * with nothing on its band does not count. The first five bytes of a packet are gathered only if a chunk ends among them. Any other packet
+ * is gathered whole, and counts as in packets.c. This is what `PacketReader::feed_band` is measured against; crates/bench_packets prints
+ * the same line after the word `bands`, if it reads the same chunks.
  */
 #include <errno.h>
 #include <inttypes.h>
@@ -22,7 +22,7 @@ enum band { PACK = 1, PROGRESS = 2 };
 static unsigned char piece[PIECE_BYTES], hold[PACKET_BYTES];
 static size_t held;              /* the bytes of the open packet that are in the hold */
 static size_t left;              /* those that are still to pass */
-static uint64_t offset, next;    /* where the packet begins whose bytes pass or passed last, and where one begins after it */
+static uint64_t offset, next;    /* where the packet begins whose bytes pass or passed last, and where the next one begins */
 static uint64_t packets, bytes, checksum;
 
 static void count(uint64_t mark, size_t length)
@@ -38,7 +38,7 @@ static bool refuse(const char *name, uint64_t place)
 	return false;
 }
 
-/* The number in these digits of the packet at `next`, or -1 where they refuse it. */
+/* The number in these digits of the packet at `next`, or -1 if they are refused. */
 static int number_of(const unsigned char *digits, size_t length)
 {
 	int number = 0;
@@ -61,7 +61,7 @@ static bool passes(unsigned char band)
 	return band == PACK || band == PROGRESS;
 }
 
-/* Counts what the piece has of the bytes that are to pass. */
+/* Counts the bytes of the chunk that have to pass. */
 static size_t pass(const unsigned char *at, size_t run)
 {
 	if (run > left)
@@ -72,7 +72,7 @@ static size_t pass(const unsigned char *at, size_t run)
 	return run;
 }
 
-/* Begins a packet whose bytes pass, after that of its band. */
+/* Begins a packet whose bytes pass, after its band's byte. */
 static size_t begin_to_pass(int number, const unsigned char *at, size_t run)
 {
 	held = 0;
@@ -82,7 +82,7 @@ static size_t begin_to_pass(int number, const unsigned char *at, size_t run)
 	return pass(at, run);
 }
 
-/* Fills the hold up to `want` bytes, as far as the piece goes. */
+/* Fills the hold up to `want` bytes, as far as the chunk has them. */
 static size_t hold_more(const unsigned char *at, size_t run, size_t want)
 {
 	if (run > want - held)
@@ -92,7 +92,7 @@ static size_t hold_more(const unsigned char *at, size_t run, size_t want)
 	return run;
 }
 
-/* Goes on with a packet that is gathered, or whose band is not known. */
+/* Continues with a packet that is gathered, or whose band is not known. */
 static size_t gather_on(const unsigned char *at, size_t run)
 {
 	size_t used = held < HEAD_BYTES ? hold_more(at, run, HEAD_BYTES) : 0;
@@ -126,7 +126,7 @@ static size_t gather_on(const unsigned char *at, size_t run)
 	return used;
 }
 
-/* Reads on, to a packet's end at the most. The answer is how many bytes were used: none where the stream is refused. */
+/* Reads on, at most to the end of a packet. Returns how many bytes were used: none if the stream is refused. */
 static size_t split(const unsigned char *at, size_t run)
 {
 	if (left > 0)

@@ -7,7 +7,7 @@
 #include <stddef.h>
 #include <unistd.h>
 
-/* Writes all the bytes. A write that a signal interrupts is made again; false where one fails. */
+/* Writes all the bytes. A write that a signal interrupts is made again; false if one fails. */
 static bool write_whole(const void *bytes, size_t length)
 {
 	const unsigned char *rest = bytes;

@@ -1,9 +1,9 @@
 /*
- * A client of daemon.c: what is kept of it, and its turn, in which it sends requests and is answered. Where a folder of Git is served, a process
- * of `upload-pack` takes it over once it has said what it wants.
+ * A client of daemon.c: its state, and its turn, in which it sends requests and receives answers. If a folder of Git is served, a process
+ * of `upload-pack` takes the client over after its first packet.
  *
- * Whatever it does, it takes a `struct client`, a buffer of one packet in the library, what MOST_KEPT bytes of a request's arguments take
- * there, and nothing else.
+ * Whatever it does, it takes no more memory than a `struct client`, a buffer of one packet in the library, and there what MOST_KEPT bytes
+ * of a request's arguments take.
  */
 #include <gitwire.h>
 
@@ -21,23 +21,23 @@
 
 #include "greeting.h"
 
-/* How many clients there may be at a time. */
+/* The maximum number of clients at a time. */
 #ifndef MOST_CLIENTS
 #define MOST_CLIENTS 128
 #endif
 
 /*
- * How many bytes the texts of a request's argument lines may have. For a clone Git sends a line for each reference, `want-ref` and its name, or
- * `want` and its object. So 300,000 references fit with names of 74 bytes on average, and with an object each, in either format. A request with
- * more is refused.
+ * The maximum number of bytes in the texts of a request's argument lines. For a clone Git sends a line for each reference, `want-ref` and
+ * its name, or `want` and its object. So 300,000 references fit with names of 74 bytes on average, or with an object each, in either
+ * format. A request with more is refused.
  *
- * This is what a client can make its place cost until it is answered: 25 MB, and 11 for 300,000 names of 22 bytes. Beside that a place takes
- * 200 KB, and only these while no request has come. So MOST_CLIENTS places can cost 3.3 GB: where that is too much have fewer of them, or a lower
- * limit. With -DMOST_KEPT=1048576 some 20,000 references fit, and a place costs little more than 1 MB.
+ * This limits the memory that a client can take with its place until it is answered: 25 MB, and 11 for 300,000 names of 22 bytes. In
+ * addition a place takes 200 KB, and before a request comes only these. So MOST_CLIENTS places can take 3.3 GB: if that is too much, have
+ * fewer of them, or a lower limit. With -DMOST_KEPT=1048576 some 20,000 references fit, and a place takes little more than 1 MB.
  *
- * While one client's packet is made the others wait: at the longest for as long as it takes to put in order the prefixes that this has room for,
- * which is about a second for 1,700,000 of them, or to compare each `unshallow` line of the text with each `shallow` of the request: of many such
- * lines less is better.
+ * While one client's packet is made the others wait: at most for as long as it takes to sort the prefixes that fit within this limit, which
+ * is about a second for 1,700,000 of them, or to compare each `unshallow` line of the text with each `shallow` line of the request. If the
+ * text has many such lines, a lower limit is better.
  */
 #ifndef MOST_KEPT
 #define MOST_KEPT 25165824
@@ -49,13 +49,13 @@ enum { MOST_PULLS = 64 };
 struct client {
 	enum { NOBODY, GREETING, SERVING, ENDING, LEAVING, HANDED_OVER } phase;
 	int connection;                           /* -1 once it is handed over */
-	pid_t process;                            /* that which has it then */
+	pid_t process;                            /* the process that has it then */
 	time_t deadline;
-	time_t since;                             /* since when a whole request of it is waited for */
-	bool wants_input, input_ended;            /* what has come is used, and more is due; no more comes */
+	time_t since;                             /* when the wait for a whole request of it began */
+	bool wants_input, input_ended;            /* all input is used, and more is needed; no more comes */
 	gitwire_packet_reader packets;            /* while GREETING */
 	gitwire_server server;                    /* from SERVING on */
-	size_t in_at, in_end, out_at, out_end;    /* what is not yet used, and not yet sent */
+	size_t in_at, in_end, out_at, out_end;    /* the bytes not used yet, and those not sent yet */
 	uint8_t in[16384], out[2 * GITWIRE_PACKET_ROOM];
 };
 
@@ -73,7 +73,7 @@ static time_t seconds(void)
 	return moment.tv_sec;
 }
 
-/* A fault by its name and offset, and of a limit how much that allows, until the next one is asked for. */
+/* An error by its name and offset, and for a limit how much that allows, valid until the next call. */
 static const char *text_of(gitwire_answer answer)
 {
 	static char text[GITWIRE_FAULT_TEXT_ROOM + 100];
@@ -85,7 +85,7 @@ static const char *text_of(gitwire_answer answer)
 	return text;
 }
 
-/* Reports on standard error what became of a client, unless that would wait for somebody who does not read it. */
+/* Reports on standard error what happened to a client, unless the write would wait for a reader. */
 static void tell(const char *what, const char *why)
 {
 	struct pollfd errors = { .fd = STDERR_FILENO, .events = POLLOUT };
@@ -102,7 +102,7 @@ static void forget(struct client *c)
 	c->phase = NOBODY;
 }
 
-/* Puts an error packet after what waits to be sent. */
+/* Puts an error packet after the bytes that wait to be sent. */
 static void put_error(struct client *c, const char *why)
 {
 	c->out_end += gitwire_put_error(&writer, (const uint8_t *)why, strlen(why), c->out + c->out_end, sizeof c->out - c->out_end).length;
@@ -116,7 +116,7 @@ static void refuse(struct client *c, const char *why)
 	c->phase = ENDING;
 }
 
-/* Closes a client whose session is not over, and sends it the reason, where nothing waits to be sent: that may be amid a packet. */
+/* Closes a client whose session is not over, and sends it the reason, unless bytes still wait to be sent: they may end inside a packet. */
 static void dismiss(struct client *c, const char *what, const char *why)
 {
 	tell(what, "");
@@ -127,7 +127,7 @@ static void dismiss(struct client *c, const char *what, const char *why)
 	forget(c);
 }
 
-/* Gives the connection to a process of `upload-pack`, which ends where this one does. */
+/* Gives the connection to a process of `upload-pack`, which ends when this one does. */
 static void hand_over(struct client *c)
 {
 	pid_t here = getpid();
@@ -167,7 +167,7 @@ static void see_off(struct client *c)
 	c->phase = NOBODY;
 }
 
-/* Reads on to the end of the first packet, whose payload comes to where the answer will be. What follows it stays in the connection. */
+/* Reads on to the end of the first packet, whose payload goes to where the answer will be. The bytes after it stay in the connection. */
 static void greet(struct client *c)
 {
 	gitwire_answer answer = gitwire_packet_reader_feed(&c->packets, c->in, c->in_end, c->out, sizeof c->out);
@@ -202,7 +202,7 @@ static bool is_error(const uint8_t *packet, size_t length)
 	return length >= 8 && memcmp(packet + 4, "ERR ", 4) == 0;
 }
 
-/* Ends a session that was refused. An error packet of the client is not answered by another. */
+/* Ends a session that was refused. An error packet of the client is not answered with another. */
 static void end_refused(struct client *c, gitwire_answer answer)
 {
 	tell("a session ended with ", text_of(answer));
@@ -212,8 +212,8 @@ static void end_refused(struct client *c, gitwire_answer answer)
 }
 
 /*
- * Gives what the server owes, as long as there is room for a whole packet and the turn lasts, and feeds it what has come. In the place of
- * its error packet goes one that also says how much a limit allows: the next pull returns the fault.
+ * Takes the packets that the server has to send, as long as a whole one fits and the turn lasts, and feeds it the input. Its error packet
+ * is replaced by one that also states how much a limit allows: the next pull returns the error.
  */
 static void serve(struct client *c)
 {
@@ -240,13 +240,13 @@ static void serve(struct client *c)
 	}
 }
 
-/* What a client is waited for: that it takes what is owed, and only then that it sends more. */
+/* What is expected from a client: first that it takes the bytes to be sent, and only then that it sends more. */
 static short awaited(const struct client *c)
 {
 	return c->wants_input && c->out_end == 0 ? POLLIN : POLLOUT;
 }
 
-/* Whether so many bytes went over, by which a client in its session has its time again. One whose connection is broken is forgotten. */
+/* Whether bytes were sent or received; then a client in its session gets its full time again. A client with a broken connection is forgotten. */
 static bool has_moved(struct client *c, ssize_t count)
 {
 	if (count < 0 && errno != EAGAIN && errno != EINTR)
@@ -256,7 +256,7 @@ static bool has_moved(struct client *c, ssize_t count)
 	return count >= 0;
 }
 
-/* One turn of a client: one read, MOST_PULLS packets and one write at the most, so that what one sends or takes holds up no other. */
+/* One turn of a client: at most one read, MOST_PULLS packets and one write, so that no client holds up the others. */
 static void turn(struct client *c)
 {
 	ssize_t count;
@@ -292,7 +292,7 @@ static void turn(struct client *c)
 		forget(c);
 }
 
-/* Begins with who has connected. */
+/* Starts with a client that has connected. */
 static void begin(struct client *c, int connection)
 {
 	c->phase = GREETING;

@@ -1,4 +1,4 @@
-/* What the programs of this folder share. Each defines PROGRAM before it, the name by which it reports what is wrong. */
+/* What the programs of this folder share. Each defines PROGRAM before it: the name that its error messages begin with. */
 #include <stdint.h>
 #include <stdio.h>
 #include <stdlib.h>

@@ -4,17 +4,18 @@
  *     daemon ADDRESS PORT SECONDS NAME FOLDER
  *     daemon ADDRESS PORT SECONDS NAME TEXT PACK [FILTERED]
  *
- * ADDRESS is one of the loopback network. PORT 0 is any that is free; the line on standard output has its number. NAME is how clients name the
- * repository. FOLDER is one of Git's own: each client of it is handed over to a process of `upload-pack` (upload-pack.c), found on the path. Or
- * TEXT is a repository text, and PACK the pack of every fetch; a fetch with a filter gets FILTERED instead, where that is given. A client that
- * has not sent within so many SECONDS what it wants is closed, and so is one that then neither reads nor writes for as long. SIGINT
- * ends it.
+ * ADDRESS is one of the loopback network. PORT 0 is any free port; the line on standard output has its number. NAME is how clients name the
+ * repository. FOLDER is one of Git's own: each client of it is handed over to a process of `upload-pack` (upload-pack.c), found on the
+ * path. Or TEXT is a repository text, and PACK the pack of every fetch; a fetch with a filter gets FILTERED instead, if there is one. A
+ * client that has not sent its first packet within so many SECONDS is closed, and so is one that then neither reads nor writes for as long.
+ * SIGINT ends it.
  *
- * There is a place for MOST_CLIENTS. Where another comes, the one goes of whom a whole request has been waited for longest: so those who
- * send little keep nobody out. Who takes an answer, however slowly, keeps its place: a host that strangers reach gives each address few
- * places, and each session a time for all of it. What a client may make its place cost is MOST_KEPT, in client.h.
+ * There is a place for MOST_CLIENTS. If another client comes, the one that has been expected to send a whole request for the longest time
+ * is closed: so clients that send little keep nobody out. A client that takes an answer, however slowly, keeps its place: if untrusted
+ * clients can reach the host, it has to give each address few places, and limit the time of each session. The memory that a client may take
+ * with its place is MOST_KEPT, in client.h.
  *
- * A client that is above a limit receives, in an error packet, which one that is and how much it allows: of a request, of time, of places.
+ * A client above a limit receives an error packet that states the limit and how much it allows: of a request, of time, of places.
  */
 #define _GNU_SOURCE
 #define PROGRAM "daemon"
@@ -27,13 +28,13 @@
 
 enum { TICK = 500 /* milliseconds */ };
 
-/* A request is waited for so many seconds at the least, whoever comes. */
+/* The minimum number of seconds for which a request is waited for, whoever comes. */
 enum { LEAST_SECONDS = 1 };
 
 static struct client clients[MOST_CLIENTS]; /* of zeros, as each handle begins */
 static volatile sig_atomic_t is_over;
 
-/* Closes the client of whom a whole request has been waited for longest: its place, or NULL where there is none such. */
+/* Closes the client that has been expected to send a whole request for the longest time. Returns its place, or NULL if there is no such client. */
 static struct client *make_room(void)
 {
 	struct client *slowest = NULL;
@@ -50,7 +51,7 @@ static struct client *make_room(void)
 	return slowest;
 }
 
-/* A place that nobody has, or has any more; NULL where none can be had. */
+/* A place that is free, or is made free; NULL if there is none. */
 static struct client *vacant_place(void)
 {
 	for (struct client *c = clients; c < clients + MOST_CLIENTS; c++)
@@ -59,7 +60,7 @@ static struct client *vacant_place(void)
 	return make_room();
 }
 
-/* Takes in who has connected. False where there is no place, or no descriptor. */
+/* Accepts a client that connects. False if there is no place, or no descriptor. */
 static bool welcome(int listener)
 {
 	struct client *place = vacant_place();
@@ -83,7 +84,7 @@ static void end_late(struct client *c)
 	dismiss(c, "a client was too slow", why);
 }
 
-/* Gives each client its turn for which something has come or gone, and closes those whose time is over. */
+/* Gives each client its turn if bytes can be received or sent, and closes the clients whose time is over. */
 static void give_turns(const struct pollfd *polled)
 {
 	time_t now = seconds();
@@ -95,16 +96,16 @@ static void give_turns(const struct pollfd *polled)
 			see_off(c);
 		else if (polled[i].revents)
 			turn(c);
-		if (c->phase != NOBODY && c->phase != HANDED_OVER && c->deadline < now) /* judged after its turn, which counts */
+		if (c->phase != NOBODY && c->phase != HANDED_OVER && c->deadline < now) /* judged after its turn, which may extend it */
 			end_late(c);
 	}
 }
 
-/* Serves until SIGINT. That a client's time is over, and a SIGINT that comes between two waits, is seen within a tick. */
+/* Serves until SIGINT. The end of a client's time, and a SIGINT that comes between two waits, are noticed within a tick. */
 static void run(int listener)
 {
 	struct pollfd polled[MOST_CLIENTS + 1];
-	bool is_open = true; /* else one wait is without the listener, which ends each wait while there is no room for who comes */
+	bool is_open = true; /* if not, one wait omits the listener, which would end each wait while there is no place for a client that connects */
 
 	while (!is_over) {
 		for (int i = 0; i < MOST_CLIENTS; i++) {
@@ -195,7 +196,7 @@ int main(int count, char **words)
 	if (snprintf(asked_for, sizeof asked_for, "git-upload-pack /%s", words[4]) >= (int)sizeof asked_for)
 		stop("the name is too long");
 	signal(SIGINT, end);
-	signal(SIGPIPE, SIG_IGN); /* who is gone is seen by a write that fails; whoever read what is reported here may be gone too */
+	signal(SIGPIPE, SIG_IGN); /* a broken connection is noticed by a write that fails; the reader of standard error may be gone too */
 	if (count == 6)
 		open_folder(words[5]);
 	else

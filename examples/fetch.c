@@ -3,8 +3,8 @@
  *
  *     fetch [--sha256] FOLDER REFERENCE PACK
  *
- * REFERENCE is a whole name, as `HEAD` or `refs/heads/main`; its object is printed. What the server sends of its progress is shown where
- * standard error is a terminal, with bytes escaped that might steer that. `git index-pack` takes the pack.
+ * REFERENCE is a whole name, as `HEAD` or `refs/heads/main`; its object is printed. The server's progress is shown if standard error is a
+ * terminal, with the bytes escaped that could control it. `git index-pack` takes the pack.
  */
 #define _POSIX_C_SOURCE 200809L
 #define PROGRAM "fetch"
@@ -35,7 +35,7 @@ static bool add(gitwire_request *request, const char *word, const char *value)
 		&& gitwire_request_add(request, (const uint8_t *)line, (size_t)length).kind == GITWIRE_DONE;
 }
 
-/* Makes the request that is to be asked next: where the reference points to, and then the pack of that object. */
+/* Makes the next request: the reference's object, and then the pack of that object. */
 static bool make_request(struct fetch *fetch, gitwire_request *request)
 {
 	uint8_t command = fetch->has_listed ? GITWIRE_FETCH : GITWIRE_LS_REFS;
@@ -47,7 +47,7 @@ static bool make_request(struct fetch *fetch, gitwire_request *request)
 	return add(request, "want ", fetch->id) && add(request, "ofs-delta", "") && add(request, "done", "");
 }
 
-/* Asks what is to be asked next, or leaves. Answers the program's status, or -1 where it goes on. */
+/* Asks the next request, or leaves. Returns the exit status, or -1 to continue. */
 static int ask_next(struct fetch *fetch)
 {
 	gitwire_request request = GITWIRE_NONE;
@@ -63,7 +63,7 @@ static int ask_next(struct fetch *fetch)
 	is_made = make_request(fetch, &request);
 	if (is_made)
 		answer = gitwire_client_ask(&fetch->client, &request);
-	gitwire_request_free(&request); /* nothing, where the client has it */
+	gitwire_request_free(&request); /* nothing, if the client has it */
 	if (!is_made)
 		return tell("a reference that cannot be asked for");
 	fetch->has_asked = fetch->has_listed;
@@ -95,7 +95,7 @@ static void show_progress(const uint8_t *text, size_t length)
 	}
 }
 
-/* Takes an event of the server. The bytes of the pack and of its progress end at `end` of what was read; other texts lie in the room. */
+/* Takes an event of the server. The bytes of the pack and of its progress end at `end` of what was read; other texts are in the buffer. */
 static bool take(struct fetch *fetch, gitwire_event event, const uint8_t *end)
 {
 	const uint8_t *text = end - event.text_length;
@@ -118,7 +118,7 @@ static bool take(struct fetch *fetch, gitwire_event event, const uint8_t *end)
 	}
 }
 
-/* Takes a piece of what the server sends. Answers the program's status, or -1 where it goes on. */
+/* Receives a chunk of what the server sends. Returns the exit status, or -1 to continue. */
 static int hear(struct fetch *fetch)
 {
 	static uint8_t piece[65536];
@@ -139,7 +139,7 @@ static int hear(struct fetch *fetch)
 	return take(fetch, event, piece + used) ? -1 : tell("the pack cannot be written");
 }
 
-/* Does what is to be done next, until all was sent and received. Answers the program's status. */
+/* Does what has to be done next, until everything was sent and received. Returns the exit status. */
 static int converse(struct fetch *fetch)
 {
 	int status = -1;
@@ -167,7 +167,7 @@ static int converse(struct fetch *fetch)
 	return status;
 }
 
-/* Fetches into the file of this name. Answers the program's status. */
+/* Fetches into the file of this name. Returns the exit status. */
 static int fetch_into(struct fetch *fetch, char *folder, const char *name)
 {
 	int status;

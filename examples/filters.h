@@ -4,7 +4,7 @@
 #include <stdlib.h>
 #include <string.h>
 
-/* The name by which the settings speak of a filter. */
+/* The kind of a filter, as the settings name it. */
 static const char *filter_kind(const char *filter)
 {
 	static const char *const kinds[][2] = { { "blob:none", "blob:none" }, { "blob:limit=", "blob:limit" }, { "tree:", "tree" },
@@ -38,7 +38,7 @@ static bool is_number_up_to(const char *text, unsigned long most)
 	return *text != 0 && text[strspn(text, "0123456789")] == 0 && strtoul(text, NULL, 10) <= most;
 }
 
-/* Where it does not, the reason is what the client receives. `depth` is how many filters of filters there may be. */
+/* Whether the filter is allowed; if not, the client receives the reason. `depth` is how many filters of filters there may be. */
 static bool may_filter(const char *filter, size_t depth, char *reason, size_t room)
 {
 	const char *kind = filter_kind(filter), *rest = filter + strlen("combine:"), *most;

@@ -8,22 +8,22 @@
 #include <sys/wait.h>
 #include <unistd.h>
 
-/* Where a command reports: to where this program does, among its output, or to a pipe of its own. */
+/* Where a command writes its messages: to those of this program, into its output, or to a pipe of its own. */
 enum reports { TO_ERRORS, TO_OUTPUT, TO_PIPE };
 
 struct command {
 	pid_t id;
 	FILE *input, *output;
-	int messages; /* the pipe of what it reports, or -1 */
+	int messages; /* the pipe of its messages, or -1 */
 	bool is_fed;
 	char *line;
 	size_t room;
 };
 
-/* Ends the program, and the session where one goes on, since a command of Git failed. */
+/* Ends the program, and the session if there is one, because a command of Git failed. */
 static _Noreturn void fail(const char *what);
 
-/* Starts the command of these words, of which the last is NULL. It ends where this program does, however that ends. */
+/* Starts the command of these words; the last of them is NULL. It ends when this program does, however that ends. */
 static void start(struct command *command, enum reports reports, const char *const *words)
 {
 	int input[2], output[2], messages[2] = { -1, -1 };
@@ -67,7 +67,7 @@ static void start_alone(struct command *command, enum reports reports, const cha
 	end_input(command);
 }
 
-/* Waits for its end: its status, which is 0 where it did what it was to do. One that was killed or did not take its input has none, -1. */
+/* Waits for its end, and returns its status, which is 0 if it succeeded; -1 if it was killed or did not take its input. */
 static int end(struct command *command)
 {
 	bool is_whole = command->is_fed && !ferror(command->output);
@@ -82,7 +82,7 @@ static int end(struct command *command)
 	return WEXITSTATUS(status);
 }
 
-/* The next line of its output without its LF, until the next call, or NULL at the end. What ends without an LF was cut off, and is none. */
+/* The next line of its output without its LF, valid until the next call, or NULL at the end. A last line without an LF was cut off, and is ignored. */
 static char *next_line(struct command *command)
 {
 	ssize_t length = getline(&command->line, &command->room, command->output);
@@ -93,7 +93,7 @@ static char *next_line(struct command *command)
 	return command->line;
 }
 
-/* What it printed, a line that has room: false where it says by its status of 1 that there is no such thing. */
+/* Its output, a line that fits; false if its status is 1, which reports that there is no such thing. */
 static bool answer_of(struct command *command, char *answer, size_t room)
 {
 	char *line = next_line(command);

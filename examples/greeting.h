@@ -5,9 +5,9 @@
 #include <stdbool.h>
 #include <string.h>
 
-static char asked_for[4096]; /* what it has to begin with */
+static char asked_for[4096]; /* the required beginning */
 
-/* Whether what comes after the name, up to a NUL at its end, is `host=..` with a NUL or not, a NUL, and parameters with `version=2`. */
+/* Whether the text after the name, up to a NUL at its end, is `host=..` with a NUL or not, a NUL, and parameters with `version=2`. */
 static bool asks_for_version_2(const char *at, const char *end)
 {
 	if (at < end && strncmp(at, "host=", 5) == 0)

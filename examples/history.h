@@ -1,14 +1,14 @@
-/* What the history of a repository decides of a fetch: whether enough is common to make a pack, and the commits at which a shallow clone ends. */
+/* What a repository's history decides in a fetch: whether enough is common to make a pack, and the commits at which a shallow clone ends. */
 #include "store.h"
 
-/* What is asked for, looked up in the repository. */
+/* The objects of the request, looked up in the repository. */
 static struct names wants, common, excluded;
-static struct names client_boundary; /* the commits of it whose parents the client has not */
+static struct names client_boundary; /* those of its commits whose parents the client does not have */
 
-/* What comes of it: the lines of the boundary. */
+/* The result: the lines of the boundary. */
 static struct names shallows, unshallows;
 
-/* Starts `git rev-list` from these commits on, without what the excluded ones lead to: parents come before children, each with all its parents. */
+/* Starts `git rev-list` from these commits on, without those that the excluded ones lead to: parents come before children, each with all its parents. */
 static void start_walk(struct command *walk, const struct names *from, const struct names *excluded, uint64_t since)
 {
 	char age[40];
@@ -21,7 +21,7 @@ static void start_walk(struct command *walk, const struct names *from, const str
 	end_input(walk);
 }
 
-/* Adds those of these objects that are commits, and the commits that the tags among them are of. */
+/* Adds the commits among these objects, and those that the tags among them point to. */
 static void add_commits(const struct names *of, struct names *commits)
 {
 	struct names tags = { 0 };
@@ -49,8 +49,8 @@ static bool reaches(const struct names *known, const char *commit)
 }
 
 /*
- * Whether each wanted commit has one among its ancestors, or is one, that the client has by what it says, or a parent of such a
- * one. No commit older than all of those is looked at, as Git's own server does it. Where history cannot be read it is not known.
+ * Whether each wanted commit is, or has among its ancestors, a commit that the client has by its own account, or a parent of such a commit.
+ * No commit older than all of those is looked at, as in Git's own server. If history cannot be read, it is not enough.
  */
 static bool is_enough_common(void)
 {
@@ -96,7 +96,7 @@ static void note_boundary(const struct names *within, const struct names *last)
 			add_name(&unshallows, client_boundary.at[i].digits);
 }
 
-/* Cuts the history of the commits in `within` off at this depth, and where `ends` or the repository itself ends. */
+/* Cuts the history of the commits in `within` off at this depth, and at the commits in `ends` and the ends of the repository itself. */
 static void cut_at_depth(struct names *within, uint64_t depth, const struct names *ends)
 {
 	struct names last = { 0 }, inner;
@@ -115,7 +115,7 @@ static void cut_at_depth(struct names *within, uint64_t depth, const struct name
 	clear_names(&last);
 }
 
-/* Those of the client's boundary that a reference leads to which clients may know of, into `commits`. */
+/* Adds to `commits` those of the client's boundary that can be reached from a reference which clients may know of. */
 static void find_reachable(struct names *commits)
 {
 	static const char *const all[] = { "git", "rev-list", "--not", "--all", "--not", "--stdin", NULL };
@@ -139,7 +139,7 @@ static void find_reachable(struct names *commits)
 	clear_names(&others);
 }
 
-/* Cuts the history off at what is older than a time (0 for none) or what the excluded commits lead to. */
+/* Cuts off the commits that are older than a time (0 for none), and those that the excluded commits lead to. */
 static void cut_by_walk(uint64_t since, const struct names *excluded)
 {
 	struct names within = { 0 }, last = { 0 };

@@ -5,35 +5,35 @@
 #
 #   - a folder of Git's own, NAME/.git, NAME, NAME.git/.git or NAME.git, that has a file `git-daemon-export-ok`, or any where GIT_HTTP_EXPORT_ALL is
 #     set: `upload-pack` (upload-pack.c) serves it, with `git`;
-#   - NAME.repo, a repository text, and NAME.pack: `git2show` serves these. Where NAME.filtered is there too, it is the pack of requests with a
+#   - NAME.repo, a repository text, and NAME.pack: `git2show` serves these. If NAME.filtered is there too, it is the pack of requests with a
 #     filter.
 #
-# These programs and `gzip` are to be on the path: Git's client compresses the body of a longer request.
+# These programs and `gzip` have to be on the path: Git's client compresses the body of a longer request.
 #
-# Status 200 is answered once the program has written its first bytes, or has ended well without any. Where it cannot serve a repository
-# the status is 500, and a line on standard error, which web servers keep in a log, names it.
+# Status 200 is answered once the program has written its first bytes, or has ended well without any. If it cannot serve a repository, the
+# status is 500, and a line on standard error, which web servers keep in a log, names it.
 set -eu
 
-# refuse STATUS TEXT: answers with a line for the user, which Git prints. A body that was not read is read first: where a script ends
-# before that, fcgiwrap reports status 502 in the place of this one.
+# refuse STATUS TEXT: answers with a line for the user, which Git prints. A body that was not read is read first: if a script ends before
+# that, fcgiwrap reports status 502 in the place of this one.
 refuse() {
     [ "$unread" != yes ] || body > /dev/null
     printf 'Status: %s\r\nContent-Type: text/plain; charset=utf-8\r\n\r\n%s\n' "$1" "$2"
     exit
 }
 
-# fail TEXT: reports to the web server's log why nothing is served. The user receives no name of a file.
+# fail TEXT: reports to the web server's log why nothing is served. The user does not receive the name of a file.
 fail() {
     echo "http-backend.sh: $1" >&2
     refuse '500 Internal Server Error' "the repository cannot be served: the web server's log has the reason"
 }
 
-# begin_answer: begins an answer, which nobody may keep.
+# begin_answer: begins an answer that must not be cached.
 begin_answer() {
     printf 'Status: 200 OK\r\nContent-Type: application/x-git-upload-pack-%s\r\nCache-Control: no-cache\r\n\r\n' "$kind"
 }
 
-# first_four: the first four bytes of the input, of which no more is read.
+# first_four: the first four bytes of the input; no more of it is read.
 first_four() {
     dd bs=1 count=4 2> /dev/null
 }

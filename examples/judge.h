@@ -1,15 +1,15 @@
 /*
- * What watch.c makes of a conversation. Each whole packet of either end is judged before it goes on: what the client sends by a reader of
- * requests, against what the server offers, and what the server sends by a client that asks these very requests. The transcript has the
- * lines of `git2show check`, each after an arrow, `>` for what the client sends and `<` for the server, and the offset of the packet that
- * shows it, which for a request is its first:
+ * What watch.c makes of a conversation. Each whole packet of either side is judged before it goes on: what the client sends by a reader of
+ * requests, against what the server advertised, and what the server sends by a client that asks exactly these requests. The transcript has
+ * the lines of `git2show check`, each after an arrow, `>` for what the client sends and `<` for the server, and the offset of the packet
+ * that shows it; for a request this is its first packet:
  *
  *     < 14 capability agent=git/2.39.5
  *     > 0 request ls-refs
  *
- * A capability line, an argument or a command that the library does not know passes if the server advertised it (others.h); the transcript has
- * its line. What it changes of a response is undone before the client sees that: the section `packfile-uris` and each response to such a command
- * are passed over, and the bands that `sideband-all` puts before each line are taken off.
+ * A capability line, an argument or a command that the library does not know passes if the server advertised it (others.h); the transcript
+ * has its line. Its effects on a response are undone before the client sees that: the section `packfile-uris` and each response to such a
+ * command are skipped, and the bands that `sideband-all` puts before each line are removed.
  */
 #include <gitwire.h>
 
@@ -20,26 +20,26 @@
 #include "others.h"
 #include "shown.h"
 
-/* How far the request has come that is not yet whole. */
+/* How far the unfinished request has come. */
 enum request_part { BETWEEN_REQUESTS, CAPABILITIES, ARGUMENTS, OTHER_COMMAND };
 
-/* How far the response to a `fetch` has come that the library does not know as it is. */
+/* How far the response to a `fetch` has come, if the library cannot read it as it is. */
 enum response_part { SECTION_HEADER, SECTION_LINES, URI_LINES, PACKFILE };
 
 struct judge {
 	gitwire_client client;
-	gitwire_request_reader requests;    /* once it is known what the server offers */
-	gitwire_request request;            /* the last that was whole */
-	gitwire_offer offer;                /* what these are read against */
+	gitwire_request_reader requests;    /* once the server's advertisement is known */
+	gitwire_request request;            /* the last whole one */
+	gitwire_offer offer;                /* the offer that these are read against */
 	struct others others;               /* what else the server advertised */
 	uint8_t format;
-	uint64_t begins_at;                 /* where the request begins that is not yet whole */
+	uint64_t begins_at;                 /* where the unfinished request begins */
 	enum request_part part;
 	char command[8];                    /* of that request: `fetch` or `ls-refs`, or empty */
 	struct { bool on_bands, with_uris; } asked; /* `sideband-all`, `packfile-uris` */
 	enum response_part section;
 	bool passes;                        /* the response to another command is expected */
-	uint64_t pack, progress;            /* how many bytes of these the response has given */
+	uint64_t pack, progress;            /* how many bytes of each the response has had so far */
 	FILE *transcript;
 };
 
@@ -52,7 +52,7 @@ struct packet {
 
 static uint8_t room[GITWIRE_PACKET_ROOM];
 
-/* Begins a conversation. False where there is no memory. */
+/* Begins a conversation. False if there is no memory. */
 static bool begin_judge(struct judge *judge, uint8_t format, FILE *transcript)
 {
 	*judge = (struct judge){ .format = format, .transcript = transcript };
@@ -68,8 +68,8 @@ static void end_judge(struct judge *judge)
 }
 
 /*
- * What is due next: CAN_ASK where it is the client's turn, NEED_INPUT the server's, FINISHED where the client has left. The packets of
- * a request are dropped here: those of the client that is watched go on, as it has written them.
+ * What is expected next: CAN_ASK if it is the client's turn, NEED_INPUT if it is the server's, FINISHED if the client has left. The packets
+ * of a request are dropped here: the watched client's own packets go on, as it wrote them.
  */
 static uint8_t due(struct judge *judge)
 {
@@ -88,7 +88,7 @@ static gitwire_answer refusal(uint8_t fault, uint64_t offset)
 	return (gitwire_answer){ .kind = GITWIRE_FAILED, .fault = fault, .offset = offset };
 }
 
-/* Asks what the client has asked, before the server has the last packet of it. What may not be asked is reported at the request's offset. */
+/* Asks what the client has asked, before the server has its last packet. A request that is not allowed is reported at its offset. */
 static gitwire_answer ask(struct judge *judge)
 {
 	static const char *const commands[] = { "ls-refs", "fetch", "object-info" };
@@ -101,7 +101,7 @@ static gitwire_answer ask(struct judge *judge)
 	return answer;
 }
 
-/* Reads requests from now on against what the server offers. */
+/* Reads requests from now on against the server's advertisement. */
 static bool begin_requests(struct judge *judge)
 {
 	gitwire_caps caps;
@@ -135,8 +135,8 @@ static void show_line(struct judge *judge, char arrow, uint64_t offset, const ch
 }
 
 /*
- * Takes a capability line of a request that the library does not know, if it was advertised: then the library does not see it. The line that
- * names another command begins a request of which it sees nothing.
+ * Takes a capability line of a request that the library does not know, if it was advertised: then the library does not see it. If the line
+ * names another command, the library sees nothing of the request.
  */
 static bool is_other_capability(struct judge *judge, struct packet packet)
 {
@@ -187,7 +187,7 @@ static gitwire_answer pass_request(struct judge *judge, struct packet packet)
 	return (gitwire_answer){ .kind = GITWIRE_MORE };
 }
 
-/* Whether the library has nothing to do with the packet of a request. */
+/* Whether the library does not get this packet of a request. */
 static bool is_other(struct judge *judge, struct packet packet)
 {
 	bool is_line = !is_special(packet, '0') && !is_special(packet, '1') && !is_special(packet, '2');
@@ -207,7 +207,7 @@ static bool is_other(struct judge *judge, struct packet packet)
 	return false;
 }
 
-/* Judges a packet of the client, where it is the client's turn: FAILED, with the fault and its offset, or anything else. */
+/* Judges a packet of the client, if it is the client's turn. Returns FAILED, with the error and its offset, or anything else. */
 static gitwire_answer judge_request(struct judge *judge, struct packet packet)
 {
 	gitwire_answer answer;
@@ -230,7 +230,7 @@ static gitwire_answer judge_request(struct judge *judge, struct packet packet)
 	return ask(judge);
 }
 
-/* Judges the end of what the client sends, after so many bytes, where it is the client's turn. */
+/* Judges the end of the client's bytes, after so many of them, if it is the client's turn. */
 static gitwire_answer judge_last_request(struct judge *judge, uint64_t end)
 {
 	gitwire_answer answer = gitwire_request_reader_close(&judge->requests);
@@ -249,7 +249,7 @@ static void show_part(FILE *to, const char *mark, const uint8_t *part, size_t le
 	show_bytes(to, part, length);
 }
 
-/* The line of an event, whose parts lie in the room one after another. */
+/* The line of an event, whose parts are in the buffer one after another. */
 static void show_event(struct judge *judge, gitwire_event event, uint64_t offset)
 {
 	static const char *const words[] = {
@@ -280,7 +280,7 @@ static void show_event(struct judge *judge, gitwire_event event, uint64_t offset
 	putc('\n', to);
 }
 
-/* Notes a line of the advertisement, whose key and value lie in the room. */
+/* Notes a line of the advertisement, whose key and value are in the buffer. */
 static bool note_capability(struct judge *judge, gitwire_event event)
 {
 	struct text key = { (const char *)room, event.name_length }, value = { (const char *)room + event.name_length, event.text_length };
@@ -288,7 +288,7 @@ static bool note_capability(struct judge *judge, gitwire_event event)
 	return note_other(&judge->others, key, value);
 }
 
-/* Takes an event of the server. Bytes of the pack and of the progress are counted. False where there is no memory. */
+/* Takes an event of the server. Bytes of the pack and of the progress are counted. False if there is no memory. */
 static bool take_event(struct judge *judge, gitwire_event event, uint64_t offset)
 {
 	if (event.kind == GITWIRE_CAPABILITY && !note_capability(judge, event))
@@ -318,7 +318,7 @@ static gitwire_answer pass_response(struct judge *judge, struct packet packet)
 	return (gitwire_answer){ .kind = GITWIRE_MORE };
 }
 
-/* Gives the client a packet of the server, wherever it came from: FAILED, with the fault and its offset, or MORE. */
+/* Gives the client a packet of the server, from either source. Returns FAILED, with the error and its offset, or MORE. */
 static gitwire_answer feed_client(struct judge *judge, struct packet packet)
 {
 	size_t used = 0;
@@ -369,7 +369,7 @@ static gitwire_answer judge_section(struct judge *judge, struct packet packet)
 	return feed_client(judge, packet);
 }
 
-/* Takes the band off a packet that has one before the pack: a line on the first band, or progress on the second. */
+/* Takes the band off a packet before the pack: it has a line on the first band, or progress on the second. */
 static gitwire_answer judge_band(struct judge *judge, struct packet packet)
 {
 	static uint8_t line[GITWIRE_PACKET_ROOM];
@@ -390,8 +390,8 @@ static gitwire_answer judge_band(struct judge *judge, struct packet packet)
 }
 
 /*
- * Judges a packet of the server: FAILED, with the fault and its offset, or MORE. Out of its turn an error packet alone may be judged, as
- * where the server refuses a request before it is whole.
+ * Judges a packet of the server. Returns FAILED, with the error and its offset, or MORE. When it is not the server's turn, only an error
+ * packet may be judged: the server may refuse a request before it is whole.
  */
 static gitwire_answer judge_response(struct judge *judge, struct packet packet)
 {
@@ -408,7 +408,7 @@ static gitwire_answer judge_response(struct judge *judge, struct packet packet)
 	return judge_section(judge, packet);
 }
 
-/* Judges the end of what the server sends, after so many bytes, where it is the server's turn. */
+/* Judges the end of the server's bytes, after so many of them, if it is the server's turn. */
 static gitwire_answer judge_last_response(struct judge *judge, uint64_t end)
 {
 	gitwire_answer answer = { .kind = GITWIRE_FAILED, .fault = GITWIRE_FAULT_TRUNCATED };
@@ -416,11 +416,11 @@ static gitwire_answer judge_last_response(struct judge *judge, uint64_t end)
 	if (!judge->passes)
 		answer = gitwire_client_close(&judge->client);
 	if (answer.kind == GITWIRE_FAILED)
-		answer.offset = end; /* a packet that has not come whole is judged before */
+		answer.offset = end; /* a packet that is not whole is judged before */
 	return answer;
 }
 
-/* Whether a packet reports to the other end what is wrong, and so has to reach it. */
+/* Whether a packet reports an error to the other side, and so has to reach it. */
 static bool tells_an_error(gitwire_answer answer)
 {
 	return answer.fault == GITWIRE_FAULT_REMOTE_ERROR || answer.fault == GITWIRE_FAULT_REMOTE_FATAL;

@@ -3,7 +3,7 @@
  *
  *     list [--sha256] FOLDER [PREFIX..]
  *
- * Those alone are asked for whose names begin with one of the prefixes. Of a name, bytes that are no printable ASCII are escaped.
+ * Only references are asked for whose names begin with one of the prefixes. Bytes of a name that are not printable ASCII are escaped.
  */
 #define _POSIX_C_SOURCE 200809L
 #define PROGRAM "list"
@@ -12,7 +12,7 @@
 #include <string.h>
 #include <sys/wait.h>
 
-/* Adds an argument of a word and a value. Why it cannot be added, or NULL. */
+/* Adds an argument of a word and a value. Returns why it cannot be added, or NULL. */
 static const char *add(gitwire_request *request, const char *word, const char *value)
 {
 	char line[32100];
@@ -28,8 +28,8 @@ static const char *add(gitwire_request *request, const char *word, const char *v
 }
 
 /*
- * Makes the request: the references of these prefixes, with what symbolic ones point to and what tags peel to. Why it cannot be
- * made, or NULL.
+ * Makes the request: the references of these prefixes, with the targets of symbolic ones and the objects that tags peel to. Returns why it
+ * cannot be made, or NULL.
  */
 static const char *make_request(gitwire_request *request, uint8_t format, char **prefixes)
 {
@@ -51,7 +51,7 @@ static void show_part(const uint8_t *part, size_t length, const char *end)
 	fputs(end, stdout);
 }
 
-/* Prints a reference, whose parts lie in the room one after another. */
+/* Prints a reference, whose parts are in the buffer one after another. */
 static void show(gitwire_event event)
 {
 	const uint8_t *name = room + event.id_length, *target = name + event.name_length, *peeled = target + event.text_length;
@@ -69,7 +69,7 @@ static void show(gitwire_event event)
 	}
 }
 
-/* Does what is to be done next, until all was sent and received. Answers the program's status. */
+/* Does what has to be done next, until everything was sent and received. Returns the exit status. */
 static int converse(gitwire_client *client, gitwire_request *request, int to, int from)
 {
 	static uint8_t piece[65536];
@@ -86,7 +86,7 @@ static int converse(gitwire_client *client, gitwire_request *request, int to, in
 				return tell("the server cannot be written to");
 			break;
 		case GITWIRE_CAN_ASK:
-			/* A client keeps the request that it is asking, and then its handle has nothing. */
+			/* A client keeps the request that it is asking, and the request's handle is empty then. */
 			answer = gitwire_client_ask(client, request);
 			if (answer.kind == GITWIRE_NO_HANDLE)
 				gitwire_client_leave(client);

@@ -1,6 +1,6 @@
 /*
- * The answer to a request for references: all of them, all branches or tags, or those that a few patterns match, which are made of prefixes. The
- * library leaves out what the request does not ask for.
+ * The answer to a request for references: all of them, all branches or tags, or those that match a few patterns, which are made from
+ * prefixes. The library leaves out what the request does not ask for.
  */
 #include "session.h"
 
@@ -9,11 +9,11 @@ static bool begins(const char *text, const char *prefix)
 	return strncmp(text, prefix, strlen(prefix)) == 0;
 }
 
-/* The objects of references that this session has listed: they were there. A clone wants just these, and does not have them looked up again. */
+/* The objects of the references that this session has listed: they exist. A clone wants exactly these, so they are not looked up again. */
 enum { MOST_LISTED = 16384 };
 static struct names listed_objects;
 
-/* Gives a reference by its whole name; a target or a peeled object is empty where there is none. */
+/* Reports a reference by its whole name; a target or a peeled object is empty if there is none. */
 static void answer_reference(const char *id, const char *name, const char *target, const char *peeled)
 {
 	const char *leads = is_in_space(target) ? target + strlen(space) : "", *shown;
@@ -31,7 +31,7 @@ static void answer_reference(const char *id, const char *name, const char *targe
 		add_name(&listed_objects, id);
 }
 
-/* `HEAD` that leads to no object, with what it is to lead to. */
+/* `HEAD` that leads to no object, with its target. */
 static void answer_unborn(const char *name, const char *target)
 {
 	if (*target != 0 && is_in_space(target) && !is_hidden(name))
@@ -58,7 +58,7 @@ static void answer_head(void)
 		fail("HEAD leads to no object");
 }
 
-/* Cuts a line that begins with an object and a name: what comes after the object, which `id` has then. */
+/* Cuts a line that begins with an object and a name. Returns what comes after the object, which is copied to `id`. */
 static char *cut_line(char *line, char *id)
 {
 	size_t digits = strcspn(line, " ");
@@ -70,7 +70,7 @@ static char *cut_line(char *line, char *id)
 	return line + digits + 1;
 }
 
-/* Gives the references of these lines of `git for-each-ref`, each an object, a name and a target that may be empty: no more than a batch. */
+/* Reports the references of these lines of `git for-each-ref`, each an object, a name and a target that may be empty: no more than a batch. */
 static void answer_lines(const struct texts *lines)
 {
 	char id[GITWIRE_OBJECT_NAME_ROOM + 1], *name, *target;
@@ -99,8 +99,8 @@ static void answer_lines(const struct texts *lines)
 }
 
 /*
- * Whether this is a line of a reference. Others are what Git reports, in the words of the C locale: passed on, and where it passes over a reference
- * that is damaged there is no answer.
+ * Whether this is a line of a reference. Other lines are messages of Git, in the words of the C locale: they are passed on, and if Git
+ * skips a damaged reference there is no answer.
  */
 static bool is_reference(const char *line)
 {
@@ -139,7 +139,7 @@ static void answer_matching(const struct texts *patterns)
 	clear_texts(&lines);
 }
 
-/* A reference of `git show-ref`, which prints what a tag is of on a line after it; and the first line after that, or NULL. */
+/* A reference of `git show-ref`, which prints the object of a tag on a line after it; and the first line after that, or NULL. */
 struct shown {
 	char id[GITWIRE_OBJECT_NAME_ROOM + 1], peeled[GITWIRE_OBJECT_NAME_ROOM + 1], name[LINE_ROOM];
 	char *next;
@@ -167,8 +167,8 @@ static void read_shown(struct command *from, struct shown *shown)
 }
 
 /*
- * What a reference of this object is of, if that is a tag. `git show-ref` prints references in their order but where the file of packed ones is in
- * another, and may see one that has changed meanwhile: what it does not have here is looked up.
+ * The object that a reference to this object peels to, if that is a tag. `git show-ref` prints references in their order unless the file of
+ * packed ones has another order, and it may see one that has changed meanwhile: what it does not print here is looked up.
  */
 static const char *peeled_in(struct command *from, struct shown *shown, const char *id, const char *name)
 {
@@ -187,13 +187,13 @@ static const char *peeled_in(struct command *from, struct shown *shown, const ch
 	return found.id;
 }
 
-/* What lists references, all at a time: where `HEAD` leads, all in their order, and what the tags among them are of. */
+/* The commands that list references, all running at a time: the target of `HEAD`, all references in order, and the objects of the tags among them. */
 struct listing {
 	struct command head, listed, checked;
 	char name[sizeof space + 4]; /* of `HEAD` */
 };
 
-/* Starts a list of all references, or of them of the branches, the tags, or both. */
+/* Starts a list of all references, or only of the branches, the tags, or both. */
 static void start_listing(struct listing *it, bool peels, bool heads, bool tags)
 {
 	const char *list[7] = { "git", "for-each-ref", "--sort=refname", "--format=%(objectname) %(refname) %(symref)" };
@@ -216,8 +216,8 @@ static void start_listing(struct listing *it, bool peels, bool heads, bool tags)
 }
 
 /*
- * All references, or of them the branches, the tags, or both: `git for-each-ref` has them in their order, and `git show-ref` what a tag is of,
- * which it knows from the packed references. It fails of a reference that is damaged, where the other passes over it.
+ * All references, or only the branches, the tags, or both: `git for-each-ref` prints them in their order, and `git show-ref` prints the
+ * objects of tags, which it knows from the packed references. It fails for a damaged reference, which the other one skips.
  */
 static void answer_all(bool heads, bool tags)
 {
@@ -243,7 +243,7 @@ static void answer_all(bool heads, bool tags)
 	}
 	while (!shown.is_none)
 		read_shown(&it.checked, &shown);
-	if (end(&it.listed) != 0 || end(&it.checked) != (is_empty ? 1 : 0)) /* 1 is that there is none */
+	if (end(&it.listed) != 0 || end(&it.checked) != (is_empty ? 1 : 0)) /* 1 reports that there is none */
 		fail("the references cannot be read");
 }
 
@@ -273,7 +273,7 @@ static void note_prefix(struct asked *asked, const char *prefix)
 		add_text(&asked->patterns, "%s%s*/**", space, prefix);
 }
 
-/* Gives the references that a request asks for, and perhaps others, which the library leaves out. */
+/* Reports the references that a request asks for, and perhaps others, which the library leaves out. */
 static void answer_references(void)
 {
 	struct asked asked = { .all = item(GITWIRE_LIST_REF_PREFIXES, 0) == NULL };

@@ -13,11 +13,11 @@ struct name {
 struct names {
 	struct name *at;
 	size_t length;
-	size_t *places; /* a hash table: of each name its number from 1 in `at`, and 0 where there is none */
+	size_t *places; /* a hash table: the number in `at` of each name, from 1, and 0 in a free place */
 	size_t room;    /* of the table, a power of two */
 };
 
-/* Where in the table the name is, or would be. Its first digits suffice for that. */
+/* The place of the name in the table, or where it would be. Its first digits are enough to find it. */
 static size_t *find_place(const struct names *names, const char *digits)
 {
 	uint64_t hash = 14695981039346656037u;
@@ -43,7 +43,7 @@ static void clear_names(struct names *names)
 	*names = (struct names){ 0 };
 }
 
-/* Twice the room, of which at least a half is free. */
+/* Doubles the table, so that at least half of it is free. */
 static void enlarge(struct names *names)
 {
 	size_t room = names->room == 0 ? 64 : 2 * names->room;

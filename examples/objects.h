@@ -1,6 +1,6 @@
 /*
- * Objects of a repository, by one `git cat-file` that runs from the first look-up on. Many are looked up at a time, where there are many: a batch
- * fits into its pipe, and it answers a batch only when it has all of it, so that neither end waits for the other.
+ * Objects of a repository, from one `git cat-file` that runs from the first look-up on. Many are looked up at a time, if there are many: a
+ * batch fits into its pipe, and it answers a batch only when it has all of it, so that neither side waits for the other.
  */
 #include "git_command.h"
 #include "names.h"
@@ -15,7 +15,7 @@ struct found {
 	unsigned long long size;
 };
 
-/* Asks for an object by its digits or another name without a space: `info` for what it is, `contents` for all of it. */
+/* Requests an object by its digits or another name without a space: `info` for its type and size, `contents` for all of it. */
 static void ask_for(const char *what, const char *name)
 {
 	static const char *const words[] = { "git", "cat-file", "--batch-command", "--buffer", NULL };
@@ -39,7 +39,7 @@ static bool begins_with_name(const char *line)
 	return (digits == 40 || digits == GITWIRE_OBJECT_NAME_ROOM) && line[digits] == ' ';
 }
 
-/* What it says of the next object that was asked for: false where there is none. */
+/* Receives the facts about the next requested object; false if there is none. */
 static bool receive_found(struct found *found)
 {
 	const char *line = next_line(&objects);
@@ -56,7 +56,7 @@ static bool find(const char *name, struct found *found)
 	return receive_found(found);
 }
 
-/* What a tag, or a tag of a tag, is of, and of any other object that itself. */
+/* The object that a tag, or a tag of a tag, points to; any other object is itself. */
 static bool find_peeled(const char *id, struct found *found)
 {
 	char peeled[GITWIRE_OBJECT_NAME_ROOM + 4];
@@ -66,8 +66,8 @@ static bool find_peeled(const char *id, struct found *found)
 }
 
 /*
- * Looks up all these names with `after` behind each, which is empty or `^{}`, and adds those that are there to `into`: of this type alone, or of any
- * where it is NULL. Returns the first that is not there, or NULL.
+ * Looks up all these names, each followed by `after`, which is empty or `^{}`, and adds those that exist to `into`: only those of this
+ * type, or any if that is NULL. Returns the first that does not exist, or NULL.
  */
 static const char *find_all(const struct names *names, const char *after, const char *type, struct names *into)
 {
@@ -91,7 +91,7 @@ static const char *find_all(const struct names *names, const char *after, const 
 	return missing;
 }
 
-/* Passes over so many bytes of what it writes. */
+/* Skips so many bytes of its output. */
 static void pass_over(unsigned long long count)
 {
 	for (; count > 0; count--)
@@ -132,7 +132,7 @@ static uint64_t receive_commit(const char *id, struct names *parents)
 	return date;
 }
 
-/* Reads these commits: the parents of all are added, and the least of their dates is returned. */
+/* Reads these commits: the parents of all are added, and the earliest of their dates is returned. */
 static uint64_t read_commits(const struct names *commits, struct names *parents)
 {
 	uint64_t least = UINT64_MAX, date;

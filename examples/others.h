@@ -1,7 +1,7 @@
 /*
  * What an advertisement has beside what the library knows: further keys, and further words in the values of `fetch` and `ls-refs`. A client
- * may use what its server advertised, gitprotocol-v2(5), whether this library knows it or not. So who watches a conversation of two others
- * takes it as it comes.
+ * may use what its server advertised, gitprotocol-v2(5), whether this library knows it or not. So a program that watches a conversation of
+ * two others accepts it as it comes.
  */
 #include <gitwire.h>
 
@@ -35,7 +35,7 @@ static bool is_among(struct text text, const char *const *words)
 	return false;
 }
 
-/* Cuts the text at the first byte of this value: what comes before it, and in `text` what comes after it. Without one that is nothing. */
+/* Cuts the text at the first byte of this value: returns what comes before it, and leaves in `text` what comes after it, or nothing if there is none. */
 static struct text cut_at(struct text *text, char byte)
 {
 	const char *at = memchr(text->bytes, byte, text->length);
@@ -46,7 +46,7 @@ static struct text cut_at(struct text *text, char byte)
 	return head;
 }
 
-/* Keeps a key (with an empty command) or a word of a command's value. False where there is no memory, or more than may be kept. */
+/* Keeps a key (with an empty command) or a word of a command's value. False if there is no memory, or it would be more than may be kept. */
 static bool add_other(struct others *others, const char *command, struct text word)
 {
 	size_t before = strlen(command), length = before + (before > 0) + word.length + 1;
@@ -89,7 +89,7 @@ static bool has_other(const struct others *others, const char *command, struct t
 	return false;
 }
 
-/* Keeps those of the words in the value of a command that the library does not know. */
+/* Keeps the words in the value of a command that the library does not know. */
 static bool note_words(struct others *others, const char *command, struct text value)
 {
 	static const char *const known[] = { "", "shallow", "ref-in-want", "wait-for-done", "filter", "unborn", NULL };
@@ -103,7 +103,7 @@ static bool note_words(struct others *others, const char *command, struct text v
 	return true;
 }
 
-/* Notes a line of the advertisement. False where there is no memory, or more than may be kept. */
+/* Notes a line of the advertisement. False if there is no memory, or it would be more than may be kept. */
 static bool note_other(struct others *others, struct text key, struct text value)
 {
 	static const char *const known[] = { "agent", "server-option", "object-format", "object-info", NULL };

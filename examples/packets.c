@@ -1,10 +1,10 @@
 /*
- * Lists the packets of standard input, a line for each, as `git2show show` does: its offset, its kind, and the length and
- * bytes of its payload. The first malformed packet is reported by name and offset, and ends it.
+ * Lists the packets of standard input, a line for each, as `git2show show` does: its offset, its kind, and the length and bytes of its
+ * payload. The first malformed packet is reported by name and offset, and ends it.
  *
  *     packets [PIECE]
  *
- * PIECE is how many bytes are read at a time: 65,536 at the most, and where it is left out.
+ * PIECE is how many bytes are read at a time: at most 65,536, which is the default.
  */
 #include <gitwire.h>
 
@@ -15,6 +15,7 @@
 #include "shown.h"
 
 #define MOST_PIECE 65536
+#define MOST_PACKETS 64
 
 static void show(gitwire_answer packet, const uint8_t *payload)
 {
@@ -41,7 +42,7 @@ static int tell(const char *what)
 	return 1;
 }
 
-/* Reports a fault by its name and offset. */
+/* Reports an error by its name and offset. */
 static int refuse(gitwire_answer answer)
 {
 	uint8_t text[GITWIRE_FAULT_TEXT_ROOM];
@@ -52,20 +53,23 @@ static int refuse(gitwire_answer answer)
 	return 1;
 }
 
-/* Lists all packets, and answers the program's status. */
+/* Lists all packets, and returns the exit status. */
 static int list(gitwire_packet_reader *reader, size_t most)
 {
 	static uint8_t piece[MOST_PIECE], room[GITWIRE_PAYLOAD_ROOM];
+	static gitwire_answer packets[MOST_PACKETS];
 	gitwire_answer answer;
 	size_t length;
 
 	while ((length = fread(piece, 1, most, stdin)) > 0) {
 		for (size_t used = 0; used < length; used += answer.used) {
-			answer = gitwire_packet_reader_feed(reader, piece + used, length - used, room, sizeof room);
+			const uint8_t *part = piece + used;
+
+			answer = gitwire_packet_reader_packets(reader, part, length - used, packets, MOST_PACKETS, room, sizeof room);
+			for (size_t i = 0; i < answer.length; i++)
+				show(packets[i], gitwire_payload(packets[i], part, room));
 			if (answer.kind == GITWIRE_FAILED)
 				return refuse(answer);
-			if (answer.kind != GITWIRE_MORE)
-				show(answer, room);
 		}
 	}
 	if (ferror(stdin))

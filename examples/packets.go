@@ -2,7 +2,7 @@
 //
 //	PKG_CONFIG_PATH=PREFIX/lib/pkgconfig LD_LIBRARY_PATH=PREFIX/lib go run packets.go
 //
-// A handle lies in C's memory, since the library keeps it from call to call; pieces and rooms lie in Go's, for one call each.
+// A handle is in C's memory, since the library keeps it from call to call; chunks and buffers are in Go's, for one call each.
 package main
 
 /*
@@ -45,7 +45,7 @@ func (reader *packetReader) free() {
 	reader.handle = nil
 }
 
-// bytesOf is where C finds a piece, of one byte at least.
+// bytesOf is the address of a chunk of at least one byte.
 func bytesOf(piece []byte) *C.uint8_t {
 	return (*C.uint8_t)(unsafe.Pointer(&piece[0]))
 }
@@ -85,7 +85,7 @@ func showPayload(out *bufio.Writer, offset uint64, payload []byte) {
 	out.WriteByte('\n')
 }
 
-// writeEscaped writes a stranger's bytes as git2show shows them.
+// writeEscaped writes a peer's bytes as git2show shows them.
 func writeEscaped(out *bufio.Writer, rest []byte) {
 	var room [4096]byte
 	for len(rest) > 0 {

@@ -3,8 +3,8 @@
 
     LD_LIBRARY_PATH=PREFIX/lib packets.py [PIECE]
 
-PIECE is how many bytes are read at a time: 65,536 at the most, and where it is left out. LD_LIBRARY_PATH is not needed where the
-library lies in a folder that the system's loader knows.
+PIECE is how many bytes are read at a time: at most 65,536, which is the default. LD_LIBRARY_PATH is not needed if the library is in
+a folder that the system's loader knows.
 """
 
 import signal
@@ -27,13 +27,13 @@ class Handle(Structure):
 
 
 class Told(Structure):
-    """What one call did."""
+    """The result of one call."""
 
     _fields_ = [("used", c_size_t), ("offset", c_uint64), ("length", c_size_t), ("kind", c_uint8), ("fault", c_uint8)]
 
 
 def load_library():
-    """The library, and what its calls take and give. A text is a pointer and a length, and so is a room."""
+    """The library, with the types of its calls. A text is a pointer and a length, and so is a buffer."""
     library = CDLL("libgitwire.so.0")
     takes = {
         "packet_reader_new": (c_uint8, [POINTER(Handle)]),
@@ -50,11 +50,11 @@ def load_library():
 
 
 class Refused(Exception):
-    """A packet that is malformed, or an input that cannot be read."""
+    """A malformed packet, or an input that cannot be read."""
 
 
 class PacketReader:
-    """A reader of packets, which has a packet's payload in its room until the next feed."""
+    """A reader of packets, which has a packet's payload in its buffer until the next feed."""
 
     def __init__(self, library):
         self.library = library
@@ -71,7 +71,7 @@ class PacketReader:
         self.library.gitwire_packet_reader_clear(byref(self.handle))
 
     def judged(self, answer):
-        """What was returned, unless it is a fault."""
+        """The result, unless it is an error."""
         if answer.kind == FAILED:
             text = create_string_buffer(FAULT_TEXT_ROOM)
             length = self.library.gitwire_fault_text(answer.fault, answer.offset, text, len(text))
@@ -79,7 +79,7 @@ class PacketReader:
         return answer
 
     def feed(self, piece, start, end):
-        """Reads on to the end of a packet, or of this part of the piece."""
+        """Reads on to the end of a packet, or of this part of the chunk."""
         part = byref(piece, start), end - start
         return self.judged(self.library.gitwire_packet_reader_feed(byref(self.handle), *part, self.room, len(self.room)))
 
@@ -102,7 +102,7 @@ def line(reader, answer):
 
 
 def read_into(piece):
-    """Fills the piece from the input. How many bytes came: fewer at the end alone."""
+    """Fills the chunk from the input. Returns how many bytes came: fewer only at the end."""
     try:
         return sys.stdin.buffer.readinto(piece)
     except OSError:

@@ -54,7 +54,7 @@ extern "C" {
     ) -> Answer;
 }
 
-/// A reader of packets. It is neither copied nor shared, and is freed once: what the header asks of a caller.
+/// A reader of packets. It is neither copied nor shared, and is freed once, as the header requires of a caller.
 struct PacketReader(Handle);
 
 impl PacketReader {
@@ -66,7 +66,7 @@ impl PacketReader {
         (unsafe { gitwire_packet_reader_new(&mut handle) } == DONE).then_some(Self(handle))
     }
 
-    /// Reads on, and leaves a payload at the front of the room. A slice is never null, nor do two that are lent at once overlap.
+    /// Reads on, and leaves a payload at the front of the buffer. A slice is never null, nor do two that are borrowed at once overlap.
     fn feed(&mut self, piece: &[u8], room: &mut [u8; PAYLOAD_ROOM]) -> Answer {
         unsafe {
             gitwire_packet_reader_feed(
@@ -128,7 +128,7 @@ fn show(out: &mut impl Write, packet: Answer, room: &[u8]) -> io::Result<()> {
     writeln!(out)
 }
 
-/// Lists all packets, and gives the fault that ended them, if one did.
+/// Lists all packets, and returns the error that ended them, if there was one.
 fn list(reader: &mut PacketReader, most: usize, out: &mut impl Write) -> io::Result<Option<Answer>> {
     let mut input = io::stdin().lock();
     let mut piece = vec![0; most];

@@ -1,4 +1,4 @@
-/* A session of a server over the store: what it sends, what a request has, and how it ends where something fails. */
+/* A session of a server over the store: what it sends, the parts of a request, and how it ends if something fails. */
 #include <gitwire.h>
 
 #include <errno.h>
@@ -8,11 +8,11 @@
 
 static gitwire_host host = GITWIRE_NONE;
 static uint8_t text[GITWIRE_REFERENCE_NAME_ROOM + 1];
-static uint8_t output[8 * GITWIRE_PACKET_ROOM]; /* what is to be sent, and behind it room for a packet */
+static uint8_t output[8 * GITWIRE_PACKET_ROOM]; /* the bytes to be sent, and after them space for a packet */
 static size_t output_length;
-static unsigned timeout; /* how many seconds a client may take to send or take some bytes, or 0 */
+static unsigned timeout; /* how many seconds a client may take to send or receive some bytes, or 0 */
 
-/* Sends all that there is to send, to a client that has a time only so much at once: a write ends when all is taken. */
+/* Sends all that there is to send. To a client with a time limit it sends only so much at once: a write ends when all of it is taken. */
 static void flush_output(void)
 {
 	for (size_t at = 0; at < output_length;) {
@@ -38,7 +38,7 @@ static uint8_t *room(void)
 	return output + output_length;
 }
 
-/* Gives what a call wrote there, if anything. Any other answer means that this program is wrong. */
+/* Keeps what a call wrote there, if anything. Any other result means that this program is wrong. */
 static void give(gitwire_answer answer)
 {
 	if (answer.kind != GITWIRE_PACKET && answer.kind != GITWIRE_MORE)
@@ -46,7 +46,7 @@ static void give(gitwire_answer answer)
 	output_length += answer.length;
 }
 
-/* Gives the packets that follow what was reported, up to the next thing that is asked. */
+/* Sends the packets that follow a report, up to the next question. */
 static void give_following(void)
 {
 	gitwire_answer next;
@@ -55,7 +55,7 @@ static void give_following(void)
 		give(next);
 }
 
-/* What is asked cannot be had: the session is over. The client receives that wherever something is asked, and before a request is accepted. */
+/* The answer to a question cannot be found: the session is over. The client receives that at any question, and before a request is accepted. */
 static _Noreturn void fail(const char *what)
 {
 	static const uint8_t reason[] = "the repository cannot be read";
@@ -78,5 +78,5 @@ static const char *item(uint8_t list, uint64_t at)
 	if (answer.kind != GITWIRE_DONE)
 		return NULL;
 	text[answer.length] = 0;
-	return strlen((const char *)text) == answer.length ? (const char *)text : ""; /* one with a NUL in it is no name of anything */
+	return strlen((const char *)text) == answer.length ? (const char *)text : ""; /* a text with a NUL in it names nothing */
 }

@@ -1,4 +1,4 @@
-/* How the programs of this folder show a stranger's bytes: none of them steers a terminal. */
+/* How the programs of this folder show a peer's bytes: none of them can control a terminal. */
 #include <gitwire.h>
 
 #include <stdio.h>

@@ -1,4 +1,4 @@
-/* How the programs of this folder end where they cannot go on. Each defines PROGRAM before it, the name by which it reports what is wrong. */
+/* How the programs of this folder end if they cannot continue. Each defines PROGRAM before it: the name that its error messages begin with. */
 #include <stdio.h>
 #include <stdlib.h>
 

@@ -12,12 +12,15 @@
 
 #define LINE_ROOM (2 * GITWIRE_REFERENCE_NAME_ROOM)
 
-static char *configuration;         /* each KEY LF VALUE NUL, or KEY NUL, in their order */
+static char *configuration;         /* each KEY LF VALUE NUL, or KEY NUL, in order */
 static size_t configuration_length;
-static char space[4096];            /* what the names of references begin with in the namespace that is served */
-static struct texts hidden;         /* the values of the settings of hidden references, in their order */
+static char space[4096];            /* the prefix of the references' names in the namespace that is served */
+static struct texts hidden;         /* the values of the settings of hidden references, in order */
 
-/* The next setting of this key after `last`, or the first one after NULL: its value, which is empty where it has none. NULL if there is none. */
+/*
+ * The next setting of this key after `last`, or the first one after NULL. Returns its value, which is empty if it has none; NULL if there
+ * is no such setting.
+ */
 static const char *next_value(const char *key, const char *last)
 {
 	const char *entry = last == NULL ? configuration : last + strlen(last) + 1;
@@ -29,7 +32,7 @@ static const char *next_value(const char *key, const char *last)
 	return NULL;
 }
 
-/* What the key is set to last, or else this. */
+/* The last value of the key, or else this. */
 static const char *setting(const char *key, const char *otherwise)
 {
 	for (const char *value = NULL; (value = next_value(key, value)) != NULL;)
@@ -62,7 +65,7 @@ static void read_configuration(struct command *command)
 			add_text(&hidden, "%s", strchr(entry, '\n') + 1);
 }
 
-/* A program that the owner of this machine wants to be started in the place of `git`, for packs: what the repository's own settings say is no such. */
+/* A program that the owner of this machine wants to be started in the place of `git`, for packs. A setting of the repository itself is not used. */
 static bool find_hook(char *hook, size_t room)
 {
 	static const char *const words[] = { "git", "--git-dir=/nonexistent", "config", "uploadpack.packobjectshook", NULL };
@@ -80,7 +83,7 @@ static bool is_in_space(const char *name)
 	return strncmp(name, space, strlen(space)) == 0;
 }
 
-/* Whether a setting of hidden references speaks of this name: of the whole one after a `^`, and else of that in the namespace. */
+/* Whether a setting of hidden references applies to this name: after a `^` to the whole name, and otherwise to the one in the namespace. */
 static bool is_hidden_by(const char *pattern, const char *name)
 {
 	size_t length;
@@ -96,7 +99,7 @@ static bool is_hidden_by(const char *pattern, const char *name)
 	return strncmp(name, pattern, length) == 0 && (name[length] == 0 || name[length] == '/');
 }
 
-/* Whether a reference, by its whole name, is hidden: the last setting that speaks of it counts. */
+/* Whether a reference, by its whole name, is hidden: the last setting that applies to it counts. */
 static bool is_hidden(const char *name)
 {
 	for (size_t i = hidden.length; i > 0; i--) {
@@ -108,7 +111,7 @@ static bool is_hidden(const char *name)
 	return false;
 }
 
-/* HEAD of the namespace, whose name has room for it: its target where it is symbolic, else an empty text. */
+/* HEAD of the namespace, whose name fits into `name`. Its target is received next, or an empty text if it is not symbolic. */
 static void start_head(struct command *command, char *name, size_t room)
 {
 	const char *const words[] = { "git", "symbolic-ref", "-q", "--", name, NULL };
@@ -123,13 +126,13 @@ static void receive_head(struct command *command, char *target, size_t room)
 		*target = 0;
 }
 
-/* Whether a text can be the pattern of references: none of them has a byte that a pattern has a meaning for. */
+/* Whether a text can be a pattern of references: it has no byte with a meaning in patterns. */
 static bool is_pattern(const char *text)
 {
 	return strncmp(text, "refs/", 5) == 0 && strpbrk(text, "*?[\\ ") == NULL;
 }
 
-/* How many references are asked for by their names or by patterns. Where more are wanted, all are read. */
+/* The maximum number of names or patterns of references in one request to Git. If more are wanted, all references are read. */
 enum { PATTERNS = 16 };
 
 static int compare_texts(const void *one, const void *other)
@@ -142,7 +145,7 @@ static int compare_to_line(const void *name, const void *line)
 	return strcmp(name, strchr(*(char *const *)line, ' ') + 1);
 }
 
-/* Adds the lines `ID NAME` of those of the references of these whole names that are there. They rise by their names. */
+/* Adds a line `ID NAME` for each of these whole names that is a reference. The names are in order. */
 static void find_references(struct texts *names, struct texts *lines)
 {
 	const char *words[4 + PATTERNS + 1] = { "git", "for-each-ref", "--format=%(objectname) %(refname)", "--" };
@@ -165,7 +168,7 @@ static void find_references(struct texts *names, struct texts *lines)
 		fail("git for-each-ref failed");
 }
 
-/* The object of the reference of just this name in such lines: false where there is none. */
+/* The object of the reference with exactly this name in such lines; false if there is none. */
 static bool find_reference(const struct texts *lines, const char *name, char *id)
 {
 	char *const *line = lines->length == 0 ? NULL : bsearch(name, lines->at, lines->length, sizeof *lines->at, compare_to_line);
@@ -175,7 +178,7 @@ static bool find_reference(const struct texts *lines, const char *name, char *id
 	return line != NULL;
 }
 
-/* The object of HEAD by its name and target: false where it is unborn. */
+/* The object of HEAD by its name and target; false if it is unborn. */
 static bool find_head(const char *name, const char *target, struct found *found)
 {
 	struct texts names = { 0 }, lines = { 0 };
@@ -193,8 +196,8 @@ static bool find_head(const char *name, const char *target, struct found *found)
 }
 
 /*
- * Whether this is the folder of a repository, or a file that leads to one, whose folder `path` becomes. A file of another user than this process
- * has leads to none: the folder could be any that this user may read.
+ * Whether this is the folder of a repository, or a file that leads to one, whose folder is then in `path`. If the file belongs to another
+ * user than that of this process, it leads to none: the folder could be any that this user may read.
  */
 static bool leads_to_repository(char *path, size_t room)
 {
@@ -224,7 +227,7 @@ static bool leads_to_repository(char *path, size_t room)
 	return lstat(inner, &state) == 0;
 }
 
-/* What the repository in this folder says of itself: its object format, and where its history is cut off. False where this is the folder of none. */
+/* Reads the facts about the repository in this folder: its object format, and where its history is cut off. False if this folder has none. */
 static bool read_repository(uint8_t *format)
 {
 	static const char *const ask[] = { "git", "-c", "safe.bareRepository=all", "rev-parse", "--git-dir", "--show-object-format", "--git-path",
@@ -252,7 +255,10 @@ static bool read_repository(uint8_t *format)
 	return true;
 }
 
-/* Goes into the repository, as Git finds it by this name: `strict` is by no other. Git is to look no further up, and judges whose folder it is. */
+/*
+ * Enters the repository that Git finds by this name; with `strict` only under this very name. Git must not look further up, and it checks
+ * whose folder it is.
+ */
 static bool enter(const char *name, bool strict, uint8_t *format)
 {
 	static const char *const ends[] = { "/.git", "", ".git/.git", ".git" };
@@ -277,7 +283,7 @@ static bool enter(const char *name, bool strict, uint8_t *format)
 	return false;
 }
 
-/* The namespace that is served: `a/b` of the environment is `refs/namespaces/a/refs/namespaces/b/`. Git has judged it where it read the repository. */
+/* The namespace that is served: `a/b` of the environment is `refs/namespaces/a/refs/namespaces/b/`. Git has checked it when it read the repository. */
 static void read_space(void)
 {
 	const char *name = getenv("GIT_NAMESPACE");

@@ -3,10 +3,10 @@
  *
  *     upload-pack [--stateless-rpc] [--http-backend-info-refs] [--timeout=N] [--strict] FOLDER
  *
- * The library reads the requests and makes the answers; what it asks for is looked up by commands of Git: references by `git show-ref` and `git
- * for-each-ref`, objects by one `git cat-file --batch-command` that runs as long as the session, where history is cut off by `git rev-list`, and
- * packs by `git pack-objects --revs --stdout`, whose bytes pass on as they come. Where one of them fails, the client receives that it did. It
- * speaks version 2 alone, whatever version its client asks for.
+ * The library reads the requests and makes the answers; what it asks for is looked up by commands of Git: references by `git show-ref` and
+ * `git for-each-ref`, objects by one `git cat-file --batch-command` that runs as long as the session, the ends of a shallow history by `git
+ * rev-list`, and packs by `git pack-objects --revs --stdout`, whose bytes pass on as they come. If one of them fails, the client receives
+ * an error. It speaks version 2 alone, whatever version its client asks for.
  *
  *     git clone --upload-pack=.../upload-pack REPOSITORY CLONE
  */
@@ -22,7 +22,7 @@
 
 #include <poll.h>
 
-/* Looks up the objects of a list of the request, and adds those that are there. Returns the first that is not there, or NULL. */
+/* Looks up the objects of a list of the request, and adds those that exist. Returns the first that does not exist, or NULL. */
 static const char *find_listed(uint8_t list, const char *type, struct names *into)
 {
 	static struct names asked;
@@ -34,11 +34,11 @@ static const char *find_listed(uint8_t list, const char *type, struct names *int
 	return find_all(&asked, "", type, into);
 }
 
-/* The wanted references as lines `ID NAME`, and the object of `HEAD`, which is empty where there is none. */
+/* The wanted references as lines `ID NAME`, and the object of `HEAD`, which is empty if there is none. */
 static struct texts wanted_references;
 static char wanted_head[GITWIRE_OBJECT_NAME_ROOM + 1];
 
-/* The object of a wanted reference, once those were looked up: false where there is none that is shown. */
+/* The object of a wanted reference, once those were looked up; false if there is none that may be shown. */
 static bool find_wanted(const char *name, char *id)
 {
 	static char whole[LINE_ROOM];
@@ -52,7 +52,7 @@ static bool find_wanted(const char *name, char *id)
 	return *id != 0;
 }
 
-/* Looks up the wanted references. Returns the first that is not there, or NULL. */
+/* Looks up the wanted references. Returns the first that does not exist, or NULL. */
 static const char *find_wanted_references(void)
 {
 	struct texts names = { 0 };
@@ -77,13 +77,13 @@ static const char *find_wanted_references(void)
 	return NULL;
 }
 
-/* What a name is short for, and in which order Git tries it. */
+/* What a short name may stand for, in the order in which Git tries it. */
 static const char *const rules[] = { "%s", "refs/%s", "refs/tags/%s", "refs/heads/%s", "refs/remotes/%s", "refs/remotes/%s/HEAD" };
 enum { RULES = 6, MOST_EXCLUDED = 100 };
 
 /*
- * Looks up the references that a shallow history is to exclude, each by a name that is short for one alone. Returns the first that is not, or
- * NULL. They are no revisions that Git would have to search for, as `:/text` is.
+ * Looks up the references that a shallow history has to exclude, each by a short name that stands for only one. Returns the first that does
+ * not, or NULL. Revisions that Git would have to search for, as `:/text`, are not accepted.
  */
 static const char *find_excluded(struct names *excluded)
 {
@@ -113,7 +113,7 @@ static const char *find_excluded(struct names *excluded)
 	return name;
 }
 
-/* Looks up what a fetch names. Why it is refused, or NULL; the words are those of Git's own server. */
+/* Looks up what a fetch names. Returns why it is refused, or NULL; the words are those of Git's own server. */
 static const char *why_not(void)
 {
 	static char reason[LINE_ROOM];
@@ -193,7 +193,7 @@ static void answer_boundary(void)
 	give(gitwire_host_boundary_end(&host, room(), GITWIRE_PACKET_ROOM));
 }
 
-/* What `git pack-objects` is to put into the pack, and where history is cut off for the client. */
+/* What `git pack-objects` has to put into the pack, and where history is cut off for the client. */
 static void write_revisions(FILE *to, bool is_cut)
 {
 	struct names parents = { 0 };
@@ -247,7 +247,7 @@ static void start_pack(struct command *pack, bool is_cut)
 /* Passes on what can be read: false at the end. */
 static bool pass_on(int from, gitwire_answer (*call)(gitwire_host *, const uint8_t *, size_t, uint8_t *, size_t))
 {
-	static uint8_t bytes[GITWIRE_PAYLOAD_ROOM - 1]; /* what one packet has beside its band */
+	static uint8_t bytes[GITWIRE_PAYLOAD_ROOM - 1]; /* as much as a packet has after its band */
 	ssize_t length = read(from, bytes, sizeof bytes);
 	gitwire_answer answer;
 
@@ -260,7 +260,7 @@ static bool pass_on(int from, gitwire_answer (*call)(gitwire_host *, const uint8
 	return length != 0;
 }
 
-/* The pack as it comes, and what pack-objects says meanwhile as progress, which comes first so that it is seen in time. */
+/* The pack as it comes, and the messages of pack-objects as progress. Progress goes first, so that it is seen in time. */
 static void answer_pack(void)
 {
 	bool is_cut = shallows.length + client_boundary.length > 0, is_open[2] = { true, true };
@@ -289,7 +289,7 @@ static void answer_pack(void)
 	give(gitwire_host_pack_end(&host, room(), GITWIRE_PACKET_ROOM));
 }
 
-/* Answers what the library asks. Whether an object is there was looked up where the request came. */
+/* Answers a question of the library. Whether an object exists was looked up when the request came. */
 static void answer_need(gitwire_answer need)
 {
 	struct found found = { .size = 0 };
@@ -396,7 +396,7 @@ static uint32_t features(void)
 	return all;
 }
 
-/* Makes of what was inherited what this program needs: signals, and descriptors in whose place no pipe is to come. */
+/* Prepares what was inherited for this program: signals, and the descriptors that no pipe may get. */
 static bool begin(void)
 {
 	sigset_t none;
@@ -404,7 +404,7 @@ static bool begin(void)
 
 	sigemptyset(&none);
 	sigprocmask(SIG_SETMASK, &none, NULL);
-	signal(SIGPIPE, SIG_IGN); /* who is gone is seen by a write that fails */
+	signal(SIGPIPE, SIG_IGN); /* a client that is gone is noticed by a write that fails */
 	signal(SIGCHLD, SIG_DFL);
 	signal(SIGALRM, SIG_DFL);
 	for (int i = 0; i < 3; i++)

@@ -1,6 +1,6 @@
 /*
- * What the clients of this folder share: `git upload-pack` of a folder, over two pipes, and how they report what is wrong. Each defines PROGRAM
- * before it, the name by which it does so.
+ * What the clients of this folder share: `git upload-pack` of a folder, over two pipes, and how they report errors. Each defines PROGRAM
+ * before it: the name that its error messages begin with.
  */
 #include <gitwire.h>
 

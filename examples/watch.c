@@ -4,14 +4,14 @@
  *     watch [--sha256] [--transcript FILE] COMMAND [WORD..]
  *
  * The client is on standard input and output, and COMMAND starts the server. The transcript (judge.h) goes to standard error, or to the
- * file that is named. A packet goes on once it is whole and judged. The first that is malformed, or is not allowed where it comes, is reported
- * by name and offset, to the client too; it does not go on, nor does what comes after it, and the conversation ends.
+ * named file. A packet goes on once it is whole and judged. The first that is malformed, or is not allowed at its place, is reported by
+ * name and offset, to the client too; it does not go on, nor does what comes after it, and the conversation ends.
  *
  *     git clone --upload-pack "watch git upload-pack" FOLDER CLONE
  *
  * The client has its turn until a request is whole, and the server until it has answered: what one sends before its turn waits. For each
- * end there is a buffer of one packet, and one in the library; beside them the library keeps what the arguments of one request take.
- * Nobody is hurried: a host that strangers reach gives each turn a time.
+ * side there is a buffer of one packet, and one in the library; beside them the library keeps what the arguments of one request take. There
+ * is no limit on time: if untrusted clients can reach the host, it has to limit each turn.
  */
 #define _POSIX_C_SOURCE 200809L
 #include "judge.h"
@@ -23,13 +23,13 @@
 #include <stdlib.h>
 #include <sys/wait.h>
 
-/* What one end sends to the other. */
+/* What one side sends to the other. */
 struct stream {
 	const char *name;
-	int from, to;                       /* -1 once it has ended; once nobody takes it any more */
+	int from, to;                       /* -1 once it has ended; -1 once nobody reads it any more */
 	gitwire_packet_reader packets;
-	uint64_t offset;                    /* where the packet begins that is to be judged */
-	size_t sent, judged, read, end;     /* of the bytes here: what went on, what may go on, what packets were read of, what came */
+	uint64_t offset;                    /* where the next packet to be judged begins */
+	size_t sent, judged, read, end;     /* of the bytes here: how many went on, may go on, were read as packets, have come */
 	uint8_t bytes[GITWIRE_PACKET_ROOM];
 };
 
@@ -43,7 +43,7 @@ static int tell(const char *what)
 	return 1;
 }
 
-/* Drops the bytes that went on, once these are all that may. */
+/* Drops the bytes that went on, if no others may go on yet. */
 static void make_room(struct stream *stream)
 {
 	if (stream->sent < stream->judged)
@@ -54,7 +54,7 @@ static void make_room(struct stream *stream)
 	stream->sent = stream->judged = 0;
 }
 
-/* Takes what has come, for which there is room, or that no more comes. */
+/* Receives bytes, as many as fit, or the end of the stream. */
 static void take_in(struct stream *stream)
 {
 	ssize_t count = read(stream->from, stream->bytes + stream->end, sizeof stream->bytes - stream->end);
@@ -67,7 +67,7 @@ static void take_in(struct stream *stream)
 	}
 }
 
-/* Writes what may go on, as much as a pipe takes without a wait. Whether somebody takes it. */
+/* Writes what may go on, as much as a pipe takes without waiting. Returns whether somebody reads it. */
 static bool pass_on(struct stream *stream)
 {
 	size_t part = stream->judged - stream->sent;
@@ -91,7 +91,7 @@ static bool has_turn(const struct stream *stream)
 	return next == GITWIRE_NEED_INPUT || (stream->end - stream->judged >= 8 && memcmp(text, "ERR ", 4) == 0);
 }
 
-/* Judges the packet that ends where packets were read of. */
+/* Judges the packet that ends where the reading of packets has come to. */
 static gitwire_answer judge_packet(struct stream *stream)
 {
 	struct packet packet = { stream->bytes + stream->judged, stream->read - stream->judged, stream->offset };
@@ -104,7 +104,7 @@ static gitwire_answer judge_packet(struct stream *stream)
 	return answer;
 }
 
-/* Judges the packets that have come whole, and that none is left over. FAILED, with the fault and its offset, or anything else. */
+/* Judges the packets that are whole, and that none comes after the last one allowed. Returns FAILED, with the error and its offset, or anything else. */
 static gitwire_answer judge_packets(struct stream *stream)
 {
 	static uint8_t payload[GITWIRE_PAYLOAD_ROOM];
@@ -124,7 +124,7 @@ static gitwire_answer judge_packets(struct stream *stream)
 	return answer;
 }
 
-/* Judges the end of a stream of which all packets are judged, where it is its turn. */
+/* Judges the end of a stream whose packets are all judged, if it is its turn. */
 static gitwire_answer judge_end(struct stream *stream)
 {
 	gitwire_answer answer = gitwire_packet_reader_close(&stream->packets);
@@ -144,7 +144,7 @@ static gitwire_answer judge_stream(struct stream *stream)
 	return judge_end(stream);
 }
 
-/* Reports to the client, where its user sees it, why the conversation ends: within a pack that is a side band, and else an error packet. */
+/* Reports to the client, where its user sees it, why the conversation ends: inside a pack on a side band, otherwise in an error packet. */
 static void tell_client(const uint8_t *text, size_t length)
 {
 	gitwire_writer writer = GITWIRE_NONE;
@@ -161,7 +161,7 @@ static void tell_client(const uint8_t *text, size_t length)
 	gitwire_writer_free(&writer);
 }
 
-/* Ends the conversation: what was judged goes on, and an error that one end sent the other. */
+/* Ends the conversation: what was judged goes on, and so does an error that one side sent to the other. */
 static int refuse(struct stream *stream, gitwire_answer answer)
 {
 	uint8_t text[GITWIRE_FAULT_TEXT_ROOM];
@@ -178,7 +178,7 @@ static int refuse(struct stream *stream, gitwire_answer answer)
 	return 1;
 }
 
-/* What is waited for: bytes, where there is room for them, and somebody who takes those that may go on. */
+/* What to wait for: bytes, if they fit, and somebody who reads those that may go on. */
 static void await(struct stream *stream, struct pollfd *polled)
 {
 	polled[0] = (struct pollfd){ .fd = stream->end < sizeof stream->bytes ? stream->from : -1, .events = POLLIN };
@@ -195,13 +195,13 @@ static void close_server(void)
 	make_room(&requests);
 }
 
-/* Whether the server has ended, where nothing more was due of it, and all that it sent has gone on. */
+/* Whether the server has ended, nothing more was expected of it, and everything that it sent has gone on. */
 static bool is_over(void)
 {
 	return responses.from < 0 && responses.end == 0 && due(&judge) != GITWIRE_NEED_INPUT;
 }
 
-/* Passes on what both send until the server ends. Answers the program's status. */
+/* Passes on what both send until the server ends. Returns the exit status. */
 static int watch(void)
 {
 	for (;;) {
@@ -234,7 +234,7 @@ static int watch(void)
 	}
 }
 
-/* Watches the server that this command starts. Answers the program's status. */
+/* Watches the server that this command starts. Returns the exit status. */
 static int watch_server(char **command)
 {
 	pid_t server = start_program(command, &requests.to, &responses.from);
@@ -247,7 +247,7 @@ static int watch_server(char **command)
 	if (responses.from >= 0)
 		close(responses.from);
 	if (status != 0)
-		kill(server, SIGTERM); /* it may wait for a client that is not there any more */
+		kill(server, SIGTERM); /* it may be waiting for a client that is gone */
 	waitpid(server, NULL, 0);
 	return status;
 }
@@ -273,7 +273,7 @@ int main(int count, char **words)
 	}
 	if (name != NULL && (transcript = fopen(name, "w")) == NULL)
 		return tell("the transcript cannot be opened");
-	setvbuf(transcript, NULL, _IOFBF, BUFSIZ); /* it is written out before each wait */
+	setvbuf(transcript, NULL, _IOFBF, BUFSIZ); /* it is flushed before each wait */
 	if (!begin_judge(&judge, format, transcript) || gitwire_packet_reader_new(&requests.packets) != GITWIRE_DONE
 		|| gitwire_packet_reader_new(&responses.packets) != GITWIRE_DONE)
 		status = tell("no memory");

@@ -29,20 +29,24 @@
  *     how many bytes are there. The call writes at the front of the buffer and reports how many bytes it wrote; the bytes
  *     after them are unchanged. A chunk (`piece`) is the bytes that one call is fed.
  *
+ *   - An array is where a call writes several packets or events: a pointer and how many places are there. The call fills
+ *     places from the first on and reports how many; the others are unchanged.
+ *
  * A program has to see to the following, since no call can:
  *
  *   - A handle begins as GITWIRE_NONE, or as zeroed memory, which is the same. Nobody else touches its fields. It may be
  *     moved, as by realloc; after a copy only one of the two is used and freed. Free it when it is no longer needed; to free
  *     it twice does no harm, and a call on a freed handle returns NO_HANDLE.
- *   - No pointer to a handle or to a gitwire_caps is NULL, except in the calls `_free`.
+ *   - No pointer to a handle, a gitwire_caps or a gitwire_text is NULL, except in the calls `_free`.
  *   - One thread at a time uses a handle. Each call writes to each of its handles, even a call that only asks: so two
  *     threads that make servers of one repository's handle need a lock. A handle may go from one thread to another by a
  *     lock, a thread's start or end, or an atomic of sequentially consistent order. Servers of one repository may be used at
  *     the same time, and while its handle is used or freed.
- *   - Each text and each buffer has its whole length at its pointer, and no pointer is NULL if the length is above 0. No
- *     buffer overlaps a text, another buffer or a handle, and no two handles of a call are the same. Nobody else writes to a
- *     text or touches a buffer while the call runs.
- *   - Each field of a gitwire_offer is set.
+ *   - Each text, buffer and array has its whole length at its pointer, and no pointer is NULL if the length is above 0. No
+ *     buffer or array overlaps a text, another buffer or array, or a handle, and no two handles of a call are the same. Nobody
+ *     else writes to a text or touches a buffer or an array while the call runs.
+ *   - Each field of a gitwire_offer is set. Each bool of a gitwire_caps or of an array of events is 0 or 1 before the call, as
+ *     in zeroed memory.
  *   - Numbers of several kinds begin at 0: a format that is passed as a command or an ending is taken for one.
  *   - The stack has space for a call. The tests make each call in a thread with the 16 KiB of PTHREAD_STACK_MIN.
  *   - malloc, realloc and free are those of one allocator, which aligns as the C standard requires. No call is made from a
@@ -98,6 +102,9 @@ extern "C" {
 #define GITWIRE_KIND_NAME_ROOM 32           /* the name that gitwire_kind_name writes */
 #define GITWIRE_ESCAPE_ROOM 4               /* the escape that gitwire_escape writes for one byte */
 #define GITWIRE_ADVERTISEMENT_ROOM 200      /* the packets that gitwire_put_advertisement writes */
+
+/* A buffer for the texts of all events of a chunk of this length, in gitwire_client_events. */
+#define GITWIRE_EVENTS_ROOM(piece_length) (2 * GITWIRE_PAYLOAD_ROOM + (piece_length))
 
 /* How many bytes the texts of a request's argument lines may have together: the default limit, and the maximum one. */
 #define GITWIRE_USUAL_LIMIT 16777216
@@ -210,7 +217,7 @@ enum { GITWIRE_ENDS_BY_FLUSH = 0, GITWIRE_ENDS_BY_RESPONSE_END = 1 };
 typedef struct {
 	size_t used;       /* how many bytes of the chunk were used */
 	uint64_t offset;   /* an offset in the stream, counted in bytes from 0; or the number that was asked for */
-	size_t length;     /* how many bytes are at the front of the buffer */
+	size_t length;     /* how many bytes are at the front of the buffer; or how many packets or events are in the array */
 	uint8_t kind;
 	uint8_t fault;
 } gitwire_answer;
@@ -281,6 +288,27 @@ uint8_t gitwire_packet_reader_new(gitwire_packet_reader *reader);
 GITWIRE_LOOKED_AT
 gitwire_answer gitwire_packet_reader_feed(gitwire_packet_reader *reader, const uint8_t *piece, size_t piece_length,
 	uint8_t *room, size_t room_length);
+
+/*
+ * Reads up to the end of the chunk or the first error, and fills the array with the packets: what gitwire_packet_reader_feed
+ * would return for them, call after call, but for `used`, which counts from the chunk's beginning up to the packet's end.
+ * `length` is how many there are, `used` how many bytes of the chunk were used. Payloads are not copied: each is the last
+ * `length` bytes up to its packet's end, so it begins at `piece + used - length`. Only if `used` of the packet is less than
+ * its `length`, as of a first one that began in an earlier chunk, is the payload at the front of the buffer instead;
+ * gitwire_payload returns where it is. The buffer needs at least GITWIRE_PAYLOAD_ROOM bytes.
+ *
+ * MORE: the chunk is used up; or the array is full, and the call is to be made again with the other bytes. FAILED: the error
+ * after these packets; no byte was lost. NO_HANDLE. ROOM_TOO_SMALL, for an array without a place too.
+ */
+GITWIRE_LOOKED_AT
+gitwire_answer gitwire_packet_reader_packets(gitwire_packet_reader *reader, const uint8_t *piece, size_t piece_length,
+	gitwire_answer *packets, size_t packets_length, uint8_t *room, size_t room_length);
+
+/* Where the payload of a packet of the array is: in the chunk or in the buffer of that call. */
+static inline const uint8_t *gitwire_payload(gitwire_answer packet, const uint8_t *piece, const uint8_t *room)
+{
+	return packet.length <= packet.used ? piece + (packet.used - packet.length) : room;
+}
 
 /*
  * Reports the end of the input. DONE between two packets, and nothing changes. FAILED inside a packet, with Truncated at the
@@ -633,7 +661,7 @@ uint8_t gitwire_client_new(gitwire_client *client, uint8_t format, uint8_t endin
  */
 typedef struct {
 	size_t used;
-	uint64_t offset;   /* where it failed */
+	uint64_t offset;   /* where it failed; in an array, where its texts begin */
 	size_t id_length;
 	size_t name_length;
 	size_t text_length;
@@ -663,6 +691,28 @@ gitwire_event gitwire_client_feed(gitwire_client *client, const uint8_t *piece, 
 GITWIRE_LOOKED_AT
 gitwire_event gitwire_client_feed_in_place(gitwire_client *client, const uint8_t *piece, size_t piece_length,
 	uint8_t *room, size_t room_length);
+
+/*
+ * Reads on, and fills the array with the events: what gitwire_client_feed_in_place would return for them, call after call, but
+ * for `used`, which counts from the chunk's beginning up to the event's end, and for `offset`, which is where its texts begin:
+ * in the chunk for PACK and PROGRESS, and for other events in the buffer, where they lie one after another. gitwire_texts
+ * returns that place. `length` is how many events there are, `used` how many bytes of the chunk were used.
+ *
+ * MORE: the chunk is used up; or the array is full, or fewer than GITWIRE_PAYLOAD_ROOM bytes of the buffer are left, and the
+ * call is to be made again with the other bytes. CAN_ASK: the last event is the end of the advertisement or of a response,
+ * and it is the program's turn. FAILED: the error after these events; nothing was lost. NOT_NOW if no input is expected, and
+ * NO_HANDLE. ROOM_TOO_SMALL, for an array without a place too: the buffer needs at least GITWIRE_PAYLOAD_ROOM bytes. One of
+ * GITWIRE_EVENTS_ROOM never fills up.
+ */
+GITWIRE_LOOKED_AT
+gitwire_answer gitwire_client_events(gitwire_client *client, const uint8_t *piece, size_t piece_length,
+	gitwire_event *events, size_t events_length, uint8_t *room, size_t room_length);
+
+/* Where the texts of an event of the array begin: in the chunk or in the buffer of that call. */
+static inline const uint8_t *gitwire_texts(gitwire_event event, const uint8_t *piece, const uint8_t *room)
+{
+	return (event.kind == GITWIRE_PACK || event.kind == GITWIRE_PROGRESS ? piece : room) + event.offset;
+}
 
 /*
  * What to do next. PACKET: send the `length` bytes in the buffer; each packet is returned once. NEED_INPUT: bytes from the
@@ -792,6 +842,48 @@ gitwire_answer gitwire_put_line(gitwire_writer *writer, const uint8_t *text, siz
 size_t gitwire_fault_name(uint8_t fault, uint8_t *room, size_t room_length);
 size_t gitwire_fault_text(uint8_t fault, uint64_t offset, uint8_t *room, size_t room_length);
 
+/* A text of the library's own, with a NUL at its end, which counts in its length. It lasts as long as the library is loaded. */
+typedef struct {
+	const char *at;
+	size_t length;
+} gitwire_text;
+
+/*
+ * The words of an error: its name, such as `Truncated`, a NUL, a sentence that states what it means and what to look at, and a
+ * NUL; of a number that is no error's, two NULs. Before the call `at` is no NULL and `length` is 0: gitwire_fault_string and
+ * gitwire_fault_sentence see to that, and return the name and the sentence, or an empty text.
+ */
+void gitwire_fault_words(uint8_t fault, gitwire_text *text);
+static inline const char *gitwire_fault_string(uint8_t fault)
+{
+	gitwire_text text = { "", 0 };
+
+	gitwire_fault_words(fault, &text);
+	return text.at;
+}
+static inline const char *gitwire_fault_sentence(uint8_t fault)
+{
+	const char *at = gitwire_fault_string(fault);
+
+	while (*at++ != 0)
+		;
+	return at;
+}
+
+/*
+ * The version of the library that runs, and a NUL; GITWIRE_VERSION is that of the header that the program was compiled with.
+ * Before the call `at` is no NULL and `length` is 0, which gitwire_version sees to.
+ */
+GITWIRE_GIVEN
+void gitwire_version_text(gitwire_text *text);
+static inline const char *gitwire_version(void)
+{
+	gitwire_text text = { "", 0 };
+
+	gitwire_version_text(&text);
+	return text.at;
+}
+
 /*
  * The name of a `kind` of what is returned, such as `NeedInput`, for messages. Returns how many bytes are in the buffer: 0 if
  * there is no such kind, or the buffer is too small. GITWIRE_KIND_NAME_ROOM bytes suffice.
@@ -826,6 +918,7 @@ GITWIRE_STATIC_ASSERT(sizeof(gitwire_offer) == 8 && offsetof(gitwire_offer, form
 GITWIRE_STATIC_ASSERT(sizeof(gitwire_answer) == 32 && offsetof(gitwire_answer, fault) == 25, "gitwire_answer");
 GITWIRE_STATIC_ASSERT(sizeof(gitwire_event) == 64 && offsetof(gitwire_event, kind) == 56
 	&& offsetof(gitwire_event, has_size) == 59, "gitwire_event");
+GITWIRE_STATIC_ASSERT(sizeof(gitwire_text) == 16 && offsetof(gitwire_text, length) == 8, "gitwire_text");
 GITWIRE_STATIC_ASSERT(sizeof(gitwire_caps) == 12 && offsetof(gitwire_caps, sha256) == 9, "gitwire_caps");
 
 #ifdef __cplusplus

@@ -7,8 +7,8 @@ ask() {
     ask_of over_one_connection "$folder" "$@"
 }
 
-# ask_of SERVER FOLDER [OPTION..]: the same of this server of it. Leaves the `transcript` and what else is reported, the `pack`, the `status`,
-# and that of the server, `served`.
+# ask_of SERVER FOLDER [OPTION..]: the same with this server. Leaves the `transcript` and everything else that is reported, the `pack`, the
+# `status`, and that of the server, `served`.
 ask_of() {
     local server=$1 folder=$2
     shift 2
@@ -25,8 +25,8 @@ over_one_connection() {
     limited git upload-pack "$1"
 }
 
-# over_many_connections FOLDER: a server for the advertisement, and one for each of two requests, whose answer ends as a remote helper of
-# Git ends it.
+# over_many_connections FOLDER: a server for the advertisement, and one for each of two requests. The answers end as a remote helper of Git
+# ends them.
 over_many_connections() {
     local i
     limited git upload-pack --http-backend-info-refs "$1"
@@ -51,7 +51,7 @@ told_references() {
     git ls-remote "$1" | sed -e '/\^{}$/d' -e 's/^\([0-9a-f]*\)\t/ref \1 /'
 }
 
-# is_whole FORMAT FOLDER ID: that the pack is whole, and has what the commit of the repository reaches.
+# is_whole FORMAT FOLDER ID: that the pack is whole, and has what can be reached from the commit of the repository.
 is_whole() {
     rm -rf fetched
     git init -q -b main --object-format="$1" fetched
@@ -68,7 +68,7 @@ case_our_client_lists_what_git_serves() {
     [ ! -s pack ] || differs 'a pack that nobody asked for'
 }
 
-# What Git sends is what its own index of the pack finds, and nothing is missing.
+# Git's own index of the pack finds what Git sends, and nothing is missing.
 case_our_client_fetches_a_pack() {
     local id bytes
     id=$(git -C history-sha1 rev-parse HEAD)
@@ -129,7 +129,7 @@ case_our_client_shows_the_progress() {
     is_whole sha1 history-sha1 "$id"
 }
 
-# Standard error alone is a terminal, and nothing else is printed.
+# Only standard error is a terminal, and nothing else is printed.
 case_our_client_shows_the_progress_on_a_terminal() {
     local id
     command -v script > /dev/null || return 0
@@ -145,7 +145,7 @@ case_our_client_shows_the_progress_on_a_terminal() {
     is_whole sha1 history-sha1 "$id"
 }
 
-# shown PROGRESS.. WANTED: that where a server reports this, a packet each, and nothing else beside a pack, this is shown.
+# shown PROGRESS.. WANTED: that this is shown if a server sends this progress, one packet each, and a pack.
 shown() {
     local wanted=${*: -1} part
     {
@@ -162,7 +162,7 @@ shown() {
     expect_same "what is shown of $1" <(printf '%b' "$wanted") err
 }
 
-# Of the progress no byte goes to a terminal that could be more than a letter or the end of a line.
+# No byte of the progress reaches a terminal, except letters and ends of lines.
 case_our_client_shows_no_control_byte_of_the_progress() {
     shown 'half\rdone\n' 'remote: half\rremote: done\n'
     shown '\033[2J\a\b\t\x7f\n' 'remote: ?[2J????\n'
@@ -182,7 +182,7 @@ case_our_client_fetches_over_a_connection_for_each_request() {
     is_whole sha1 history-sha1 "$id"
 }
 
-# A heavy pack comes in many pieces.
+# A heavy pack comes in many chunks.
 case_our_client_fetches_a_heavy_pack() {
     local id
     id=$(git -C heavy rev-parse main)
@@ -193,7 +193,7 @@ case_our_client_fetches_a_heavy_pack() {
     is_whole sha1 heavy "$id"
 }
 
-# The client has a commit already, which Git finds to be common. Both packs go to the file, one after another.
+# The client has a commit already, and Git finds that it is common. Both packs go to the file, one after another.
 case_our_client_fetches_what_is_new() {
     local new old
     git init -q -b main grown
@@ -208,7 +208,7 @@ case_our_client_fetches_what_is_new() {
     [ "$(wc -c < pack)" -gt 21000000 ] || differs 'a pack that is too short'
 }
 
-# What Git reports of an object that it has not, and after it the fault and its place.
+# Git's message about an object that it does not have, and after it the error and its offset.
 case_our_client_is_told_an_error() {
     local other
     other=$(printf 'f%.0s' {1..40})
@@ -219,7 +219,7 @@ case_our_client_is_told_an_error() {
     grep -a -q '^git2show: RemoteError at [0-9]*$' transcript || differs 'no RemoteError' transcript
 }
 
-# write_pack_answer: what a server sends whose answer to `script` is a pack of five bytes.
+# write_pack_answer: what a server sends to answer `script` with a pack of five bytes.
 write_pack_answer() {
     printf '%s\n' fetch "want $one" 'done' > script
     { advertisement sha1; pack_answer; } > said
@@ -236,7 +236,7 @@ has_pack() {
     expect_same 'what lies beside it' /dev/null <(compgen -G '*.part*')
 }
 
-# Where a server refuses, where its stream breaks off, and where the transcript cannot be made.
+# A server that refuses, a stream that breaks off, and a transcript that cannot be made.
 case_our_client_keeps_the_pack_that_was_there() {
     write_pack_answer
     printf old > pack
@@ -260,7 +260,7 @@ case_our_client_keeps_the_pack_that_was_there() {
     has_pack old pack
 }
 
-# What was there is replaced by a file with its permissions, and a link by none. Other files keep their names.
+# An existing file is replaced by one with its permissions; the target of a link is replaced, and the link stays. Other files keep their names.
 case_our_client_replaces_a_pack() {
     write_pack_answer
     rm -f pack
@@ -294,7 +294,7 @@ case_our_client_writes_a_pack_of_no_bytes() {
     has_pack '' pack
 }
 
-# A device, a pipe and a link that leads nowhere are written as they are.
+# A device, a pipe and a link that leads nowhere are written directly.
 case_our_client_writes_what_is_no_file() {
     local name
     write_pack_answer
@@ -343,13 +343,13 @@ case_our_client_tells_a_pack_that_cannot_be_put_in_its_place() {
     [ ! -e pack.part1 ] || differs 'a file that was left'
 }
 
-# answered TEXT..: what our client reports where a server sends this, whatever it is asked.
+# answered TEXT..: what our client reports if a server sends this, whatever it is asked.
 answered() {
     echo ls-refs > script
     run git2show fetch --script script --pack pack --transcript written < <(printf "$@")
 }
 
-# Of what a server sends no byte goes to a terminal that could be more than a letter.
+# No byte that a server sends reaches a terminal, except letters.
 case_our_client_shows_an_error_on_one_line() {
     answered '0017ERR no \033[31m\n\xff way\n'
     expect_status 1
@@ -377,7 +377,7 @@ case_our_client_tells_what_is_wrong() {
     expect 1 /dev/null <(fault ReadFault)
 }
 
-# A device that takes nothing: in the place of the server, of the transcript, of the pack, and of the progress.
+# A full device: in the place of the server, of the transcript, of the pack, and of the progress.
 case_our_client_tells_a_full_device() {
     local id
     advertisement sha1 > said

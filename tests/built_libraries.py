@@ -1,9 +1,9 @@
 #!/usr/bin/env python3
 """Lets `rt lib` take the libraries that the gate has left, instead of proving each of them once more.
 
-The gate (`rt ci`) leaves what it built of each library in out/rlib, all of one run, without the stamp by which rt's other
-commands know what it was made of. This writes that stamp where nothing has changed since: where no file that the library is
-made of, nor one of a library below it, is newer than what was built.
+The gate (`rt ci`) leaves what it built of each library in out/rlib, all of one run, without the stamp that shows rt's other
+commands what it was made of. This writes that stamp if nothing has changed since: if no file that the library is made of, nor
+one of a library below it, is newer than what was built.
 """
 import importlib.machinery
 import importlib.util

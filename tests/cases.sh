@@ -1,10 +1,10 @@
-# Runs cases, and counts them. A case is a function whose name begins with `case_`. It fails where something that it expects
-# is not so, and where a command in it fails.
+# Runs cases, and counts them. A case is a function whose name begins with `case_`. It fails if an expectation does not hold, or if a
+# command in it fails.
 
 passed=0
 failed=0
 
-# limited COMMAND..: runs a program for half a minute at the most. What hangs ends with status 124 or 137.
+# limited COMMAND..: runs a program for at most half a minute. If it hangs, the status is 124 or 137.
 limited() {
     timeout -k 5 30 "$@"
 }
@@ -15,7 +15,7 @@ run() {
     limited "$@" > out 2> err || status=$?
 }
 
-# expect STATUS OUT ERR: that the last run ended so, and wrote just what these two files have.
+# expect STATUS OUT ERR: that the last run had this status, and wrote exactly what these two files have.
 expect() {
     expect_status "$1"
     expect_same 'standard output' "$2" out
@@ -36,15 +36,15 @@ expect_line() {
     grep -a -q -x -F -e "$2" "$3" || differs "$1 without the line '$2'" "$3"
 }
 
-# differs WHAT [FILE]: reports what is not as expected, and shows the beginning of a file. The case goes on, to report all.
+# differs WHAT [FILE]: reports what is not as expected, and shows the beginning of a file. The case continues, so that all differences are reported.
 differs() {
     well=no
     echo "$1"
     [ $# = 1 ] || head -n 20 "$2" | cut -c 1-160 | sed 's/^/    /'
 }
 
-# The case runs in a shell of its own, so that nothing of it lasts. That shell runs under no `if` or `||`, where bash would
-# not stop it at a command that fails.
+# The case runs in a shell of its own, so that it leaves nothing behind. That shell is not run under `if` or `||`, since bash would not stop
+# it there at a command that fails.
 run_case() {
     local status
     set +e

@@ -1,5 +1,4 @@
-# Cases in which the real Git clones from our program, and what it has then is compared with what Git has that clones the
-# same repository from Git itself.
+# Cases in which the real Git clones from our program. The clone is compared with a clone of the same repository from Git itself.
 
 # write_history FOLDER FORMAT: a repository of Git's own, with branches that part and meet, tags of every kind, and a symbolic branch.
 write_history() {
@@ -37,7 +36,7 @@ commit_file() {
     git commit -q -m "$2"
 }
 
-# offer FOLDER: writes what our program is to serve of a repository, its text and its pack.
+# offer FOLDER: writes what our program needs to serve a repository, its text and its pack.
 offer() {
     (cd "$1" && "$top/sample/repository-text.sh") > "$1.repo"
     git -C "$1" pack-objects -q --all --stdout < /dev/null > "$1.pack"
@@ -58,7 +57,7 @@ write_histories() {
     offer heavy
 }
 
-# A repository with a file that cannot be packed any smaller.
+# A repository with a file that cannot be compressed.
 write_heavy() {
     git init -q -b main heavy
     git -C heavy config core.compression 0
@@ -67,7 +66,7 @@ write_heavy() {
     git -C heavy -c user.name=nobody -c user.email=nobody@example.org commit -q -m heavy
 }
 
-# offered NAME [OPTION..]: what was written of a repository, as our program serves it and as Git is to name it.
+# offered NAME [OPTION..]: the address of a repository that our program serves, for Git.
 offered() {
     local name=$1
     shift
@@ -82,7 +81,7 @@ clone() {
     GIT_TRACE_PACKET=$trace run git -c protocol.version=2 -c protocol.ext.allow=always clone -q "$@" "$address" "$folder"
 }
 
-# state FOLDER: what a clone has: each reference, where HEAD is, and what is wrong with its objects.
+# state FOLDER: the contents of a clone: each reference, where HEAD points, and what is wrong with its objects.
 state() {
     git -C "$1" for-each-ref --format='%(objectname) %(objecttype) %(refname) %(symref)'
     git -C "$1" symbolic-ref -q HEAD || git -C "$1" rev-parse HEAD
@@ -90,7 +89,7 @@ state() {
     git -C "$1" fsck --full --strict --no-dangling 2>&1
 }
 
-# clone_from_git NAME [OPTION..]: what Git gets from itself.
+# clone_from_git NAME [OPTION..]: the clone that Git gets from itself.
 clone_from_git() {
     local name=$1
     shift
@@ -98,7 +97,7 @@ clone_from_git() {
     git -c protocol.version=2 clone -q "$@" "file://$room/$name" theirs 2> their_err
 }
 
-# same_clones: that the two clones have the same, and went without a word or with the same words.
+# same_clones: that the two clones have the same contents, and were made without a message or with the same messages.
 same_clones() {
     expect_status 0
     expect_same 'standard output' /dev/null out
@@ -115,7 +114,7 @@ clones() {
     same_clones
 }
 
-# has_references COUNT: that the clone has so many, none of which is lost on both ways.
+# has_references COUNT: that the clone has so many, so that none is lost in both ways.
 has_references() {
     local count
     count=$(git -C ours for-each-ref | wc -l)
@@ -165,8 +164,8 @@ case_git_clones_without_tags() {
     expect_line 'the branches' 'refs/remotes/origin/alone' <(git -C ours for-each-ref --format='%(refname)')
 }
 
-# The pack has all objects, so Git asks for the branch alone and takes each tag along with it. The same pack from Git itself
-# would have fewer tags, so what is compared is a clone of that branch whose tags are fetched as well.
+# The pack has all objects, so Git asks for the branch alone and takes each tag along with it. The same pack from Git itself would have
+# fewer tags, so this is compared with a clone of that branch whose tags are fetched as well.
 case_git_clones_a_branch_alone() {
     clone "$(offered history-sha1)" ours --single-branch --branch alone
     clone_from_git history-sha1 --single-branch --branch alone
@@ -215,7 +214,7 @@ case_git_clones_an_empty_repository_of_sha256() {
     ends_on_its_branch
 }
 
-# Git asks for what is unborn, and has no line for it.
+# Git asks for the unborn reference, and shows no line for it.
 case_git_lists_an_empty_repository_with_its_branch() {
     rm -f "$trace"
     GIT_TRACE_PACKET=$trace run git -c protocol.version=2 -c protocol.ext.allow=always ls-remote --symref "$(offered empty-sha1)"
@@ -225,7 +224,7 @@ case_git_lists_an_empty_repository_with_its_branch() {
     grep -q 'unborn HEAD symref-target:refs/heads/k' "$trace" || differs 'what our program sent of HEAD' "$trace"
 }
 
-# negotiate ADDRESS: asks a server which commits it has too, of those that the main branch of `ours` reaches.
+# negotiate ADDRESS: asks a server which of the commits it has too that can be reached from the main branch of `ours`.
 negotiate() {
     rm -f "$trace"
     GIT_TRACE_PACKET=$trace run git -C ours -c protocol.version=2 -c protocol.ext.allow=always fetch --negotiate-only \
@@ -244,7 +243,7 @@ case_git_negotiates_alone() {
     expect_same 'the packs that came' /dev/null <(grep 'packfile' "$trace")
 }
 
-# Nothing is common, so Git asks once more without a word of what it has.
+# Nothing is common, so Git asks once more without listing the commits that it has.
 case_git_negotiates_alone_with_nothing_in_common() {
     clones history-sha1
     negotiate "$(offered empty-sha1)"
@@ -270,7 +269,7 @@ case_git_clones_a_pack_of_20_megabytes() {
     has_all heavy
 }
 
-# A repository without a commit takes what another has.
+# A repository without a commit fetches from another one.
 case_git_fetches_into_an_empty_repository() {
     git init -q --bare taking
     run git -C taking -c protocol.version=2 -c protocol.ext.allow=always fetch -q "$(offered history-sha1)" '+refs/*:refs/*'
@@ -281,7 +280,7 @@ case_git_fetches_into_an_empty_repository() {
     git -C taking fsck --full --strict --no-dangling
 }
 
-# refused: that Git received what our program reported, and that its clone failed.
+# refused: that Git received the error of our program, and that its clone failed.
 refused() {
     local refusal
     expect_status 128
@@ -291,7 +290,7 @@ refused() {
     [ ! -e ours ] || differs 'a clone that was refused'
 }
 
-# Git asks for references by their names, and for an object only where it is named itself.
+# Git asks for references by their names, and for an object only if the user names it.
 case_git_is_told_that_an_object_is_not_there() {
     write_patient
     grep -v '^object ' history-sha1.repo > objectless.repo
@@ -308,7 +307,7 @@ case_git_is_told_that_it_wants_too_much() {
     refused TooMuchKept
 }
 
-# Git looks into a pack itself, and takes none that is cut off.
+# Git looks into a pack itself, and accepts none that is cut off.
 case_git_takes_no_pack_that_is_cut_off() {
     cp history-sha1.repo cut.repo
     head -c 400 history-sha1.pack > cut.pack
@@ -317,8 +316,8 @@ case_git_takes_no_pack_that_is_cut_off() {
     [ ! -e ours ] || differs 'a clone of half a pack'
 }
 
-# halting: our program, whose output stops in the middle of the pack until a file `killed` is there. It leaves its status and its
-# fault line in files.
+# halting: our program, whose output stops in the middle of the pack until a file `killed` exists. It leaves its status and its error line
+# in files.
 write_halting() {
     cat > bin/halting << EOF
 #!/bin/bash
@@ -336,7 +335,7 @@ EOF
     chmod +x bin/halting
 }
 
-# wait_for FILE: until it is there and has something, for half a minute at the most.
+# wait_for FILE: until the file exists and is not empty, for at most half a minute.
 wait_for() {
     local i
     for ((i = 0; i < 300; i++)); do

@@ -1,10 +1,10 @@
-# Cases in which the real Git, and clients that mean harm, come to the daemon of examples/, which library.sh builds.
+# Cases in which the real Git, and malicious clients, connect to the daemon of examples/, which library.sh builds.
 
-# How long it waits for a client, in seconds: longer than one that goes on takes for a step, also under load.
+# How long it waits for a client, in seconds: longer than a well-behaved one takes for a step, also under load.
 patience=30
 
-# start_daemon NAME [COMMAND..]: serves what was written of a repository, on a free port, by this daemon or the watched one. Sets `daemon`, the
-# process, `port` and `address`.
+# start_daemon NAME [COMMAND..]: serves a repository by this daemon or the watched one, on a free port. Sets `daemon`, the process, `port`
+# and `address`.
 start_daemon() {
     local name=$1 command=("${@:2}")
     [ $# -gt 1 ] || command=(daemon-watched)
@@ -18,7 +18,7 @@ start_daemon() {
     port=${port%/here}
 }
 
-# end_daemon: interrupts it, and that it ends well: nothing was touched that may not be, and all was freed.
+# end_daemon: interrupts it, and expects that it ends well: it touched no memory that it may not, and freed all.
 end_daemon() {
     local i ended=0
     kill -INT $daemon
@@ -31,7 +31,7 @@ end_daemon() {
     [ $ended = 0 ] || differs "status $ended of the daemon" daemon.err
 }
 
-# daemon_told LINE [COUNT]: that the daemon reports this, once or so many times at the least, within half a minute.
+# daemon_told LINE [COUNT]: that the daemon reports this, once or at least so many times, within half a minute.
 daemon_told() {
     local i
     for ((i = 0; i < 300; i++)); do
@@ -41,7 +41,7 @@ daemon_told() {
     differs "a daemon that did not report '$1'${2:+ $2 times}" daemon.err
 }
 
-# says BYTES..: a connection to the daemon, descriptor 5, over which this is sent, each as printf's format.
+# says BYTES..: opens a connection to the daemon, descriptor 5, and sends this over it, each word as printf's format.
 says() {
     local bytes
     exec 5<> "/dev/tcp/127.0.0.1/$port"
@@ -80,7 +80,7 @@ case_a_daemon_in_c_serves_git() {
     expect_same 'what the daemon reported' /dev/null daemon.err
 }
 
-# A clone with a filter gets the pack for these, and has what it has of Git's own server; one without gets all.
+# A clone with a filter gets the pack for these, and has the same contents as from Git's own server; one without gets everything.
 case_a_daemon_in_c_serves_a_filtered_pack() {
     write_filtered
     start_daemon history-sha1 bash -c 'exec daemon-watched "$@" history-sha1.filtered' daemon
@@ -104,7 +104,7 @@ case_a_daemon_in_c_serves_git_sha256() {
     end_daemon
 }
 
-# serves_an_empty_repository FORMAT: that a clone from the daemon ends on the branch of the repository.
+# serves_an_empty_repository FORMAT: that a clone from the daemon has the branch of the repository as its own.
 serves_an_empty_repository() {
     start_daemon "empty-$1"
     clone "$address" ours
@@ -141,8 +141,8 @@ case_a_daemon_in_c_serves_fetches() {
     end_daemon
 }
 
-# A way to the daemon that stops in the middle of the pack, until a file `resumed` is there. What comes first goes over byte by byte, so
-# that Git has each as it comes, and just so many. The sender is in the background, where it has its input by its own word alone.
+# A connection to the daemon that stops in the middle of the pack, until a file `resumed` exists. The first bytes are passed on one by one,
+# so that Git receives exactly as many, at once. The sender is in the background, where the shell gives it no input unless it is redirected.
 write_halting_way() {
     cat > bin/halting-way << EOF
 #!/bin/bash
@@ -160,8 +160,8 @@ EOF
     chmod +x bin/halting-way
 }
 
-# visit NUMBER: by its number one lists what the daemon serves, fetches it into a repository that is there, or clones it, and writes what
-# it got as `main`.
+# visit NUMBER: depending on the number, lists what the daemon serves, fetches it into an existing repository, or clones it, and writes
+# `main` as it got it.
 visit() {
     local git=(timeout 200 git -c protocol.version=2)
     case $(($1 % 5)) in
@@ -180,7 +180,7 @@ visit() {
     esac
 }
 
-# Twenty at once, and beside them one that stops in the middle of its clone, one that sends what is no packet, and one that sends nothing.
+# Twenty at once, and beside them one that stops in the middle of its clone, one that sends garbage, and one that sends nothing.
 case_a_daemon_in_c_serves_twenty_at_once() {
     local i clients=() halting status
     patience=10
@@ -218,18 +218,18 @@ case_a_daemon_in_c_serves_twenty_at_once() {
     rm -rf many
 }
 
-# memory_of KEY: how much memory the daemon has by this line of its status, in KiB.
+# memory_of KEY: how much memory the daemon has, from this line of its status, in KiB.
 memory_of() {
     sed -n "s/^$1:[^0-9]*\([0-9]*\) kB/\1/p" "/proc/$daemon/status"
 }
 
-# forget_peak: sets `peak`, by which memory_of gives the daemon's peak from now on; where that may not be, what it has.
+# forget_peak: sets `peak`, the key for memory_of that gives the daemon's peak from now on, or its present memory if the peak cannot be reset.
 forget_peak() {
     peak=VmHWM
     { echo 5 > "/proc/$daemon/clear_refs"; } 2> /dev/null || peak=VmRSS
 }
 
-# The pack is in memory once, and a client takes what its struct has and the library's buffer: half a megabyte at the most.
+# The pack is in memory once, and a client takes its struct and the library's buffer: at most half a megabyte.
 case_a_daemon_in_c_takes_a_fixed_memory() {
     local before after i clients=()
     start_daemon heavy daemon
@@ -289,7 +289,7 @@ case_a_daemon_in_c_refuses_what_it_does_not_serve() {
     end_daemon
 }
 
-# write_many COUNT LENGTH: `many`, the history with so many branches more, of names of this length, as it is served.
+# write_many COUNT LENGTH: `many`, the history with so many more branches, whose names have this length, to be served.
 write_many() {
     awk -v count="$1" -v digits=$(($2 - 16)) '{ print } $3 == "refs/heads/main" {
         for (i = 1; i <= count; i++) printf "ref %s refs/heads/many/%0*d\n", $2, digits, i
@@ -317,7 +317,7 @@ case_a_daemon_in_c_serves_many_references() {
     expect_same 'what the daemon reported' /dev/null daemon.err
 }
 
-# A client that is above a limit receives which one it is, and Git shows its user that.
+# A client above a limit receives which one it is, and Git shows that to its user.
 case_a_daemon_in_c_tells_git_its_limit() {
     start_daemon history-sha1 frugal_daemon-watched
     clone "$address" ours --mirror
@@ -327,7 +327,7 @@ case_a_daemon_in_c_tells_git_its_limit() {
     end_daemon
 }
 
-# haves COUNT: so many lines of an object that a client has.
+# haves COUNT: so many `have` lines.
 haves() {
     awk -v count="$1" -v one="$one" 'BEGIN { for (i = 0; i < count; i++) print "0032have " one }'
 }
@@ -364,7 +364,7 @@ case_a_daemon_in_c_ends_a_session_at_its_fault() {
     end_daemon
 }
 
-# One sends nothing, one not all, and one does not read what it asked for.
+# One client sends nothing, one not everything, and one does not read what it asked for.
 case_a_daemon_in_c_closes_who_is_too_slow() {
     local begin id waits='this server waits for a client no longer than 2 seconds'
     patience=2
@@ -387,7 +387,7 @@ case_a_daemon_in_c_closes_who_is_too_slow() {
     end_daemon
 }
 
-# One that sends what it wants byte by byte has no longer for it than one that sends nothing.
+# A client that sends its request byte by byte has no more time for it than one that sends nothing.
 case_a_daemon_in_c_closes_who_takes_long_to_begin() {
     local i
     patience=2
@@ -403,7 +403,7 @@ case_a_daemon_in_c_closes_who_takes_long_to_begin() {
     end_daemon
 }
 
-# One that was refused and goes on talking is read no longer than its time.
+# A client that was refused and keeps sending is not read longer than its time.
 case_a_daemon_in_c_closes_who_talks_on() {
     local begin i
     patience=2
@@ -421,7 +421,7 @@ case_a_daemon_in_c_closes_who_talks_on() {
     end_daemon
 }
 
-# Where it has no descriptor left for one more it waits until one is free, and does not ask for it over and over.
+# If no descriptor is left for one more client, it waits until one is free, and does not poll over and over.
 case_a_daemon_in_c_waits_for_descriptors() {
     local i connection before after
     patience=10
@@ -454,7 +454,7 @@ case_a_daemon_in_c_outlives_who_read_its_errors() {
     end_daemon
 }
 
-# A pipe that nobody reads, and that is full, does not hold it up.
+# It is not held up by a full pipe that nobody reads.
 case_a_daemon_in_c_serves_where_nobody_reads_its_errors() {
     start_daemon history-sha1 bash -c '
         exec 2> >(exec sleep 60)
@@ -468,7 +468,7 @@ case_a_daemon_in_c_serves_where_nobody_reads_its_errors() {
     end_daemon
 }
 
-# Many small requests of one client, which are answered by a flush each, and another's that is answered beside them.
+# Many small requests of one client, each answered by a flush, and another client's request that is answered beside them.
 case_a_daemon_in_c_answers_many_small_requests() {
     local i
     start_daemon history-sha1
@@ -490,8 +490,8 @@ case_a_daemon_in_c_answers_many_small_requests() {
     end_daemon
 }
 
-# While one client's 80,000 prefixes are looked up among 100,000 references, another's listing comes, each time: in less than a second on a
-# quiet machine, where to compare each with each would take minutes. The limit lies between both.
+# While one client's 80,000 prefixes are looked up among 100,000 references, another client's list comes, each time: in less than a second
+# on a quiet machine, whereas comparing each with each would take minutes. The limit is between both.
 case_a_daemon_in_c_lists_beside_many_prefixes() {
     local hearing begin took lists=0
     awk 'BEGIN {
@@ -534,7 +534,7 @@ case_a_daemon_in_c_lists_beside_many_prefixes() {
     end_daemon
 }
 
-# A hundred and twenty-eight that send nothing have all its places, until another comes.
+# A hundred and twenty-eight clients that send nothing have all its places, until another one comes.
 case_a_daemon_in_c_makes_room() {
     local i connection first=
     start_daemon history-sha1
@@ -550,8 +550,8 @@ case_a_daemon_in_c_makes_room() {
     end_daemon
 }
 
-# A hundred and twenty-eight that have been greeted, and begin a request by a byte a second, keep nobody out: of them one goes, and the
-# others stay.
+# A hundred and twenty-eight clients that were greeted, and begin a request with a byte a second, keep nobody out: one of them is closed,
+# and the others stay.
 case_a_daemon_in_c_serves_beside_those_who_drip() {
     local dripping
     printf "$(greeting here version=2)" > drop
@@ -572,7 +572,7 @@ case_a_daemon_in_c_serves_beside_those_who_drip() {
     end_daemon
 }
 
-# Who has an answer to take keeps its place, whoever comes, and the daemon does not look over and over for who could go.
+# A client that has an answer to take keeps its place, whoever comes, and the daemon does not search over and over for one to close.
 case_a_daemon_in_c_keeps_who_takes_an_answer() {
     local i connection before after
     start_daemon heavy

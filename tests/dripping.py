@@ -3,8 +3,8 @@
 
     dripping.py PORT CLIENTS GREETING FILE
 
-GREETING is a file of what a client says first. Once each has begun, FILE has their number. It ends once the daemon has closed all of
-them; before, it goes on for a quarter of an hour.
+GREETING is a file with the first packet of a client. Once all have begun, FILE has their number. It ends once the daemon has closed
+all of them, or after a quarter of an hour.
 """
 
 import os

@@ -1,7 +1,7 @@
-# Cases in which the real Git, which has some of a repository, fetches the rest of it from our program: new commits, and a
-# history that is cut off. What it has then is compared with what it gets from Git itself.
+# Cases in which the real Git, which has a part of a repository, fetches the rest of it from our program: new commits, and a history that is
+# cut off. The result is compared with what it gets from Git itself.
 
-# grow FOLDER FROM: a copy of the repository, with commits and tags that the first has not.
+# grow FOLDER FROM: a copy of the repository, with further commits and tags.
 grow() {
     git clone -q --mirror "$2" "$1.git"
     git clone -q "$1.git" "$1.work"
@@ -20,7 +20,7 @@ grow() {
     offer "$1.git"
 }
 
-# fetch_from ADDRESS FOLDER [OPTION..]: a fetch into a repository that is there.
+# fetch_from ADDRESS FOLDER [OPTION..]: a fetch into an existing repository.
 fetch_from() {
     local address=$1 folder=$2
     shift 2
@@ -29,14 +29,14 @@ fetch_from() {
         -c protocol.stateless.allow=always fetch -q "$@" "$address" '+refs/heads/*:refs/remotes/origin/*'
 }
 
-# had FOLDER: what a repository has: its state, its history, and where that is cut off.
+# had FOLDER: the contents of a repository: its state, its history, and where that is cut off.
 had() {
     state "$1"
     git -C "$1" rev-list --all --objects
     sort "$(git -C "$1" rev-parse --git-dir | sed "s,^\.git,$1/.git,")/shallow" 2> /dev/null || true
 }
 
-# same_after_fetch: that both repositories have the same after a fetch without a word.
+# same_after_fetch: that both repositories have the same contents after a fetch without a message.
 same_after_fetch() {
     expect 0 /dev/null /dev/null
     had theirs > wanted
@@ -52,7 +52,7 @@ with_lines() {
     cp "$name.pack" "$other.pack"
 }
 
-# both NAME [OPTION..]: two clones of what Git itself serves.
+# both NAME [OPTION..]: two clones from Git itself.
 both() {
     local name=$1
     shift
@@ -61,7 +61,7 @@ both() {
     git -c protocol.version=2 clone -q "$@" "file://$room/$name" theirs
 }
 
-# fetches NAME FROM [OPTION..]: that Git that has the one repository fetches the other from our program and from Git alike.
+# fetches NAME FROM [OPTION..]: that Git, which has the one repository, fetches the other from our program as from Git itself.
 fetches() {
     local name=$1 from=$2
     shift 2
@@ -84,7 +84,7 @@ case_git_fetches_new_commits_of_sha256() {
     sent object-format=sha256 "have $(git -C history-sha256 rev-parse main)"
 }
 
-# Once two of the commits are known to both, the pack comes in the same answer.
+# Once two of the commits are known to both sides, the pack comes in the same answer.
 case_git_fetches_from_a_repository_that_is_ready() {
     grow ready history-sha1
     with_lines ready.git prompt 'ready 2'
@@ -109,8 +109,8 @@ case_git_fetches_new_tags() {
     git -C ours rev-parse --verify -q refs/tags/later > /dev/null || differs 'no new tag'
 }
 
-# cut_off NAME OTHER [OPTION..]: what our program is to serve to those that cut the history off so: the text with the boundary that
-# Git's own clone has, and the pack of that clone.
+# cut_off NAME OTHER [OPTION..]: what our program serves to clients with these options, which cut the history off: the text with the
+# boundary of Git's own clone, and the pack of that clone.
 cut_off() {
     local name=$1 other=$2
     shift 2
@@ -119,8 +119,7 @@ cut_off() {
     cut_off_as "$name" "$other" "$other.clone"
 }
 
-# cut_off_as NAME OTHER CLONE [OLD]: the same of a clone that is there. Of the boundary that it had before, what is no longer in it
-# is listed too.
+# cut_off_as NAME OTHER CLONE [OLD]: the same for an existing clone. Commits of its old boundary that are not in the new one are listed too.
 cut_off_as() {
     local folder
     folder=$(cd "$3" && realpath "$(git rev-parse --git-dir)")
@@ -132,7 +131,7 @@ cut_off_as() {
     git -C "$3" pack-objects -q --all --stdout < /dev/null > "$2.pack"
 }
 
-# shallow_clones NAME OPTION..: that Git clones a history that is cut off so, with all branches.
+# shallow_clones NAME OPTION..: that Git clones a history that these options cut off, with all branches.
 shallow_clones() {
     local name=$1
     shift
@@ -185,7 +184,7 @@ write_old_history() {
     offer old
 }
 
-# deepens NAME OPTION..: that Git whose clone has one commit fetches more of the history, or all of it.
+# deepens NAME OPTION..: that Git, whose clone has one commit, fetches more of the history, or all of it.
 deepens() {
     local name=$1
     shift
@@ -217,7 +216,7 @@ case_git_fetches_the_rest_of_a_history() {
 }
 
 # stateless: a helper of Git that gives each request to a server of its own, as a web server does. Git calls it for addresses
-# `stateless::NAME`. What `advertise` and `answer` are is in the file `stateless-server`.
+# `stateless::NAME`. The definitions of `advertise` and `answer` are in the file `stateless-server`.
 write_stateless() {
     cat > bin/stateless-server << 'EOF'
 serve() {
@@ -242,7 +241,7 @@ here=$(mktemp -d)
 trap 'rm -rf "$here"' EXIT
 . "${0%/*}/stateless-server"
 
-# take: copies a request to a file, up to its flush. Fails where none comes.
+# take: copies a request to a file, up to its flush. Fails if none comes.
 take() {
     local digits
     : > "$here/request"
@@ -307,7 +306,7 @@ case_git_fetches_the_rest_of_a_history_without_a_state() {
     same_after_fetch
 }
 
-# What Git asks for by name is answered by its object.
+# A reference that Git asks for by name is answered with its object.
 case_git_fetches_a_reference_by_its_name() {
     both history-sha1 --single-branch --branch topic --no-tags
     git -C theirs -c protocol.version=2 fetch -q --no-tags "file://$room/history-sha1" alone:refs/heads/alone
@@ -319,7 +318,7 @@ case_git_fetches_a_reference_by_its_name() {
     expect_line 'what Git got' "$(git -C history-sha1 rev-parse alone) refs/heads/alone" <(sed -n 's/^[^<]*< //p' "$trace")
 }
 
-# Git's client goes by the first line of a server, whatever version it is configured for, over ssh as over a pipe.
+# Git's client follows the first line of a server, whatever version it is configured for, over ssh as over a pipe.
 case_git_of_another_version_is_served_over_ssh() {
     local version words="git2show serve --repo $room/history-sha1.repo --pack $room/history-sha1.pack"
     clone_from_git history-sha1

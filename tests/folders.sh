@@ -1,5 +1,5 @@
-# Cases in which the real Git clones and fetches folders of Git's own over HTTP and from the daemon, which have them served by
-# examples/upload-pack.c. What it has then is compared with what it gets from Git itself.
+# Cases in which the real Git clones and fetches folders of Git's own over HTTP and from the daemon, which serve them with
+# examples/upload-pack.c. The result is compared with what Git gets from itself.
 
 # write_folders: a folder `folders` for a web server, with repositories that may be served and one that may not.
 write_folders() {
@@ -161,7 +161,7 @@ case_a_daemon_in_c_serves_a_folder_of_sha256() {
     expect_same 'what the daemon reported' /dev/null daemon.err
 }
 
-# What a client sends with its greeting goes to the process that answers, and one that takes too long is closed by that.
+# What a client sends with its greeting reaches the process that answers, and that process closes a client that takes too long.
 case_a_daemon_in_c_hands_all_over_that_a_client_sends() {
     local line
     patience=2
@@ -181,7 +181,7 @@ case_a_daemon_in_c_hands_all_over_that_a_client_sends() {
     end_daemon
 }
 
-# Twenty at once; and where the daemon ends its processes end.
+# Twenty at once; and when the daemon ends, its processes end.
 case_a_daemon_in_c_serves_a_folder_to_twenty_at_once() {
     local i clients=() child
     rm -rf many

@@ -25,7 +25,7 @@ fetch() {
 	(cd "$suite" && apt-get -qq "$@" --download-only source git="$version" && rm -rf git && dpkg-source -q -x git_*.dsc git)
 }
 
-# Git's server keeps another name, by which our wrapper finds it: a command that Git has in itself could not be put in the place of.
+# Git's server gets another name, under which our wrapper finds it: a command that is built into Git cannot be replaced.
 build() {
 	apt-get -qq update
 	apt-get -qq install --no-install-recommends apache2-bin dpkg-dev gcc libcurl4-openssl-dev libexpat1-dev libssl-dev make zlib1g-dev > /dev/null
@@ -58,7 +58,7 @@ put_in_place() {
 	chmod 755 "$git/git-upload-pack" "$git/bin-wrappers/test-tool"
 }
 
-# Runs one test file as nobody, since some of Git's tests pass over what root may do, and writes a line for each of its tests: `ok NUMBER`, `failed NUMBER`.
+# Runs one test file as nobody, since some of Git's tests skip what root may do, and writes a line for each of its tests: `ok NUMBER`, `failed NUMBER`.
 run_one() {
 	mkdir -p "$suite/out/$1"
 	chown nobody "$suite/out/$1"

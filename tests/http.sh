@@ -1,8 +1,8 @@
-# Cases in which the real Git fetches over HTTP: a web server runs examples/http-backend.sh, which runs our program once for each
-# request. What Git has then is compared with what it gets from itself.
+# Cases in which the real Git fetches over HTTP: a web server runs examples/http-backend.sh, which runs our program once for each request.
+# The result is compared with what Git gets from itself.
 
-# start_web: a web server over what was written of repositories, on a free port. Sets `web`, its address, and leaves a line for each
-# request in the file `web.log`: how its body is encoded, and whether it comes in chunks.
+# start_web: a web server for repositories, on a free port. Sets `web`, its address, and leaves a line for each request in the file
+# `web.log`: how its body is encoded, and whether it comes in chunks.
 start_web() {
     cat > bin/watched-backend << END
 #!/bin/sh
@@ -20,7 +20,7 @@ END
     web=http://127.0.0.1:$(cat web.port)
 }
 
-# asked LINE..: that the web server had these requests, and that our program reported no fault.
+# asked LINE..: that the web server had these requests, and that our program reported no error.
 asked() {
     local line
     for line; do
@@ -29,8 +29,8 @@ asked() {
     expect_same 'what our program reported' /dev/null web.err
 }
 
-# offer_thousands: a repository of 5,001 branches, most of which have names so long that a request for all has more than a mebibyte,
-# the most that Git posts in one piece.
+# offer_thousands: a repository of 5,001 branches, most of them with names so long that a request for all has more than a mebibyte, the most
+# that Git posts at once.
 offer_thousands() {
     local id
     [ ! -e thousands.pack ] || return 0
@@ -86,7 +86,7 @@ case_git_clones_over_http_one_commit() {
     asked 'POST /shallow-web.git/git-upload-pack plain'
 }
 
-# What was common is sent again in each request of a negotiation, each of which has a server of its own.
+# Common commits are sent again in each request of a negotiation, since each request has a server of its own.
 case_git_fetches_over_http() {
     grow grown-web history-sha1
     start_web
@@ -106,7 +106,7 @@ case_git_lists_over_http() {
     asked 'POST /sha1/git-upload-pack plain'
 }
 
-# Git packs a request of more than 1,024 bytes, as this one of many prefixes.
+# Git compresses a request of more than 1,024 bytes, as this one of many prefixes.
 case_git_sends_a_packed_request_over_http() {
     local name wanted=()
     for name in heads/{main,topic,alone,alias} tags/{light,annotated,nested,of-a-file,topical,lonely}; do
@@ -163,7 +163,7 @@ case_git_clones_over_http_a_repository_in_a_folder() {
     asked 'GET /folder/of/history.git/info/refs plain'
 }
 
-# What our program refuses Git reports to its user. Git asks for an object by its name where that is what a fetch names.
+# Git reports the refusals of our program to its user. Git asks for an object by its name if that is what a fetch names.
 case_git_is_told_over_http_why_it_is_refused() {
     local id
     id=$(git -C history-sha1 rev-parse main)
@@ -205,7 +205,7 @@ case_git_cannot_push_over_http() {
     expect_line 'what Git reported' 'remote: fetches alone are served here, by smart HTTP' err
 }
 
-# visit_web NUMBER: by its number one lists what is served, fetches it into a repository that is there, or clones it.
+# visit_web NUMBER: depending on the number, lists what is served, fetches it into an existing repository, or clones it.
 visit_web() {
     address=$web/heavy visit "$1"
 }
@@ -230,7 +230,7 @@ case_twenty_at_once_over_http() {
     rm -rf many
 }
 
-# The words after `--upload-pack` are followed by that of the repository, and so are those that ssh gets.
+# After the words of `--upload-pack` comes the name of the repository, and so it does after those that ssh gets.
 case_git_takes_our_program_for_its_own() {
     local words="git2show serve --repo $room/history-sha1.repo --pack $room/history-sha1.pack"
     clone "file://$room/history-sha1" ours --upload-pack "$words"

@@ -21,7 +21,7 @@ refusal() {
     printf 'Status: %s\r\nContent-Type: text/plain; charset=utf-8\r\n\r\n%s\n' "$1" "$2"
 }
 
-# The body of a probe is a flush packet, and no version comes with it.
+# The body of a probe is a flush packet, and it comes without a version.
 case_a_probe_is_answered_over_http_as_git_answers_it() {
     local length
     GIT_PROJECT_ROOT=$room GIT_HTTP_EXPORT_ALL=yes REQUEST_METHOD=POST PATH_INFO=/history-sha1/git-upload-pack CONTENT_LENGTH=4 \
@@ -43,7 +43,7 @@ case_no_other_request_is_served_over_http_without_a_version() {
     done
 }
 
-# A body whose length is not stated ends with the input. One whose length is stated ends there, where the input stays open.
+# A body whose length is not stated ends with the input. One whose length is stated ends there, even if the input stays open.
 case_a_body_is_read_over_http_whole_and_no_further() {
     local ask=(ask_backend POST /wanted/git-upload-pack HTTP_GIT_PROTOCOL=version=2)
     request peel symrefs > body
@@ -65,7 +65,7 @@ case_a_body_is_read_over_http_whole_and_no_further() {
     rm open-input
 }
 
-# A web server may read no answer before it has passed the body on, and take a body that is not read for a fault of the script.
+# A web server may read no answer before it has passed the body on, and treat a body that is not read as an error of the script.
 case_a_body_is_read_over_http_before_it_is_answered() {
     ask_backend POST /wanted/git-upload-pack HTTP_GIT_PROTOCOL=version=2 \
         < <(printf 00g0; head -c 1000000 /dev/zero && echo yes > was-read)
@@ -88,7 +88,7 @@ case_a_body_that_is_not_compressed_as_it_states_is_refused_over_http() {
     grep -q 'not in gzip format' err || differs 'what was reported' err
 }
 
-# An answer is passed on as git2show writes it. Here that writes the rest only after the first part has arrived.
+# An answer is passed on as git2show writes it. Here git2show writes the rest only after the first part has arrived.
 case_an_answer_over_http_is_passed_on_as_it_comes() {
     local asking
     mkdir halting
@@ -118,8 +118,8 @@ offer_broken() {
     rm "$1/packless.pack"
 }
 
-# not_served NAME LINE [VARIABLE=VALUE..]: that whatever is asked of a repository is answered by status 500, and this line is reported at
-# the end.
+# not_served NAME LINE [VARIABLE=VALUE..]: that each request for a repository is answered with status 500, and this line is reported at the
+# end.
 not_served() {
     local ask
     for ask in ask_for_advertisement ask_for_references; do

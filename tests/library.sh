@@ -1,11 +1,11 @@
-# Cases in which programs use the library that `make install` installs: those of examples/ in C, Rust and Go, as the real Git and
-# streams of packets meet them, and the C programs of this folder, which call each function. `NAME-watched` is a program that was
-# built with sanitizers, whose status shows what was touched that may not be, and what was not freed.
+# Cases in which programs use the library that `make install` installs: those of examples/ in C, Rust and Go, with the real Git and with
+# streams of packets, and the C programs of this folder, which call each function. `NAME-watched` is a program that was built with
+# sanitizers: its status shows memory that was touched but may not be, and memory that was not freed.
 
 # What `make install` installs goes here.
 installed=$room/installed
 
-# write_examples: installs the program and the library, and builds what uses it. What a compiler prints is judged by a case.
+# write_examples: installs the program and the library, and builds the programs that use it. A case judges what a compiler prints.
 write_examples() {
     local name
     make -s -C "$top" install PREFIX="$installed" PROGRAM="$program" LIBRARY="$library" RT="${RT:-rt}" >&2 ||
@@ -15,12 +15,13 @@ write_examples() {
     done
     compile frugal_daemon "$top/examples/daemon.c" -DMOST_KEPT=200
     compile library_calls "$top/tests/library_calls.c"
+    compile library_arrays "$top/tests/library_arrays.c"
     compile library_writers "$top/tests/library_writers.c"
     compile library_host "$top/tests/library_host.c"
     compile refused_memory "$top/tests/refused_memory.c" -Wl,--wrap=malloc,--wrap=realloc,--wrap=free
 }
 
-# of_library OPTION..: what pkg-config prints for the installed library; where there is no pkg-config, what it would.
+# of_library OPTION..: what pkg-config prints for the installed library, or would print if there were a pkg-config.
 of_library() {
     if command -v pkg-config > /dev/null; then
         PKG_CONFIG_PATH=$installed/lib/pkgconfig pkg-config "$@" gitwire
@@ -45,7 +46,7 @@ compile() {
     } > "$name.said" 2>&1 || true
 }
 
-# under_valgrind COMMAND..: runs a program, under valgrind where there is one; it fails where it touches what it may not, or frees not
+# under_valgrind COMMAND..: runs a program, under valgrind if there is one; it fails if it touches memory that it may not, or does not free
 # all.
 under_valgrind() {
     command -v valgrind > /dev/null || { run "$@"; return; }
@@ -57,7 +58,8 @@ under_valgrind() {
 case_library_is_installed_whole() {
     local file line
     for file in bin/git2show lib/libgitwire.a lib/libgitwire.so include/gitwire.h lib/pkgconfig/gitwire.pc share/man/man1/git2show.1 \
-        share/man/man3/gitwire.3 share/doc/gitwire/{PROTOCOL,PROMISES,STEPS}.md share/doc/gitwire/repository-text.sh \
+        share/man/man3/gitwire.3 share/bash-completion/completions/git2show share/zsh/site-functions/_git2show \
+        share/fish/vendor_completions.d/git2show.fish share/doc/gitwire/{PROTOCOL,PROMISES,STEPS}.md share/doc/gitwire/repository-text.sh \
         $(cd "$top" && printf 'share/doc/gitwire/%s ' examples/*); do
         [ -s "$installed/$file" ] || differs "no $file"
     done
@@ -89,12 +91,12 @@ case_library_is_installed_below_another_folder() {
     expect_same 'what is installed' <(cd "$installed" && find . ! -type d | sort) <(cd staged/usr && find . ! -type d | sort)
 }
 
-# What is not there is built, and that is reported before, as is each crate on the way. This `rt` makes a file where it lies in a library's
-# folder, and else where a program would be run.
+# What is missing is built, after a report, with a line for each crate on the way. This `rt` copies what was built already: the library for
+# `rt lib`, the program for `rt run`.
 case_library_that_is_not_built_is_told() {
     local told='is not there: it is proved with all that it stands on, and built, which can take half an hour and more'
     mkdir -p unbuilt/crates/{git_names,git_pkt,git2show,gitwire}/src
-    cp -r "$top"/{Makefile,crates.txt,gitwire.map,gitwire.pc.in,docs,include,sample,examples} unbuilt
+    cp -r "$top"/{Makefile,crates.txt,gitwire.map,gitwire.pc.in,completions,docs,include,sample,examples} unbuilt
     printf '%s\n' '#!/bin/sh' 'case $1 in' "doc) exec ${RT:-rt} doc ;;" "lib) it=libgitwire.a from=$library ;;" \
         "run) it=git2show from=$program ;;" esac 'mkdir -p out && cp "$from" "out/$it"' > bin/no-rt
     chmod +x bin/no-rt
@@ -111,9 +113,11 @@ case_library_that_is_not_built_is_told() {
     expect_same 'what is installed' <(cd "$installed" && find . ! -type d | sort) <(cd built && find . ! -type d | sort)
 }
 
-# calls_of_the_header FREEING: their names. What frees a handle ends with that: `_clear` is the library's, and `_free` the header's over it.
+# calls_of_the_header FREEING: their names. What frees a handle ends with that: `_clear` is the library's, and `_free` the header's over it. With `_free`
+# the other functions of the header itself are among them.
 calls_of_the_header() {
     {
+        [ "$1" = _clear ] || sed -n 's/^static inline .*\(gitwire_[a-z_]*\)(.*/\1/p' "$installed/include/gitwire.h"
         sed -n 's/^[a-z_0-9]* \(gitwire_[a-z_]*\)(.*/\1/p' "$installed/include/gitwire.h"
         sed -n "s/^GITWIRE_FREES(\(gitwire_[a-z_]*\))\$/\1$1/p" "$installed/include/gitwire.h"
     } | sort
@@ -126,8 +130,8 @@ case_library_has_the_calls_of_its_header() {
     expect_same 'the calls of the library' wanted written
 }
 
-# The shared library has a name by which programs find it, shows the calls of the header and nothing else, and depends on the C library
-# alone. No code of it is written to where it is loaded.
+# The shared library has the name that programs look for, shows the calls of the header and nothing else, and depends only on the C library.
+# None of its code is written to when it is loaded.
 case_shared_library_shows_the_calls_of_its_header_alone() {
     local it=$installed/lib/libgitwire.so
     nm -D --defined-only "$it" | awk '{ print $NF }' | sort > written
@@ -174,12 +178,12 @@ case_library_header_stands_alone() {
 
 case_library_programs_compile_without_a_word() {
     local name
-    for name in daemon fetch list packets upload-pack watch library_calls library_writers library_host refused_memory; do
+    for name in daemon fetch list packets upload-pack watch library_calls library_arrays library_writers library_host refused_memory; do
         expect_same "what the compiler prints for $name" /dev/null "$name.said"
     done
 }
 
-# The options that a command's help has are in the manual page, in the part on that command.
+# The options in a command's help are in the manual page, in the part on that command.
 case_manual_page_has_each_option() {
     local command option
     for command in show check serve fetch play; do
@@ -218,6 +222,24 @@ case_library_calls_tell_what_the_header_says() {
 }
 
 # The program prints how often each kind of handle asks for memory, and each that breaks off: once at the least.
+# reads_alike PROGRAM FORMAT ENDING NAME: that single calls and those that fill an array read a recorded conversation alike.
+reads_alike() {
+    run "$1" "$2" "$3" "$4-requests.pkt" "$4-responses.pkt"
+    expect 0 /dev/null /dev/null
+}
+
+case_library_arrays_have_what_single_calls_give() {
+    local sessions=$top/crates/worked_conversations/data/sessions name
+    for name in "$sessions"/{clone,negotiation,shallow,deepening,wanted-references,refused} "$top"/sample/git-client/{clone,shallow-clone,fetch}; do
+        reads_alike library_arrays sha1 flush "$name"
+    done
+    reads_alike library_arrays sha256 flush "$sessions/clone-of-sha256"
+    reads_alike library_arrays sha1 response-end "$sessions/stateless"
+    reads_alike library_arrays-watched sha1 flush "$sessions/shallow"
+    run library_arrays sha1 flush
+    expect_status 2
+}
+
 case_library_frees_all_where_memory_is_refused() {
     run refused_memory-watched
     expect_status 0
@@ -236,7 +258,7 @@ every_packet() {
 }
 
 # lists_as_show COMMAND..: that a program lists the packets of streams, good ones and bad ones, as `git2show show` does, and reports the
-# same fault; and that it takes no other word than a number of bytes.
+# same error; and that it accepts no other word than a number of bytes.
 lists_as_show() {
     local stream piece wanted_status faults=0
     every_packet > every.pkt
@@ -260,7 +282,7 @@ lists_as_show() {
     done
 }
 
-# tells_a_full_device NAME WORD..: that a program reports an output that takes nothing.
+# tells_a_full_device NAME WORD..: that a program reports a full output device.
 tells_a_full_device() {
     status=0
     limited "$1-watched" "${@:2}" > /dev/full 2> err || status=$?
@@ -285,7 +307,7 @@ case_packets_are_listed_under_valgrind() {
     expect 1 /dev/null <(echo 'packets: Truncated at 0')
 }
 
-# Where there is a compiler of Rust. One that rustup keeps wants its owner's home.
+# If there is a compiler of Rust. One that rustup keeps needs its owner's home.
 case_packets_are_listed_by_a_program_in_rust() {
     HOME=$own_home rustc --version || return 0
     HOME=$own_home rustc -O --edition 2021 -D warnings "$top/examples/packets.rs" -o bin/packets-rust \
@@ -305,6 +327,32 @@ case_packets_are_listed_by_a_program_in_go() {
 
 case_packets_are_listed_by_a_program_in_python() {
     lists_as_show env LD_LIBRARY_PATH="$installed/lib" "$installed/share/doc/gitwire/examples/packets.py"
+}
+
+# judges_as_check STREAMS OPTION..: that the bindings for Python judge a recorded conversation as `check` does.
+judges_as_check() {
+    local streams=$1 wanted_status
+    shift
+    run git2show check "${@/--sha256/--format=sha256}" "$streams-requests.pkt" "$streams-responses.pkt"
+    cp out wanted
+    sed 's/^git2show: responses: /gitwire.py: /' err > wanted_err
+    wanted_status=$status
+    run env LD_LIBRARY_PATH="$installed/lib" "$installed/share/doc/gitwire/examples/gitwire.py" "$@" "$streams-requests.pkt" "$streams-responses.pkt"
+    expect "$wanted_status" wanted wanted_err
+}
+
+# Where there is a Python.
+case_conversations_are_judged_by_a_program_in_python() {
+    local sessions=$top/crates/worked_conversations/data/sessions name
+    command -v python3 > /dev/null || return 0
+    for name in clone negotiation shallow deepening wanted-references refused; do
+        judges_as_check "$sessions/$name"
+    done
+    judges_as_check "$sessions/clone-of-sha256" --sha256
+    judges_as_check "$sessions/stateless" --stateless
+    head -c 1000 "$sessions/clone-responses.pkt" > short-responses.pkt
+    cp "$sessions/clone-requests.pkt" short-requests.pkt
+    judges_as_check short
 }
 
 # lists_from_git FOLDER WORD..: that our client lists what Git does of a repository, and ends well.
@@ -345,7 +393,7 @@ case_a_client_in_c_tells_what_is_wrong() {
     expect_status 2
 }
 
-# fetches_from_git FORMAT FOLDER [OPTION..]: that the client in C fetches what a branch of a repository reaches, and prints its object.
+# fetches_from_git FORMAT FOLDER [OPTION..]: that the client in C fetches what can be reached from a branch of a repository, and prints its object.
 fetches_from_git() {
     local id
     id=$(git -C "$2" rev-parse refs/heads/main)
@@ -379,7 +427,7 @@ case_a_client_in_c_tells_why_it_fetches_nothing() {
     expect_status 2
 }
 
-# lied_to COMMAND..: runs a client in C, to which a server in the place of Git's sends what `said` has, whatever it is asked.
+# lied_to COMMAND..: runs a client in C with a server that sends the contents of `said`, whatever it is asked.
 lied_to() {
     mkdir -p lying
     printf '%s\n' '#!/bin/sh' "cat $room/said" 'exec cat > /dev/null' > lying/git
@@ -387,7 +435,7 @@ lied_to() {
     PATH=$room/lying:$PATH run "$@"
 }
 
-# Of what a server sends no byte goes to a terminal that could be more than a letter.
+# No byte that a server sends reaches a terminal, except letters.
 case_a_client_in_c_lists_no_control_byte() {
     {
         advertisement sha1
@@ -411,7 +459,7 @@ case_a_client_in_c_shows_an_error_on_one_line() {
     expect 1 /dev/null <(echo 'list: RemoteError at 0: ')
 }
 
-# Its lines end as they do, and where a new one takes the place of the last.
+# Its lines end as they were sent, also if a new one takes the place of the last.
 case_a_client_in_c_shows_no_control_byte_of_the_progress() {
     command -v script > /dev/null || return 0
     {

@@ -1,12 +1,11 @@
 /*
- * Calls each function of the library once at least, as the header has it: what it returns where all is well, and where it may
- * not be called so. It prints each expectation that does not hold; the status is 1 where one did not.
+ * Calls each function of the library at least once, as the header states: what it returns if all is well, and if it may not be called like
+ * this. It prints each expectation that does not hold; the status is 1 if there is one.
  *
- * What the calls do is proved. What is seen here is that C and the library agree about it: how arguments and answers are handed
- * over, in which order fields and numbers are, that memory is freed once (built with a sanitizer, and under valgrind), and that
- * a small stack suffices.
+ * What the calls do is proved. What is tested here is that C and the library agree about it: how arguments and results are passed, the
+ * order of fields and numbers, that memory is freed once (built with a sanitizer, and under valgrind), and that a small stack is enough.
  *
- * What writes a packet or a text is called by library_writers.c.
+ * The calls that write a packet or a text are in library_writers.c.
  */
 #include "library_calls.h"
 
@@ -131,7 +130,7 @@ static void try_a_request_for_a_pack(void)
 	gitwire_request_free(&request);
 }
 
-/* Each flag is that of its line, and of no other. */
+/* Each flag is set by its own line, and by no other. */
 static void try_flags(void)
 {
 	static const struct {
@@ -179,7 +178,7 @@ static void try_a_reader_of_requests(void)
 	EXPECT(gitwire_request_reader_new(&reader, bad, 0) == GITWIRE_BAD_VALUE); /* the handle stays as it was */
 	EXPECT(tells(gitwire_request_reader_close(&reader), GITWIRE_DONE, 0, 0, 0));
 	EXPECT(tells(gitwire_request_reader_feed(&reader, &request, whole, 8), GITWIRE_MORE, 8, 0, 0));
-	EXPECT(tells(gitwire_request_end(&request), GITWIRE_DONE, 0, 0, 0)); /* an empty one, which nobody asked */
+	EXPECT(tells(gitwire_request_end(&request), GITWIRE_DONE, 0, 0, 0)); /* an empty one, which nobody asked for */
 	EXPECT(tells(gitwire_request_reader_feed(&reader, &request, whole + 8, first), GITWIRE_REQUEST, first - 8, 0, 0));
 	EXPECT(tells(gitwire_request_command(&request), GITWIRE_DONE, 0, GITWIRE_LS_REFS, 0));
 	EXPECT(gitwire_request_flag(&request, GITWIRE_FLAG_PEEL));
@@ -189,7 +188,7 @@ static void try_a_reader_of_requests(void)
 	EXPECT(tells(gitwire_request_reader_feed(&reader, &request, TEXT("0000")), GITWIRE_STOP, 4, 0, 0));
 	EXPECT(tells(gitwire_request_reader_feed(&reader, &request, TEXT("0000")), GITWIRE_NOT_NOW, 0, 0, 0));
 	EXPECT(tells(gitwire_request_reader_close(&reader), GITWIRE_NOT_NOW, 0, 0, 0));
-	/* What is offered is taken, and nothing else. */
+	/* What is advertised is accepted, and nothing else. */
 	EXPECT(gitwire_request_reader_new(&reader, offer, 100) == GITWIRE_DONE);
 	EXPECT(tells_fault(gitwire_request_reader_feed(&reader, &request, TEXT(OBJECT_INFO)), GITWIRE_FAULT_NOT_ADVERTISED, 24, 0));
 	EXPECT(tells(gitwire_request_reader_close(&reader), GITWIRE_NOT_NOW, 0, 0, 0));
@@ -323,7 +322,7 @@ static void hear(struct talk *t, gitwire_event e)
 	t->length += (size_t)sprintf(t->heard + t->length, "\n");
 }
 
-/* Gives what one end owes to the other, until a request can be asked or all was sent: the kind that the client returns then. */
+/* Passes on what each side has to send, until a request can be asked or everything was sent. Returns the kind that the client returns then. */
 static uint8_t go_on(struct talk *t)
 {
 	static uint8_t packet[GITWIRE_PACKET_ROOM];
@@ -378,7 +377,7 @@ static bool hears(struct talk *t, uint8_t command, const char *const *lines, con
 	return false;
 }
 
-/* Begins over this repository, whose handle has nothing then. */
+/* Begins with this repository, whose handle is empty then. */
 static void begin_talk_over(struct talk *t, gitwire_repository *repository)
 {
 	*t = (struct talk){ .server = GITWIRE_NONE, .client = GITWIRE_NONE };
@@ -436,7 +435,7 @@ static void try_a_conversation(void)
 	memset(room, '#', sizeof room);
 }
 
-/* Asks for a pack without filters, then with some, and then without again: whether just these come. */
+/* Asks for a pack without filters, then with some, and then without again. Returns whether exactly these come. */
 static bool gives_packs(gitwire_repository *repository, const char *pack, const char *filtered)
 {
 	static const char *const wants[] = { "want " ONE, "done", NULL }, *const filters[] = { "want " ONE, "filter blob:none",
@@ -456,7 +455,7 @@ static bool gives_packs(gitwire_repository *repository, const char *pack, const 
 	return are_they;
 }
 
-/* A repository may have a pack of its own for fetches with a filter, which may have no bytes; else there is one for all. */
+/* A repository may have a pack of its own for fetches with a filter, which may be empty; otherwise there is one for all. */
 static void try_filtered_packs(void)
 {
 	gitwire_repository repository = GITWIRE_NONE;
@@ -480,7 +479,7 @@ static void try_filtered_packs(void)
 	memset(room, '#', sizeof room);
 }
 
-/* What comes beside a pack, and a fatal error in its middle, after which a message is there. */
+/* What comes beside a pack, and a fatal error in its middle, with its message. */
 static void try_bands(void)
 {
 	static const char *const wants[] = { "want " ONE, "done", NULL };
@@ -506,7 +505,7 @@ static void try_bands(void)
 	gitwire_server_free(&t.server);
 }
 
-/* An event whose text is the last bytes of those used of the piece, and for which the room stays as it was. */
+/* An event whose text is the last of the bytes used of the chunk; the buffer is unchanged. */
 static bool lies_in(gitwire_event event, const char *piece, uint8_t kind, size_t used, const char *text)
 {
 	static uint8_t kept[sizeof room];
@@ -518,7 +517,7 @@ static bool lies_in(gitwire_event event, const char *piece, uint8_t kind, size_t
 		&& memcmp(room, kept, sizeof room) == 0;
 }
 
-/* Bytes of the pack and of the progress stay in the piece, as it is cut; the texts of other events go to the room. */
+/* Bytes of the pack and of the progress stay in the chunk, however it is cut; the texts of other events go to the buffer. */
 static void try_bands_in_place(void)
 {
 	static const char *const wants[] = { "want " ONE, "done", NULL };
@@ -605,7 +604,7 @@ static void try_refusals_of_a_client(void)
 	memset(room, '#', sizeof room);
 }
 
-/* Each line is noted in its own fields and bits, and in no other. */
+/* Each line is noted in its own fields and bits, and in no others. */
 static void try_what_is_noted(void)
 {
 	static const struct {
@@ -639,7 +638,7 @@ static void try_what_is_noted(void)
 	memset(room, '#', sizeof room);
 }
 
-/* Each handle is made of each value that it may have, the limits at their ends among them. */
+/* Each handle is made with each value that it may have, also with the limits of these. */
 static void try_each_value(void)
 {
 	static const uint8_t formats[] = { GITWIRE_SHA1, GITWIRE_SHA256 };

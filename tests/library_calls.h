@@ -1,6 +1,6 @@
 /*
- * What the programs share that call each function of the library: what an expectation is, a room, a writer of packets, and a thread
- * with a small stack.
+ * What the programs share that call each function of the library: expectations, a buffer, a writer of packets, and a thread with a small
+ * stack.
  */
 #ifndef LIBRARY_CALLS_H
 #define LIBRARY_CALLS_H
@@ -29,19 +29,19 @@ static int failures;
 static uint8_t room[GITWIRE_PACKET_ROOM];
 static gitwire_writer writer = GITWIRE_NONE;
 
-/* Whether just these fields are set, and the others are 0. */
+/* Whether exactly these fields are set, and the others are 0. */
 static bool tells(gitwire_answer answer, uint8_t kind, size_t used, uint64_t offset, size_t length)
 {
 	return answer.kind == kind && answer.used == used && answer.offset == offset && answer.length == length && answer.fault == 0;
 }
 
-static bool tells_fault(gitwire_answer answer, uint8_t fault, size_t used, uint64_t offset)
+static inline bool tells_fault(gitwire_answer answer, uint8_t fault, size_t used, uint64_t offset)
 {
 	return answer.kind == GITWIRE_FAILED && answer.fault == fault && answer.used == used && answer.offset == offset && answer.length == 0;
 }
 
-/* Whether a whole text was put at the front of the room, and the bytes after it were left alone. */
-static bool wrote(gitwire_answer answer, const char *text)
+/* Whether a whole text was put at the front of the buffer, and the bytes after it were left alone. */
+static inline bool wrote(gitwire_answer answer, const char *text)
 {
 	bool is_it = tells(answer, GITWIRE_DONE, 0, 0, strlen(text)) && memcmp(room, text, strlen(text)) == 0;
 
@@ -51,7 +51,7 @@ static bool wrote(gitwire_answer answer, const char *text)
 	return is_it;
 }
 
-/* Runs all on a small stack, of which the header states what a call takes. A sanitizer takes more, and valgrind is content with less. */
+/* Runs all on a small stack; the header states how much a call takes. A sanitizer takes more, and valgrind needs less. */
 static int on_a_small_stack(void *(*try_all)(void *))
 {
 #ifdef __SANITIZE_ADDRESS__

@@ -1,6 +1,6 @@
 /*
- * Calls each function of a host's server once at least, as the header has it, and a session of each command: what is sent, and what is
- * returned where a call may not be made so. It prints each expectation that does not hold; the status is 1 where one did not.
+ * Calls each function of a host's server at least once, as the header states, and runs a session of each command: what is sent, and what is
+ * returned if a call may not be made. It prints each expectation that does not hold; the status is 1 if there is one.
  */
 #include "library_calls.h"
 
@@ -11,7 +11,7 @@
 
 static gitwire_host host = GITWIRE_NONE;
 
-/* Whether it was returned that these bytes are to be sent, and the rest of the room was left alone. */
+/* Whether the result is that these bytes have to be sent, and the rest of the buffer is unchanged. */
 static bool sends(gitwire_answer answer, size_t used, const char *packet)
 {
 	bool is_it = tells(answer, GITWIRE_PACKET, used, 0, strlen(packet)) && memcmp(room, packet, strlen(packet)) == 0;
@@ -49,7 +49,10 @@ static void ask(const char *request, uint64_t command)
 	EXPECT(gitwire_host_close(&host) == GITWIRE_NOT_NOW && gitwire_host_accept(&host) == GITWIRE_NOT_NOW);
 }
 
-/* Whether each call that reports returns this, but for the one of this number, which is asked for: then that it failed can be reported too. */
+/*
+ * Expects that each call that reports returns this, except for the one with this number, which answers the open question. Then
+ * `gitwire_host_fail` may be called too, and is not tried.
+ */
 static void expect_of_reports(uint8_t kind, int but, size_t length)
 {
 	for (int call = 0; call < (but < 0 ? 14 : 13); call++) {
@@ -95,7 +98,7 @@ static void try_no_session(void)
 	EXPECT(gitwire_host_new(&host, odd, 0, true) == GITWIRE_BAD_VALUE && host.is_made_); /* the handle stays as it was */
 }
 
-/* The advertisement, and what may be called while nothing is asked. */
+/* The advertisement, and the calls that may be made while no question is open. */
 static void try_an_advertisement(void)
 {
 	uint8_t whole[GITWIRE_ADVERTISEMENT_ROOM];
@@ -201,7 +204,7 @@ static void try_a_pack(void)
 	EXPECT(pulls(GITWIRE_NEED_INPUT, 0));
 }
 
-/* What the store lacks, what cannot be had, and what is refused ends the session. */
+/* If the store lacks something, if it cannot answer, and if it refuses, the session ends. */
 static void try_refusals(void)
 {
 	static char text[65512];

@@ -119,7 +119,7 @@ static void try_writers_of_lines(void)
 	EXPECT(tells_fault(gitwire_put_info(&writer, GITWIRE_SHA1, NULL, 0, false, 7, ROOM), GITWIRE_FAULT_BAD_OBJECT_NAME, 0, 0));
 }
 
-/* Each fault has the name that its constant has. */
+/* Each error has the name that its constant has. */
 static void try_names_of_faults(void)
 {
 	static const char *const names[] = { [GITWIRE_FAULT_BAD_DIGIT] = "BadDigit", [GITWIRE_FAULT_BAD_LENGTH] = "BadLength",
@@ -157,9 +157,12 @@ static void try_texts_of_faults(void)
 
 		EXPECT((length > 0) == (fault >= 1 && fault <= GITWIRE_FAULT_READ_LIMIT));
 		EXPECT(gitwire_fault_text((uint8_t)fault, UINT64_MAX, ROOM) == (length > 0 ? length + 24 : 0));
+		EXPECT(strlen(gitwire_fault_string((uint8_t)fault)) == length && memcmp(gitwire_fault_string((uint8_t)fault), room, length) == 0);
+		EXPECT((strlen(gitwire_fault_sentence((uint8_t)fault)) > 20) == (length > 0));
 		longest = length > longest ? length : longest;
 	}
 	EXPECT(longest <= GITWIRE_FAULT_NAME_ROOM && longest + 24 <= GITWIRE_FAULT_TEXT_ROOM);
+	EXPECT(strcmp(gitwire_fault_sentence(0), "") == 0 && strcmp(gitwire_version(), GITWIRE_VERSION) == 0);
 	EXPECT(gitwire_fault_name(GITWIRE_FAULT_TRUNCATED, room, 8) == 0);
 	EXPECT(gitwire_fault_text(GITWIRE_FAULT_TRUNCATED, 994, ROOM) == 16 && memcmp(room, "Truncated at 994", 16) == 0);
 	EXPECT(gitwire_fault_text(GITWIRE_FAULT_TRUNCATED, 994, room, 15) == 0);
@@ -178,7 +181,7 @@ static void try_names_of_kinds(void)
 	memset(room, '#', sizeof room);
 }
 
-/* Whether these bytes, of which so many are escaped, have this escape at the front of the room, and the bytes after it were left alone. */
+/* Whether so many bytes were escaped, with this escape at the front of the buffer and the bytes after it unchanged. */
 static bool escapes(gitwire_answer answer, uint8_t kind, size_t used, const char *escape)
 {
 	bool is_it = tells(answer, kind, used, 0, strlen(escape)) && memcmp(room, escape, strlen(escape)) == 0 && room[answer.length] == '#';

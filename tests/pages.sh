@@ -1,11 +1,11 @@
-# The pages of this repository beside what they speak of.
+# The pages of this repository, compared with what they describe.
 
 # pages: prints the pages of this repository.
 pages() {
     find "$top" \( -name .git -o -name out \) -prune -o -name '*.md' -print
 }
 
-# links_of PAGE: prints the files that a page links to, as it writes them.
+# links_of PAGE: prints the files that a page links to, as it names them.
 links_of() {
     grep -o -E '\]\([^)#]+[)#]' "$1" | sed -E 's/^\]\(//; s/[)#]$//' | grep -v -E '^[a-z]+:' || true
 }
@@ -16,7 +16,7 @@ case_the_list_of_wrong_bodies_is_that_of_the_edits() {
     expect_same 'standard error' /dev/null err
 }
 
-# An edit is named there by three words or more with `-` between them, a test by four or more with `_`.
+# The page names an edit by three words or more with `-` between them, and a test by four or more with `_`.
 case_each_wrong_body_and_test_that_a_page_names_is_there() {
     local name
     for name in $(grep -o -E '`[a-zA-Z0-9_]+(-[a-zA-Z0-9_]+){2,}`' "$top/docs/WRONG_BODIES.md" | tr -d '`'); do
@@ -28,7 +28,7 @@ case_each_wrong_body_and_test_that_a_page_names_is_there() {
     done
 }
 
-# A name there is a word in backticks, as of a function, a clause, a law, a definition or a file of specs/.
+# A name is a word in backticks, as of a function, a clause, a law, a definition or a file of specs/.
 case_each_name_that_the_promises_and_decisions_cite_is_in_the_sources() {
     (cd "$top" && find crates -name '*.rt' -o -path '*/specs/*.antt') | sed "s|^|$top/|" | tr '\n' '\0' | xargs -0 cat > page_sources
     cat "$top/include/gitwire.h" "$top/crates.txt" "$top/Makefile" "$top/docs/git2show.1" >> page_sources
@@ -70,7 +70,13 @@ case_each_source_states_what_it_is_about_and_imports_what_it_may() {
     expect_same 'standard error' /dev/null err
 }
 
-# In a crate with machines the definitions of its protocol stand without them. The laws on both ends, the program and C state only calls.
+case_no_comment_has_a_word_that_is_retired() {
+    run "$top/tests/words.py" --check
+    expect_status 0
+    expect_same 'standard error' /dev/null err
+}
+
+# In a crate with machines, the definitions of its protocol do not cite them. The laws on both ends, the program and C state only calls.
 case_no_definition_of_the_protocol_cites_a_machine() {
     local crate definitions
     for crate in "$top"/crates/*/specs/Machine; do

@@ -1,8 +1,8 @@
-# Cases in which the real Git makes partial clones from our program. What `--filtered` serves is a pack without the blobs, the same for each
-# request with a filter, whatever that filter is. So a clone that checks nothing out takes it, and is without its blobs. Git fetches a
-# blob that it needs later with the same filter, and takes it from a server without a filtered pack alone.
+# Cases in which the real Git makes partial clones from our program. `--filtered` serves a pack without the blobs, the same for each request
+# with a filter, whatever that filter is. So a clone without a checkout accepts it, and has no blobs. Git fetches a blob that it needs later
+# with the same filter, and gets it only from a server without a filtered pack.
 
-# filter_pack NAME FILTER: writes the filtered pack of a repository that is served already.
+# filter_pack NAME FILTER: writes the filtered pack of a repository that is already served.
 filter_pack() {
     git -C "$1" pack-objects -q --all --revs --stdout --filter="$2" --missing=allow-any < /dev/null > "$1.filtered"
 }
@@ -17,18 +17,18 @@ partly_offered() {
     offered "$1" --filtered "$room/$1.filtered"
 }
 
-# blobs NAME: its blobs, but those that a reference names: no filter leaves such a one out.
+# blobs NAME: its blobs, except for those that a reference names: no filter leaves these out.
 blobs() {
     git -C "$1" cat-file --batch-all-objects --batch-check='%(objecttype) %(objectname)' | sed -n 's/^blob //p' > all-blobs
     git -C "$1" for-each-ref --format='%(objectname)' | grep -v -x -F -f - all-blobs
 }
 
-# missing: what the clone knows of and does not have.
+# missing: the objects that the clone knows of and does not have.
 missing() {
     git -C ours rev-list --objects --all --missing=print | sed -n 's/^?//p' | sort
 }
 
-# misses_blobs NAME: that just these blobs are missing, and there are so many.
+# misses_blobs NAME: that exactly these blobs are missing, and how many they are.
 misses_blobs() {
     blobs "$1" > wanted
     missing > written
@@ -41,14 +41,14 @@ misses_nothing() {
     expect_same 'the objects that are missing' /dev/null written
 }
 
-# sent_filter COUNT: that Git sent so many requests for packs, each with the filter, as it was given.
+# sent_filter COUNT: that Git sent so many requests for packs, each with the filter of its command line.
 sent_filter() {
     sent command=fetch
     expect_same 'the filters' <(for ((i = 0; i < $1; i++)); do echo 'filter blob:none'; done) <(grep '^filter' requests)
     [ "$(grep -c '^command=fetch$' requests)" = "$1" ] || differs "not $1 requests for packs" requests
 }
 
-# clone_partly_from_git NAME [OPTION..]: what Git gets from itself.
+# clone_partly_from_git NAME [OPTION..]: the clone that Git gets from itself.
 clone_partly_from_git() {
     clone_from_git "$@" --upload-pack 'git -c uploadpack.allowFilter=true upload-pack'
 }
@@ -75,7 +75,7 @@ case_git_clones_partly_of_sha256() {
     clones_partly history-sha256 --bare
 }
 
-# A clone without a filter from the same server has all.
+# A clone without a filter from the same server has all objects.
 case_git_clones_whole_beside_a_filtered_pack() {
     write_filtered
     clone "$(partly_offered history-sha1)" ours
@@ -110,7 +110,7 @@ case_git_clones_partly_where_no_pack_is_filtered() {
     sent_filter 1
 }
 
-# The remote is a server without a filtered pack from now on: what is missing comes from there, with the rest of the pack.
+# From now on the remote is a server without a filtered pack: missing objects come from there, with the rest of the pack.
 case_git_fills_in_what_is_missing_from_a_second_server() {
     clones_partly history-sha1 --no-checkout
     git -C history-sha1 ls-tree -r --format='%(objectname)' main | grep -x -F -f written | sort > needed
@@ -134,7 +134,7 @@ offer_web() {
     cp history-sha1.filtered "$1.filtered"
 }
 
-# The same over HTTP; then the folder of the web server has no filtered pack any more.
+# The same over HTTP; after it the folder of the web server has no filtered pack any more.
 case_git_clones_partly_over_http_and_fills_in() {
     offer_web partial-web
     start_web
@@ -151,7 +151,7 @@ case_git_clones_partly_over_http_and_fills_in() {
     asked 'POST /partial-web/git-upload-pack plain'
 }
 
-# What a filter contains is not looked into.
+# The contents of a filter are not looked at.
 case_git_sends_a_filter_of_several() {
     write_filtered
     clone "$(partly_offered history-sha1)" ours --bare --filter=blob:limit=1k --filter=tree:3
@@ -160,7 +160,7 @@ case_git_sends_a_filter_of_several() {
     misses_blobs history-sha1
 }
 
-# A filtered pack that is named has to be there.
+# If a filtered pack is named, it has to exist.
 case_git_is_told_of_a_missing_filtered_pack() {
     clone "$(offered history-sha1 --filtered "$room/nowhere")" ours --bare --filter=blob:none
     fails 'git2show: File'

@@ -1,4 +1,4 @@
-# Cases of `git2show play`: both ends in memory, whatever the pieces are, and whether one server answers or each request has its own.
+# Cases of `git2show play`: both sides in memory, with chunks of any length, and with one server for all requests or one for each.
 
 a=$(printf 'a%.0s' {1..40})
 d=$(printf 'd%.0s' {1..40})
@@ -16,13 +16,13 @@ play() {
     run git2show play --repo played.repo --pack played.pack --script script "$@"
 }
 
-# each_way FUNCTION SCRIPT: calls the function after each way to play a script: in single bytes, in long pieces, and with a server for
-# each request.
+# each_way FUNCTION SCRIPT: calls the function after each way to play a script: in single bytes, in long chunks, and with a server for each
+# request.
 each_way() {
     local words
     write_played
     for words in '' '--cut 1' '--cut 7' '--cut 65536' --stateless '--cut 1 --stateless' '--cut 65536 --stateless'; do
-        # shellcheck disable=SC2086 # The words are parted here.
+        # The words are split here.
         play $words < <(printf "$2")
         "$1"
     done
@@ -49,7 +49,7 @@ case_play_of_no_request() {
     each_way expect_nothing_asked ''
 }
 
-# Where the server refuses a request the client receives an error packet in the place of its answer.
+# If the server refuses a request, the client receives an error packet in the place of its answer.
 expect_refused_want() {
     expect 1 <(offer_told; echo 'request fetch') <(fault 'RemoteError at 162')
 }
@@ -87,7 +87,7 @@ case_play_of_a_filtered_pack() {
     local words
     write_played
     for words in '' '--cut 1' --stateless; do
-        # shellcheck disable=SC2086 # The words are parted here.
+        # The words are split here.
         play_filtered --filtered played.filtered $words
         expect 0 <(offer_told; printf '%s\n' 'request fetch' 'end 4 0' 'request fetch' 'end 5 0') /dev/null
         # shellcheck disable=SC2086
@@ -137,13 +137,13 @@ case_play_of_a_large_pack() {
     write_played
     head -c 1000001 /dev/zero > played.pack
     for words in '' '--cut 100 --stateless'; do
-        # shellcheck disable=SC2086 # The words are parted here.
+        # The words are split here.
         play $words < <(printf 'fetch\nwant %s\ndone\n' "$a")
         expect 0 <(offer_told; printf '%s\n' 'request fetch' 'end 1000001 0') /dev/null
     done
 }
 
-# A repository of a thousand references, each listed as its text has it.
+# A repository of a thousand references, each listed as in its text.
 case_play_of_a_thousand_references() {
     local i words
     write_played
@@ -154,7 +154,7 @@ case_play_of_a_thousand_references() {
         done
     } > played.repo
     for words in '' '--cut 1' --stateless; do
-        # shellcheck disable=SC2086 # The words are parted here.
+        # The words are split here.
         play $words < <(printf 'ls-refs\nsymrefs\npeel\n')
         expect 0 <(offer_told; echo 'request ls-refs'; tail -n +2 played.repo; echo 'end 0 0') /dev/null
     done

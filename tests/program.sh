@@ -1,4 +1,4 @@
-# Cases in which the program is called by hand: its statuses, its fault lines, and when it answers.
+# Cases in which the program is called by hand: its statuses, its error lines, and when it answers.
 
 # packet TEXT: a data packet of the text and a LF.
 packet() {
@@ -54,7 +54,7 @@ fetch_filtered() {
     printf 0000
 }
 
-# object_info ARGUMENT..: asks what is known of objects.
+# object_info ARGUMENT..: asks for facts about objects.
 object_info() {
     local argument
     packet command=object-info
@@ -100,7 +100,7 @@ pack_answer() {
     printf '000a\001PACK!0000'
 }
 
-# And that to a fetch with a filter, where it has a filtered pack too.
+# And to a fetch with a filter, if the repository has a filtered pack too.
 filtered_answer() {
     packet packfile
     printf '0009\001TINY0000'
@@ -111,12 +111,12 @@ one=1111111111111111111111111111111111111111
 two=2222222222222222222222222222222222222222
 other=4444444444444444444444444444444444444444
 
-# fault NAME: the line that reports a fault.
+# fault NAME: the line that reports an error.
 fault() {
     echo "git2show: $1"
 }
 
-# expect_refused WORD..: that the program does not take these words, and reports it on standard error alone.
+# expect_refused WORD..: that the program does not accept these words, and reports that on standard error alone.
 expect_refused() {
     run git2show "$@"
     expect_status 2
@@ -136,7 +136,7 @@ expect_help() {
 
 case_help_goes_to_standard_output() {
     expect_help 'Usage: git2show <COMMAND>' --help
-    expect_help 'Usage: git2show show' show --help
+    expect_help 'Usage: git2show show [OPTIONS]' show --help
     expect_help 'Usage: git2show check [OPTIONS] <REQUESTS> <RESPONSES>' check --help
     expect_help 'Usage: git2show serve [OPTIONS] --repo <FILE> --pack <FILE> [DIR]' serve --help
 }
@@ -180,7 +180,7 @@ case_serve_sends_its_pack() {
     expect 0 <(advertisement sha1; pack_answer; tags_answer; pack_answer) /dev/null
 }
 
-# Whatever the filter is; a request without one has the other pack.
+# With any filter; a request without one gets the other pack.
 case_serve_sends_its_filtered_pack() {
     serve_pack --filtered filtered.pack < <(fetch_filtered blob:none $one; fetch $one; fetch_filtered 'no filter' $two; printf 0000)
     expect 0 <(advertisement sha1; filtered_answer; pack_answer; filtered_answer) /dev/null
@@ -190,7 +190,7 @@ case_serve_sends_its_filtered_pack() {
     expect 0 <(advertisement sha1; packet packfile; printf 0000) /dev/null
 }
 
-# And a request with one too, where no pack is filtered.
+# And a request with one too, if no pack is filtered.
 case_serve_sends_its_pack_where_none_is_filtered() {
     serve_pack < <(fetch_filtered blob:none $one)
     expect 0 <(advertisement sha1; pack_answer) /dev/null
@@ -204,7 +204,7 @@ case_serve_keeps_to_its_limit_of_filters() {
     expect 1 <(advertisement sha1; packet 'ERR TooMuchKept at 93') <(fault 'TooMuchKept at 93')
 }
 
-# The pack is cut into packets, of which each has some bytes of it; together they have them all.
+# The pack is cut into packets, each with some bytes of it; together they have all of them.
 case_serve_cuts_a_large_pack() {
     local packets
     head -c 1000001 /dev/urandom > large.pack
@@ -226,7 +226,7 @@ case_serve_tells_an_object_that_is_not_there() {
     expect 1 <(advertisement sha1; packet 'ERR NotOurs at 22') <(fault 'NotOurs at 22')
 }
 
-# The sizes are those of the lines of the text; an object that has no line there has none.
+# The sizes are those in the lines of the text; an object without a line has none.
 case_serve_tells_sizes() {
     serve_pack < <(object_info size "oid $two" "oid $other" "oid $one"; request 'ref-prefix refs/tags/'; printf 0000)
     expect 0 <(advertisement sha1; packet size; packet "$two 140"; packet "$other "; packet "$one 230"; printf 0000; tags_answer) /dev/null
@@ -234,7 +234,7 @@ case_serve_tells_sizes() {
     expect 0 <(advertisement sha1; packet size; packet "$one "; printf 0000) /dev/null
 }
 
-# What object-info is asked for beside sizes is nothing that is known.
+# An object-info request can ask for nothing but sizes.
 case_serve_tells_an_object_info_without_sizes() {
     serve_pack < <(object_info "oid $one")
     expect 1 <(advertisement sha1; packet 'ERR NoSize at 77') <(fault 'NoSize at 77')
@@ -253,8 +253,8 @@ case_serve_keeps_to_its_limit_of_wants() {
     expect 1 <(advertisement sha1; packet 'ERR TooMuchKept at 122') <(fault 'TooMuchKept at 122')
 }
 
-# The usual limit has room for 372,827 wants of 45 bytes. Of each an object name is kept, in 33 bytes, and while they move to a
-# larger place they are there twice.
+# The default limit allows 372,827 wants of 45 bytes. An object name is kept of each, in 33 bytes, and while they move to a larger block
+# they are there twice.
 case_serve_keeps_no_more_of_a_million_wants() {
     local at=$((22 + 372827 * 50))
     {
@@ -269,13 +269,13 @@ case_serve_keeps_no_more_of_a_million_wants() {
     expect 1 <(advertisement sha1; packet "ERR TooMuchKept at $at") <(fault "TooMuchKept at $at")
 }
 
-# Of a client that goes in the middle of its request nothing is answered but that.
+# If a client leaves in the middle of its request, the only answer is the error packet.
 case_serve_tells_a_fetch_that_is_cut_off() {
     serve_pack < <(fetch $one | head -c 80)
     expect 1 <(advertisement sha1; packet 'ERR Truncated at 72') <(fault 'Truncated at 72')
 }
 
-# The advertisement alone, and whatever comes is not read.
+# The advertisement alone; the input is not read.
 case_serve_gives_its_advertisement_alone() {
     local option
     for option in --http-backend-info-refs --advertise-refs '--stateless-rpc --http-backend-info-refs'; do
@@ -297,7 +297,7 @@ case_serve_answers_one_request_alone() {
     expect 0 /dev/null /dev/null
 }
 
-# The answer to a request whose bytes come one by one, over an input that stays open.
+# The answer to a request whose bytes come one by one, while the input stays open.
 case_serve_ends_after_one_request() {
     mkfifo one-by-one
     { request peel symrefs | dd bs=1 status=none; exec sleep 60; } > one-by-one &
@@ -318,7 +318,7 @@ case_serve_tells_what_is_wrong_with_one_request() {
     expect 1 /dev/null <(fault ReadFault)
 }
 
-# What Git puts after its words names a repository, of which nothing is read.
+# Git puts the name of a repository after its words; nothing is read from there.
 case_serve_takes_a_folder_at_its_end() {
     serve --http-backend-info-refs /nowhere
     expect 0 <(advertisement sha1) /dev/null
@@ -342,7 +342,7 @@ case_serve_tells_an_input_that_is_cut_off() {
     expect 1 <(advertisement sha1; packet 'ERR Truncated at 0') <(fault 'Truncated at 0')
 }
 
-# Offsets go on over the requests that were answered.
+# Offsets continue after the requests that were answered.
 case_serve_tells_a_second_request_that_is_none() {
     local at
     request peel symrefs > first
@@ -391,7 +391,7 @@ case_serve_tells_a_missing_file() {
     expect 1 /dev/null <(fault File)
 }
 
-# A text without a line end is refused at once, however long it goes on.
+# A text without a line end is refused at once, however long it is.
 case_serve_refuses_a_line_that_is_too_long() {
     run git2show serve --repo /dev/zero --pack empty.pack
     expect 1 /dev/null <(fault 'BadRepo at 1')
@@ -429,7 +429,7 @@ fetch_with() {
     printf 0000
 }
 
-# An advertisement, references, sizes, acknowledgments alone and a refusal need none.
+# An advertisement, references, sizes, acknowledgments alone and a refusal need no pack.
 case_serve_reads_no_pack_before_it_is_needed() {
     huge --advertise-refs
     expect 0 <(advertisement sha1) /dev/null
@@ -447,7 +447,7 @@ case_serve_reads_no_pack_before_it_is_needed() {
     ) <(fault 'NotOurs at 292')
 }
 
-# A pack that cannot be read, or has no room, is reported in its place in the answer, at the flush of its request.
+# If a pack cannot be read, or does not fit into memory, this is reported in its place in the answer, at the flush of its request.
 case_serve_tells_a_pack_that_cannot_be_read() {
     local pack
     fetch $one > asked
@@ -463,7 +463,7 @@ case_serve_tells_a_pack_that_cannot_be_read() {
     expect 1 <(advertisement sha1; lost_answer) <(fault "PackSource at $(flush_of asked)")
 }
 
-# The answer to a fetch whose pack cannot be had, and the offset of the flush at the end of a file.
+# The answer to a fetch whose pack is not available, and the offset of the flush at the end of a file.
 lost_answer() {
     packet packfile
     printf '000f\003PackSource'
@@ -482,14 +482,14 @@ case_serve_reads_its_files_before_it_judges_the_text() {
     expect 1 /dev/null <(fault 'BadRepo at 1')
 }
 
-# expect_next WHAT WANTED: that a server whose input stays open has written just this so far.
+# expect_next WHAT WANTED: that a server whose input stays open has written exactly this so far.
 expect_next() {
     cat "$2" > wanted
     limited head -c "$(wc -c < wanted)" <&"$from" > out || differs "$1 did not come"
     expect_same "$1" wanted out
 }
 
-# A client that waits for its answer before it asks again gets it, and a flush ends the session though the input stays open.
+# A client that waits for its answer before it asks again gets it, and a flush ends the session although the input stays open.
 case_serve_answers_before_its_input_ends() {
     local server from to
     coproc limited git2show serve --repo small.repo --pack empty.pack 2> err
@@ -573,8 +573,8 @@ case_check_takes_an_advertisement_of_stateless_sessions() {
     expect 0 <(capabilities sha1; echo offered) /dev/null
 }
 
-# run_cut_off COMMAND..: runs a program that writes into a pipe whose reader takes one byte and goes. The signal of such a pipe
-# is no more ignored than in a terminal, whatever started this test.
+# run_cut_off COMMAND..: runs a program that writes into a pipe whose reader takes one byte and leaves. The signal of such a pipe is not
+# ignored, as in a terminal, whatever started this test.
 run_cut_off() {
     status=0
     limited env --default-signal=PIPE "$@" > >(head -c 1 > out) 2> err || status=$?
@@ -601,7 +601,7 @@ case_a_closed_output_is_a_write_fault() {
     expect 1 <(printf 0) <(fault WriteFault)
 }
 
-# expect_device_full WORD..: that the program reports an output that takes nothing.
+# expect_device_full WORD..: that the program reports a full output device.
 expect_device_full() {
     status=0
     limited git2show "$@" < <(printf 0000) > /dev/full 2> err || status=$?
@@ -619,15 +619,15 @@ case_a_full_device_is_a_write_fault() {
     expect_device_full play --repo small.repo --pack empty.pack --script /dev/null
 }
 
-# on_terminal COMMAND: runs a command of the shell whose standard error is a terminal, and leaves its `status`, and what came there in
-# the file `terminal`.
+# on_terminal COMMAND: runs a command of the shell whose standard error is a terminal, and leaves its `status`, and the output there in the
+# file `terminal`.
 on_terminal() {
     status=0
     limited script -q -e -c "$1" /dev/null < /dev/null > terminal || status=$?
     sed -i 's/\r$//' terminal
 }
 
-# explained FAULT LINE: that the last command on a terminal reported a fault and this line after it.
+# explained FAULT LINE: that the last command on a terminal reported an error and this line after it.
 explained() {
     expect_status 1
     expect_same 'what is explained' <(fault "$1"; echo "$2") terminal
@@ -658,7 +658,7 @@ case_a_terminal_gets_what_the_system_reported() {
     explained ReadFault '`/`: Is a directory (os error 21)'
 }
 
-# Nothing more is known of a stream that is malformed.
+# No more is known of a malformed stream.
 case_a_terminal_gets_one_line_of_a_stream() {
     command -v script > /dev/null || return 0
     on_terminal 'printf 00g0 | git2show show'
@@ -722,7 +722,7 @@ case_a_terminal_gets_why_a_line_of_a_text_is_refused() {
     refused_text "names rise, and \`$one\` does not come after \`$two\`" "object $two 3" "object $one 3"
 }
 
-# A pipe gives its lines once.
+# The lines of a pipe can be read only once.
 case_a_terminal_gets_which_line_of_a_pipe_is_refused() {
     command -v script > /dev/null || return 0
     on_terminal 'echo none | git2show serve --repo /dev/stdin --pack empty.pack'

@@ -1,6 +1,6 @@
 # Cases in which the real Git asks our program for the references of a repository.
 
-# What Git sends and gets, packet by packet. It shows whether a case tries what it is meant to.
+# What Git sends and gets, packet by packet. It shows whether a case tests what it should.
 trace=$room/trace
 
 # ls_remote [OPTION..] REPOSITORY [PATTERN..]
@@ -9,7 +9,7 @@ ls_remote() {
     GIT_TRACE_PACKET=$trace run git -c protocol.version=2 -c protocol.ext.allow=always ls-remote "$@"
 }
 
-# served TEXT: the repository that our program serves, as Git is to name it.
+# served TEXT: the address of the repository that our program serves, for Git.
 served() {
     echo "ext::git2show serve --repo $1 --pack empty.pack"
 }
@@ -23,14 +23,14 @@ sent() {
     done
 }
 
-# lists COUNT WANTED: that Git printed just these lines, of which there are so many, and that nobody complained.
+# lists COUNT WANTED: that Git printed exactly these lines, this number of them, without any message.
 lists() {
     cat "$2" > wanted
     [ "$(wc -l < wanted)" = "$1" ] || differs "the case's own list, of $(wc -l < wanted) lines instead of $1"
     expect 0 wanted /dev/null
 }
 
-# fails LINE: that Git failed and listed nothing, and that our program reported this fault and no other.
+# fails LINE: that Git failed and listed nothing, and that our program reported this error and no other.
 fails() {
     expect_status 128
     expect_same 'standard output' /dev/null out
@@ -86,7 +86,7 @@ case_git_lists_without_peeled_tags() {
     lists 208 <(listed < sha1.table | grep -a $'\trefs/' | grep -a -v -F '^{}')
 }
 
-# Git itself picks what its patterns match, out of all that it received.
+# Git itself selects what matches its patterns, from all that it received.
 case_git_lists_what_patterns_match() {
     ls_remote "$(served sha1.repo)" main 'v1*'
     lists 46 <(listed < sha1.table | grep -a -E '/(main|v1[^/]*)$')
@@ -104,7 +104,7 @@ case_git_sends_a_server_option() {
     sent server-option=lang=en
 }
 
-# What Git lists of a repository of its own it lists of our server too, for the text that is written of that repository.
+# Git lists the same of a repository of its own and of our server, with the text that is written for that repository.
 lists_as_its_own() {
     git init -q -b main --object-format="$1" "own-$1"
     (
@@ -155,8 +155,8 @@ case_git_fails_at_a_missing_text() {
     fails 'git2show: File'
 }
 
-# patient: our program, and somebody who stays. A server that refuses a request ends at once, also where Git is writing the rest
-# of it, and Git that writes to nobody ends before it reads what it was sent. So here somebody reads that rest.
+# patient: our program, and a reader that stays. A server that refuses a request ends at once, even while Git is writing the rest of it, and
+# then Git ends before it reads the answer. So here that rest is read.
 write_patient() {
     printf '%s\n' '#!/bin/sh' 'git2show "$@"' 'cat > /dev/null' > bin/patient
     chmod +x bin/patient

@@ -1,5 +1,5 @@
-# Cases in which all that the real Git's client and its server send to each other is recorded, and `git2show check` judges it: whole, and
-# damaged in many places.
+# Cases in which everything that the real Git's client and its server send to each other is recorded, and `git2show check` judges it: whole,
+# and damaged in many places.
 
 # record FOLDER [OPTION..]: a server of Git, each of whose streams is copied to a file.
 write_recorder() {
@@ -11,7 +11,7 @@ EOF
     chmod +x bin/record
 }
 
-# The same where each request has a server of its own.
+# The same with a server for each request.
 write_stateless_recorder() {
     write_stateless
     cat > bin/stateless-server << 'EOF'
@@ -39,7 +39,7 @@ recorded() {
     touch packs
 }
 
-# checks [OPTION..]: that `check` takes what was recorded, and counts the bytes of the packs as Git does.
+# checks [OPTION..]: that `check` accepts the recording, and counts the bytes of the packs as Git does.
 checks() {
     local bytes
     run git2show check "$@" requests responses
@@ -51,7 +51,7 @@ checks() {
     withstands_damage "$@"
 }
 
-# start_of_packet FILE PLACE: where the packet of a stream begins that has this byte.
+# start_of_packet FILE PLACE: the offset of the packet of a stream that has the byte at this place.
 start_of_packet() {
     awk -v place="$2" '$1 <= place { start = $1 } END { print start + 0 }' "$1.packets"
 }
@@ -65,13 +65,13 @@ damaged() {
     tail -c "+$(($2 + 2))" "$1"
 }
 
-# is_refused_well: that the last run of `check` reported a fault of one of the streams, in one line.
+# is_refused_well: that the last run of `check` reported an error in one of the streams, in one line.
 is_refused_well() {
     grep -a -q -x -E 'git2show: (requests|responses): [A-Za-z0-9]+ at [0-9]+' err && [ "$(wc -l < err)" = 1 ]
 }
 
-# withstands_damage [OPTION..]: each stream is damaged at fifty places. It is taken or refused then, and its transcript is the same up
-# to the packet that is damaged.
+# withstands_damage [OPTION..]: each stream is damaged at fifty places. Then it is accepted or refused, and its transcript is the same up to
+# the damaged packet.
 withstands_damage() {
     local stream size number place start
     for stream in requests responses; do
@@ -146,7 +146,7 @@ case_check_takes_sessions_without_a_state() {
     checks --stateless
 }
 
-# What comes before the protocol is cut off as git2show(1) has it: the greeting of the client.
+# What precedes the protocol is cut off as in git2show(1): the greeting of the client.
 case_check_takes_what_comes_after_a_greeting() {
     cat > bin/recorded-daemon << END
 #!/bin/sh
@@ -163,7 +163,7 @@ END
     expect_line 'the transcript' 'request fetch' transcript
 }
 
-# And what a web server may say before its advertisement. The bodies of the answers end with a flush.
+# And the answer of a web server before its advertisement. The bodies of the answers end with a flush.
 case_check_takes_the_bodies_of_http() {
     start_web
     cat > bin/watched-backend << END
@@ -186,19 +186,20 @@ END
     expect_status 1
 }
 
-# What a server advertised and this project does not know may be in a request too: a key that the client then sends.
+# A request may have what a server advertised and this project does not know: a key that the client then sends.
 case_check_takes_a_session_id() {
     rm -rf ours
     recorded -c transfer.advertiseSID=true clone -q 'ext::record history-sha1 -c transfer.advertiseSID=true' ours
     checks
     grep -a -q 'session-id=' requests || differs 'no session-id' requests
+    expect_line 'the transcript' "capability $(limited git2show show < requests | sed -n 's/^[0-9]* data [0-9]* \(session-id=[^\\]*\).*/\1/p' | head -n 1)" transcript
     sed 's/session-id=/session-ix=/' requests > requests.tried
     run git2show check requests.tried responses
     expect_status 1
     grep -a -q -x 'git2show: requests: NotAdvertised at [0-9]*' err || differs 'another fault' err
 }
 
-# An argument that asks for a section, which this response has not.
+# An argument that asks for a section, which this response does not have.
 case_check_takes_an_argument_for_addresses_of_packs() {
     local id hash
     id=$(printf 'f%.0s' {1..40})
@@ -208,18 +209,47 @@ case_check_takes_an_argument_for_addresses_of_packs() {
         "ext::record history-sha1 -c uploadpack.blobPackfileUri=$id% $hash% https://127.0.0.1:1/pack" ours
     checks
     grep -a -q '0017packfile-uris https' requests || differs 'no such argument' requests
+    expect_line 'the transcript' 'argument packfile-uris https' transcript
 }
 
-# An argument by which each line of the response comes on a side band: the request is taken, and the response is not known.
-case_check_refuses_lines_on_bands() {
+# An argument that puts each line of the response on a side band.
+case_check_takes_lines_on_bands() {
     rm -rf ours
     GIT_TEST_SIDEBAND_ALL=1 recorded clone -q 'ext::record history-sha1 -c uploadpack.advertiseSidebandAll=true' ours
     grep -a -q '0010sideband-all' requests || differs 'no such argument' requests
+    checks
+    expect_line 'the transcript' 'argument sideband-all' transcript
+}
+
+# A response with the section that it asks for, which Git's server sends on side bands alone: the addresses pass, and what comes after them is the pack.
+case_check_takes_addresses_of_packs() {
+    local blob hash bytes
+    blob=$(git -C history-sha1 ls-tree -r HEAD | awk '$2 == "blob" { print $3; exit }')
+    hash=$(printf 'e%.0s' {1..40})
+    {
+        packet command=fetch
+        printf 0001
+        packet "want $(git -C history-sha1 rev-parse HEAD)"
+        packet ofs-delta
+        packet sideband-all
+        packet 'packfile-uris https'
+        packet done
+        printf 0000
+    } > requests
+    GIT_TEST_SIDEBAND_ALL=1 GIT_PROTOCOL=version=2 git -c "uploadpack.blobPackfileUri=$blob $hash https://127.0.0.1:1/pack" \
+        upload-pack history-sha1 < requests > responses
+    grep -a -q "0013.packfile-uris" responses || differs 'no such section' responses
     run git2show check requests responses
-    expect_status 1
-    grep -a -q -x 'git2show: responses: UnexpectedSection at [0-9]*' err || differs 'another fault' err
-    expect_line 'the transcript' 'request fetch' out
+    expect_status 0
+    cp out transcript
+    expect_line 'the transcript' 'argument packfile-uris https' transcript
+    bytes=$(sed -n 's/^end \([0-9]*\) [0-9]*$/\1/p' transcript)
+    [ "$bytes" -gt 32 ] || differs 'no pack' transcript
     withstands_damage
+    sed 's/packfile-uris https/packfile-urix https/' requests > requests.tried
+    run git2show check requests.tried responses
+    expect_status 1
+    grep -a -q -x 'git2show: requests: UnknownArgument at [0-9]*' err || differs 'another fault' err
 }
 
 # write_another_command [END]: a conversation whose second request is for a command that this project does not know; this packet ends each response too.
@@ -245,11 +275,12 @@ write_another_command() {
         printf 0000%s "${1-}"
         printf 0000%s "${1-}"
     } > responses
-    printf '%s\n' 'capability ls-refs' 'capability bundle-uri' offered 'request ls-refs' 'end 0 0' 'request ls-refs' 'end 0 0' > wanted
+    printf '%s\n' 'capability ls-refs' 'capability bundle-uri' offered 'request ls-refs' 'end 0 0' 'request bundle-uri' \
+        'request ls-refs' 'end 0 0' > wanted
     : > empty
 }
 
-# A command, whose answer passes. The offsets of what comes after it count its bytes.
+# A command with an answer that passes. The offsets after it count its bytes.
 case_check_takes_another_command() {
     local place
     write_another_command
@@ -280,7 +311,7 @@ case_check_takes_another_command_without_a_state() {
     withstands_damage --stateless
 }
 
-# One that was not advertised is refused, and so is one that does not come first.
+# A command that was not advertised is refused, and so is one that does not come first.
 case_check_refuses_another_command() {
     write_another_command
     sed 's/bundle-uri/bundle-urj/' responses > responses.tried
@@ -304,7 +335,7 @@ case_check_refuses_another_command() {
     expect_line 'standard error' "git2show: requests: Truncated at $(wc -c < requests)" err
 }
 
-# The texts of arguments count together, whether they are known or not: these come to a few bytes less than the limit, and then to more.
+# The texts of known and unknown arguments count together: these have a few bytes less than the limit, and then more.
 case_check_counts_what_is_not_known() {
     local line number
     line=$(printf 'fff0x-word %s' "$(head -c 65508 /dev/zero | tr '\0' a)")
@@ -348,7 +379,7 @@ case_check_tells_an_error_of_the_server() {
     withstands_damage
 }
 
-# takes_sample WORDS..: that the program takes a recording of `sample/`, and complains of nothing.
+# takes_sample WORDS..: that the program accepts a recording of `sample/`, without any message.
 takes_sample() {
     run git2show "$@"
     expect_status 0

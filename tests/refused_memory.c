@@ -1,9 +1,9 @@
 /*
- * Runs each kind of handle while memory is refused, at the first request for some, at the second, and so on: once only there,
- * and once from there on. Each call has to return what the header states, and what was had is to be freed whole.
+ * Runs each kind of handle while memory is refused, at the first request for some, at the second, and so on: once only there, and once from
+ * there on. Each call has to return what the header states, and all memory has to be freed.
  *
- * Linked with --wrap=malloc, --wrap=realloc and --wrap=free, so that those of the library come here. It prints how many requests
- * for memory there were, and what was not as it should be; the status is 1 where something was not.
+ * Linked with --wrap=malloc, --wrap=realloc and --wrap=free, so that those of the library come here. It prints how many requests for memory
+ * there were, and what was not as expected; the status is 1 if there was anything.
  */
 #include <gitwire.h>
 
@@ -22,8 +22,8 @@ static long asked;            /* how many requests there were in this run */
 static long refused_at = -1;  /* which of them is refused */
 static bool refused_after;    /* and whether all after it are */
 static long refused;          /* how many were */
-static long live;             /* how many blocks are had */
-static long live_then;        /* and were where memory was asked for next after this was -1 */
+static long live;             /* how many blocks are allocated */
+static long live_then;        /* how many were at the next request for memory after this was -1 */
 static int failures;
 
 static bool is_refused(void)
@@ -74,7 +74,7 @@ static bool is_made(uint8_t answer, const char *what)
 	return answer == GITWIRE_DONE;
 }
 
-/* What is sent and answered by calls that take no memory: none was asked for since it had been asked for so often. */
+/* Expects that calls which take no memory have requested none: the number of requests is still this. */
 static void expect_none_asked(long before, const char *what)
 {
 	expect(asked == before, what);
@@ -89,7 +89,7 @@ static void expect_none_asked(long before, const char *what)
 #define REFUSED LS_REFS "0012command=fetch\n" "0001" "0032want " ONE "\n" "0016deepen-not refs/a\n" "0032want " TWO "\n"
 #define OFFERED "000eversion 2\n" "0012fetch=shallow\n" "0000"
 #define ANSWER "000dpackfile\n" "0007\001AB" "0008\002hi\n" "0008\003no\n"
-#define ALL_PACKETS 6 /* the command, the delimiter, a revision, an object that is wanted, `done`, and the flush */
+#define ALL_PACKETS 6 /* the command, the delimiter, a revision, a wanted object, `done`, and the flush */
 
 static uint8_t room[GITWIRE_PACKET_ROOM];
 
@@ -175,7 +175,7 @@ static void add_without_memory(gitwire_request *request, const char *line)
 	expect_none_asked(before, "memory for a flag or a number");
 }
 
-/* An argument that was refused is not there, and those before it are. */
+/* An argument that was refused is not in the request, and those before it are. */
 static void run_request(void)
 {
 	gitwire_request request = GITWIRE_NONE;
@@ -225,7 +225,7 @@ static bool make_repository(gitwire_repository *repository)
 	return is_made(gitwire_repository_new(repository, TEXT(small), TEXT("PACK")).kind, "a repository");
 }
 
-/* What a handle had is freed before it is made anew: two repositories are never there at once. */
+/* What a handle had is freed before it is made anew: there are never two repositories at once. */
 static void run_repository(void)
 {
 	gitwire_repository repository = GITWIRE_NONE;
@@ -239,7 +239,7 @@ static void run_repository(void)
 	gitwire_repository_free(&repository);
 }
 
-/* One with a pack of its own for fetches with a filter, where another was. */
+/* One with a pack of its own for fetches with a filter, after another one. */
 static void run_filtered_repository(void)
 {
 	gitwire_repository repository = GITWIRE_NONE;
@@ -284,7 +284,7 @@ static void run_server(void)
 	gitwire_server_free(&server);
 }
 
-/* Whether a report is taken, once memory for it is had: where it is refused nothing changed, and it is made again. */
+/* Whether a report is accepted, once there is memory for it: if memory is refused nothing changes, and the report is made again. */
 static void expect_reported(gitwire_host *host, uint8_t kind, gitwire_answer (*report)(gitwire_host *))
 {
 	gitwire_answer answer = report(host);
@@ -306,7 +306,7 @@ static gitwire_answer report_wanted(gitwire_host *host)
 	return gitwire_host_want_ref(host, TEXT(ONE), room, sizeof room);
 }
 
-/* A session over a store that is asked: references, and a wanted one. It ends well, or is refused as OutOfMemory. */
+/* A session over a store that answers questions: references, and a wanted one. It ends well, or is refused as OutOfMemory. */
 static void run_host(void)
 {
 	static const char *const said = LS_REFS "0012command=fetch\n" "0001" "0014want-ref refs/a\n" "0009done\n" "0000";
@@ -375,7 +375,7 @@ static void run_client(void)
 	gitwire_request_free(&request);
 }
 
-/* A reader of requests is freed wherever its input breaks off: of two requests so many bytes come. */
+/* A reader of requests is freed wherever its input breaks off: so many bytes of two requests come. */
 static void break_requests_off(size_t length)
 {
 	static const char *const said = LS_REFS FETCH;
@@ -399,7 +399,7 @@ static void run_broken_requests(void)
 		break_requests_off(length);
 }
 
-/* A server is freed wherever its session breaks off, and after the last packet, which is refused once others were kept. */
+/* A server is freed wherever its session breaks off, and after the last packet, which is refused when others are kept already. */
 static void break_session_off(size_t length)
 {
 	static const char *const said = REFUSED;
@@ -430,7 +430,7 @@ static void run_broken_session(void)
 	break_session_off(strlen(REFUSED));
 }
 
-/* Feeds a client so many bytes, or those up to a fault. What is received takes no memory. */
+/* Feeds a client so many bytes, or those up to an error. Receiving takes no memory. */
 static gitwire_event hear(gitwire_client *client, const char *said, size_t length)
 {
 	gitwire_event event = { .kind = GITWIRE_MORE };
@@ -442,7 +442,7 @@ static gitwire_event hear(gitwire_client *client, const char *said, size_t lengt
 	return event;
 }
 
-/* Sends so many packets of what is asked, and then receives so many bytes of the answer. */
+/* Sends so many packets of the request, and then receives so many bytes of the answer. */
 static void ask_and_hear(gitwire_client *client, gitwire_request *request, int packets, size_t length)
 {
 	gitwire_event event;
@@ -462,7 +462,7 @@ static void ask_and_hear(gitwire_client *client, gitwire_request *request, int p
 	expect_none_asked(before, "memory for a server's message");
 }
 
-/* A client is freed wherever its conversation breaks off: while it asks, and in the answer, of which the last packet reports a fault. */
+/* A client is freed wherever its conversation breaks off: while it asks, and in the answer, whose last packet reports an error. */
 static void break_conversation_off(int packets, size_t length)
 {
 	gitwire_client client = GITWIRE_NONE;

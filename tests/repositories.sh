@@ -1,6 +1,5 @@
-# The repositories that the cases serve. A table of references has a line `OBJECT NAME TARGET PEELED` for each, with `-`
-# where there is none; its lines rise by name, byte by byte. The text of a repository and the lines that Git is to print are
-# both written from it.
+# The repositories that the cases serve. A table of references has a line `OBJECT NAME TARGET PEELED` for each, with `-` if there is none;
+# its lines are sorted by name, byte by byte. The text of a repository and the lines that Git has to print are both written from it.
 
 write_repositories() {
     local format
@@ -21,15 +20,15 @@ EOF
     : > empty.pack
 }
 
-# object FORMAT WORD: the object name that is made of a word, its digest.
+# object FORMAT WORD: the object name that is the digest of a word.
 object() {
     local digest
     digest=$(printf '%s' "$2" | "${1}sum")
     echo "${digest%% *}"
 }
 
-# The references of the large tables, unsorted: a name, its target, and `tag` where an annotated tag is meant. Among them are
-# names that others begin with, a symbolic reference to a tag, bytes that are no ASCII, and the longest line that there is.
+# The references of the large tables, unsorted: a name, its target, and `tag` for an annotated tag. Among them are names that others begin
+# with, a symbolic reference to a tag, bytes that are not ASCII, and the longest line that is possible.
 references() {
     local i longest
     echo 'HEAD refs/heads/main -'

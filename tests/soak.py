@@ -1,12 +1,12 @@
 #!/usr/bin/env python3
-"""Clients that lie, to a daemon on the loopback or to `git2show serve`, until each of their sessions has ended.
+"""Malicious clients of a daemon on the loopback or of `git2show serve`, until each of their sessions has ended.
 
     soak.py daemon PORT SESSIONS GREETING REQUEST [KIND..]
     soak.py serve SESSIONS REQUEST COMMAND..
 
-GREETING and REQUEST are files: what a client of `git daemon` sends first, and a fetch that is answered by a pack. Each client is of
-one of the kinds below, in turn, or of those that are named. Of `serve` the most memory that one of the sessions took is printed, in KiB. The status is 0 where
-each session ended within a minute.
+GREETING and REQUEST are files: the first packet of a client of `git daemon`, and a fetch that is answered with a pack. The clients are
+of the kinds below, in turn, or of the named ones. For `serve` it prints the most memory that one of the sessions took, in KiB. The
+status is 0 if each session ended within a minute.
 """
 
 import os
@@ -38,12 +38,12 @@ def to_the_end(connection):
 
 
 def cut(connection, all_bytes, number):
-    """Leaves amid its request, at each place in turn."""
+    """Leaves in the middle of its request, at each place in turn."""
     connection.sendall(all_bytes[: number % len(all_bytes)])
 
 
 def garbage(connection, all_bytes, number):
-    """Its request, at a place of which garbage begins."""
+    """Sends its request up to some place, and then garbage."""
     dice = random.Random(number)
     connection.sendall(all_bytes[: dice.randrange(len(all_bytes))] + dice.randbytes(dice.randrange(4096)))
     connection.shutdown(socket.SHUT_WR)

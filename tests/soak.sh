@@ -1,5 +1,5 @@
-# A thousand sessions with clients that lie (soak.py): what leaves early, garbage, silence, a byte a second, half closed, reset, deaf. And a clone
-# of as many references as the daemon has room for.
+# A thousand sessions with malicious clients (soak.py): early leavers, garbage, silence, a byte a second, half closed, reset, not reading.
+# And a clone of as many references as the daemon can serve.
 
 # write_lie: what such a client sends: `lie`, a greeting, and `asks`, a fetch that the heavy pack answers.
 write_lie() {
@@ -17,8 +17,8 @@ descriptors_are() {
     differs "$(ls "/proc/$daemon/fd" | wc -l) descriptors instead of $1"
 }
 
-# A first round has used each place of the daemon, and a second one each place by many kinds: what came later would be what is never given
-# back.
+# A first round has used each place of the daemon, and a second one each place with many kinds: any further growth would be memory that is
+# never given back.
 case_a_daemon_in_c_is_the_same_after_a_thousand_lies() {
     local descriptors memory
     patience=3
@@ -47,7 +47,7 @@ case_serve_takes_a_fixed_memory_of_a_thousand_lies() {
     [ "$most" -lt $((honest + 1024)) ] || differs "$most KiB instead of $honest"
 }
 
-# The lines of the request, `want-ref` and a name, have almost as many bytes as may be.
+# The lines of the request, `want-ref` and a name, have almost as many bytes as the limit allows.
 case_a_daemon_in_c_serves_300000_references() {
     local before after
     write_many 300000 74

@@ -51,7 +51,9 @@ git_server object_info: ls_refs fetching server io
 git_server admission: Packet PacketReader
 git_server machine: io
 git_server run: answer Request
-git_host *: io Told
+git_host admission asking fetch_answer host_answer host_server hosted laws machine references_answer report request_at_hand sizes_answer: io Told
+git_host store: io Told host_server hosted
+git_host repo_store: Told host_server hosted
 git_host admission: put Packet
 git_host fetch_answer: references_answer sizes_answer host_server
 git_host references_answer: fetch_answer sizes_answer host_server
@@ -71,10 +73,10 @@ git_repository *: io fs
 git_repository packs text_faults: drafts repository_lines
 git_repository repository_lines: drafts repository_progress
 git_repository repository_reader: repository_lines drafts
-git2show_lib judged_requests others noting scripts script_lines: io
+git2show_lib judged_requests others noting scripts script_lines sieve: io
 git2show_lib left_over: judged_requests
 git2show_lib advertisement: Request
-git2show_lib others: Allocator
+git2show_lib others sieve: Allocator
 git2show_lib lines: Read
 git2show_lib showing: escape_into
 git2show main failures explanations: Packet PacketReader
@@ -171,6 +173,6 @@ def main(words):
 
 
 if __name__ == "__main__":
-    # A reader that has seen enough, as `head`, ends it without a word.
+    # A reader that has seen enough, as `head`, ends it without a message.
     signal.signal(signal.SIGPIPE, signal.SIG_DFL)
     main(sys.argv[1:])

@@ -1,8 +1,8 @@
-# Cases in which something fails below examples/upload-pack.c, or its client means harm: a command of Git that is killed, a repository that is
-# damaged, a device that is full, a client that is gone or slow. There is an error, and no clone that looks whole.
+# Cases in which something fails below examples/upload-pack.c, or its client is malicious: a command of Git that is killed, a damaged
+# repository, a full device, a client that is gone or slow. There is an error, and no clone that looks whole.
 
-# write_failing COMMAND COUNT: `failing/git`, of which this command is killed after so many bytes of its output, or after so many lines of its input
-# where that stays open; and `uploading-badly`, the program over it.
+# write_failing COMMAND COUNT: `failing/git`, which kills this command after so many bytes of its output, or after so many lines of its
+# input if that stays open; and `uploading-badly`, the program over it.
 write_failing() {
     local git passing
     git=$(command -v git)
@@ -14,7 +14,7 @@ write_failing() {
     chmod +x failing/git uploading-badly
 }
 
-# fails_to_clone WHAT NAME PROGRAM [OPTION..]: that no clone comes of it.
+# fails_to_clone WHAT NAME PROGRAM [OPTION..]: that there is no clone.
 fails_to_clone() {
     rm -rf ours
     run git -c protocol.version=2 clone -q "file://$room/$2" ours --upload-pack="$3" "${@:4}"
@@ -89,7 +89,7 @@ case_upload_pack_and_its_children_are_killed() {
     limited sh -c "while kill -0 $child 2> /dev/null; do sleep 0.1; done" || differs 'a git pack-objects that goes on'
 }
 
-# Its client is gone, or takes nothing: it ends, and so does what it started.
+# If its client is gone, or reads nothing, it ends, and so does what it started.
 case_upload_pack_ends_with_its_client() {
     local begin=$SECONDS waiting
     fetch "$(git -C heavy rev-parse main)" > body
@@ -126,7 +126,7 @@ loose() {
     echo "$1/objects/${id:0:2}/${id:2}"
 }
 
-# damage KIND: damages the repository `served`, which has loose objects but where it is packed first.
+# damage KIND: damages the repository `served`, which has loose objects unless it is packed first.
 damage() {
     local pack
     case $1 in
@@ -182,7 +182,7 @@ loosen() {
     done
 }
 
-# A branch that is damaged is seen where a pattern asks for it too.
+# A damaged branch is noticed also if a pattern asks for it.
 case_upload_pack_lists_nothing_damaged() {
     local kind
     for kind in branch empty-branch lost-branch; do
@@ -200,7 +200,7 @@ case_upload_pack_lists_nothing_damaged() {
     done
 }
 
-# memory_of_process PROCESS: the most memory that it has had, in KiB, once it has ended.
+# memory_of_process PROCESS: the most memory that it had, in KiB, once it has ended.
 memory_of_process() {
     local most=0 now
     while now=$(sed -n 's/^VmHWM:[^0-9]*\([0-9]*\) kB/\1/p' "/proc/$1/status" 2> /dev/null) && [ -n "$now" ]; do
@@ -210,7 +210,7 @@ memory_of_process() {
     echo "$most"
 }
 
-# A command that prints a gigabyte is in the place of `git pack-objects`: what passes through it is not looked into.
+# A command that prints a gigabyte is in the place of `git pack-objects`: the bytes that pass through are not looked into.
 case_upload_pack_takes_a_fixed_memory() {
     local process most
     mkdir -p failing
@@ -227,7 +227,7 @@ case_upload_pack_takes_a_fixed_memory() {
     [ "$most" -gt 0 ] && [ "$most" -lt 4096 ] || differs "$most KiB"
 }
 
-# Wanted references are looked up together, and so are those that a history is to be without.
+# Wanted references are looked up together, and so are those that a history has to exclude.
 case_upload_pack_is_not_kept_busy() {
     local begin=$SECONDS
     configured history-sha1 uploadpack.allowRefInWant true
@@ -269,7 +269,7 @@ case_upload_pack_takes_no_more_than_its_limit() {
     grep -a -q -x '....ERR TooMuchKept at [0-9]*' out || differs 'the answer' out
 }
 
-# Nothing is read that was not written, nor is anything lost.
+# No memory is read before it was written, and none is lost.
 case_upload_pack_under_valgrind() {
     local id request requests
     configured history-sha1 uploadpack.allowFilter true uploadpack.allowRefInWant true uploadpack.hideRefs refs/heads/alias
@@ -301,7 +301,7 @@ case_upload_pack_is_no_shell() {
     expect 128 /dev/null <(printf '%s\n' "fatal: 'no\\x1bwhere' does not appear to be a git repository")
 }
 
-# What a repository's own settings and files have is not trusted: no program is started for it, and it leads to no other user's.
+# A repository's own settings and files are not trusted: no program is started for them, and they lead to no other user's repository.
 case_upload_pack_trusts_no_repository() {
     configured history-sha1 uploadpack.packObjectsHook "$room/bin/hooked" core.fsmonitor "$room/bin/hooked" core.pager "$room/bin/hooked" \
         pager.show-ref "$room/bin/hooked" pager.for-each-ref "$room/bin/hooked" alias.cat-file "!$room/bin/hooked"

@@ -1,7 +1,7 @@
-# Cases in which the real Git lists, clones and fetches from examples/upload-pack.c, which serves a folder of Git's own, and in which what it has
-# then is compared with what it gets from `git upload-pack`: for each kind of clone and fetch that `git2show serve` is tested with, and more.
+# Cases in which the real Git lists, clones and fetches from examples/upload-pack.c, which serves a folder of Git's own. The result is
+# compared with what it gets from `git upload-pack`: for each kind of clone and fetch that `git2show serve` is tested with, and more.
 
-# The program with sanitizers, by the name under which Git starts it.
+# The program with sanitizers, with the name under which Git starts it.
 uploading=$room/bin/upload-pack-watched
 
 # configured NAME [OPTION VALUE]..: a copy of the repository, with these options of Git's configuration.
@@ -15,20 +15,20 @@ configured() {
     done
 }
 
-# packed FOLDER: the objects that it has, and how many bytes its packs have.
+# packed FOLDER: its objects, and how many bytes its packs have.
 packed() {
     git -C "$1" cat-file --batch-all-objects --batch-check
     git -C "$1" count-objects -v | sed -n 's/^size-pack: /kilobytes /p'
 }
 
-# same_objects: that both clones have the same objects, none more, in packs of one size.
+# same_objects: that both clones have the same objects and no others, in packs of the same size.
 same_objects() {
     packed theirs > wanted
     packed ours > written
     expect_same 'the objects' wanted written
 }
 
-# uploads FOLDER [OPTION..]: that Git clones the folder alike from both programs.
+# uploads FOLDER [OPTION..]: that Git gets the same clone of the folder from both programs.
 uploads() {
     clone "file://$room/$1" ours --upload-pack="$uploading" "${@:2}"
     clone_from_git "$@"
@@ -36,7 +36,7 @@ uploads() {
     same_objects
 }
 
-# uploads_to FOLDER [OPTION..]: that Git fetches the folder alike from both programs, into the clones that there are.
+# uploads_to FOLDER [OPTION..]: that Git fetches the same of the folder from both programs, into the existing clones.
 uploads_to() {
     git -C theirs -c protocol.version=2 fetch -q "${@:2}" "file://$room/$1" '+refs/heads/*:refs/remotes/origin/*'
     fetch_from "file://$room/$1" ours --upload-pack="$uploading" "${@:2}"
@@ -89,12 +89,12 @@ lists_alike() {
     expect 0 wanted /dev/null
 }
 
-# prefixes PREFIX..: a request for the references of these.
+# prefixes PREFIX..: a request for the references with these prefixes.
 prefixes() {
     request peel symrefs unborn "${@/#/ref-prefix }"
 }
 
-# many_prefixes COUNT: a request with so many prefixes and one of a folder: patterns are made of a few.
+# many_prefixes COUNT: a request with so many prefixes and that of a folder: only a few prefixes are turned into patterns.
 many_prefixes() {
     local i
     prefixes refs/heads/alone/ refs/tags/of $(for ((i = 1; i < $1; i++)); do echo "refs/tags/t$i"; done)
@@ -128,7 +128,7 @@ of_format() {
     esac
 }
 
-# A file of packed references that is in another order than it states, as Git's own tests write one: it is served all the same.
+# A file of packed references that has another order than it states, as Git's own tests write one: it is served all the same.
 case_upload_pack_lists_packed_references_in_any_order() {
     local i id
     configured history-sha1
@@ -145,7 +145,7 @@ case_upload_pack_lists_packed_references_in_any_order() {
     [ "$(grep -c "refs/tags/v-.* peeled:$(git -C served rev-parse "$id^{}")" out)" = 30 ] || differs 'a tag without what it is of' out
 }
 
-# References of each namespace are those of a repository of its own.
+# The references of each namespace are served as those of a repository of its own.
 case_upload_pack_serves_a_namespace() {
     local name
     rm -rf served
@@ -202,7 +202,7 @@ case_upload_pack_serves_a_shallow_repository() {
     uploads_to served --depth 4
 }
 
-# A client that names what no reference is called is refused: no revision is searched for.
+# A client that names something other than a reference is refused: no revision is searched for.
 case_upload_pack_excludes_references_alone() {
     local name
     write_old_history
@@ -241,7 +241,7 @@ case_upload_pack_fills_an_empty_repository() {
     git -C taking fsck --full --strict --no-dangling
 }
 
-# negotiates_alike NAME: that both servers have the same in common with the main branch of `ours`.
+# negotiates_alike NAME: that both servers have the same commits in common with the main branch of `ours`.
 negotiates_alike() {
     local ask=(git -C ours -c protocol.version=2 fetch --negotiate-only --negotiation-tip=origin/main "file://$room/$1")
     "${ask[@]}" > wanted 2> /dev/null || true
@@ -282,7 +282,7 @@ EOF
     same_objects
 }
 
-# Git's client goes by the first line of a server, whatever version it is configured for.
+# Git's client follows the first line of a server, whatever version it is configured for.
 case_upload_pack_serves_over_ssh() {
     local version
     clone_from_git history-sha1
@@ -315,7 +315,7 @@ case_upload_pack_filters() {
     expect_line 'what Git reports' 'warning: filtering not recognized by server, ignoring' err
 }
 
-# fills_in NAME OPTION..: that a partial clone with a checkout, which fetches what it needs, and then one of another branch have the same from both.
+# fills_in NAME OPTION..: that a partial clone with a checkout, which fetches what it needs, and then one of another branch get the same from both programs.
 fills_in() {
     local name=$1
     shift
@@ -340,7 +340,7 @@ case_upload_pack_serves_a_checkout_after_a_partial_clone() {
     fills_in served --filter=blob:none
 }
 
-# A filter that the owner does not allow, by what Git would take for its depth too.
+# A filter that the owner does not allow, also because of its depth as Git would read it.
 case_upload_pack_limits_filters() {
     local filter
     configured history-sha1 uploadpack.allowFilter true uploadpackfilter.tree.maxDepth 3 uploadpackfilter.blob:none.allow false
@@ -357,7 +357,7 @@ case_upload_pack_limits_filters() {
     done
 }
 
-# misses_nothing_more: that the clone without trees or blobs lacks just what that of Git lacks.
+# misses_nothing_more: that the clone without trees or blobs lacks exactly what Git's own lacks.
 misses_nothing_more() {
     git -C theirs rev-list --objects --all --missing=print | sort > wanted
     git -C ours rev-list --objects --all --missing=print | sort > written

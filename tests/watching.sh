@@ -1,8 +1,8 @@
-# Cases in which examples/watch.c runs between the real Git's client and its server: what both send goes on as it is, the transcript is
+# Cases in which examples/watch.c runs between the real Git's client and its server: what both send goes on unchanged, the transcript is
 # that of `git2show check`, and what is malformed is refused before it goes on.
 
-# write_watched: a server of Git behind the watcher, as Git is to name it: `watched FOLDER [OPTION..]`. What goes over between the
-# watcher and the server is copied to `requests` and `responses`, and between the client and the watcher to `said` and `heard`.
+# write_watched: a server of Git behind the watcher, with its address for Git: `watched FOLDER [OPTION..]`. The bytes between the watcher
+# and the server are copied to `requests` and `responses`, and those between the client and the watcher to `said` and `heard`.
 write_watched() {
     write_recorder
     cat > bin/watched << 'EOF'
@@ -27,7 +27,7 @@ told_by_the_watcher() {
     cut -d ' ' -f 3- watched.transcript
 }
 
-# stands_in_its_place: that each line of the transcript has the offset of a packet, and a reference or a request that of its own.
+# stands_in_its_place: that each line of the transcript has the offset of a packet, and the line of a reference or a request that of its own packet.
 stands_in_its_place() {
     limited git2show show < requests | cut -c 1-200 | sed 's/^/> /' > packets
     limited git2show show < responses | cut -c 1-200 | sed 's/^/< /' >> packets
@@ -41,14 +41,14 @@ stands_in_its_place() {
     expect_same 'the offsets of the transcript' /dev/null misplaced
 }
 
-# passed_on: that each end received what the other sent, and the watcher reported nothing.
+# passed_on: that each side received what the other sent, and the watcher reported nothing.
 passed_on() {
     expect_same 'what the server got' said requests
     expect_same 'what the client got' responses heard
     expect_same 'what the watcher reported' /dev/null watched.err
 }
 
-# went_on [OPTION..]: that each end received what the other sent, and the transcript is that of `check`.
+# went_on [OPTION..]: that each side received what the other sent, and the transcript is that of `check`.
 went_on() {
     passed_on
     run git2show check "$@" requests responses
@@ -56,7 +56,7 @@ went_on() {
     stands_in_its_place
 }
 
-# clones_over_the_watcher NAME [OPTION..]: that Git clones over the watcher what it clones from itself.
+# clones_over_the_watcher NAME [OPTION..]: that Git gets the same clone over the watcher as from itself.
 clones_over_the_watcher() {
     rm -rf ours
     over_watched clone -q "${@:2}" "ext::watched $1" ours
@@ -147,7 +147,7 @@ case_a_watcher_passes_on_a_session_id() {
     grep -q '^> [0-9]* capability session-id=' watched.transcript || differs 'no session-id' watched.transcript
 }
 
-# An argument by which each line of the response comes on a side band.
+# An argument that puts each line of the response on a side band.
 case_a_watcher_passes_on_lines_on_bands() {
     grow banded history-sha1
     both history-sha1 --no-tags
@@ -160,8 +160,8 @@ case_a_watcher_passes_on_lines_on_bands() {
     expect_line 'the transcript' "ack $(git -C history-sha1 rev-parse main)" <(told_by_the_watcher)
 }
 
-# An argument by which the response has a further section, which Git's server sends on bands. Nobody has the pack at its address, so the
-# client reports that.
+# An argument that adds a section to the response, which Git's server sends on bands. Nobody has the pack at its address, so the client
+# reports that.
 case_a_watcher_passes_on_addresses_of_packs() {
     local id hash
     id=$(git -C history-sha1 ls-tree -r main | awk '$2 == "blob" { print $3; exit }')
@@ -175,7 +175,7 @@ case_a_watcher_passes_on_addresses_of_packs() {
     grep -q "^< [0-9]* packfile-uri $hash https://127.0.0.1:1/pack\$" watched.transcript || differs 'no such section' watched.transcript
 }
 
-# The sizes of objects, which Git's client does not ask for. Two requests come at once, and then the input's end.
+# The sizes of objects, which Git's client does not ask for. Two requests come at once, and then the end of the input.
 case_a_watcher_passes_on_sizes() {
     local id
     id=$(git -C history-sha1 rev-parse main)
@@ -187,7 +187,7 @@ case_a_watcher_passes_on_sizes() {
     expect_line 'the transcript' "info $id $(git -C history-sha1 cat-file -s "$id")" <(told_by_the_watcher)
 }
 
-# What a server sends of an error reaches the client.
+# An error of a server reaches the client.
 case_a_watcher_passes_on_an_error_of_the_server() {
     local id
     id=$(printf 'f%.0s' {1..40})
@@ -200,7 +200,7 @@ case_a_watcher_passes_on_an_error_of_the_server() {
     grep -q -x 'watch: responses: RemoteError at [0-9]*' watched.err || differs 'another fault' watched.err
 }
 
-# This server refuses a request before it is whole, and the client sends no more before it has that.
+# This server refuses a request before it is whole, and the client sends nothing more before it has received that.
 case_a_watcher_passes_on_an_early_error() {
     mkfifo early
     {
@@ -225,13 +225,13 @@ case_a_watcher_is_taken_for_upload_pack() {
     expect_line 'the transcript' offered <(told_by_the_watcher)
 }
 
-# replayed FILE COPY: a server that sends what the file has, and copies what it receives.
+# replayed FILE COPY: a server that sends the contents of the file, and copies what it receives.
 write_replayed() {
     printf '%s\n' '#!/bin/sh' 'cat "$1"' 'exec cat > "$2"' > bin/replayed
     chmod +x bin/replayed
 }
 
-# is_judged_as_by_check WHAT: that the watcher reports of two streams what `check` reports of them, and that nothing that is refused goes on.
+# is_judged_as_by_check WHAT: that the watcher reports of two streams what `check` reports of them, and that nothing that was refused goes on.
 is_judged_as_by_check() {
     local fault stream at
     run git2show check requests.tried responses.tried
@@ -239,7 +239,7 @@ is_judged_as_by_check() {
     cp out wanted
     : > got
     run watch-watched --transcript watched.transcript replayed responses.tried got < requests.tried
-    # What may not be asked `check` reports where its response would begin, and the watcher where the request does.
+    # If a request is not allowed, `check` reports it where its response would begin, and the watcher where the request begins.
     if grep -q '^watch: responses: NotAdvertised at ' wanted_err; then
         grep -q -x 'watch: requests: NotAdvertised at [0-9]*' err || differs "what is reported after $1" err
     else
@@ -254,8 +254,8 @@ is_judged_as_by_check() {
     esac
 }
 
-# is_front WHAT SIZE MOST STREAM COPY: that what went on has this size, this one at the most, that it is the stream's front, and that it is
-# whole packets.
+# is_front WHAT SIZE MOST STREAM COPY: that the bytes that went on have this size, at most this one, that they are a prefix of the stream,
+# and that they are whole packets.
 is_front() {
     [ "$2" -le "$3" ] || differs "$2 bytes of the $4 that went on after $1"
     [ "$2" = 0 ] || cmp -s -n "$2" "$4" "$5" || differs "other bytes of the $4 after $1"
@@ -281,7 +281,7 @@ case_a_watcher_refuses_what_check_refuses() {
     [ $refused -gt 20 ] || differs "only $refused that were refused"
 }
 
-# Each end's last bytes are missing.
+# The last bytes of each side are missing.
 case_a_watcher_tells_where_a_stream_ends() {
     local stream size less
     rm -rf ours
@@ -301,8 +301,8 @@ case_a_watcher_tells_where_a_stream_ends() {
     is_judged_as_by_check 'a byte left over'
 }
 
-# refuses_the_client FAULT BYTES FRONT: that bytes of a client, as printf's format, are refused after the advertisement, and that none go on
-# but those in front of the packet at fault.
+# refuses_the_client FAULT BYTES FRONT: that bytes of a client, as printf's format, are refused after the advertisement, and that only those
+# before the refused packet go on.
 refuses_the_client() {
     rm -f requests
     run watch-watched --transcript watched.transcript record history-sha1 < <(printf "$2")
@@ -310,7 +310,7 @@ refuses_the_client() {
     expect_same "what is reported of '$2'" <(echo "watch: requests: $1") err
     expect_same "the answer to '$2'" <(cat advertised && packet "ERR $1") out
     printf "$3" > front
-    touch requests # of which the server may have got nothing
+    touch requests # the server may have received nothing of it
     is_front "'$2'" "$(wc -c < requests)" "$(wc -c < front)" front requests
 }
 
@@ -324,7 +324,7 @@ case_a_watcher_refuses_a_client() {
     refuses_the_client 'Truncated at 20' '0014command=ls-refs\n000' '0014command=ls-refs\n'
 }
 
-# A server behind the watcher that sends what the file `bad` has, as Git is to name it.
+# A server behind the watcher that sends the contents of the file `bad`, with its address for Git.
 bad_server='ext::watch-watched --transcript watched.transcript replayed bad got'
 
 case_a_watcher_refuses_a_server() {
@@ -341,7 +341,7 @@ case_a_watcher_refuses_a_server() {
     expect_same 'what Git printed' /dev/null out
 }
 
-# Within a pack the refusal reaches the client by a side band.
+# Inside a pack the refusal reaches the client on a side band.
 case_a_watcher_refuses_a_pack_that_breaks() {
     local at
     rm -rf ours

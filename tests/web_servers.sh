@@ -1,11 +1,11 @@
-# Cases in which the real Git fetches over HTTP from nginx, Apache and lighttpd, where they are installed. Each runs with the block of
-# docs/HOSTING.md for it. What Git has then is compared with what it gets from itself.
+# Cases in which the real Git fetches over HTTP from nginx, Apache and lighttpd, if they are installed. Each runs with its block of
+# docs/HOSTING.md. The result is compared with what Git gets from itself.
 
-# What the blocks name below `/usr/local/`, `/srv/`, `/run/` and `/var/log/` is below this folder.
+# The paths of the blocks below `/usr/local/`, `/srv/`, `/run/` and `/var/log/` are below this folder here.
 site=$room/site
 
-# build_site: a folder for one web server, with the program, the script and the repositories. Where root runs the tests the server has no
-# rights but to this folder, since Apache does not serve as root.
+# build_site: a folder for one web server, with the program, the script and the repositories. If root runs the tests, the server has rights
+# to this folder only, since Apache does not serve as root.
 build_site() {
     local backend=$site/share/doc/gitwire/examples/http-backend.sh name
     offer_thousands
@@ -19,7 +19,7 @@ build_site() {
     git -C "$site/git/folder/own.git" config uploadpack.allowFilter true
     : > "$site/git/folder/own.git/git-daemon-export-ok"
     cp "$top/examples/http-backend.sh" "$site/bin"
-    # lighttpd hands no PATH on.
+    # lighttpd does not pass PATH on.
     printf '%s\n' '#!/bin/sh' "export PATH='$site/bin':\$PATH" 'exec http-backend.sh' > "$backend"
     chmod +x "$backend"
     for name in history-sha1 heavy thousands objectless; do
@@ -43,7 +43,7 @@ page_block() {
     sed -E "s,/(usr/local|srv|run|var/log)/,$site/,g" page-block
 }
 
-# start_server PROGRAM [WORD..]: starts a program that runs until the case ends, and for two minutes at the most.
+# start_server PROGRAM [WORD..]: starts a program that runs until the case ends, and for at most two minutes.
 servers=()
 start_server() {
     timeout -k 5 120 "${unprivileged[@]}" "$@" > "$site/$1.out" 2>&1 &
@@ -58,7 +58,7 @@ choose_port() {
     export no_proxy=127.0.0.1
 }
 
-# wait_for_port: until a server listens on the port, for half a minute at the most.
+# wait_for_port: until a server listens on the port, for at most half a minute.
 wait_for_port() {
     local i
     for ((i = 0; i < 300; i++)); do
@@ -83,7 +83,7 @@ start_nginx() {
         page_block 'location ~ ^/git(/.*)$ {'
         printf '%s\n' '}' '}'
     } > "$site/nginx.conf"
-    # Debian starts it with this option too, by which the script's errors reach nginx.
+    # Debian starts it with this option too, so that the script's errors reach nginx.
     start_server fcgiwrap -f -s "unix:$site/fcgiwrap.socket"
     start_server nginx -e "$site/log" -c "$site/nginx.conf"
     wait_for_port
@@ -117,8 +117,8 @@ start_lighttpd() {
     wait_for_port
 }
 
-# serves_git LOG: that Git fetches from the web server as from itself, whatever the lengths, and that what cannot be served is reported
-# to it and in the server's log.
+# serves_git LOG: that Git fetches from the web server as from itself, whatever the lengths, and that an error is reported to it and in the
+# server's log.
 serves_git() {
     serves_packs
     serves_long_requests
@@ -160,7 +160,7 @@ serves_long_requests() {
 }
 
 # serves_compressed_chunks: that a compressed request of more than a mebibyte is answered that comes in chunks, once the server lets it
-# go on. Of its prefixes the last alone is that of a reference.
+# continue. Only the last of its prefixes is that of a reference.
 serves_compressed_chunks() {
     local chunk line=
     {
@@ -191,7 +191,7 @@ serves_compressed_chunks() {
     grep -a -q -F "$(git -C history-sha1 rev-parse main) refs/heads/main" out || differs 'the answer' out
 }
 
-# refuses_long STATUS PATH: that a body of 3 MB that is posted there is answered by this status.
+# refuses_long STATUS PATH: that a body of 3 MB posted there is answered with this status.
 refuses_long() {
     exec 5<> "/dev/tcp/127.0.0.1/$port"
     {
@@ -204,8 +204,8 @@ refuses_long() {
     expect_line "the answer to a long body at $2" "HTTP/1.1 $1"$'\r' out
 }
 
-# reports_refusals LOG: what is not there, what cannot be served, another version, and the end of a long request that is refused at
-# its beginning.
+# reports_refusals LOG: a name that does not exist, one that cannot be served, another version, and the end of a long request that is
+# refused at its beginning.
 reports_refusals() {
     refuses_long '404 Not Found' nowhere/git-upload-pack
     refuses_long '403 Forbidden' folder/history-sha1/git-receive-pack

@@ -131,7 +131,7 @@ def check(lane, edits):
 
 
 def judge(told):
-    """The kind of an edit of which this was printed, and what was printed first."""
+    """The kind of an edit with these lines of output, and the first line."""
     if not told:
         return "proved", "NOT REFUSED"
     first = next((line for line in told if not ("proofs/" in line and HOLLOW.search(line))), told[0])

@@ -1,6 +1,6 @@
-//! Asks for a pack and receives the answer on standard input, as a client does, and prints one line, `bytes checksum` of the
-//! pack, or reports the first fault. This is `Client` as a caller uses it, for `bench/run.sh` to measure beside
-//! `bench/client.c`. Neither number depends on how the pack is cut, which a reader of other pieces cuts otherwise.
+//! Asks for a pack and receives the answer on standard input, as a client does, and prints one line, `bytes checksum` of the pack, or
+//! reports the first error. This is `Client` as a caller uses it, for `bench/run.sh` to measure beside `bench/client.c`. Neither number
+//! depends on how the pack is cut, which differs with the length of the chunks.
 #![tactic(auto)]
 
 ghost use Rattle.std.specs.Prelude.{◌≡◌, ◌+◌, ◌≤◌, ◌%◌, ◌^◌, true, length, IfOk};
@@ -17,10 +17,10 @@ use std::process::ExitCode;
 /// How many bytes of input are read at a time.
 const PIECE_BYTES: usize = 65_536;
 
-/// The object that is wanted.
+/// The wanted object.
 const WANTED: &[u8] = b"1111111111111111111111111111111111111111";
 
-/// The bytes of the pack at each multiple of this number of bytes make its checksum: of a packet one at the most.
+/// The checksum is of the pack's bytes at each multiple of this number: at most one byte of a packet.
 const MARKED_BYTES: u64 = 65_536;
 
 /// What is reported of a pack; each number wraps at 2^64, as it does in C.
@@ -28,7 +28,7 @@ const MARKED_BYTES: u64 = 65_536;
 struct Counts {
     bytes: u64,
     checksum: u64,
-    /// The place of the next byte that the checksum takes.
+    /// The index of the next byte that the checksum takes.
     mark: u64,
 }
 
@@ -69,7 +69,7 @@ fn request(alloc: Global) -> Result<Request<Global>, Kind> {
     Ok(request)
 }
 
-/// Asks what is to be asked, and leaves after it.
+/// Asks the request, and leaves after its response.
 fn go_on(client: &mut Client<Global>, asking: &mut Option<Request<Global>>) -> Result<(), RunFault>
     requires { can_ask client.old ≡ true }
 {
@@ -84,7 +84,7 @@ fn go_on(client: &mut Client<Global>, asking: &mut Option<Request<Global>>) -> R
     }
 }
 
-/// Receives what a piece contains, up to where the client can ask, and counts it. Answers how many bytes were used.
+/// Receives what a chunk contains, up to where the client can ask, and counts it. Returns how many bytes were used.
 fn hear_piece(
     client: &mut Client<Global>,
     piece: &[u8],
@@ -106,7 +106,7 @@ fn hear_piece(
     Ok(used)
 }
 
-/// Receives what the input has next.
+/// Receives the next bytes of the input.
 fn hear_next<R: BufRead>(
     input: &mut R,
     client: &mut Client<Global>,
@@ -123,7 +123,7 @@ fn hear_next<R: BufRead>(
     Ok(())
 }
 
-/// Does what the client has to do next. Answers whether something is left to do.
+/// Does what the client has to do next. Returns whether something is left to do.
 fn take_turn<R: BufRead>(
     input: &mut R,
     client: &mut Client<Global>,
@@ -158,7 +158,7 @@ fn hear<R: BufRead>(input: &mut R, request: Request<Global>) -> Result<Counts, R
     Err(RunFault::ReadLimit)
 }
 
-/// Prints the counts, or reports the fault. Answers the status.
+/// Prints the counts, or reports the error. Returns the exit status.
 fn tell(rt: &HostRuntime, heard: Result<Counts, RunFault>) -> io::Result<ExitCode> {
     match heard {
         Ok(counts) => {

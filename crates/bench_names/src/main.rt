@@ -9,7 +9,7 @@ use std::io;
 /// How often each is done.
 const TURNS: usize = 1_000_000;
 
-/// How many names there are, which the turns go round.
+/// How many names there are; the turns use them over and over.
 const NAMES: usize = 1024;
 
 /// The next number of the sequence that the C program draws too (xorshift64).

@@ -1,9 +1,8 @@
-//! Counts the packets of standard input and the bytes of their payloads, and prints one line,
-//! `packets bytes checksum`, or reports the first fault. This is `PacketReader` as a caller uses it, for
-//! `bench/run.sh` to measure beside `bench/packets.c`. With the word `copied` after its name it copies each payload
-//! into a room of its own, as the library for C does, to be measured beside `bench/calls.c`. With the word `bands`
-//! bytes of the pack and of the progress pass uncopied, and each part of them counts as a packet does: this is
-//! measured beside `bench/uncopied.c`.
+//! Counts the packets of standard input and the bytes of their payloads, and prints one line, `packets bytes checksum`, or reports the
+//! first error. This is `PacketReader` as a caller uses it, for `bench/run.sh` to measure beside `bench/packets.c`. With the word `copied`
+//! after its name it copies each payload into a buffer of its own, as the library for C does, to be measured beside `bench/calls.c`. With
+//! the word `bands` bytes of the pack and of the progress pass uncopied, and each part of them counts as a packet does: this is measured
+//! beside `bench/uncopied.c`.
 #![tactic(auto)]
 
 ghost use Rattle.std.specs.Prelude.{◌≡◌, ◌+◌, ◌%◌, ◌^◌, false, length};
@@ -20,7 +19,7 @@ use std::process::ExitCode;
 /// How many bytes of input are read at a time.
 const PIECE_BYTES: usize = 65_536;
 
-/// How many bytes a payload has at the most.
+/// The maximum number of bytes in a payload.
 const PAYLOAD_BYTES: usize = 65_516;
 
 /// What is reported of a stream; each number wraps at 2^64, as it does in C.
@@ -28,7 +27,7 @@ const PAYLOAD_BYTES: usize = 65_516;
 struct Counts {
     packets: u64,
     bytes: u64,
-    /// Of the length and the first byte of each payload.
+    /// The checksum of the length and the first byte of each payload.
     checksum: u64,
 }
 
@@ -65,7 +64,7 @@ impl Counts {
     }
 }
 
-/// The same packet, whose payload is lent by the room if it fits there.
+/// The same packet, with its payload borrowed from the buffer if it fits there.
 fn copied<'a>(packet: Packet<'a>, room: &'a mut [u8]) -> Packet<'a>
     ensures { seen result ≡ seen packet.entry }
 {
@@ -78,7 +77,7 @@ fn copied<'a>(packet: Packet<'a>, room: &'a mut [u8]) -> Packet<'a>
     }
 }
 
-/// Counts the packets that a piece makes whole.
+/// Counts the packets that a chunk completes.
 fn count_piece(
     reader: &mut PacketReader,
     piece: &[u8],
@@ -101,7 +100,7 @@ fn count_piece(
     Ok(())
 }
 
-/// Counts the packets of the whole input, which is read into the piece. Answers the first fault, where there is one.
+/// Counts the packets of the whole input, which is read into the chunk. Returns the first error, if there is one.
 fn count_input<R: Read>(
     input: &mut R,
     piece: &mut [u8],
@@ -121,7 +120,7 @@ fn count_input<R: Read>(
     Ok(reader.close())
 }
 
-/// Counts the packets that a piece makes whole, and the parts that it has of a pack and of a progress.
+/// Counts the packets that a chunk completes, and the parts of a pack and of a progress in it.
 fn pass_piece(reader: &mut PacketReader, piece: &[u8], counts: &mut Counts) -> Result<(), Fault>
     requires { MayPass reader.old }
     ensures { MayPass reader.new }
@@ -140,7 +139,7 @@ fn pass_piece(reader: &mut PacketReader, piece: &[u8], counts: &mut Counts) -> R
     Ok(())
 }
 
-/// The same as [`count_input`], where bytes of a pack and of a progress pass.
+/// The same as [`count_input`], but bytes of a pack and of a progress pass.
 fn pass_input<R: Read>(
     input: &mut R,
     piece: &mut [u8],
@@ -159,7 +158,7 @@ fn pass_input<R: Read>(
     Ok(reader.close())
 }
 
-/// Reports a fault on standard error.
+/// Reports an error on standard error.
 fn refuse(rt: &impl Eprint, fault: Fault) -> io::Result<ExitCode> {
     eprintln!(rt; "bench_packets: {:?} at {}", fault.kind, fault.offset)?;
     Ok(ExitCode::FAILURE)

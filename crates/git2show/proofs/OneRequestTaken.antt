@@ -1,4 +1,4 @@
--- Bytes that a server takes, one piece after another, while it waits for a request.
+-- Bytes that a server takes, one chunk after another, while it waits for a request.
 use Rattle.std.proofs.Common.{◌≡◌, ℕ, Bool, true, false, List, [], ◌++◌, Option, Result, Ok, Err, take, drop, length, refl, sym, ap, subst, ◌∙◌}
 use Rattle.std.proofs.Common.{arith, append_assoc, append-nil, take-append-drop}
 use Rattle.std.specs.Prelude.{IsErrAnd}
@@ -15,17 +15,17 @@ use Rattle.git_server.specs.declared.server.Server.{Server}
 use Rattle.git2show.specs.OneRequest.{TakesOne, left_in}
 use Rattle.git2show.specs.declared.one_request.Left.{Left}
 
--- a front that has as many bytes as the whole
+-- a prefix that is as long as the whole
 all_taken : (used : ℕ) (piece : List ℕ) → used ≡ length piece → take used piece ≡ piece
 all_taken used piece all = grind (arith, common_steps)
 
--- nothing is left where a fault is returned
+-- nothing is left if an error is returned
 pub left_of_fault : {E : Type 0} (result : Result Left E) (P : E → Type 0) (piece : List ℕ) → IsErrAnd result P → left_in result piece ≡ []
 left_of_fault (Ok left) P piece h = absurd h
 left_of_fault (Err fault) P piece h = refl
 
 module _ {R A : Type 0} (state : R → RepoState) (old : Server R A) where
-  -- all that was read was used, and nothing was given
+  -- all bytes read were used, and nothing was sent
   pub record Taken (server : Server R A) (reader : Flow) : Type 0 where
     pub bytes : List ℕ
     pub read : Consumes reader.before reader.after bytes
@@ -47,7 +47,7 @@ module _ {R A : Type 0} (state : R → RepoState) (old : Server R A) where
   taken_unread server before left after taken kept =
       record { bytes = taken.bytes; read = Consumes-kept _ _ _ _ taken.read kept; stands = taken.stands; unread = taken.unread }
 
-  -- a front of a piece was used
+  -- a prefix of a chunk was used
   module _ (server new : Server R A) (piece : List ℕ) (used : ℕ) (before left after : Option (List ℕ)) (taken : Taken server (flow before left))
       (read : Consumes left after piece) (goes : Goes state (take used piece) [] server new)
       (goes_unread : GoesUnread state (take used piece) [] server new) where
@@ -81,7 +81,7 @@ module _ {R A : Type 0} (state : R → RepoState) (old : Server R A) where
           → RunsUnread state s (so_far ++ (taken.bytes ++ p)) false given new) (all_taken used piece all) (takes_front false).unread;
     }
 
-  -- all that was read was used
+  -- all bytes read were used
   pub takes_taken : (server : Server R A) (reader : Flow) (ended : Bool) → Taken server reader → TakesOne state old server ended [] reader
   takes_taken server reader ended taken = record {
     used = taken.bytes;

@@ -9,7 +9,7 @@ use Rattle.git_server.specs.Machine.ServerCalls.{RunsUnread}
 use Rattle.git_server.specs.declared.server.Server.{Server}
 use Rattle.git2show.specs.declared.one_request.Left.{Left}
 
--- what was read after the request: these bytes of the chunk
+-- the bytes read after the request: these of the chunk
 abbrev pub left_in : {E : Type 0} → Result Left E → List ℕ → List ℕ
 left_in (Ok left) piece = drop left.from (take left.to piece)
 left_in (Err fault) piece = []

@@ -47,7 +47,7 @@ fn pack_failure(error: io::Error) -> Failure {
     Failure::of_file("pack", error)
 }
 
-/// Sends the requests in their order, and writes the bytes of packs, and the transcript to where the command line says.
+/// Sends the requests in their order, writes the bytes of packs, and writes the transcript to the place that the command line names.
 fn fetch_into(
     rt: &HostRuntime,
     matches: &ArgMatches<'_>,

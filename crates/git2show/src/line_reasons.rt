@@ -154,7 +154,7 @@ fn ready_reason<'a>(before: &[u8], text: &'a [u8]) -> Reason<'a> {
     }
 }
 
-/// What comes after this word in the last line that begins with it.
+/// The text after this word in the last line that begins with it.
 fn last_with<'a>(lines: &'a [u8], word: &[u8]) -> Option<&'a [u8]> {
     lines
         .split(|byte| *byte == b'\n')

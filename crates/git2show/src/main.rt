@@ -11,11 +11,13 @@ mod one_request;
 mod pack_file;
 mod reasons;
 mod remote_lines;
+mod showing;
 
 use crate::explanations::explain;
 use crate::failures::{Cause, FailedCall, Failure, Stream, Watched};
 use crate::fetching::run_fetch;
 use crate::one_request::{Left, take_request};
+use crate::showing::{run_show, show_command};
 use clap::error::ErrorKind;
 use clap::{Arg, ArgAction, ArgMatches, Command, Error, value_parser};
 use git_client::Ending;
@@ -24,7 +26,7 @@ use git_names::Format;
 use git_pkt::{Discard, LONGEST_PACKET, Retries, RunFault, Told};
 use git_repository::{LONGEST_LINE, Packs, RepositoryReader, TextFault};
 use git_server::{LateRepo, ListRepo, Outcome, Repo, Server, serve, write_pending};
-use git2show_lib::{ProgramFault, check, play, read_script, report, show};
+use git2show_lib::{ProgramFault, check, play, read_script, report};
 use std::alloc::{AllocError, Global};
 use std::fs::File;
 use std::io::{BufWriter, IsTerminal, Read, Stdout, Write};
@@ -64,9 +66,7 @@ fn command<'a>(alloc: Global) -> Result<Command<'a>, AllocError> {
         )
         .after_help(STATUSES)
         .subcommand_required(true)
-        .subcommand(Command::new(alloc, "show").about(
-            "Prints a line for each packet on standard input: its offset, kind, length and payload",
-        ))?
+        .subcommand(show_command(alloc)?)?
         .subcommand(check_command(alloc)?)?
         .subcommand(serve_command(alloc)?)?
         .subcommand(fetch_command(alloc)?)?
@@ -77,7 +77,7 @@ fn command<'a>(alloc: Global) -> Result<Command<'a>, AllocError> {
 fn check_command<'a>(alloc: Global) -> Result<Command<'a>, AllocError> {
     Command::new(alloc, "check")
         .about(
-            "Judges a recorded conversation, and prints its transcript: what was asked, and what came",
+            "Checks a recorded conversation, and prints its transcript: the requests and the responses to them",
         )
         .arg(
             Arg::new(alloc, "REQUESTS")
@@ -92,7 +92,7 @@ fn check_command<'a>(alloc: Global) -> Result<Command<'a>, AllocError> {
         .arg(format_argument(alloc))?
         .arg(stateless_argument(
             alloc,
-            "Each response ends with a response-end packet, as Git's helper for HTTP gives it to Git",
+            "Each response ends with a response-end packet, as Git's remote helper for HTTP passes it on to Git",
         ))
 }
 
@@ -107,7 +107,9 @@ fn serve_command<'a>(alloc: Global) -> Result<Command<'a>, AllocError> {
                 .long("limit")
                 .value_name("N")
                 .value_parser(value_parser!(u32).range(..=i64::from(MOST_KEPT)))
-                .help("Refuses a request whose arguments have more than N bytes [usual: 16777216]"),
+                .help(
+                    "Refuses a request whose arguments have more than N bytes [default: 16777216]",
+                ),
         )?
         .arg(flag_argument(alloc, "stateless-rpc").help(
             "Answers one request, without an advertisement, and ends",
@@ -115,10 +117,10 @@ fn serve_command<'a>(alloc: Global) -> Result<Command<'a>, AllocError> {
         .arg(
             flag_argument(alloc, "http-backend-info-refs")
                 .visible_alias("advertise-refs")?
-                .help("Gives the advertisement alone, and reads no request"),
+                .help("Sends the advertisement alone, and reads no request"),
         )?
         .arg(Arg::new(alloc, "DIR").help(
-            "Where Git or ssh names a repository; nothing is read from it",
+            "The repository that Git or ssh names; nothing is read from it",
         ))
 }
 
@@ -126,17 +128,17 @@ fn serve_command<'a>(alloc: Global) -> Result<Command<'a>, AllocError> {
 fn fetch_command<'a>(alloc: Global) -> Result<Command<'a>, AllocError> {
     Command::new(alloc, "fetch")
         .about(
-            "Asks what a script says on standard output, hears a server on standard input, and writes the pack that comes",
+            "Sends a script's requests on standard output, reads a server's responses on standard input, and writes the packs",
         )
         .arg(script_argument(alloc))?
         .arg(file_argument(alloc, "pack").help(
-            "Where the pack goes: the bytes of all packs that come",
+            "File to write the pack to: the bytes of all packs received",
         ))?
         .arg(
             Arg::new(alloc, "transcript")
                 .long("transcript")
                 .value_name("FILE")
-                .help("Where the transcript goes [usual: standard error]"),
+                .help("File to write the transcript to [default: standard error]"),
         )?
         .arg(flag_argument(alloc, "progress").help(
             "Shows the server's progress on standard error even where that is no terminal",
@@ -144,14 +146,14 @@ fn fetch_command<'a>(alloc: Global) -> Result<Command<'a>, AllocError> {
         .arg(format_argument(alloc))?
         .arg(stateless_argument(
             alloc,
-            "Each response ends with a response-end packet, as Git's helper for HTTP gives it to Git",
+            "Each response ends with a response-end packet, as Git's remote helper for HTTP passes it on to Git",
         ))
 }
 
 /// The words that may follow `play`.
 fn play_command<'a>(alloc: Global) -> Result<Command<'a>, AllocError> {
     let command = Command::new(alloc, "play").about(
-        "Plays both ends of a conversation in memory, and prints its transcript; the pack's bytes are dropped",
+        "Runs a server and a client against each other in memory, and prints the transcript; the pack's bytes are dropped",
     );
     with_repository(alloc, command)?
         .arg(script_argument(alloc))?
@@ -160,7 +162,7 @@ fn play_command<'a>(alloc: Global) -> Result<Command<'a>, AllocError> {
                 .long("cut")
                 .value_name("N")
                 .value_parser(value_parser!(u32).range(1..=i64::from(LONGEST_CUT)))
-                .help("Gives bytes over in pieces of at most N [usual: 65536]"),
+                .help("Passes bytes in chunks of at most N [default: 65536]"),
         )?
         .arg(stateless_argument(
             alloc,
@@ -179,7 +181,7 @@ fn with_repository<'a>(alloc: Global, command: Command<'a>) -> Result<Command<'a
             Arg::new(alloc, "filtered")
                 .long("filtered")
                 .value_name("FILE")
-                .help("Pack for answers to a fetch with a filter [usual: that of --pack]"),
+                .help("Pack for answers to a fetch with a filter [default: that of --pack]"),
         )
 }
 
@@ -214,20 +216,6 @@ fn stateless_argument<'a>(alloc: Global, help: &'a str) -> Arg<'a> {
 /// An argument that is there or not.
 fn flag_argument<'a>(alloc: Global, name: &'a str) -> Arg<'a> {
     Arg::new(alloc, name).long(name).action(ArgAction::SetTrue)
-}
-
-/// Shows the packets of standard input.
-fn run_show(rt: &HostRuntime) -> Result<(), Failure> {
-    let mut input = Watched::new(Stream::Input, Retries::new(rt.stdin()));
-    let mut output = Watched::new(Stream::Output, rt.stdout());
-    let mut piece = [0; PIECE];
-    let done = show(
-        &mut Told::new(&mut input),
-        &mut Told::new(&mut output),
-        &mut piece,
-        TURNS,
-    );
-    done.map_err(|fault| Failure::of_run(fault, input.failed_call().or(output.failed_call())))
 }
 
 /// Checks the two named files, and writes the transcript to standard output.
@@ -609,7 +597,7 @@ fn run(rt: &HostRuntime, matches: &ArgMatches<'_>) -> u8 {
         return BAD_COMMAND_LINE;
     };
     let done = match name {
-        "show" => run_show(rt),
+        "show" => run_show(rt, words),
         "check" => run_check(rt, words),
         "serve" => run_serve(rt, words),
         "fetch" => run_fetch(rt, words),

@@ -6,10 +6,10 @@ use Rattle.git_pkt.specs.Machine.PacketReader.{ReadsOn, fault_of as packet_fault
 use Rattle.git_pkt.specs.declared.fault.Fault.{Fault}
 use Rattle.git_pkt.specs.declared.fault.Kind.TheVariants.{Truncated}
 use Rattle.git_pkt.proofs.KnownRest.{rest_length, some_inside, sound_rest}
-use Rattle.git_msg.specs.Asked.{Asked}
 use Rattle.git_msg.specs.Requests.{IsStop}
 use Rattle.git_msg.proofs.StreamSteps.{rest_behind}
 use Rattle.git2show_lib.specs.Others.{Advertised, judged_of}
+use Rattle.git2show_lib.specs.OtherLines.{Question}
 use Rattle.git2show_lib.specs.Machine.JudgedRequests.{AreAskedBy, HasRead, IsBegun, IsLeft, IsReady, IsRefused, advertised_by, fault_in, fault_of, is_between}
 use Rattle.git2show_lib.specs.Machine.JudgedRequests.{is_within_packet, limit_of, stage_is_between, takes_bytes, wants_input}
 use Rattle.git2show_lib.specs.declared.judged_requests.JudgedRequests.{JudgedRequests}
@@ -43,7 +43,7 @@ module _ (by : Advertised) (limit : ℕ) (left : List Given) (rest : List ℕ) (
   left_refused_as fault Stopped told h = absurd (cc)
   left_refused_as fault (Failed other) told h = subst (λ (f : Fault). IsRefused by limit left rest end f) (cc) h
 
-module _ {A : Type 0} {used : List ℕ} {asked : List (Option Asked)} {s : JudgedRequests A} (h : HasRead used asked s) where
+module _ {A : Type 0} {used : List ℕ} {asked : List Question} {s : JudgedRequests A} (h : HasRead used asked s) where
   -- what was used is whole requests, and what is left
   pub asked_so_far : AreAskedBy (advertised_by s) (limit_of s) used asked h.left h.rest
   asked_so_far = record { packets = h.packets; splits = h.reads.splits; requests = h.requests }
@@ -83,23 +83,23 @@ module _ {A : Type 0} {used : List ℕ} {asked : List (Option Asked)} {s : Judge
 module _ {A : Type 0} (old new : JudgedRequests A) (fault : Fault) (ready : IsReady old)
     (by : advertised_by new ≡ advertised_by old) (limit : limit_of new ≡ limit_of old) (is : new.stage ≡ Failed fault)
     (name : fault.kind ≡ Truncated) (reads : ReadsOn old.packets [] [] new.packets) where
-  closed_read : (used : List ℕ) (asked : List (Option Asked)) (h : HasRead used asked old) → fault.offset + length h.rest ≡ position_of old.packets
+  closed_read : (used : List ℕ) (asked : List Question) (h : HasRead used asked old) → fault.offset + length h.rest ≡ position_of old.packets
       → (stage_is_between old.stage ≡ false) ⊎ (h.rest ≢ []) → HasRead used asked new
   closed_read used asked h at inside =
       subst (λ (l : List ℕ). HasRead l asked new) (append-nil used)
-      (subst (λ (qs : List (Option Asked)). HasRead (used ++ []) qs new) (append-nil asked)
+      (subst (λ (qs : List Question). HasRead (used ++ []) qs new) (append-nil asked)
       (cut_read old new [] ready.wants by limit used asked h fault is name ready.sound at inside refl reads))
 
   -- and inside a packet
   pub closed_open : is_open old.packets ≡ true → fault.offset + open_length old.packets ≡ position_of old.packets
-      → (used : List ℕ) (asked : List (Option Asked)) → HasRead used asked old → HasRead used asked new
+      → (used : List ℕ) (asked : List Question) → HasRead used asked old → HasRead used asked new
   closed_open opened at used asked h =
       let held = (sound_rest old.packets 0 used h.packets h.rest ready.sound h.reads).0 in
       closed_read used asked h (omega (arith, at, rest_length old.packets h.rest held)) (inr (some_inside old.packets h.rest held opened))
 
   -- or between two
   pub closed_within : is_open old.packets ≡ false → is_between old ≡ false → fault.offset ≡ position_of old.packets
-      → (used : List ℕ) (asked : List (Option Asked)) → HasRead used asked old → HasRead used asked new
+      → (used : List ℕ) (asked : List Question) → HasRead used asked old → HasRead used asked new
   closed_within shut within at used asked h =
       let none = rest_behind old.packets used h.packets h.rest ready.sound shut h.reads in
       closed_read used asked h (rw none (omega (arith, at))) (inl within)

@@ -6,12 +6,12 @@ use Rattle.git_pkt.specs.Packets.{Pkt, flush, delim, resp_end, payload, text_of 
 use Rattle.git_pkt.specs.Splits.{Given, SpellsAll}
 use Rattle.git_pkt.specs.Machine.PacketReader.{Reads, ReadsOn, ShownByFeed, fault_of as packet_fault, is_open, passes_of, position_of}
 use Rattle.git_pkt.specs.declared.fault.Fault.{Fault}
-use Rattle.git_pkt.specs.declared.fault.Kind.TheVariants.{StreamTooLong, TooMuchKept, Truncated}
+use Rattle.git_pkt.specs.declared.fault.Kind.{Kind}
+use Rattle.git_pkt.specs.declared.fault.Kind.TheVariants.{OutOfMemory, StreamTooLong, TooMuchKept, Truncated}
 use Rattle.git_pkt.proofs.KnownRest.{sound_rest}
 use Rattle.git_pkt.proofs.Pieces.{joined, left_of}
 use Rattle.git_pkt.proofs.Streams.{one_split}
 use Rattle.git_msg.specs.Admission.{nothing_barred}
-use Rattle.git_msg.specs.Asked.{Asked}
 use Rattle.git_msg.specs.Machine.HeldRequest.{asked_of, kept_of}
 use Rattle.git_msg.specs.Machine.RequestReader.{Takes, limit_in}
 use Rattle.git_msg.specs.Machine.RequestStreams.{IsLeftIn}
@@ -36,10 +36,14 @@ use Rattle.git2show_lib.specs.declared.judged_requests.JudgedRead.{JudgedRead}
 use Rattle.git2show_lib.specs.declared.judged_requests.JudgedRequests.{JudgedRequests}
 use Rattle.git2show_lib.specs.declared.judged_requests.Stage.{Stage}
 use Rattle.git2show_lib.specs.declared.judged_requests.Stage.TheVariants.{Between, Within, Passing, Stopped, Failed as FailedStage}
+use Rattle.git2show_lib.specs.declared.other_lines.OtherLines.{OtherLines}
 use Rattle.git2show_lib.specs.declared.others.Place.{Place}
+use Rattle.git2show_lib.specs.OtherLines.{Noted, Question, known, other as another, asks_nothing, name_shown, named_by, nothing_noted, noted_of}
+use Rattle.git2show_lib.specs.OtherLines.{noted_with, shown_at}
+use Rattle.git2show_lib.specs.Machine.KeptLines.{IsNotKept, KeepsWithin, noted_in}
 use Rattle.git2show_lib.specs.Others.{counted_at, counted_of}
-use Rattle.git2show_lib.specs.Machine.JudgedRequests.{counted_for, kept_brought, limited_got}
-use Rattle.git2show_lib.proofs.OtherLines.{counted_snoc, judged_snoc, none_snoc, place_snoc}
+use Rattle.git2show_lib.specs.Machine.JudgedRequests.{counted_for, kept_brought, limited_got, noted_brought, noted_for, noted_passed}
+use Rattle.git2show_lib.proofs.OtherLines.{counted_snoc, judged_snoc, none_snoc, noted_snoc, place_snoc}
 
 some_left : (left : List Given) (g : Given) → left ++ g ∷ [] ≢ []
 some_left [] g e = cc
@@ -49,14 +53,14 @@ some_left (x ∷ left) g e = cc
 
 module _ (by : Advertised) (limit : ℕ) where
   -- further packets after what is left
-  questions_more : (packets more : List Given) (asked : List (Option Asked)) (left : List Given) → AreQuestions by limit packets asked left
+  questions_more : (packets more : List Given) (asked : List Question) (left : List Given) → AreQuestions by limit packets asked left
       → AreQuestions by limit (packets ++ more) asked (left ++ more)
   questions_more packets more [] left same = ap (λ (l : List Given). l ++ more) same
   questions_more packets more (q ∷ qs) left (front, back, whole, first, rest) =
       (front, back ++ more, ap (λ (l : List Given). l ++ more) whole ∙ append_assoc front back more, first, questions_more back more qs left rest)
 
   -- what is left is one more request
-  one_more_question : (packets : List Given) (asked : List (Option Asked)) (left : List Given) (q : Option Asked) → AreQuestions by limit packets asked left
+  one_more_question : (packets : List Given) (asked : List Question) (left : List Given) (q : Question) → AreQuestions by limit packets asked left
       → IsQuestion by limit left q → AreQuestions by limit packets (asked ++ q ∷ []) []
   one_more_question packets [] left q same is = (left, [], same ∙ sym (append-nil left), is, refl)
   one_more_question packets (p ∷ ps) left q (front, back, whole, first, rest) is =
@@ -174,11 +178,23 @@ counted_other Passing text left other = absurd (other refl)
 counted_other Stopped text left other = refl
 counted_other (FailedStage fault) text left other = refl
 
+noted_other : (stage : Stage) (text : List ℕ) (left : List Given) → (stage ≡ Passing → ⊥) → noted_for stage text left ≡ noted_of text left
+noted_other Between text left other = refl
+noted_other Within text left other = refl
+noted_other Passing text left other = absurd (other refl)
+noted_other Stopped text left other = refl
+noted_other (FailedStage fault) text left other = refl
+
+-- a request that passes is named by its first packet
+named_snoc : (text : List ℕ) (left : List Given) (g : Given) → BeginWithOther text left → named_by (left ++ g ∷ []) ≡ named_by left
+named_snoc text [] g h = absurd h
+named_snoc text (x ∷ left) g h = refl
+
 -- ---- how what was read goes on
 
 module _ {A : Type 0} (old new : JudgedRequests A) (u : List ℕ) (wants : wants_input old ≡ true)
     (by : advertised_by new ≡ advertised_by old) (limit : limit_of new ≡ limit_of old)
-    (used : List ℕ) (asked : List (Option Asked)) (h : HasRead used asked old) where
+    (used : List ℕ) (asked : List Question) (h : HasRead used asked old) where
   -- the requests so far are requests by what the new reader has of the advertisement
   earlier_requests : AreQuestions (advertised_by new) (limit_of new) h.packets asked h.left
   earlier_requests =
@@ -205,14 +221,19 @@ module _ {A : Type 0} (old new : JudgedRequests A) (u : List ℕ) (wants : wants
   kept_before : old.kept ≡ counted_for old.stage (text_of new) h.left
   kept_before = subst (λ (b : Advertised). old.kept ≡ counted_for old.stage b.text h.left) (sym by) (h.kept_is wants)
 
+  -- it has noted this
+  noted_before : noted_in old.others ≡ noted_for old.stage (text_of new) h.left
+  noted_before = subst (λ (b : Advertised). noted_in old.others ≡ noted_for old.stage b.text h.left) (sym by) (h.noted_is wants)
+
   -- all that was read, in the stage that was reached
-  has_read : (packets left : List Given) (rest : List ℕ) (now : List (Option Asked)) (stage : Stage) → new.stage ≡ stage
+  has_read : (packets left : List Given) (rest : List ℕ) (now : List Question) (stage : Stage) → new.stage ≡ stage
       → Reads new.packets 0 (used ++ u) packets rest → AreQuestions (advertised_by new) (limit_of new) packets now left
       → IsLeft stage (advertised_by new) (limit_of new) left rest (length (used ++ u))
       → (takes_bytes stage ≡ true → new.place ≡ place_for stage left)
       → (takes_bytes stage ≡ true → new.kept ≡ counted_for stage (text_of new) left)
+      → (takes_bytes stage ≡ true → noted_in new.others ≡ noted_for stage (text_of new) left)
       → (takes_bytes stage ≡ true → Takes (taken_in stage (text_of new) left) new.requests) → HasRead (used ++ u) now new
-  has_read packets left rest now stage is stream requests left_is place kept takes = record {
+  has_read packets left rest now stage is stream requests left_is place kept noted takes = record {
     packets = packets;
     left = left;
     rest = rest;
@@ -221,29 +242,33 @@ module _ {A : Type 0} (old new : JudgedRequests A) (u : List ℕ) (wants : wants
     left_is = subst (λ (s : Stage). IsLeft s (advertised_by new) (limit_of new) left rest (length (used ++ u))) (sym is) left_is;
     place_is = λ on. place (sym (ap takes_bytes is) ∙ on) ∙ ap (λ (s : Stage). place_for s left) (sym is);
     kept_is = λ on. kept (sym (ap takes_bytes is) ∙ on) ∙ ap (λ (s : Stage). counted_for s (text_of new) left) (sym is);
+    noted_is = λ on. noted (sym (ap takes_bytes is) ∙ on) ∙ ap (λ (s : Stage). noted_for s (text_of new) left) (sym is);
     onward = λ on.
         subst (λ (s : Stage). Takes (taken_in s (text_of new) left) new.requests) (sym is) (takes (sym (ap takes_bytes is) ∙ on));
   }
 
-  none_more : (now : List (Option Asked)) → HasRead (used ++ u) now new → HasRead (used ++ u) (now ++ []) new
-  none_more now read = subst (λ (qs : List (Option Asked)). HasRead (used ++ u) qs new) (sym (append-nil now)) read
+  none_more : (now : List Question) → HasRead (used ++ u) now new → HasRead (used ++ u) (now ++ []) new
+  none_more now read = subst (λ (qs : List Question). HasRead (used ++ u) qs new) (sym (append-nil now)) read
 
   -- with no packet more
   bytes_read : (rest : List ℕ) (stage : Stage) → new.stage ≡ stage → Reads new.packets 0 (used ++ u) (h.packets ++ []) rest
       → IsLeft stage (advertised_by new) (limit_of new) h.left rest (length (used ++ u))
       → (takes_bytes stage ≡ true → new.place ≡ place_for stage h.left)
       → (takes_bytes stage ≡ true → new.kept ≡ counted_for stage (text_of new) h.left)
+      → (takes_bytes stage ≡ true → noted_in new.others ≡ noted_for stage (text_of new) h.left)
       → (takes_bytes stage ≡ true → Takes (taken_in stage (text_of new) h.left) new.requests) → HasRead (used ++ u) (asked ++ []) new
-  bytes_read rest stage is stream left_is place kept takes =
+  bytes_read rest stage is stream left_is place kept noted takes =
       none_more asked (has_read h.packets h.left rest asked stage is
-      (subst (λ (gs : List Given). Reads new.packets 0 (used ++ u) gs rest) (append-nil h.packets) stream) earlier_requests left_is place kept takes)
+      (subst (λ (gs : List Given). Reads new.packets 0 (used ++ u) gs rest) (append-nil h.packets) stream) earlier_requests left_is place kept noted
+      takes)
 
   -- the bytes end no packet
-  pub open_read : new.requests ≡ old.requests → new.stage ≡ old.stage → new.place ≡ old.place → new.kept ≡ old.kept → ReadsOn old.packets u [] new.packets
-      → HasRead (used ++ u) (asked ++ []) new
-  open_read same is place kept reads =
+  pub open_read : new.requests ≡ old.requests → new.stage ≡ old.stage → new.place ≡ old.place → new.kept ≡ old.kept
+      → noted_in new.others ≡ noted_in old.others → ReadsOn old.packets u [] new.packets → HasRead (used ++ u) (asked ++ []) new
+  open_read same is place kept noted reads =
       let (rest, stream) = reads 0 used h.packets h.rest h.reads in
-      bytes_read rest old.stage is stream (left_still rest) (λ on. place ∙ h.place_is wants) (λ on. kept ∙ kept_before) (λ on. taken_still same)
+      bytes_read rest old.stage is stream (left_still rest) (λ on. place ∙ h.place_is wants) (λ on. kept ∙ kept_before) (λ on. noted ∙ noted_before)
+      (λ on. taken_still same)
 
   -- they are refused
   pub refused_read : (fault : Fault) → new.stage ≡ FailedStage fault → packet_fault new.packets ≡ Some fault → fault.kind ≢ Truncated
@@ -254,7 +279,7 @@ module _ {A : Type 0} (old new : JudgedRequests A) (u : List ℕ) (wants : wants
       record { stops = stopped_by new.packets (used ++ u) (h.packets ++ []) rest fault told stream; not_the_end = other } in
       bytes_read rest (FailedStage fault) is stream
       (left_refused (advertised_by new) (limit_of new) h.left rest h.rest (length (used ++ u)) (length used) fault old.stage wants left_before no_packet)
-      (λ on. absurd (cc)) (λ on. absurd (cc)) (λ on. absurd (cc))
+      (λ on. absurd (cc)) (λ on. absurd (cc)) (λ on. absurd (cc)) (λ on. absurd (cc))
 
   -- there are none, and the input ends
   pub cut_read : (fault : Fault) → new.stage ≡ FailedStage fault → fault.kind ≡ Truncated → packet_fault old.packets ≡ None
@@ -275,7 +300,11 @@ module _ {A : Type 0} (old new : JudgedRequests A) (u : List ℕ) (wants : wants
       bytes_read h.rest (FailedStage fault) is
       (subst (λ (l : List ℕ). Reads new.packets 0 (used ++ u) (h.packets ++ []) l) same.rest_is stream)
       (left_cut (advertised_by new) (limit_of new) h.left h.rest h.rest (length (used ++ u)) (length used) fault old.stage wants left_before cut inside)
-      (λ on. absurd (cc)) (λ on. absurd (cc)) (λ on. absurd (cc))
+      (λ on. absurd (cc)) (λ on. absurd (cc)) (λ on. absurd (cc)) (λ on. absurd (cc))
+
+  -- of a request that passes it has noted the line
+  noted_named : old.stage ≡ Passing → noted_in old.others ≡ record { lines = named_by h.left; asks = asks_nothing }
+  noted_named was = noted_before ∙ ap (λ (s : Stage). noted_for s (text_of new) h.left) was
 
   module _ (g : Given) (reads : ReadsOn old.packets u (g ∷ []) new.packets) where
     requests_with : AreQuestions (advertised_by new) (limit_of new) (h.packets ++ g ∷ []) asked (h.left ++ g ∷ [])
@@ -283,8 +312,10 @@ module _ {A : Type 0} (old new : JudgedRequests A) (u : List ℕ) (wants : wants
 
     -- they end the first packet of a request that passes
     pub begun_read : old.stage ≡ Between → names_other (text_of new) g.packet ≡ true → new.stage ≡ Passing → new.place ≡ old.place
-        → new.kept ≡ old.kept → new.requests ≡ old.requests → HasRead (used ++ u) (asked ++ []) new
-    begun_read was names is place kept same =
+        → new.kept ≡ old.kept
+        → noted_in new.others ≡ record { lines = (noted_in old.others).lines ++ name_shown g.packet; asks = (noted_in old.others).asks }
+        → new.requests ≡ old.requests → HasRead (used ++ u) (asked ++ []) new
+    begun_read was names is place kept noted same =
         let (rest, stream) = reads 0 used h.packets h.rest h.reads in
         let nothing : h.left ≡ [] =
         subst (λ (s : Stage). IsLeft s (advertised_by new) (limit_of new) h.left h.rest (length used)) was left_before in
@@ -295,6 +326,10 @@ module _ {A : Type 0} (old new : JudgedRequests A) (u : List ℕ) (wants : wants
         (λ on.
         kept ∙ kept_before ∙ ap (λ (s : Stage). counted_for s (text_of new) h.left) was
         ∙ ap (λ (gs : List Given). counted_of (text_of new) gs) nothing)
+        (λ on.
+        noted ∙ ap (λ (n : Noted). record { lines = n.lines ++ name_shown g.packet; asks = n.asks })
+        (noted_before ∙ ap (λ (s : Stage). noted_for s (text_of new) h.left) was ∙ ap (λ (gs : List Given). noted_of (text_of new) gs) nothing)
+        ∙ ap (λ (gs : List Given). record { lines = named_by (gs ++ g ∷ []); asks = asks_nothing }) (sym nothing))
         (λ on.
         subst (λ (gs : List Given). Takes gs new.requests)
         (ap (λ (s : Stage). taken_in s (text_of new) h.left) was ∙ ap (λ (gs : List Given). judged_of (text_of new) gs) nothing)
@@ -308,8 +343,8 @@ module _ {A : Type 0} (old new : JudgedRequests A) (u : List ℕ) (wants : wants
 
     -- or a further one of it
     going_read : old.stage ≡ Passing → g.packet ≢ flush → new.stage ≡ Passing → new.place ≡ old.place → new.kept ≡ old.kept
-        → new.requests ≡ old.requests → HasRead (used ++ u) (asked ++ []) new
-    going_read was other is place kept same =
+        → noted_in new.others ≡ noted_in old.others → new.requests ≡ old.requests → HasRead (used ++ u) (asked ++ []) new
+    going_read was other is place kept noted same =
         let (rest, stream) = reads 0 used h.packets h.rest h.reads in
         let begun : IsOtherBegun (text_of new) h.left =
         subst (λ (s : Stage). IsLeft s (advertised_by new) (limit_of new) h.left h.rest (length used)) was left_before in
@@ -317,37 +352,46 @@ module _ {A : Type 0} (old new : JudgedRequests A) (u : List ℕ) (wants : wants
         (record { begins = begins_on (text_of new) h.left g begun.begins; goes_on = none_snoc flush h.left g begun.goes_on other })
         (λ on. place ∙ h.place_is wants ∙ ap (λ (s : Stage). place_for s h.left) was)
         (λ on. kept ∙ kept_before ∙ ap (λ (s : Stage). counted_for s (text_of new) h.left) was)
+        (λ on.
+        noted ∙ noted_named was
+        ∙ ap (λ (lines : List ℕ). record { lines = lines; asks = asks_nothing }) (sym (named_snoc (text_of new) h.left g begun.begins)))
         (λ on. subst (λ (s : Stage). Takes (taken_in s (text_of new) h.left) new.requests) was (taken_still same)))
 
     -- or its flush
     ended_read : old.stage ≡ Passing → g.packet ≡ flush → new.stage ≡ Between → new.place ≡ old.place → new.kept ≡ old.kept
-        → new.requests ≡ old.requests → HasRead (used ++ u) (asked ++ None ∷ []) new
-    ended_read was end is place kept same =
+        → noted_in new.others ≡ nothing_noted → new.requests ≡ old.requests
+        → HasRead (used ++ u) (asked ++ another (noted_in old.others).lines ∷ []) new
+    ended_read was end is place kept noted same =
         let (rest, stream) = reads 0 used h.packets h.rest h.reads in
         let begun : IsOtherBegun (text_of new) h.left =
         subst (λ (s : Stage). IsLeft s (advertised_by new) (limit_of new) h.left h.rest (length used)) was left_before in
-        has_read (h.packets ++ g ∷ []) [] rest (asked ++ None ∷ []) Between is stream
-        (one_more_question (advertised_by new) (limit_of new) (h.packets ++ g ∷ []) asked (h.left ++ g ∷ []) None requests_with (record {
-          begins = begins_on (text_of new) h.left g begun.begins;
-          ends = record { front = h.left; last = g; parts = refl; none_before = begun.goes_on; is_last = end };
-        }))
+        let lines = (noted_in old.others).lines in
+        has_read (h.packets ++ g ∷ []) [] rest (asked ++ another lines ∷ []) Between is stream
+        (one_more_question (advertised_by new) (limit_of new) (h.packets ++ g ∷ []) asked (h.left ++ g ∷ []) (another lines) requests_with (
+          record {
+            begins = begins_on (text_of new) h.left g begun.begins;
+            ends = record { front = h.left; last = g; parts = refl; none_before = begun.goes_on; is_last = end };
+          },
+          ap (λ (n : Noted). n.lines) (noted_named was) ∙ sym (named_snoc (text_of new) h.left g begun.begins),
+        ))
         refl
         (λ on. place ∙ h.place_is wants ∙ ap (λ (s : Stage). place_for s h.left) was)
         (λ on. kept ∙ kept_before ∙ ap (λ (s : Stage). counted_for s (text_of new) h.left) was)
+        (λ on. noted)
         (λ on. subst (λ (s : Stage). Takes (taken_in s (text_of new) h.left) new.requests) was (taken_still same))
 
   -- they end a packet of a request that passes
   pub passing_read : (p : Pkt) (offset : ℕ) → ReadsOn old.packets u (record { packet = p; offset = offset } ∷ []) new.packets → old.stage ≡ Passing
-      → new.stage ≡ stage_passed p → new.place ≡ old.place → new.kept ≡ old.kept → new.requests ≡ old.requests
-      → HasRead (used ++ u) (asked ++ asked_by (got_passed {A = A} p)) new
-  passing_read flush offset reads was is place kept same =
-      ended_read (record { packet = flush; offset = offset }) reads was refl is place kept same
-  passing_read delim offset reads was is place kept same =
-      going_read (record { packet = delim; offset = offset }) reads was (λ e. cc) is place kept same
-  passing_read resp_end offset reads was is place kept same =
-      going_read (record { packet = resp_end; offset = offset }) reads was (λ e. cc) is place kept same
-  passing_read (payload bytes) offset reads was is place kept same =
-      going_read (record { packet = payload bytes; offset = offset }) reads was (λ e. cc) is place kept same
+      → new.stage ≡ stage_passed p → new.place ≡ old.place → new.kept ≡ old.kept → noted_in new.others ≡ noted_passed p (noted_in old.others)
+      → new.requests ≡ old.requests → HasRead (used ++ u) (asked ++ asked_by (got_passed {A = A} p old.others)) new
+  passing_read flush offset reads was is place kept noted same =
+      ended_read (record { packet = flush; offset = offset }) reads was refl is place kept noted same
+  passing_read delim offset reads was is place kept noted same =
+      going_read (record { packet = delim; offset = offset }) reads was (λ e. cc) is place kept noted same
+  passing_read resp_end offset reads was is place kept noted same =
+      going_read (record { packet = resp_end; offset = offset }) reads was (λ e. cc) is place kept noted same
+  passing_read (payload bytes) offset reads was is place kept noted same =
+      going_read (record { packet = payload bytes; offset = offset }) reads was (λ e. cc) is place kept noted same
 
   -- ---- a packet of any other request
 
@@ -385,27 +429,43 @@ module _ {A : Type 0} (old new : JudgedRequests A) (u : List ℕ) (wants : wants
         ∙ ap (λ (n : ℕ). n + counted_at (text_of new) (place_after first_place h.left) g.packet) (sym kept_now)
         ∙ ap (λ (p : Place). old.kept + counted_at (text_of new) p g.packet) (sym (h.place_is wants ∙ place_other old.stage h.left other))
 
-    -- with it more is kept than the limit
-    pub over_read : old.kept ≤ limit_of new → limit_of new < counts → new.stage ≡ FailedStage (record { kind = TooMuchKept; offset = g.offset })
+    noted_now : noted_in old.others ≡ noted_of (text_of new) h.left
+    noted_now = noted_before ∙ noted_other old.stage (text_of new) h.left other
+
+    -- what is noted with it
+    abbrev pub notes : Noted
+    notes = noted_with (text_of new) old.place (noted_in old.others) g.packet
+
+    noted_also : notes ≡ noted_of (text_of new) (h.left ++ g ∷ [])
+    noted_also =
+        ap (λ (n : Noted). noted_with (text_of new) old.place n g.packet) noted_now
+        ∙ ap (λ (p : Place). noted_with (text_of new) p (noted_of (text_of new) h.left) g.packet) (h.place_is wants ∙ place_other old.stage h.left other)
+        ∙ sym (noted_snoc (text_of new) first_place nothing_noted h.left g)
+
+    -- its line is not kept
+    pub unkept_read : (kind : Kind) → old.kept ≤ limit_of new → IsNotKept kind counts (limit_of new) (shown_at (text_of new) old.place g.packet)
+        → new.stage ≡ FailedStage (record { kind = kind; offset = g.offset })
         → packet_fault new.packets ≡ None → is_open new.packets ≡ false → HasRead (used ++ u) (asked ++ []) new
-    over_read within over is sound shut =
+    unkept_read kind within why is sound shut =
         let (rest, stream) = reads 0 used h.packets h.rest h.reads in
-        none_more asked (has_read (h.packets ++ g ∷ []) (h.left ++ g ∷ []) rest asked (FailedStage (record { kind = TooMuchKept; offset = g.offset }))
-        is stream (requests_with g reads) (inr (inr (record {
+        none_more asked (has_read (h.packets ++ g ∷ []) (h.left ++ g ∷ []) rest asked (FailedStage (record { kind = kind; offset = g.offset }))
+        is stream (requests_with g reads) (inr (inr (inl (record {
           front = h.left;
           last = g;
           parts = refl;
           begun = begun_now;
           kept = subst (λ (n : ℕ). n ≤ limit_of new) kept_now within;
-          over = subst (λ (n : ℕ). limit_of new < n) (sym counted_now) over;
+          why = subst (λ (n : ℕ). IsNotKept kind n (limit_of new) (shown_at (text_of new) (place_after first_place h.left) g.packet)) (sym counted_now)
+              (subst (λ (p : Place). IsNotKept kind counts (limit_of new) (shown_at (text_of new) p g.packet))
+              (h.place_is wants ∙ place_other old.stage h.left other) why);
           no_rest = rest_behind new.packets (used ++ u) (h.packets ++ g ∷ []) rest sound shut stream;
-          fault_is = refl;
-        }))) (λ on. absurd (cc)) (λ on. absurd (cc)) (λ on. absurd (cc)))
+          at = refl;
+        })))) (λ on. absurd (cc)) (λ on. absurd (cc)) (λ on. absurd (cc)) (λ on. absurd (cc)))
 
     -- it is passed over
     pub passed_read : judged_packet (text_of new) old.place g.packet ≡ None → new.place ≡ place_next old.place g.packet → new.kept ≡ counts
-        → new.requests ≡ old.requests → new.stage ≡ old.stage → HasRead (used ++ u) (asked ++ []) new
-    passed_read none place kept same is =
+        → noted_in new.others ≡ notes → new.requests ≡ old.requests → new.stage ≡ old.stage → HasRead (used ++ u) (asked ++ []) new
+    passed_read none place kept noted same is =
         let (rest, stream) = reads 0 used h.packets h.rest h.reads in
         let judged = judged_with None none ∙ append-nil (judged_of (text_of new) h.left) in
         let here = ap (λ (p : Place). judged_packet (text_of new) p g.packet) (sym (h.place_is wants ∙ place_other old.stage h.left other)) ∙ none in
@@ -413,6 +473,7 @@ module _ {A : Type 0} (old new : JudgedRequests A) (u : List ℕ) (wants : wants
         (left_passed (advertised_by new) (limit_of new) h.left g h.rest rest (length used) (length (used ++ u)) old.stage wants other left_before here judged)
         (λ on. placed place ∙ sym (place_other old.stage (h.left ++ g ∷ []) other))
         (λ on. kept ∙ sym counted_now ∙ sym (counted_other old.stage (text_of new) (h.left ++ g ∷ []) other))
+        (λ on. noted ∙ noted_also ∙ sym (noted_other old.stage (text_of new) (h.left ++ g ∷ []) other))
         (λ on.
         subst (λ (gs : List Given). Takes gs new.requests)
         (taken_other old.stage (text_of new) h.left other ∙ sym judged ∙ sym (taken_other old.stage (text_of new) (h.left ++ g ∷ []) other))
@@ -437,7 +498,7 @@ module _ {A : Type 0} (old new : JudgedRequests A) (u : List ℕ) (wants : wants
           → IsBrought nothing_barred all_judged Stop new.requests → new.stage ≡ Stopped → HasRead (used ++ u) (asked ++ []) new
       stopped rest stream none brings is =
           none_more asked (has_read (h.packets ++ g ∷ []) (h.left ++ g ∷ []) rest asked Stopped is stream (requests_with g reads) (brings.1, none)
-          (λ on. absurd (cc)) (λ on. absurd (cc)) (λ on. absurd (cc)))
+          (λ on. absurd (cc)) (λ on. absurd (cc)) (λ on. absurd (cc)) (λ on. absurd (cc)))
 
       refused : (rest : List ℕ) → Reads new.packets 0 (used ++ u) (h.packets ++ g ∷ []) rest → rest ≡ [] → (fault : Fault)
           → IsBrought nothing_barred all_judged (Failed fault) new.requests → new.stage ≡ FailedStage fault → HasRead (used ++ u) (asked ++ []) new
@@ -451,50 +512,85 @@ module _ {A : Type 0} (old new : JudgedRequests A) (u : List ℕ) (wants : wants
             begun = begun_now;
             told = told;
             no_rest = none;
-          }))) (λ on. absurd (cc)) (λ on. absurd (cc)) (λ on. absurd (cc)))
+          }))) (λ on. absurd (cc)) (λ on. absurd (cc)) (λ on. absurd (cc)) (λ on. absurd (cc)))
 
       brought_read : (rest : List ℕ) → Reads new.packets 0 (used ++ u) (h.packets ++ g ∷ []) rest → rest ≡ [] → (got : ReadGot A)
-          → IsBrought nothing_barred all_judged got new.requests → (counts ≤ limit_of new) → (kept : ℕ) → kept ≡ counts → new.stage ≡ stage_brought got
-          → new.place ≡ place_brought got (place_next old.place g.packet) → new.kept ≡ kept_brought got kept
-          → HasRead (used ++ u) (asked ++ asked_by (got_as got)) new
-      brought_read rest stream none More brings within kept same is place counted =
+          → IsBrought nothing_barred all_judged got new.requests → (others : OtherLines A) → counts ≤ limit_of new → noted_in others ≡ notes → (kept : ℕ)
+          → kept ≡ counts → new.stage ≡ stage_brought got → new.place ≡ place_brought got (place_next old.place g.packet)
+          → new.kept ≡ kept_brought got kept → noted_in new.others ≡ noted_brought got (noted_in others)
+          → HasRead (used ++ u) (asked ++ asked_by (got_as got others)) new
+      brought_read rest stream none More brings others within notes kept same is place counted noted =
           none_more asked (has_read (h.packets ++ g ∷ []) (h.left ++ g ∷ []) rest asked Within is stream (requests_with g reads)
           (λ e. some_left (judged_of (text_of new) h.left) read_as (sym parts ∙ e), brings.1) (λ on. placed place)
-          (λ on. counted ∙ same ∙ sym counted_now) (λ on. brings.0))
-      brought_read rest stream none (Request request) brings within kept same is place counted =
-          has_read (h.packets ++ g ∷ []) [] rest (asked ++ Some (asked_of request) ∷ []) Between is stream
-          (one_more_question (advertised_by new) (limit_of new) (h.packets ++ g ∷ []) asked (h.left ++ g ∷ []) (Some (asked_of request))
-          (requests_with g reads) ((kept_of request, brings.1), subst (λ (n : ℕ). n ≤ limit_of new) (sym counted_now) within)) refl (λ on. place)
-          (λ on. counted) (λ on. brings.0)
-      brought_read rest stream none Stop brings within kept same is place counted = stopped rest stream none brings is
-      brought_read rest stream none (Failed fault) brings within kept same is place counted = refused rest stream none fault brings is
+          (λ on. counted ∙ same ∙ sym counted_now) (λ on. noted ∙ notes ∙ noted_also) (λ on. brings.0))
+      brought_read rest stream none (Request request) brings others within notes kept same is place counted noted =
+          let question = known (asked_of request) (noted_in others) in
+          has_read (h.packets ++ g ∷ []) [] rest (asked ++ question ∷ []) Between is stream
+          (one_more_question (advertised_by new) (limit_of new) (h.packets ++ g ∷ []) asked (h.left ++ g ∷ []) question (requests_with g reads)
+          ((kept_of request, brings.1), subst (λ (n : ℕ). n ≤ limit_of new) (sym counted_now) within, notes ∙ noted_also)) refl (λ on. place)
+          (λ on. counted) (λ on. noted) (λ on. brings.0)
+      brought_read rest stream none Stop brings others within notes kept same is place counted noted = stopped rest stream none brings is
+      brought_read rest stream none (Failed fault) brings others within notes kept same is place counted noted =
+          refused rest stream none fault brings is
 
-      pub packet_read : (got : ReadGot A) (over : Bool) → Brings nothing_barred old.requests read_as got new.requests → old.kept ≤ limit_of new
-          → (over ≡ true → limit_of new < counts) → (over ≡ false → counts ≤ limit_of new) → (kept : ℕ) → (over ≡ false → kept ≡ counts)
-          → new.stage ≡ stage_brought (limited_got over g.offset got)
-          → new.place ≡ place_brought (limited_got over g.offset got) (place_next old.place g.packet)
-          → new.kept ≡ kept_brought (limited_got over g.offset got) kept → packet_fault new.packets ≡ None → is_open new.packets ≡ false
-          → HasRead (used ++ u) (asked ++ asked_by (got_as (limited_got over g.offset got))) new
-      packet_read got false brings before more within kept same is place counted sound shut =
+      pub packet_read : (got : ReadGot A) (refused : Option Kind) → Brings nothing_barred old.requests read_as got new.requests → old.kept ≤ limit_of new
+          → (others : OtherLines A)
+          → KeepsWithin refused (text_of new) old.place g.packet counts (limit_of new) (noted_in old.others) (noted_in others) → (kept : ℕ)
+          → (refused ≡ None → kept ≡ counts) → new.stage ≡ stage_brought (limited_got refused g.offset got)
+          → new.place ≡ place_brought (limited_got refused g.offset got) (place_next old.place g.packet)
+          → new.kept ≡ kept_brought (limited_got refused g.offset got) kept
+          → noted_in new.others ≡ noted_brought (limited_got refused g.offset got) (noted_in others) → packet_fault new.packets ≡ None
+          → is_open new.packets ≡ false → HasRead (used ++ u) (asked ++ asked_by (got_as (limited_got refused g.offset got) others)) new
+      packet_read got None brings before others keeps kept same is place counted noted sound shut =
           let (rest, stream) = reads 0 used h.packets h.rest h.reads in
           brought_read rest stream (rest_behind new.packets (used ++ u) (h.packets ++ g ∷ []) rest sound shut stream) got (brought got brings)
-          (within refl) kept (same refl) is place counted
-      packet_read More true brings before more within kept same is place counted sound shut = over_read before (more refl) is sound shut
-      packet_read (Request request) true brings before more within kept same is place counted sound shut = over_read before (more refl) is sound shut
-      packet_read Stop true brings before more within kept same is place counted sound shut =
+          others keeps.0 keeps.1 kept (same refl) is place counted noted
+      packet_read More (Some kind) brings before others keeps kept same is place counted noted sound shut = unkept_read kind before keeps is sound shut
+      packet_read (Request request) (Some kind) brings before others keeps kept same is place counted noted sound shut =
+          unkept_read kind before keeps is sound shut
+      packet_read Stop (Some kind) brings before others keeps kept same is place counted noted sound shut =
           let (rest, stream) = reads 0 used h.packets h.rest h.reads in
           stopped rest stream (rest_behind new.packets (used ++ u) (h.packets ++ g ∷ []) rest sound shut stream) (brought Stop brings) is
-      packet_read (Failed fault) true brings before more within kept same is place counted sound shut =
+      packet_read (Failed fault) (Some kind) brings before others keeps kept same is place counted noted sound shut =
           let (rest, stream) = reads 0 used h.packets h.rest h.reads in
           refused rest stream (rest_behind new.packets (used ++ u) (h.packets ++ g ∷ []) rest sound shut stream) fault (brought (Failed fault) brings) is
 
+  -- there is no memory for the line of a request that passes
+  module _ (g : Given) (reads : ReadsOn old.packets u (g ∷ []) new.packets) where
+    pub unnamed_read : old.stage ≡ Between → names_other (text_of new) g.packet ≡ true
+        → new.stage ≡ FailedStage (record { kind = OutOfMemory; offset = g.offset }) → packet_fault new.packets ≡ None → is_open new.packets ≡ false
+        → HasRead (used ++ u) (asked ++ []) new
+    unnamed_read was names is sound shut =
+        let (rest, stream) = reads 0 used h.packets h.rest h.reads in
+        let nothing : h.left ≡ [] =
+        subst (λ (s : Stage). IsLeft s (advertised_by new) (limit_of new) h.left h.rest (length used)) was left_before in
+        none_more asked (has_read (h.packets ++ g ∷ []) (h.left ++ g ∷ []) rest asked (FailedStage (record { kind = OutOfMemory; offset = g.offset }))
+        is stream (requests_with g reads) (inr (inr (inr (record {
+          first = g;
+          alone = ap (λ (gs : List Given). gs ++ g ∷ []) nothing;
+          names = names;
+          no_rest = rest_behind new.packets (used ++ u) (h.packets ++ g ∷ []) rest sound shut stream;
+          fault_is = refl;
+        })))) (λ on. absurd (cc)) (λ on. absurd (cc)) (λ on. absurd (cc)) (λ on. absurd (cc)))
+
 -- ---- a sum that stops at the largest number, and the limit
 
-pub sum_within : (counts kept limit : ℕ) → kept ≡ min counts 18446744073709551615 → kept ≤ limit → limit ≤ 4294967295 → kept ≡ counts
+sum_within : (counts kept limit : ℕ) → kept ≡ min counts 18446744073709551615 → kept ≤ limit → limit ≤ 4294967295 → kept ≡ counts
 sum_within counts kept limit is within fits = grind arith
 
-pub sum_over : (counts kept limit : ℕ) → kept ≡ min counts 18446744073709551615 → limit < kept → limit < counts
+sum_over : (counts kept limit : ℕ) → kept ≡ min counts 18446744073709551615 → limit < kept → limit < counts
 sum_over counts kept limit is over = grind arith
+
+-- the same for what is kept within it
+pub keeps_all : (refused : Option Kind) (text : List ℕ) (place : Place) (packet : Pkt) (counts kept limit : ℕ) (old new : Noted)
+    → kept ≡ min counts 18446744073709551615 → limit ≤ 4294967295 → KeepsWithin refused text place packet kept limit old new
+    → KeepsWithin refused text place packet counts limit old new × (refused ≡ None → kept ≡ counts)
+keeps_all None text place packet counts kept limit old new is fits (within, noted) =
+    let same = sum_within counts kept limit is within fits in ((subst (λ (n : ℕ). n ≤ limit) same within, noted), λ e. same)
+keeps_all (Some kind) text place packet counts kept limit old new is fits (inl (named, over)) =
+    (inl (named, sum_over counts kept limit is over), λ e. absurd (cc))
+keeps_all (Some kind) text place packet counts kept limit old new is fits (inr (named, within, shown)) =
+    (inr (named, subst (λ (n : ℕ). n ≤ limit) (sum_within counts kept limit is within fits) within, shown), λ e. absurd (cc))
 
 -- what the same was brought by is the same
 pub same_place : {A : Type 0} (got other : ReadGot A) (next : Place) → got ≡ other → place_brought got next ≡ place_brought other next
@@ -502,6 +598,9 @@ same_place {A} got other next same = ap (λ (o : ReadGot A). place_brought o nex
 
 pub same_kept : {A : Type 0} (got other : ReadGot A) (next : ℕ) → got ≡ other → kept_brought got next ≡ kept_brought other next
 same_kept {A} got other next same = ap (λ (o : ReadGot A). kept_brought o next) same
+
+pub same_noted : {A : Type 0} (got other : ReadGot A) (next : Noted) → got ≡ other → noted_brought got next ≡ noted_brought other next
+same_noted {A} got other next same = ap (λ (o : ReadGot A). noted_brought o next) same
 
 -- ---- how a reader is left after a packet
 
@@ -542,13 +641,13 @@ module _ {A : Type 0} (old new : JudgedRequests A) (used : ℕ) (ready : IsReady
   passed_leaves same kept is = goes_leaves same kept (ap takes_bytes is ∙ ready.wants)
 
   module _ (shut : is_open new.packets ≡ false) where
-    pub passing_leaves : (p : Pkt) → new.requests ≡ old.requests → new.kept ≤ old.limit → new.stage ≡ stage_passed p
-        → StepLeaves (got_passed {A = A} p) used new
-    passing_leaves flush same kept is =
+    pub passing_leaves : (p : Pkt) (others : OtherLines A) → new.requests ≡ old.requests → new.kept ≤ old.limit → new.stage ≡ stage_passed p
+        → StepLeaves (got_passed {A = A} p others) used new
+    passing_leaves flush others same kept is =
         record { some = some; onward = ready_still same kept (ap takes_bytes is); between = ap stage_is_between is; shut = shut }
-    passing_leaves delim same kept is = goes_leaves same kept (ap takes_bytes is)
-    passing_leaves resp_end same kept is = goes_leaves same kept (ap takes_bytes is)
-    passing_leaves (payload bytes) same kept is = goes_leaves same kept (ap takes_bytes is)
+    passing_leaves delim others same kept is = goes_leaves same kept (ap takes_bytes is)
+    passing_leaves resp_end others same kept is = goes_leaves same kept (ap takes_bytes is)
+    passing_leaves (payload bytes) others same kept is = goes_leaves same kept (ap takes_bytes is)
 
     module _ (g : Given) where
       ready_behind : (got : ReadGot A) → goes_on got ≡ true → Brings nothing_barred old.requests g got new.requests → new.kept ≤ old.limit
@@ -565,12 +664,13 @@ module _ {A : Type 0} (old new : JudgedRequests A) (used : ℕ) (ready : IsReady
         fits = subst (λ (n : ℕ). n ≤ 4294967295) (sym same_limit) ready.fits;
       }
 
-      pub packet_leaves : (got : ReadGot A) (over : Bool) (offset kept : ℕ) → Brings nothing_barred old.requests g got new.requests
-          → (over ≡ false → kept ≤ old.limit) → new.stage ≡ stage_brought (limited_got over offset got)
-          → new.kept ≡ kept_brought (limited_got over offset got) kept → StepLeaves (got_as (limited_got over offset got)) used new
-      packet_leaves More false offset kept brings within is counted =
+      pub packet_leaves : (got : ReadGot A) (refused : Option Kind) (offset kept : ℕ) (others : OtherLines A)
+          → Brings nothing_barred old.requests g got new.requests → (refused ≡ None → kept ≤ old.limit)
+          → new.stage ≡ stage_brought (limited_got refused offset got) → new.kept ≡ kept_brought (limited_got refused offset got) kept
+          → StepLeaves (got_as (limited_got refused offset got) others) used new
+      packet_leaves More None offset kept others brings within is counted =
           (some, ready_behind More refl brings (subst (λ (n : ℕ). n ≤ old.limit) (sym counted) (within refl)) is)
-      packet_leaves (Request request) false offset kept brings within is counted =
+      packet_leaves (Request request) None offset kept others brings within is counted =
           let (left, takes) = ready.taken in (
             record {
               some = some;
@@ -580,19 +680,20 @@ module _ {A : Type 0} (old new : JudgedRequests A) (used : ℕ) (ready : IsReady
             },
             (brings.brings left takes).2,
           )
-      packet_leaves Stop false offset kept brings within is counted = (some, ap takes_bytes is, ap fault_in is)
-      packet_leaves (Failed fault) false offset kept brings within is counted = ap fault_in is
-      packet_leaves More true offset kept brings within is counted = ap fault_in is
-      packet_leaves (Request request) true offset kept brings within is counted = ap fault_in is
-      packet_leaves Stop true offset kept brings within is counted = (some, ap takes_bytes is, ap fault_in is)
-      packet_leaves (Failed fault) true offset kept brings within is counted = ap fault_in is
+      packet_leaves Stop None offset kept others brings within is counted = (some, ap takes_bytes is, ap fault_in is)
+      packet_leaves (Failed fault) None offset kept others brings within is counted = ap fault_in is
+      packet_leaves More (Some kind) offset kept others brings within is counted = ap fault_in is
+      packet_leaves (Request request) (Some kind) offset kept others brings within is counted = ap fault_in is
+      packet_leaves Stop (Some kind) offset kept others brings within is counted = (some, ap takes_bytes is, ap fault_in is)
+      packet_leaves (Failed fault) (Some kind) offset kept others brings within is counted = ap fault_in is
 
 -- a packet that passes brings no fault
-pub no_news : {A : Type 0} (p : Pkt) (fault : Fault) (used : ℕ) (piece : List ℕ) → got_passed {A = A} p ≡ Got.Failed fault → ShownByFeed fault used piece
-no_news flush fault used piece is = absurd (cc)
-no_news delim fault used piece is = absurd (cc)
-no_news resp_end fault used piece is = absurd (cc)
-no_news (payload bytes) fault used piece is = absurd (cc)
+pub no_news : {A : Type 0} (p : Pkt) (others : OtherLines A) (fault : Fault) (used : ℕ) (piece : List ℕ)
+    → got_passed {A = A} p others ≡ Got.Failed fault → ShownByFeed fault used piece
+no_news flush others fault used piece is = absurd (cc)
+no_news delim others fault used piece is = absurd (cc)
+no_news resp_end others fault used piece is = absurd (cc)
+no_news (payload bytes) others fault used piece is = absurd (cc)
 
 -- a fault of a packet is none that the bytes show
 fault_news : {A : Type 0} (old : JudgedRequests A) (new : RequestReader A) (g : Given) → IsReady old → (told : Fault)
@@ -605,23 +706,35 @@ fault_news old new g ready told brings fault used piece same =
       one_more = λ too_long. absurd (told_of_packets StreamTooLong tt _ _ (left ++ g ∷ []) told t too_long);
     })
 
--- nor is that of the limit
-pub limit_news : (offset : ℕ) (fault : Fault) (used : ℕ) (piece : List ℕ) → record { kind = TooMuchKept; offset = offset } ≡ fault
-    → ShownByFeed fault used piece
-limit_news offset fault used piece same =
+-- nor is that of a packet that is not kept
+pub unkept_news : (kind : Kind) (offset kept limit : ℕ) (shown : List ℕ) → IsNotKept kind kept limit shown → (fault : Fault) (used : ℕ) (piece : List ℕ)
+    → record { kind = kind; offset = offset } ≡ fault → ShownByFeed fault used piece
+unkept_news kind offset kept limit shown (inl (named, over)) fault used piece same =
+    subst (λ (f : Fault). ShownByFeed f used piece) same (record { not_the_end = λ e. cc; one_more = λ e. absurd (cc) })
+unkept_news kind offset kept limit shown (inr (named, within, some)) fault used piece same =
     subst (λ (f : Fault). ShownByFeed f used piece) same (record { not_the_end = λ e. cc; one_more = λ e. absurd (cc) })
 
-pub packet_news : {A : Type 0} (old : JudgedRequests A) (new : RequestReader A) (g : Given) (got : ReadGot A) (over : Bool) (offset : ℕ) → IsReady old
-    → Brings nothing_barred old.requests g got new → (fault : Fault) (used : ℕ) (piece : List ℕ)
-    → got_as (limited_got over offset got) ≡ Got.Failed fault → ShownByFeed fault used piece
-packet_news old new g More false offset ready brings fault used piece is = absurd (cc)
-packet_news old new g (Request request) false offset ready brings fault used piece is = absurd (cc)
-packet_news old new g Stop false offset ready brings fault used piece is = absurd (cc)
-packet_news old new g (Failed told) false offset ready brings fault used piece is = fault_news old new g ready told brings fault used piece (cc)
-packet_news old new g More true offset ready brings fault used piece is = limit_news offset fault used piece (cc)
-packet_news old new g (Request request) true offset ready brings fault used piece is = limit_news offset fault used piece (cc)
-packet_news old new g Stop true offset ready brings fault used piece is = absurd (cc)
-packet_news old new g (Failed told) true offset ready brings fault used piece is = fault_news old new g ready told brings fault used piece (cc)
+pub unnamed_news : (offset : ℕ) (fault : Fault) (used : ℕ) (piece : List ℕ) → record { kind = OutOfMemory; offset = offset } ≡ fault
+    → ShownByFeed fault used piece
+unnamed_news offset fault used piece same =
+    subst (λ (f : Fault). ShownByFeed f used piece) same (record { not_the_end = λ e. cc; one_more = λ e. absurd (cc) })
+
+pub packet_news : {A : Type 0} (old : JudgedRequests A) (new : RequestReader A) (g : Given) (got : ReadGot A) (refused : Option Kind)
+    (text : List ℕ) (place : Place) (packet : Pkt) (kept limit : ℕ) (before after : Noted) (offset : ℕ) (others : OtherLines A)
+    → KeepsWithin refused text place packet kept limit before after → IsReady old → Brings nothing_barred old.requests g got new
+    → (fault : Fault) (used : ℕ) (piece : List ℕ) → got_as (limited_got refused offset got) others ≡ Got.Failed fault → ShownByFeed fault used piece
+packet_news old new g More None text place packet kept limit before after offset others keeps ready brings fault used piece is = absurd (cc)
+packet_news old new g (Request request) None text place packet kept limit before after offset others keeps ready brings fault used piece is = absurd (cc)
+packet_news old new g Stop None text place packet kept limit before after offset others keeps ready brings fault used piece is = absurd (cc)
+packet_news old new g (Failed told) None text place packet kept limit before after offset others keeps ready brings fault used piece is =
+    fault_news old new g ready told brings fault used piece (cc)
+packet_news old new g More (Some kind) text place packet kept limit before after offset others keeps ready brings fault used piece is =
+    unkept_news kind offset kept limit (shown_at text place packet) keeps fault used piece (cc)
+packet_news old new g (Request request) (Some kind) text place packet kept limit before after offset others keeps ready brings fault used piece is =
+    unkept_news kind offset kept limit (shown_at text place packet) keeps fault used piece (cc)
+packet_news old new g Stop (Some kind) text place packet kept limit before after offset others keeps ready brings fault used piece is = absurd (cc)
+packet_news old new g (Failed told) (Some kind) text place packet kept limit before after offset others keeps ready brings fault used piece is =
+    fault_news old new g ready told brings fault used piece (cc)
 
 -- ---- a step over what is left of a piece
 
@@ -631,8 +744,8 @@ module _ {A : Type 0} (old mid new : JudgedRequests A) (piece : List ℕ) (done 
   Stepping = ReadsBy StepLeaves mid (take (length piece - done) (drop done piece)) (record { used = more; got = got }) new
 
   pub reads_further : Stepping
-      → ((used : List ℕ) (asked : List (Option Asked)) → HasRead used asked old → HasRead (used ++ take done piece) asked mid)
-      → (used : List ℕ) (asked : List (Option Asked)) → HasRead used asked old → HasRead (used ++ take (done + more) piece) (asked ++ asked_by got) new
+      → ((used : List ℕ) (asked : List Question) → HasRead used asked old → HasRead (used ++ take done piece) asked mid)
+      → (used : List ℕ) (asked : List Question) → HasRead used asked old → HasRead (used ++ take (done + more) piece) (asked ++ asked_by got) new
   reads_further steps before used asked h =
       subst (λ (bytes : List ℕ). HasRead bytes (asked ++ asked_by got) new) (joined used piece done more within)
       (steps.reads (used ++ take done piece) asked (before used asked h))
@@ -660,6 +773,6 @@ pub leaves_further : {A : Type 0} (new : JudgedRequests A) (piece : List ℕ) (d
     → Leaves got (done + more) piece new
 leaves_further new piece done more Got.More other leaves = absurd (other refl)
 leaves_further new piece done more (Got.Request request) other (on, format) = (onward_further new done more on, format)
-leaves_further new piece done more Got.Other other on = onward_further new done more on
+leaves_further new piece done more (Got.Other others) other on = onward_further new done more on
 leaves_further new piece done more Got.Stop other (some, quiet, none) = (omega (arith, some), quiet, none)
 leaves_further new piece done more (Got.Failed fault) other leaves = leaves

@@ -1,6 +1,6 @@
 -- Where nothing was advertised that is not known, each packet of a request is read as it is, and nothing passes.
 use Rattle.std.proofs.Common.{◌≡◌, ◌⊎◌, ◌==◌, ◌&&◌, not, Bool, true, false, ℕ, List, []}
-use Rattle.std.proofs.Common.{◌∷◌, ◌++◌, Option, Some, None, codes, if◌then◌else◌, map, refl, sym, ap, ◌∙◌, inl, inr}
+use Rattle.std.proofs.Common.{◌∷◌, ◌++◌, Option, Some, None, codes, if◌then◌else◌, map, refl, sym, ap, ◌∙◌, inl, inr, append-nil}
 use Rattle.std.specs.List.{before_first}
 use Rattle.std.specs.Str.{bytes_eq}
 use Rattle.git_pkt.specs.Packets.{Pkt, flush, delim, resp_end, payload, text_of}
@@ -12,9 +12,11 @@ use Rattle.git_msg.specs.Asked.{Asked}
 use Rattle.git_msg.specs.declared.offers.Offer.{Offer}
 use Rattle.git2show_lib.specs.Others.{IsOtherRequest, given_as, is_advertised, is_allowed_key, is_allowed_value}
 use Rattle.git2show_lib.specs.Others.{is_other_argument, is_other_capability, is_other_command, is_own_key, is_own_word}
-use Rattle.git2show_lib.specs.Others.{judged_in, judged_line, judged_packet, line_has, names_other, place_next}
-use Rattle.git2show_lib.specs.Machine.CheckedStreams.{Turn, bytes_in, heard_in, heard_of, passed_in, passed_of, questions_in}
+use Rattle.git2show_lib.specs.Others.{first_place, judged_in, judged_line, judged_packet, line_has, names_other, place_next}
+use Rattle.git2show_lib.specs.OtherLines.{Noted, Question, known, other, asks_line, is_fetch, line_with, nothing_noted, noted_from, noted_with}
+use Rattle.git2show_lib.specs.OtherLines.{shown_line}
 use Rattle.git2show_lib.specs.Machine.JudgedRequests.{AreQuestions}
+use Rattle.git2show_lib.specs.declared.other_lines.Asks.{Asks}
 use Rattle.git2show_lib.specs.declared.others.Place.{Place}
 
 no_word : (command : Command) (word : List ℕ) → is_advertised [] (Some command) word ≡ false
@@ -23,14 +25,14 @@ no_word LsRefs word = refl
 no_word Fetch word = refl
 no_word ObjectInfo word = refl
 
+and_false : (b : Bool) → (b && false) ≡ false
+and_false true = refl
+and_false false = refl
+
 no_argument : (command : Option Command) (line : List ℕ) → is_other_argument [] command line ≡ false
 unfolding is_other_argument
 no_argument None line = refl
 no_argument (Some command) line = rw (no_word command (before_first (λ c. c == 32) line)) (and_false (not (is_own_word (before_first (λ c. c == 32) line))))
-  where
-    and_false : (b : Bool) → (b && false) ≡ false
-    and_false true = refl
-    and_false false = refl
 
 -- the only key of a line without bytes is none
 no_key : (key : List ℕ) → (is_own_key key ≡ true) ⊎ (is_advertised [] None key ≡ false)
@@ -94,26 +96,48 @@ names_nothing (payload bytes) =
     not_named true false true (inr e) = cc
 
 no_other : (packets : List Given) → IsOtherRequest [] packets → ⊥
-no_other [] other = other.begins
-no_other (g ∷ packets) other = let named : names_other [] g.packet ≡ true = other.begins in absurd (cc (names_nothing g.packet))
+no_other [] request = request.begins
+no_other (g ∷ packets) request = let named : names_other [] g.packet ≡ true = request.begins in absurd (cc (names_nothing g.packet))
 
--- the requests ask for this, each by a command that is known
-pub all_asked : (offer : Offer) (limit : ℕ) (packets : List Given) (asked : List (Option Asked)) (left : List Given)
-    → AreQuestions (record { offer = offer; text = [] }) limit packets asked left → (qs : List Asked) × (asked ≡ map Some qs)
+-- ---- and nothing is noted
+
+no_line : (place : Place) (line : List ℕ) → shown_line [] place line ≡ []
+unfolding shown_line
+no_line place line = at place.arguments where
+  at : (b : Bool)
+      → (if b then (if is_other_argument [] place.command line then line_with (codes "argument ") line else [])
+      else (if is_other_capability [] line then line_with (codes "capability ") line else [])) ≡ []
+  at true = rw (no_argument place.command line) refl
+  at false = rw (no_capability line) refl
+
+asks_no_more : (place : Place) (asks : Asks) (line : List ℕ) → asks_line [] place asks line ≡ asks
+unfolding asks_line
+asks_no_more place asks line = rw (no_argument place.command line, and_false (place.arguments && is_fetch place.command)) refl
+
+nothing_more : (place : Place) (noted : Noted) (packet : Pkt) → noted_with [] place noted packet ≡ noted
+nothing_more place noted flush = ap (λ (l : List ℕ). record { lines = l; asks = noted.asks }) (append-nil noted.lines)
+nothing_more place noted delim = ap (λ (l : List ℕ). record { lines = l; asks = noted.asks }) (append-nil noted.lines)
+nothing_more place noted resp_end = ap (λ (l : List ℕ). record { lines = l; asks = noted.asks }) (append-nil noted.lines)
+nothing_more place noted (payload bytes) =
+    rw (no_line place (text_of bytes), asks_no_more place noted.asks (text_of bytes), append-nil noted.lines) refl
+
+none_noted : (place : Place) (noted : Noted) (gs : List Given) → noted_from [] place noted gs ≡ noted
+none_noted place noted [] = refl
+none_noted place noted (g ∷ gs) =
+    ap (λ (n : Noted). noted_from [] (place_next place g.packet) n gs) (nothing_more place noted g.packet)
+    ∙ none_noted (place_next place g.packet) noted gs
+
+-- a request that has nothing which is not known
+abbrev pub plain : Asked → Question
+plain q = known q nothing_noted
+
+-- the requests ask for this, each by a command that is known, and have nothing else
+pub all_asked : (offer : Offer) (limit : ℕ) (packets : List Given) (asked : List Question) (left : List Given)
+    → AreQuestions (record { offer = offer; text = [] }) limit packets asked left → (qs : List Asked) × (asked ≡ map plain qs)
 all_asked offer limit packets [] left same = ([], refl)
-all_asked offer limit packets (None ∷ qs) left (front, more, whole, is, rest) = absurd (no_other front is)
-all_asked offer limit packets (Some q ∷ qs) left (front, more, whole, is, rest) =
-    let (known, same) = all_asked offer limit more qs left rest in
-    (q ∷ known, ap (λ (l : List (Option Asked)). Some q ∷ l) same)
-
--- of turns by known commands alone nothing passes, and all bytes are received
-pub nothing_passes : (turns : List Turn) (qs : List Asked) → questions_in turns ≡ map Some qs → (passed_in turns ≡ []) × (bytes_in turns ≡ heard_in turns)
-nothing_passes [] qs same = (refl, refl)
-nothing_passes (turn ∷ turns) [] same = absurd (cc)
-nothing_passes (turn ∷ turns) (q ∷ qs) same =
-    let known : turn.question ≡ Some q = cc in
-    let later : questions_in turns ≡ map Some qs = cc in
-    let (none, all) = nothing_passes turns qs later in (
-      ap (λ (o : Option Asked). passed_of o turn.bytes ++ passed_in turns) known ∙ none,
-      ap (λ (l : List ℕ). turn.bytes ++ l) all ∙ ap (λ (o : Option Asked). heard_of o turn.bytes ++ heard_in turns) (sym known),
+all_asked offer limit packets (other lines ∷ qs) left (front, more, whole, (is, named), rest) = absurd (no_other front is)
+all_asked offer limit packets (known q noted ∷ qs) left (front, more, whole, (one, kept, noted_is), rest) =
+    let (others, same) = all_asked offer limit more qs left rest in (
+      q ∷ others,
+      ap (λ (n : Noted). known q n ∷ qs) (noted_is ∙ none_noted first_place nothing_noted front) ∙ ap (λ (l : List Question). plain q ∷ l) same,
     )

@@ -1,5 +1,9 @@
 pub mod CheckRuns
 pub mod OtherLines
+pub mod LinesEscaped
+pub mod KnownTurns
+pub mod TurnsTaken
+pub mod RequestsShown
 pub mod Turns
 pub mod PassedAnswers
 pub mod KnownLines
@@ -8,6 +12,8 @@ pub mod JudgedSteps
 pub mod JudgedReadings
 pub mod AdvertisementNoted
 pub mod Sendings
+pub mod PrettyTexts
+pub mod JsonTexts
 pub mod Printing
 pub mod ScriptLists
 pub mod Scripting
@@ -26,3 +32,8 @@ pub mod PlayMeeting
 pub mod PlayServers
 pub mod PlayOpening
 pub mod ScriptValues
+pub mod SievedLengths
+pub mod SievedLists
+pub mod SievedPackets
+pub mod SievedPieces
+pub mod SievedResponses

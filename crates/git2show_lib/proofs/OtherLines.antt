@@ -8,6 +8,7 @@ use Rattle.git_pkt.specs.Splits.{Given}
 use Rattle.git_msg.specs.Texts.{IsCutAt}
 use Rattle.git_msg.proofs.TextParts.{cut_place}
 use Rattle.git2show_lib.specs.Others.{NoneIs, counted_at, counted_in, given_as, judged_in, judged_packet, line_kept, lines_kept, place_after, place_next}
+use Rattle.git2show_lib.specs.OtherLines.{Noted, noted_from, noted_with}
 use Rattle.git2show_lib.specs.declared.others.Place.{Place}
 
 -- ---- lines
@@ -69,3 +70,8 @@ pub counted_snoc : (text : List ℕ) (place : Place) (gs : List Given) (g : Give
     → counted_in text place (gs ++ g ∷ []) ≡ counted_in text place gs + counted_at text (place_after place gs) g.packet
 counted_snoc text place [] g = omega arith
 counted_snoc text place (h ∷ gs) g = omega (arith, counted_snoc text (place_next place h.packet) gs g)
+
+pub noted_snoc : (text : List ℕ) (place : Place) (noted : Noted) (gs : List Given) (g : Given)
+    → noted_from text place noted (gs ++ g ∷ []) ≡ noted_with text (place_after place gs) (noted_from text place noted gs) g.packet
+noted_snoc text place noted [] g = refl
+noted_snoc text place noted (h ∷ gs) g = noted_snoc text (place_next place h.packet) (noted_with text place noted h.packet) gs g

@@ -20,7 +20,7 @@ use Rattle.git_msg.proofs.StreamSteps.{rest_behind, stopped_by}
 use Rattle.git_client.specs.Machine.RunSteps.{window_of}
 use Rattle.git_client.specs.declared.events.Ending.{Ending}
 use Rattle.git_client.specs.declared.events.Ending.TheVariants.{FlushOnly, ResponseEnd}
-use Rattle.git2show_lib.specs.Others.{is_last, last_of}
+use Rattle.git2show_lib.specs.Others.{AreCutOff, is_last, last_of}
 use Rattle.git2show_lib.specs.Machine.OtherAnswers.{BreaksIn, BreaksOff, ClosesAnswer, HasPassed, Passes, PassesAll, PassesNot, PassesOn, PassesPiece, PassesTo}
 use Rattle.git2show_lib.specs.Machine.OtherAnswers.{PassesUpTo, PassesWhole, Uses}
 use Rattle.git2show_lib.specs.declared.other_answers.Passed.{Passed}
@@ -104,29 +104,21 @@ module _ (ending : Ending) (old new : PacketReader) (used u : List ℕ) (h : Pas
       }
 
 -- the input ends there
-pub cut_there : (ending : Ending) (old : PacketReader) (used : List ℕ) (fault : Fault) → Passes ending used old → fault_of old ≡ None
-    → fault.kind ≡ Truncated → fault.offset + open_length old ≡ position_of old → BreaksOff ending used fault
-cut_there ending old used fault h sound kind at =
-    let (held, still_open) = sound_rest old 0 used h.given h.rest sound h.reads in
-    record {
-      rest = h.rest;
-      begun = record { given = h.given; splits = h.reads.splits; goes_on = h.goes_on };
-      breaks = inr (record { still_open = still_open; kind = kind; at = omega (arith, at, rest_length old h.rest held, h.reads.position) });
-    }
+pub cut_there : (old : PacketReader) (used : List ℕ) (given : List Given) (rest : List ℕ) (fault : Fault) → Reads old 0 used given rest
+    → fault_of old ≡ None → fault.kind ≡ Truncated → fault.offset + open_length old ≡ position_of old → AreCutOff rest (length used) fault
+cut_there old used given rest fault reads sound kind at =
+    let (held, still_open) = sound_rest old 0 used given rest sound reads in
+    record { still_open = still_open; kind = kind; at = omega (arith, at, rest_length old rest held, reads.position) }
 
 -- between two packets
-pub cut_between : (ending : Ending) (old : PacketReader) (used : List ℕ) (fault : Fault) → Passes ending used old → fault_of old ≡ None
-    → fault.kind ≡ Truncated → is_open old ≡ false → fault.offset ≡ position_of old → BreaksOff ending used fault
-cut_between ending old used fault h sound kind shut at =
-    let none = rest_behind old used h.given h.rest sound shut h.reads in
+pub cut_between : (old : PacketReader) (used : List ℕ) (given : List Given) (rest : List ℕ) (fault : Fault) → Reads old 0 used given rest
+    → fault_of old ≡ None → fault.kind ≡ Truncated → is_open old ≡ false → fault.offset ≡ position_of old → AreCutOff rest (length used) fault
+cut_between old used given rest fault reads sound kind shut at =
+    let none = rest_behind old used given rest sound shut reads in
     record {
-      rest = h.rest;
-      begun = record { given = h.given; splits = h.reads.splits; goes_on = h.goes_on };
-      breaks = inr (record {
-        still_open = (sound_rest old 0 used h.given h.rest sound h.reads).1;
-        kind = kind;
-        at = omega (arith, at, ap length none, h.reads.position);
-      });
+      still_open = (sound_rest old 0 used given rest sound reads).1;
+      kind = kind;
+      at = omega (arith, at, ap length none, reads.position);
     }
 
 -- ---- a piece of which some is used
@@ -174,6 +166,31 @@ pub piece_passed : (ending : Ending) (old new : PacketReader) (piece : List ℕ)
     → PassesPiece ending (Ok end) old new piece → PassesPiece ending (Ok other) old new piece
 piece_passed ending old new piece end other same passes = subst (λ (o : Option ℕ). PassesPiece ending (Ok o) old new piece) same passes
 
+-- ---- the bytes so far
+
+-- some of the bytes that were left were used
+pub uses_on : {used waiting unused : List ℕ} {reader : Flow} (more : ℕ) → Uses used waiting unused reader
+    → Uses (used ++ take more unused) waiting (drop more unused) reader
+uses_on {used} {unused = unused} more u = record {
+  came = u.came;
+  read = u.read;
+  parts = u.parts ∙ ap (λ (l : List ℕ). used ++ l) (sym (take-append-drop more unused))
+      ∙ sym (append_assoc used (take more unused) (drop more unused));
+}
+
+module _ {used waiting : List ℕ} {before left after : Option (List ℕ)} (u : Uses used waiting [] (flow before left)) where
+  -- more bytes came
+  pub uses_more : (came : List ℕ) → Consumes left after came → Uses used waiting came (flow before after)
+  uses_more came read = record {
+    came = u.came ++ came;
+    read = Consumes-trans before left after u.came came u.read read;
+    parts = sym (append_assoc waiting u.came came) ∙ ap (λ (l : List ℕ). l ++ came) (u.parts ∙ append-nil used);
+  }
+
+  -- a read failed
+  pub uses_kept : Keeps left after → Uses used waiting [] (flow before after)
+  uses_kept kept = record { came = u.came; read = Consumes-kept before left after u.came u.read kept; parts = u.parts }
+
 -- ---- an answer so far
 
 -- of the bytes that waited and those that came these are left, and the others pass
@@ -207,12 +224,7 @@ module _ {ending : Ending} {old : PacketReader} {waiting unused : List ℕ} {rea
       let has = p.passes s.used s.passes in
       record {
         used = s.used ++ take end unused;
-        uses = record {
-          came = s.uses.came;
-          read = s.uses.read;
-          parts = s.uses.parts ∙ ap (λ (l : List ℕ). s.used ++ l) (sym (take-append-drop end unused))
-              ∙ sym (append_assoc s.used (take end unused) (drop end unused)) ∙ ap (λ (l : List ℕ). (s.used ++ take end unused) ++ l) rest;
-        };
+        uses = subst (λ (l : List ℕ). Uses (s.used ++ take end unused) waiting l reader) rest (uses_on end s.uses);
         answer = has.answer;
         count = count ∙ has.position;
         ordered = ordered;
@@ -224,12 +236,7 @@ module _ {ending : Ending} {old : PacketReader} {waiting unused : List ℕ} {rea
   passed_not {fault = fault} {ended = ended} b = record {
     used = s.used ++ take b.used unused;
     unused = drop b.used unused;
-    uses = record {
-      came = s.uses.came;
-      read = s.uses.read;
-      parts = s.uses.parts ∙ ap (λ (l : List ℕ). s.used ++ l) (sym (take-append-drop b.used unused))
-          ∙ sym (append_assoc s.used (take b.used unused) (drop b.used unused));
-    };
+    uses = uses_on b.used s.uses;
     breaks = b.breaks s.used s.passes;
     timely = timely fault.kind ended (drop b.used unused) b.shown.not_the_end (λ long. omega (arith, b.shown.one_more long, length-drop b.used unused));
   }
@@ -240,11 +247,7 @@ module _ {ending : Ending} {r : PacketReader} {waiting : List ℕ} {before left 
   came_more : (came : List ℕ) → Consumes left after came → PassingSoFar ending r waiting came (flow before after)
   came_more came read = record {
     used = s.used;
-    uses = record {
-      came = s.uses.came ++ came;
-      read = Consumes-trans before left after s.uses.came came s.uses.read read;
-      parts = sym (append_assoc waiting s.uses.came came) ∙ ap (λ (l : List ℕ). l ++ came) (s.uses.parts ∙ append-nil s.used);
-    };
+    uses = uses_more s.uses came read;
     passes = s.passes;
   }
 
@@ -256,7 +259,7 @@ module _ {ending : Ending} {r : PacketReader} {waiting : List ℕ} {before left 
   came_not : Keeps left after → PassingSoFar ending r waiting [] (flow before after)
   came_not kept = record {
     used = s.used;
-    uses = record { came = s.uses.came; read = Consumes-kept before left after s.uses.came s.uses.read kept; parts = s.uses.parts };
+    uses = uses_kept s.uses kept;
     passes = s.passes;
   }
 
@@ -286,4 +289,14 @@ pub ended_within : {ending : Ending} {r : PacketReader} {waiting : List ℕ} {be
     → ClosesAnswer fault r → PassesNot ending fault ended waiting (flow before after)
 ended_within {ending} {ended = ended} {fault} end piece none read at_end s (kind, breaks) =
     let now = came_more s [] (rw none at read) in
-    record { used = now.used; unused = []; uses = now.uses; breaks = breaks ending now.used now.passes; timely = rw kind (refl, at_end) }
+    record {
+      used = now.used;
+      unused = [];
+      uses = now.uses;
+      breaks = record {
+        rest = now.passes.rest;
+        begun = record { given = now.passes.given; splits = now.passes.reads.splits; goes_on = now.passes.goes_on };
+        breaks = inr (breaks now.used now.passes.given now.passes.rest now.passes.reads);
+      };
+      timely = rw kind (refl, at_end);
+    }

@@ -3,7 +3,6 @@ use Rattle.std.proofs.Common.{◌≡◌, ℕ, ◌+◌, ◌-◌, ◌<◌, ◌≤�
 use Rattle.std.proofs.Common.{Result, Ok, Err, IfErr, IsErrAnd, MatchResult, OnOk, arith, ap, sym, ◌∙◌, refl, append_assoc, append-nil}
 use Rattle.std.proofs.Common.{length-drop, take-append-drop, zero-add}
 use Rattle.std.proofs.Math.Seq.{take-length}
-use Rattle.std.proofs.lemmas.Grind.{flat_map-append}
 use Rattle.std.specs.Io.KnownBytes.{Consumes, Keeps}
 use Rattle.git_pkt.specs.Splits.{Given}
 use Rattle.git_pkt.specs.Packets.{seen}
@@ -23,15 +22,41 @@ use Rattle.git_pkt.specs.declared.fault.RunFault.TheVariants.{ReadFault, WriteFa
 use Rattle.git_pkt.specs.declared.reader.PacketReader.{PacketReader}
 use Rattle.git_pkt.proofs.EngineLemmas.{timely, Moved, moved_on, moved_unread, moves, brings_more, written_nothing}
 use Rattle.git2show_lib.specs.PacketLines.{line_of, lines_of}
-use Rattle.git2show_lib.specs.Machine.ShownStream.{EndsAs, Prints, PrintsPiece, Shows, ShowsPiece, Writes, WritesFront}
+use Rattle.git2show_lib.specs.PacketViews.{after, shown, tally_of, viewed}
+use Rattle.git2show_lib.specs.declared.views.Tally.{Tally}
+use Rattle.git2show_lib.specs.declared.views.View.{View}
+use Rattle.git2show_lib.specs.Machine.ShownStream.{EndsAs, Prints, PrintsPiece, Shows, ShowsPiece, ShowsView, Writes, WritesFront}
 use Rattle.git_client.specs.Machine.LineParts.{PutAs}
 use Rattle.git_client.proofs.WaitingLines.{put_front, put_out, put_then}
 
-pub lines-append : (gs hs : List Given) → lines_of (gs ++ hs) ≡ lines_of gs ++ lines_of hs
-lines-append gs hs = flat_map-append line_of gs hs
+-- without a view the lines are the plain ones
+pub plain : (t : Tally) (gs : List Given) → shown None t gs ≡ lines_of gs
+plain t [] = refl
+plain t (g ∷ gs) = ap (λ (l : List ℕ). line_of g ++ l) (plain t gs)
 
-lines-one : (gs : List Given) (g : Given) → lines_of (gs ++ g ∷ []) ≡ lines_of gs ++ line_of g
-lines-one gs g = lines-append gs (g ∷ []) ∙ ap (λ (l : List ℕ). lines_of gs ++ l) (append-nil (line_of g))
+module _ (view : Option View) where
+  shown-append : (t : Tally) (gs hs : List Given) → shown view t (gs ++ hs) ≡ shown view t gs ++ shown view (tally_of view t gs) hs
+  shown-append t [] hs = refl
+  shown-append t (g ∷ gs) hs =
+      ap (λ (l : List ℕ). viewed view t g ++ l) (shown-append (after view t g) gs hs)
+      ∙ sym (append_assoc (viewed view t g) (shown view (after view t g) gs) (shown view (tally_of view (after view t g) gs) hs))
+
+  tally-append : (t : Tally) (gs hs : List Given) → tally_of view t (gs ++ hs) ≡ tally_of view (tally_of view t gs) hs
+  tally-append t [] hs = refl
+  tally-append t (g ∷ gs) hs = tally-append (after view t g) gs hs
+
+  -- packets after others
+  shown-then : (t : Tally) {middle : Tally} (gs hs : List Given) → middle ≡ tally_of view t gs
+      → shown view t (gs ++ hs) ≡ shown view t gs ++ shown view middle hs
+  shown-then t gs hs is = rw is (shown-append t gs hs)
+
+  tally-then : (t : Tally) {middle final : Tally} (gs hs : List Given) → middle ≡ tally_of view t gs → final ≡ tally_of view middle hs
+      → final ≡ tally_of view t (gs ++ hs)
+  tally-then t gs hs is later = later ∙ ap (λ (m : Tally). tally_of view m hs) is ∙ sym (tally-append t gs hs)
+
+  shown-one : (t : Tally) {middle : Tally} (gs : List Given) (g : Given) → middle ≡ tally_of view t gs
+      → shown view t (gs ++ g ∷ []) ≡ shown view t gs ++ viewed view middle g
+  shown-one t {middle} gs g is = shown-then t gs (g ∷ []) is ∙ ap (λ (l : List ℕ). shown view t gs ++ l) (append-nil (viewed view middle g))
 
 -- where no bytes were used, a reader has gone on over none
 pub none_read : (r : PacketReader) → ReadsOn r [] [] r
@@ -46,39 +71,47 @@ reads_on_then a b c u v gs hs one two start bytes given rest reads =
     let (last, second) = two start (bytes ++ u) (given ++ gs) middle first in
     (last, rw (append_assoc bytes u v, append_assoc given gs hs) at second)
 
-module _ {a b : PacketReader} {u w : List ℕ} {before held : Option (List ℕ)} (so_far : Prints a b u w (flow before held)) where
+module _ {view : Option View} {start middle : Tally} {a b : PacketReader} {u w : List ℕ} {before held : Option (List ℕ)}
+    (so_far : Prints view start middle a b u w (flow before held)) where
   -- one more packet was read, and its line was put after the others
-  prints_packet : (c : PacketReader) (v : List ℕ) {after : Option (List ℕ)} {x : List ℕ} (g : Given) → ReadsOn b v (g ∷ []) c
-      → PutAs false (flow held after) w (line_of g) x → Prints a c (u ++ v) x (flow before after)
-  prints_packet c v {after} {x} g reads line = record {
+  prints_packet : (c : PacketReader) (v : List ℕ) {final : Tally} {after_it : Option (List ℕ)} {x : List ℕ} (g : Given) → ReadsOn b v (g ∷ []) c
+      → PutAs false (flow held after_it) w (viewed view middle g) x → final ≡ after view middle g
+      → Prints view start final a c (u ++ v) x (flow before after_it)
+  prints_packet c v g reads line counts = record {
     packets = so_far.packets ++ g ∷ [];
     reads = reads_on_then a b c u v so_far.packets (g ∷ []) so_far.reads reads;
-    put = rw (lines-one so_far.packets g) (put_then so_far.put line);
+    put = rw (shown-one view start so_far.packets g so_far.tally) (put_then so_far.put line);
+    tally = tally-then view start so_far.packets (g ∷ []) so_far.tally counts;
   }
 
   -- one more packet was read, and a write failed at its line
-  prints_packet_front : (c : PacketReader) (v : List ℕ) {after : Option (List ℕ)} {x : List ℕ} (g : Given) → ReadsOn b v (g ∷ []) c
-      → PutAs true (flow held after) w (line_of g) x → Writes true a c (u ++ v) (flow before after)
-  prints_packet_front c v g reads line = record {
+  prints_packet_front : (c : PacketReader) (v : List ℕ) {final : Tally} {after_it : Option (List ℕ)} {x : List ℕ} (g : Given) → ReadsOn b v (g ∷ []) c
+      → PutAs true (flow held after_it) w (viewed view middle g) x → final ≡ after view middle g
+      → Writes view start final true a c (u ++ v) (flow before after_it)
+  prints_packet_front c v g reads line counts = record {
     packets = so_far.packets ++ g ∷ [];
     reads = reads_on_then a b c u v so_far.packets (g ∷ []) so_far.reads reads;
-    written = rw (lines-one so_far.packets g) (put_front (put_then so_far.put line));
+    written = rw (shown-one view start so_far.packets g so_far.tally) (put_front (put_then so_far.put line));
+    tally = tally-then view start so_far.packets (g ∷ []) so_far.tally counts;
   }
 
   -- bytes were read that make no packet whole
-  prints_quiet : (c : PacketReader) (v : List ℕ) → ReadsOn b v [] c → Prints a c (u ++ v) w (flow before held)
+  prints_quiet : (c : PacketReader) (v : List ℕ) → ReadsOn b v [] c → Prints view start middle a c (u ++ v) w (flow before held)
   prints_quiet c v reads = record {
     packets = so_far.packets;
     reads = rw (append-nil so_far.packets) at (reads_on_then a b c u v so_far.packets [] so_far.reads reads);
     put = so_far.put;
+    tally = so_far.tally;
   }
 
   -- what waited was sent, as far as that went
-  sent_on : (broken : Bool) (after : Option (List ℕ)) → WrittenAs broken (flow held after) w → Writes broken a b u (flow before after)
-  sent_on broken after sent = record {
+  sent_on : (broken : Bool) (after_it : Option (List ℕ)) → WrittenAs broken (flow held after_it) w
+      → Writes view start middle broken a b u (flow before after_it)
+  sent_on broken after_it sent = record {
     packets = so_far.packets;
     reads = so_far.reads;
-    written = put_out broken after so_far.put sent;
+    written = put_out broken after_it so_far.put sent;
+    tally = so_far.tally;
   }
 
 -- ---- one call of `feed` over what is left of a piece
@@ -87,8 +120,9 @@ module _ {a b : PacketReader} {u w : List ℕ} {before held : Option (List ℕ)}
 abbrev pub left : List ℕ → ℕ → List ℕ
 left piece done = take (length piece - done) (drop done piece)
 
-module _ {old b c : PacketReader} (piece : List ℕ) (done : ℕ) {before held : Option (List ℕ)} {w : List ℕ} {fed : Fed} (within : done ≤ length piece)
-    (so_far : Prints old b (take done piece) w (flow before held)) (feeds : Feeds b (left piece done) fed c) where
+module _ {view : Option View} {start middle : Tally} {old b c : PacketReader} (piece : List ℕ) (done : ℕ) {before held : Option (List ℕ)} {w : List ℕ}
+    {fed : Fed} (within : done ≤ length piece)
+    (so_far : Prints view start middle old b (take done piece) w (flow before held)) (feeds : Feeds b (left piece done) fed c) where
   reads_by : (got : Got) → fed.got ≡ got → ReadsOn b (take fed.used (left piece done)) (given_by got) c
   reads_by got is = rw is at feeds.reads
 
@@ -98,7 +132,7 @@ module _ {old b c : PacketReader} (piece : List ℕ) (done : ℕ) {before held :
   pub left_length : length (left piece done) ≡ length piece - done
   left_length = ap length (left_of piece done within) ∙ length-drop done piece
 
-  pub fed_failed : (f : Fault) → fault_of b ≡ None → fed.got ≡ Failed f → PrintsPiece (Some f) old c piece w (flow before held)
+  pub fed_failed : (f : Fault) → fault_of b ≡ None → fed.got ≡ Failed f → PrintsPiece view start middle (Some f) old c piece w (flow before held)
   fed_failed f sound is =
       let shown = feeds.news f sound is in (
         done + fed.used,
@@ -112,47 +146,52 @@ module _ {old b c : PacketReader} (piece : List ℕ) (done : ℕ) {before held :
         },
       )
 
-  pub fed_more : fed.got ≡ More → Prints old c piece w (flow before held)
+  pub fed_more : fed.got ≡ More → Prints view start middle old c piece w (flow before held)
   fed_more is =
       let tells = tells_by More is in
       let all : take (done + fed.used) piece ≡ piece =
       ap (λ (n : ℕ). take n piece) (omega (arith, tells.0, left_length, within)) ∙ take-length piece in
       rw (take_joined piece done fed.used within, all) at (prints_quiet so_far c (take fed.used (left piece done)) (reads_by More is))
 
-  pub fed_packet : (p : Packet) (offset : ℕ) {after : Option (List ℕ)} {x : List ℕ} → fed.got ≡ GotPacket p offset
-      → PutAs false (flow held after) w (line_of (record { packet = seen p; offset = offset })) x
-      → Prints old c (take (done + fed.used) piece) x (flow before after)
-  fed_packet p offset is line =
+  pub fed_packet : (p : Packet) (offset : ℕ) {final : Tally} {after_it : Option (List ℕ)} {x : List ℕ} → fed.got ≡ GotPacket p offset
+      → PutAs false (flow held after_it) w (viewed view middle (record { packet = seen p; offset = offset })) x
+      → final ≡ after view middle (record { packet = seen p; offset = offset })
+      → Prints view start final old c (take (done + fed.used) piece) x (flow before after_it)
+  fed_packet p offset is line counts =
       rw (take_joined piece done fed.used within) at
-      (prints_packet so_far c (take fed.used (left piece done)) (record { packet = seen p; offset = offset }) (reads_by (GotPacket p offset) is) line)
+      (prints_packet so_far c (take fed.used (left piece done)) (record { packet = seen p; offset = offset }) (reads_by (GotPacket p offset) is) line counts)
 
-  pub fed_packet_front : (p : Packet) (offset : ℕ) {after : Option (List ℕ)} {x : List ℕ} → fed.got ≡ GotPacket p offset
-      → PutAs true (flow held after) w (line_of (record { packet = seen p; offset = offset })) x → WritesFront old c piece (flow before after)
-  fed_packet_front p offset is line = (
+  pub fed_packet_front : (p : Packet) (offset : ℕ) {final : Tally} {after_it : Option (List ℕ)} {x : List ℕ} → fed.got ≡ GotPacket p offset
+      → PutAs true (flow held after_it) w (viewed view middle (record { packet = seen p; offset = offset })) x
+      → final ≡ after view middle (record { packet = seen p; offset = offset })
+      → WritesFront view start final old c piece (flow before after_it)
+  fed_packet_front p offset is line counts = (
     done + fed.used,
     rw (take_joined piece done fed.used within) at (prints_packet_front so_far c (take fed.used (left piece done))
-        (record { packet = seen p; offset = offset }) (reads_by (GotPacket p offset) is) line),
+        (record { packet = seen p; offset = offset }) (reads_by (GotPacket p offset) is) line counts),
   )
 
 -- the write of what waited failed, whether or not the piece had a fault
-pub sent_in_part : (old new : PacketReader) (piece w : List ℕ) (before held after : Option (List ℕ)) (stopped : Option Fault)
-    → PrintsPiece stopped old new piece w (flow before held) → AppendsFront held after w → WritesFront old new piece (flow before after)
-sent_in_part old new piece w before held after None prints front = (length piece, rw (take-length piece) (sent_on prints.0 true after front))
-sent_in_part old new piece w before held after (Some f) (used, prints, meets) front = (used, sent_on prints true after front)
+pub sent_in_part : {view : Option View} {start final : Tally} (old new : PacketReader) (piece w : List ℕ) (before held later : Option (List ℕ))
+    (stopped : Option Fault) → PrintsPiece view start final stopped old new piece w (flow before held) → AppendsFront held later w
+    → WritesFront view start final old new piece (flow before later)
+sent_in_part old new piece w before held later None prints front = (length piece, rw (take-length piece) (sent_on prints.0 true later front))
+sent_in_part old new piece w before held later (Some f) (used, prints, meets) front = (used, sent_on prints true later front)
 
 -- ---- the run
 
 -- so far the reader has used all that was read, the lines given are those of its packets, and so many reads brought some bytes
-pub record ShowsSoFar (reader : PacketReader) (count : ℕ) (read given : List ℕ) : Type 0 where
+pub record ShowsSoFar (view : Option View) (start tally_now : Tally) (reader : PacketReader) (count : ℕ) (read given : List ℕ) : Type 0 where
   pub packets : List Given
   pub rest : List ℕ
   pub reads : Reads reader 0 read packets rest
-  pub lines : given ≡ lines_of packets
+  pub lines : given ≡ shown view start packets
+  pub tally : tally_now ≡ tally_of view start packets
   pub brought : count ≤ length read
 
 -- how a run with this answer moved its streams
-abbrev pub RunEnds : Result (Unit {0}) RunFault → Bool → ℕ → Flow → Flow → Type 0
-RunEnds result ended turns reader writer = Moves (is_broken result) (Shows result ended turns) (reader ∷ []) (writer ∷ [])
+abbrev pub RunEnds : Option View → Tally → Tally → Result (Unit {0}) RunFault → Bool → ℕ → Flow → Flow → Type 0
+RunEnds view start final result ended turns reader writer = Moves (is_broken result) (ShowsView view start final result ended turns) (reader ∷ []) (writer ∷ [])
 
 -- the state of a reader with this fault, or with none
 state_of : (reader : PacketReader) (fault : Option Fault) (bytes : List ℕ) (packets : List Given) (rest : List ℕ) → fault_of reader ≡ fault
@@ -160,49 +199,55 @@ state_of : (reader : PacketReader) (fault : Option Fault) (bytes : List ℕ) (pa
 state_of reader fault bytes packets rest told reads =
     rw (zero-add (length bytes), told) at reads.state
 
--- the lines of a piece were written, and reading goes on
-pub shows_more : (old new : PacketReader) (count n : ℕ) (piece : List ℕ) {left_before left left_after held_before held held_after : Option (List ℕ)}
-    → Moved false (ShowsSoFar old count) (flow left_before left) (flow held_before held) → Consumes left left_after (take n piece)
-    → Writes false old new (take n piece) (flow held held_after) → n ≤ length piece → 0 < n
-    → Moved false (ShowsSoFar new (count + 1)) (flow left_before left_after) (flow held_before held_after)
-shows_more old new count n piece so_far read writes within some =
-    moved_on false (ShowsSoFar new (count + 1)) (take n piece) (lines_of writes.packets) (λ came given shows.
-    let (rest, reads) = writes.reads 0 came shows.packets shows.rest shows.reads in
-    record {
-      packets = shows.packets ++ writes.packets;
-      rest = rest;
-      reads = reads;
-      lines = rw (shows.lines, lines-append shows.packets writes.packets) refl;
-      brought = brings_more count n came piece shows.brought within some;
-    }) so_far read writes.written
-
-module _ (ended : Bool) (turns count : ℕ) (old new : PacketReader) (bytes : List ℕ)
-    {left_before left left_after held_before held held_after : Option (List ℕ)} where
-  -- the lines of a front of a piece were written, or a front of them, and the run ended there
-  stops_in : (result : Result (Unit {0}) RunFault) (used : ℕ) → Moved false (ShowsSoFar old count) (flow left_before left) (flow held_before held)
-      → Consumes left left_after bytes → Writes (is_broken result) old new (take used bytes) (flow held held_after)
-      → ((came : List ℕ) (packets : List Given) (rest : List ℕ) → Reads new 0 (came ++ take used bytes) packets rest
-      → EndsAs result ended turns (came ++ take used bytes) rest (drop used bytes))
-      → RunEnds result ended turns (flow left_before left_after) (flow held_before held_after)
-  stops_in result used so_far read writes ends =
-      moves (λ came given shows. shows) (moved_on (is_broken result)
-      (λ came given. Shows result ended turns (came ∷ []) (given ∷ [])) bytes (lines_of writes.packets) (λ came given shows.
+module _ {view : Option View} {start middle final : Tally} where
+  -- the lines of a piece were written, and reading goes on
+  pub shows_more : (old new : PacketReader) (count n : ℕ) (piece : List ℕ) {left_before left left_after held_before held held_after : Option (List ℕ)}
+      → Moved false (ShowsSoFar view start middle old count) (flow left_before left) (flow held_before held) → Consumes left left_after (take n piece)
+      → Writes view middle final false old new (take n piece) (flow held held_after) → n ≤ length piece → 0 < n
+      → Moved false (ShowsSoFar view start final new (count + 1)) (flow left_before left_after) (flow held_before held_after)
+  shows_more old new count n piece so_far read writes within some =
+      moved_on false (ShowsSoFar view start final new (count + 1)) (take n piece) (shown view middle writes.packets) (λ came given shows.
       let (rest, reads) = writes.reads 0 came shows.packets shows.rest shows.reads in
       record {
-        used = came ++ take used bytes;
-        unused = drop used bytes;
         packets = shows.packets ++ writes.packets;
         rest = rest;
-        cut = simp (append_assoc, take-append-drop);
-        splits = reads.splits;
-        lines = rw (shows.lines, lines-append shows.packets writes.packets) refl;
-        ends = ends came (shows.packets ++ writes.packets) rest reads;
+        reads = reads;
+        lines = rw (shows.lines, shown-then view start shows.packets writes.packets shows.tally) refl;
+        tally = tally-then view start shows.packets writes.packets shows.tally writes.tally;
+        brought = brings_more count n came piece shows.brought within some;
+      }) so_far read writes.written
+
+module _ {view : Option View} {start middle final : Tally} (ended : Bool) (turns count : ℕ) (old new : PacketReader) (bytes : List ℕ)
+    {left_before left left_after held_before held held_after : Option (List ℕ)} where
+  -- the lines of a front of a piece were written, or a front of them, and the run ended there
+  stops_in : (result : Result (Unit {0}) RunFault) (used : ℕ)
+      → Moved false (ShowsSoFar view start middle old count) (flow left_before left) (flow held_before held) → Consumes left left_after bytes
+      → Writes view middle final (is_broken result) old new (take used bytes) (flow held held_after)
+      → ((came : List ℕ) (packets : List Given) (rest : List ℕ) → Reads new 0 (came ++ take used bytes) packets rest
+      → EndsAs result ended turns (came ++ take used bytes) rest (drop used bytes))
+      → RunEnds view start final result ended turns (flow left_before left_after) (flow held_before held_after)
+  stops_in result used so_far read writes ends =
+      moves (λ came given shows. shows) (moved_on (is_broken result)
+      (λ came given. ShowsView view start final result ended turns (came ∷ []) (given ∷ [])) bytes (shown view middle writes.packets) (λ came given shows.
+      let (rest, reads) = writes.reads 0 came shows.packets shows.rest shows.reads in
+      record {
+        shows = record {
+          used = came ++ take used bytes;
+          unused = drop used bytes;
+          packets = shows.packets ++ writes.packets;
+          rest = rest;
+          cut = simp (append_assoc, take-append-drop);
+          splits = reads.splits;
+          lines = rw (shows.lines, shown-then view start shows.packets writes.packets shows.tally) refl;
+          ends = ends came (shows.packets ++ writes.packets) rest reads;
+        };
+        tally = tally-then view start shows.packets writes.packets shows.tally writes.tally;
       }) so_far read writes.written)
 
   -- a piece ended the run
-  pub stops_by : (fault : RunFault) → Moved false (ShowsSoFar old count) (flow left_before left) (flow held_before held) → Consumes left left_after bytes
-      → ShowsPiece (Err fault) old new bytes (flow held held_after)
-      → RunEnds (Err fault) ended turns (flow left_before left_after) (flow held_before held_after)
+  pub stops_by : (fault : RunFault) → Moved false (ShowsSoFar view start middle old count) (flow left_before left) (flow held_before held)
+      → Consumes left left_after bytes → ShowsPiece view middle final (Err fault) old new bytes (flow held held_after)
+      → RunEnds view start final (Err fault) ended turns (flow left_before left_after) (flow held_before held_after)
   stops_by ReadFault so_far read shown = absurd shown
   stops_by WriteFault so_far read (used, writes) = stops_in (Err WriteFault) used so_far read writes (λ came packets rest reads. tt)
   stops_by ReadLimit so_far read shown = absurd shown
@@ -212,49 +257,55 @@ module _ (ended : Bool) (turns count : ℕ) (old new : PacketReader) (bytes : Li
         timely f.kind ended (drop used bytes) meets.shown.not_the_end (λ e. omega (arith, meets.shown.one_more e, length-drop used bytes)),
       ))
 
-module _ (ended : Bool) (turns count : ℕ) (reader : PacketReader) where
+module _ {view : Option View} {start final : Tally} (ended : Bool) (turns count : ℕ) (reader : PacketReader) where
   -- all that was read was used, and the run ended with this rest
-  ends_here : (result : Result (Unit {0}) RunFault) (came given : List ℕ) → ShowsSoFar reader count came given
+  ends_here : (result : Result (Unit {0}) RunFault) (came given : List ℕ) → ShowsSoFar view start final reader count came given
       → ((packets : List Given) (rest : List ℕ) → Reads reader 0 came packets rest → EndsAs result ended turns came rest [])
-      → Shows result ended turns (came ∷ []) (given ∷ [])
+      → ShowsView view start final result ended turns (came ∷ []) (given ∷ [])
   ends_here result came given shows ends = record {
-    used = came;
-    unused = [];
-    packets = shows.packets;
-    rest = shows.rest;
-    cut = ap (λ (l : List ℕ). l ∷ []) (sym (append-nil came));
-    splits = shows.reads.splits;
-    lines = ap (λ (l : List ℕ). l ∷ []) shows.lines;
-    ends = ends shows.packets shows.rest shows.reads;
+    shows = record {
+      used = came;
+      unused = [];
+      packets = shows.packets;
+      rest = shows.rest;
+      cut = ap (λ (l : List ℕ). l ∷ []) (sym (append-nil came));
+      splits = shows.reads.splits;
+      lines = ap (λ (l : List ℕ). l ∷ []) shows.lines;
+      ends = ends shows.packets shows.rest shows.reads;
+    };
+    tally = shows.tally;
   }
 
   module _ (sound : fault_of reader ≡ None) where
     -- a read failed
-    pub ends_unread : {writer : Flow} {before left after : Option (List ℕ)} → Moved false (ShowsSoFar reader count) (flow before left) writer
-        → Keeps left after → RunEnds (Err ReadFault) ended turns (flow before after) writer
+    pub ends_unread : {writer : Flow} {before left after : Option (List ℕ)} → Moved false (ShowsSoFar view start final reader count) (flow before left) writer
+        → Keeps left after → RunEnds view start final (Err ReadFault) ended turns (flow before after) writer
     ends_unread so_far kept =
         moves (λ came given shows. ends_here (Err ReadFault) came given shows
         (λ packets rest reads. ((state_of reader None came packets rest sound reads).1, refl))) (moved_unread so_far kept)
 
     -- all reads were made, and each brought some bytes
-    pub ends_spent : {left writer : Flow} → Moved false (ShowsSoFar reader count) left writer → turns ≤ count → RunEnds (Err ReadLimit) ended turns left writer
+    pub ends_spent : {left writer : Flow} → Moved false (ShowsSoFar view start final reader count) left writer → turns ≤ count
+        → RunEnds view start final (Err ReadLimit) ended turns left writer
     ends_spent so_far spent =
         moves (λ came given shows. ends_here (Err ReadLimit) came given shows
         (λ packets rest reads. ((state_of reader None came packets rest sound reads).1, refl, omega (arith, spent, shows.brought)))) so_far
 
 -- a reader that used nothing wrote nothing
-all_read : (old new : PacketReader) (held : Option (List ℕ)) → ReadsOn old [] [] new → Writes false old new [] (flow held held)
-all_read old new held carries = record { packets = []; reads = carries; written = written_nothing held }
+all_read : {view : Option View} {t : Tally} (old new : PacketReader) (held : Option (List ℕ)) → ReadsOn old [] [] new
+    → Writes view t t false old new [] (flow held held)
+all_read old new held carries = record { packets = []; reads = carries; written = written_nothing held; tally = refl }
 
-module _ (ended : Bool) (turns count : ℕ) (old new : PacketReader) {left_before left left_after held_before held : Option (List ℕ)}
-    (so_far : Moved false (ShowsSoFar old count) (flow left_before left) (flow held_before held)) (read : Consumes left left_after [])
+module _ {view : Option View} {start final : Tally} (ended : Bool) (turns count : ℕ) (old new : PacketReader)
+    {left_before left left_after held_before held : Option (List ℕ)}
+    (so_far : Moved false (ShowsSoFar view start final old count) (flow left_before left) (flow held_before held)) (read : Consumes left left_after [])
     (carries : ReadsOn old [] [] new) (told : ended ≡ true) where
   -- the input ended, between two packets or inside one
   pub ends_closed : (closed : Result (Unit {0}) Fault) (result : Result (Unit {0}) RunFault)
       → MatchResult closed (λ done. result ≡ Ok done) (λ f. IsErrAnd result (λ fault. fault ≡ Refused f))
       → OnOk closed ((new ≡ old) × (fault_of old ≡ None) × (is_open old ≡ false)) → IfErr closed (λ f. fault_of new ≡ Some f)
       → IfErr closed (λ f. (is_open old ≡ true) × (f.kind ≡ Truncated) × (f.offset + open_length old ≡ position_of old))
-      → RunEnds result ended turns (flow left_before left_after) (flow held_before held)
+      → RunEnds view start final result ended turns (flow left_before left_after) (flow held_before held)
   ends_closed (Ok done) result is between fails cut =
       rw is (stops_in ended turns count old new [] (Ok done) 0 so_far read (all_read old new held carries) (λ came packets rest reads. (
         none_between new rest (state_of new None (came ++ []) packets rest (ap fault_of between.0 ∙ between.1) reads).0 (ap is_open between.0 ∙ between.2),
@@ -267,3 +318,25 @@ module _ (ended : Bool) (turns count : ℕ) (old new : PacketReader) {left_befor
         (state_of new (Some f) (came ++ []) packets rest fails reads).1,
         rw cut.1 (refl, told),
       )))
+
+-- without a view the run is that of `show`
+pub without_view : {broken ended : Bool} {turns : ℕ} {start final : Tally} {result : Result (Unit {0}) RunFault} {readers writers : List Flow}
+    → Moves broken (ShowsView None start final result ended turns) readers writers → Moves broken (Shows result ended turns) readers writers
+without_view {start = start} ran =
+    let shows = ran.related.shows in
+    record {
+      used = ran.used;
+      given = ran.given;
+      read = ran.read;
+      written = ran.written;
+      related = record {
+        used = shows.used;
+        unused = shows.unused;
+        packets = shows.packets;
+        rest = shows.rest;
+        cut = shows.cut;
+        splits = shows.splits;
+        lines = shows.lines ∙ ap (λ (l : List ℕ). l ∷ []) (plain start shows.packets);
+        ends = shows.ends;
+      };
+    }

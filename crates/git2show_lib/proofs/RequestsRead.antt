@@ -9,8 +9,7 @@ use Rattle.std.proofs.KnownBytes.{Consumes-nil, Consumes-trans, Consumes-kept}
 use Rattle.git_pkt.specs.declared.fault.Fault.{Fault}
 use Rattle.git_pkt.specs.Streams.{Flow, flow}
 use Rattle.git_pkt.proofs.EngineLemmas.{timely}
-use Rattle.git_msg.specs.Asked.{Asked}
-use Rattle.git_msg.specs.declared.requests.Request.{Request as HeldRequest}
+use Rattle.git2show_lib.specs.OtherLines.{Question, other as another}
 use Rattle.git_client.specs.Machine.RunSteps.{window_of}
 use Rattle.git_client.specs.declared.hearing.Window.{Window}
 use Rattle.git2show_lib.specs.declared.checking.CheckFault.{CheckFault}
@@ -18,7 +17,10 @@ use Rattle.git2show_lib.specs.declared.checking.CheckFault.TheVariants.{ReadFaul
 use Rattle.git2show_lib.specs.Machine.JudgedRequests.{Closes, Feeds, HasRead, IsOnward, IsReady, asked_by}
 use Rattle.git2show_lib.specs.declared.judged_requests.JudgedGot.{JudgedGot}
 use Rattle.git2show_lib.specs.declared.judged_requests.JudgedGot.TheVariants.{More, Request, Other, Stop, Failed}
+use Rattle.git2show_lib.specs.declared.judged_requests.Judged.{Judged}
 use Rattle.git2show_lib.specs.declared.judged_requests.JudgedRead.{JudgedRead}
+use Rattle.git2show_lib.specs.declared.other_lines.OtherLines.{OtherLines}
+use Rattle.git2show_lib.specs.Machine.KeptLines.{noted_in}
 use Rattle.git2show_lib.specs.declared.requests_read.Next.{Next}
 use Rattle.git2show_lib.specs.declared.judged_requests.JudgedRequests.{JudgedRequests}
 use Rattle.git2show_lib.proofs.JudgedReadings.{asked_so_far, begun_so_far, nothing_begun, refused_as, stopped_at}
@@ -75,14 +77,14 @@ module _ {A : Type 0} where
 
     -- of the bytes that were left some were read
     module _ {used : ℕ} {got : JudgedGot A} {new : JudgedRequests A} (feeds : Feeds middle unused (record { used = used; got = got }) new) where
-      fed : (asked : List (Option Asked)) → asked_by got ≡ asked → ReadsOn old new asked waiting (drop used unused) (flow before left)
+      fed : (asked : List Question) → asked_by got ≡ asked → ReadsOn old new asked waiting (drop used unused) (flow before left)
       fed asked is = record {
         came = so_far.came;
         used = so_far.used ++ take used unused;
         read = so_far.read;
         parts = so_far.parts ∙ simp (append_assoc, take-append-drop);
         reads = λ bytes known h.
-            subst (λ (qs : List (Option Asked)). HasRead (bytes ++ (so_far.used ++ take used unused)) (known ++ qs) new) is
+            subst (λ (qs : List Question). HasRead (bytes ++ (so_far.used ++ take used unused)) (known ++ qs) new) is
             (rw (append_assoc bytes so_far.used (take used unused), append-nil known) at
             (feeds.reads (bytes ++ so_far.used) (known ++ []) (so_far.reads bytes known h)));
         advertised = feeds.by ∙ so_far.advertised;
@@ -91,7 +93,7 @@ module _ {A : Type 0} where
 
     module _ {new : JudgedRequests A} (read : JudgedRead A) where
       -- they end a request
-      fed_whole : {ended : Bool} {got : JudgedGot A} {question : Option Asked} {rest : List ℕ}
+      fed_whole : {ended : Bool} {got : JudgedGot A} {question : Question} {rest : List ℕ}
           → Feeds middle unused (record { used = read.used; got = got }) new → asked_by got ≡ question ∷ [] → IsOnward read.used new
           → read.used ≤ length unused → drop read.used unused ≡ rest → ended ≡ false → ReadsWhole ended old new question waiting rest (flow before left)
       unfolding fed
@@ -105,15 +107,16 @@ module _ {A : Type 0} where
           })
 
       -- that is this request
-      pub fed_request : {ended : Bool} {request : HeldRequest A} {rest : List ℕ} → read.got ≡ Request request → Feeds middle unused read new
-          → read.used ≤ length unused → drop read.used unused ≡ rest → ended ≡ false → ReadsRequest ended old new request waiting rest (flow before left)
+      pub fed_request : {ended : Bool} {judged : Judged A} {rest : List ℕ} → read.got ≡ Request judged → Feeds middle unused read new
+          → read.used ≤ length unused → drop read.used unused ≡ rest → ended ≡ false → ReadsRequest ended old new judged waiting rest (flow before left)
       fed_request is feeds within rest_is open_ended =
           let news = feeds_with read is feeds in
           record { whole = fed_whole news refl news.leaves.0 within rest_is open_ended; format = news.leaves.1 }
 
       -- or one for another command
-      pub fed_other : {ended : Bool} {rest : List ℕ} → read.got ≡ Other → Feeds middle unused read new → read.used ≤ length unused
-          → drop read.used unused ≡ rest → ended ≡ false → ReadsWhole ended old new None waiting rest (flow before left)
+      pub fed_other : {ended : Bool} {others : OtherLines A} {rest : List ℕ} → read.got ≡ Other others → Feeds middle unused read new
+          → read.used ≤ length unused
+          → drop read.used unused ≡ rest → ended ≡ false → ReadsWhole ended old new (another (noted_in others).lines) waiting rest (flow before left)
       fed_other is feeds within rest_is open_ended =
           let news = feeds_with read is feeds in
           fed_whole news refl news.leaves within rest_is open_ended

@@ -1,5 +1,5 @@
 -- The lines of a script with one more after them.
-use Rattle.std.proofs.Common.{◌≡◌, ◌⊎◌, ℕ, List, [], ◌∷◌, ◌++◌, Some, refl, ap, inl, inr, map}
+use Rattle.std.proofs.Common.{arith, ◌≡◌, ◌⊎◌, ℕ, ◌≤◌, List, [], ◌∷◌, ◌++◌, Some, refl, ap, inl, inr, length, map}
 use Rattle.git_names.specs.declared.object_format.Format.{Format}
 use Rattle.git_msg.specs.declared.offers.Offer.{Offer}
 use Rattle.git_msg.specs.declared.arguments.Command.{Command}
@@ -18,6 +18,14 @@ follow_more offer limit before [] [] text line h more = (more, tt)
 follow_more offer limit before (t ∷ ts) (l ∷ ls) text line h more = (h.0, follow_more offer limit (l ∷ before) ts ls text line h.1 more)
 follow_more offer limit before [] (l ∷ ls) text line h more = absurd h
 follow_more offer limit before (t ∷ ts) [] text line h more = absurd h
+
+-- there are as many lines as texts
+pub same_length : (offer : Offer) (limit : ℕ) (before : List ScriptLine) (texts : List (List ℕ)) (lines : List ScriptLine)
+    → FollowAll offer limit before texts lines → length lines ≡ length texts
+same_length offer limit before [] [] h = refl
+same_length offer limit before (t ∷ ts) (l ∷ ls) h = omega (arith, same_length offer limit (l ∷ before) ts ls h.1)
+same_length offer limit before [] (l ∷ ls) h = absurd h
+same_length offer limit before (t ∷ ts) [] h = absurd h
 
 upto_blank : (lines : List ScriptLine) → arguments_upto (lines ++ blank ∷ []) ≡ arguments_upto lines
 upto_blank [] = refl
@@ -48,6 +56,13 @@ requests_cut format limit (blank ∷ lines) c more = requests_cut format limit l
 requests_cut format limit (command d ∷ lines) c more =
     rw (upto_command lines c more, requests_cut format limit lines c more) refl
 requests_cut format limit (argument arg ∷ lines) c more = requests_cut format limit lines c more
+
+-- there are no more requests than lines
+pub few_requests : (format : Format) (limit : ℕ) (lines : List ScriptLine) → length (requests_in format limit lines) ≤ length lines
+few_requests format limit [] = omega arith
+few_requests format limit (blank ∷ lines) = omega (arith, few_requests format limit lines)
+few_requests format limit (command c ∷ lines) = omega (arith, few_requests format limit lines)
+few_requests format limit (argument arg ∷ lines) = omega (arith, few_requests format limit lines)
 
 upto_all : (args : List Arg) → arguments_upto (map argument args) ≡ args
 upto_all [] = refl

@@ -7,12 +7,13 @@ use Rattle.git_pkt.specs.Packets.{text_of}
 use Rattle.git_pkt.proofs.Texts.{text_loses_a_line_end}
 use Rattle.git_msg.specs.Texts.{parts_left, parts_of}
 use Rattle.git_msg.specs.declared.offers.Offer.{Offer}
+use Rattle.git_msg.specs.Memory.{HasRefused}
 use Rattle.git_msg.proofs.TextParts.{bytes_left}
 use Rattle.git_repository.specs.RepositoryLines.{lines_of}
 use Rattle.git_repository.specs.declared.text_faults.LineFault.TheVariants.{Refused, OutOfMemory}
-use Rattle.git2show_lib.specs.Scripts.{ScriptLine, FollowAll, HasBadScriptLine, WantsScriptMemory}
+use Rattle.git2show_lib.specs.Scripts.{ScriptLine, FollowAll, HasBadScriptLine, WantsScriptMemory, list_bytes}
 use Rattle.git2show_lib.specs.Machine.HeldScripts.{Held, Holds, IsLineFault, TakesLine, nothing_held}
-use Rattle.git2show_lib.proofs.ScriptLists.{follow_more}
+use Rattle.git2show_lib.proofs.ScriptLists.{follow_more, same_length}
 use Rattle.git2show_lib.proofs.Scripting.{holds_nothing}
 
 -- a text without its line end is no longer
@@ -79,8 +80,8 @@ module _ {A : Type 0} where
         }
 
     -- may not follow: so it is the first bad one
-    pub refused_at : IsLineFault old this Refused → HasBadScriptLine offer limit (lines_of text) (line + 1)
-    refused_at fault = record {
+    pub refused_at : (refuses : ℕ → Type 0) (each : ℕ) → IsLineFault refuses each old this Refused → HasBadScriptLine offer limit (lines_of text) (line + 1)
+    refused_at refuses each fault = record {
       before = h.before;
       bad = this;
       others = parts_left 10 next;
@@ -92,9 +93,11 @@ module _ {A : Type 0} where
     }
 
     -- may follow, and there is no memory for it
-    pub no_memory_at : IsLineFault old this OutOfMemory → WantsScriptMemory offer limit (lines_of text)
-    no_memory_at fault =
-        let (next_line, may_follow, takes_memory) = fault h.lines h.holds in
+    pub no_memory_at : (refuses : ℕ → Type 0) (each : ℕ) → IsLineFault refuses each old this OutOfMemory
+        → WantsScriptMemory refuses each offer limit (lines_of text)
+    no_memory_at refuses each fault =
+        let (next_line, may_follow, takes_memory, refused) = fault h.lines h.holds in
+        let count = same_length offer limit [] h.before h.lines h.follow in
         record {
           before = h.before;
           at = this;
@@ -105,4 +108,6 @@ module _ {A : Type 0} where
           line = next_line;
           may_follow = rw (h.offer_is, h.limit_is) at may_follow;
           takes_memory = takes_memory;
+          refused = subst (λ (n : ℕ). HasRefused refuses (list_bytes each limit n next_line)) count
+              (subst (λ (n : ℕ). HasRefused refuses (list_bytes each n (length h.lines) next_line)) h.limit_is refused);
         }

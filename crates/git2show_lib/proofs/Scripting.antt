@@ -3,9 +3,10 @@ use Rattle.std.proofs.Common.{arith, ◌≡◌, ℕ, ◌+◌, ◌-◌, ◌<◌, 
 use Rattle.std.proofs.Common.{[], ◌∷◌, ◌++◌, Some, None, refl, ap, sym, ◌∙◌, subst, length, map, get_or, set}
 use Rattle.std.proofs.Common.{append_assoc, length-append}
 use Rattle.std.specs.Prelude.{MatchResult}
+use Rattle.std.proofs.Math.Nat.{mul-le-mul_right}
 use Rattle.std.proofs.Math.Seq.{get_or-append_seam}
 use Rattle.std.proofs.lemmas.Bool.Decides.{nat_tests}
-use Rattle.std.proofs.lemmas.List.{map-append, nil_from_length, same_from_push, set_at}
+use Rattle.std.proofs.lemmas.List.{length-map, map-append, nil_from_length, same_from_push, set_at}
 use Rattle.std.proofs.lemmas.List.Sums.{sum_by-append}
 use Rattle.std.proofs.lemmas.List.Elements.{All-nil, All-pop, All-push}
 use Rattle.git_names.specs.declared.object_format.Format.{Format}
@@ -18,18 +19,20 @@ use Rattle.git_msg.specs.Arguments.{Arg, IsArgumentFault, IsInRange, ReadsAs, na
 use Rattle.git_msg.specs.Asked.{Asked, asked_by, nothing_asked, with_argument}
 use Rattle.git_msg.specs.Checks.{Passes, Refuses}
 use Rattle.git_msg.specs.Machine.HeldRequest.{IsEmpty, Keeps, add_checks, command_of, format_of, holding_of, limit_of}
+use Rattle.git_msg.specs.Memory.{HasRefused}
 use Rattle.git_msg.specs.Kept.{IsNew, Kept, KeepsArgument}
 use Rattle.git_msg.proofs.ArgumentsInOrder.{asked_snoc}
 use Rattle.git_msg.proofs.AskedValues.{says_in_range}
 use Rattle.git_msg.proofs.Rows.{argument_or_fault, one_argument}
 use Rattle.git_msg.proofs.Values.{added_or_refused}
+use Rattle.git_server.proofs.Refusals.{refused_within}
 use Rattle.git_repository.specs.RepositoryLines.{longest_line}
 use Rattle.git_repository.specs.declared.text_faults.LineFault.{LineFault}
 use Rattle.git_repository.specs.declared.text_faults.LineFault.TheVariants.{Refused, OutOfMemory}
 use Rattle.git2show_lib.specs.Scripts.{ScriptLine, blank, command, argument, MayFollow, kept_after, nearest, open_after, request_of, requests_in}
 use Rattle.git2show_lib.specs.Machine.HeldScripts.{Held, AddsArgument, Begins, FitsIn, GoesOn, HasOpen, Holds, IsBeginFault, IsLineFault, TakesLine}
 use Rattle.git2show_lib.specs.Machine.HeldScripts.{nothing_held, with_requests}
-use Rattle.git2show_lib.proofs.ScriptLists.{Cut, cut_of, nearest_more, requests_blank, requests_cut, requests_of_cut}
+use Rattle.git2show_lib.proofs.ScriptLists.{Cut, cut_of, few_requests, nearest_more, requests_blank, requests_cut, requests_of_cut}
 
 module _ {X : Type 0} where
   pub last_item : (items others : List X) (last d : X) → items ≡ others ++ last ∷ [] → get_or items (length items - 1) d ≡ last
@@ -149,18 +152,28 @@ module _ {A : Type 0} where
   }
 
   -- why a command is not taken
-  command_refused : (old : Held A) (text : List ℕ) → old.is_open ≡ false → (text ≡ [] → ⊥) → IsBeginFault text Refused → IsLineFault old text Refused
-  command_refused old text shut some none lines h blank may = some may
-  command_refused old text shut some none lines h (command c) may = none c may.1
-  command_refused old text shut some none lines h (argument arg) may =
+  command_refused : (refuses : ℕ → Type 0) (each : ℕ) (old : Held A) (text : List ℕ) → old.is_open ≡ false → (text ≡ [] → ⊥)
+      → IsBeginFault refuses each old text Refused → IsLineFault refuses each old text Refused
+  command_refused refuses each old text shut some none lines h blank may = some may
+  command_refused refuses each old text shut some none lines h (command c) may = none c may.1
+  command_refused refuses each old text shut some none lines h (argument arg) may =
       let shut_is = none_open lines old shut h in let open_is = may.is_open in absurd (cc)
 
+  -- a request more takes no more of a list than a line more
+  one_more : (lines : List ScriptLine) (held : Held A) → Holds lines held → length held.requests + 1 ≤ length lines + 1
+  one_more lines held h =
+      let few = few_requests held.offer.format held.limit lines in
+      omega (arith, few, ap length h.requests_are, length-map held.requests (holding_of {A = A}))
+
   -- the answer on a command, as one on a line
-  pub said_command : (old new : Held A) (text : List ℕ) (result : Result (Unit {0}) LineFault) → old.is_open ≡ false → (text ≡ [] → ⊥)
-      → MatchResult result (λ _. Begins old text new) (IsBeginFault text) → MatchResult result (λ _. TakesLine old text new) (IsLineFault old text)
-  said_command old new text (Ok u) shut some b = rw b.new_is (begun old text b.of b.request shut b.spelled b.is_empty)
-  said_command old new text (Err Refused) shut some none = command_refused old text shut some none
-  said_command old new text (Err OutOfMemory) shut some is = λ lines h. (command is.0, (none_open lines old shut h, is.1), tt)
+  pub said_command : (refuses : ℕ → Type 0) (each : ℕ) (old new : Held A) (text : List ℕ) (result : Result (Unit {0}) LineFault) → old.is_open ≡ false
+      → (text ≡ [] → ⊥)
+      → MatchResult result (λ _. Begins old text new) (IsBeginFault refuses each old text)
+      → MatchResult result (λ _. TakesLine old text new) (IsLineFault refuses each old text)
+  said_command refuses each old new text (Ok u) shut some b = rw b.new_is (begun old text b.of b.request shut b.spelled b.is_empty)
+  said_command refuses each old new text (Err Refused) shut some none = command_refused refuses each old text shut some none
+  said_command refuses each old new text (Err OutOfMemory) shut some is = λ lines h.
+      (command is.0, (none_open lines old shut h, is.1), tt, refused_within refuses _ _ (mul-le-mul_right each (one_more lines old h)) is.2)
 
   -- the last request has the format and the limit of them all
   last_format : (lines : List ScriptLine) (held : Held A) (h : Holds lines held) (o : HasOpen lines held.requests) → format_of o.last ≡ held.offer.format
@@ -246,27 +259,28 @@ module _ {A : Type 0} where
       }
 
   -- why an argument is not taken
-  argument_refused : (old new : Held A) (text : List ℕ) → old.is_open ≡ true → (text ≡ [] → ⊥) → AddsArgument old text new (Err Refused)
-      → IsLineFault old text Refused
-  argument_refused old new text opened some adds lines h blank may = some may
-  argument_refused old new text opened some adds lines h (command c) may =
+  argument_refused : (refuses : ℕ → Type 0) (each : ℕ) (old new : Held A) (text : List ℕ) → old.is_open ≡ true → (text ≡ [] → ⊥)
+      → AddsArgument refuses old text new (Err Refused) → IsLineFault refuses each old text Refused
+  argument_refused refuses each old new text opened some adds lines h blank may = some may
+  argument_refused refuses each old new text opened some adds lines h (command c) may =
       let o = the_open lines old opened h in let open_is = o.open_is in let shut_is = may.0 in absurd (cc)
-  argument_refused old new text opened some adds lines h (argument arg) may =
+  argument_refused refuses each old new text opened some adds lines h (argument arg) may =
       let o = the_open lines old opened h in
       adds o.others o.last o.requests_are (last_format lines old h o) opened arg (fits_of_may_follow lines old text arg h o may)
 
   -- the answer on an argument, as one on a line
-  pub said_argument : (old new : Held A) (text : List ℕ) (result : Result (Unit {0}) LineFault) → old.is_open ≡ true → (text ≡ [] → ⊥)
-      → AddsArgument old text new result → MatchResult result (λ _. TakesLine old text new) (IsLineFault old text)
-  said_argument old new text (Ok u) opened some adds = λ lines h.
+  pub said_argument : (refuses : ℕ → Type 0) (each : ℕ) (old new : Held A) (text : List ℕ) (result : Result (Unit {0}) LineFault) → old.is_open ≡ true
+      → (text ≡ [] → ⊥)
+      → AddsArgument refuses old text new result → MatchResult result (λ _. TakesLine old text new) (IsLineFault refuses each old text)
+  said_argument refuses each old new text (Ok u) opened some adds = λ lines h.
       let o = the_open lines old opened h in
       let a = adds o.others o.last o.requests_are (last_format lines old h o) opened in
       rw a.new_is (added lines old text h o a.arg a.request a.fits_in a.keeps)
-  said_argument old new text (Err Refused) opened some adds = argument_refused old new text opened some adds
-  said_argument old new text (Err OutOfMemory) opened some adds = λ lines h.
+  said_argument refuses each old new text (Err Refused) opened some adds = argument_refused refuses each old new text opened some adds
+  said_argument refuses each old new text (Err OutOfMemory) opened some adds = λ lines h.
       let o = the_open lines old opened h in
       let a = adds o.others o.last o.requests_are (last_format lines old h o) opened in
-      (argument a.0, may_follow lines old text a.0 h o a.1, a.2)
+      (argument a.0, may_follow lines old text a.0 h o a.1, a.2, subst (HasRefused refuses) (last_limit lines old h o) a.3)
 
   -- the request that is lent for writing is the last
   pub last_now : (items others : List (Request A)) (last now : Request A) (n : ℕ) → n ≡ length items → now ≡ get_or items (n - 1) now

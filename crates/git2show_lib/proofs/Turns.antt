@@ -1,103 +1,122 @@
--- What came for each request, one more at a time; and the offsets of faults in what passes between others.
-use Rattle.std.proofs.Common.{arith, ◌≡◌, ℕ, ◌+◌, min, List, [], ◌∷◌, ◌++◌, length, Option, None, Some}
+-- What came for each request, one more at a time; its lines; and the offsets of faults in what passes between others.
+use Rattle.std.proofs.Common.{arith, ◌≡◌, ℕ, ◌+◌, ◌-◌, ◌≤◌, min, All, Bool, true, false, List, [], ◌∷◌, ◌++◌, length, Option, None, Some}
 use Rattle.std.proofs.Common.{refl, sym, ap, ◌∙◌, subst, append_assoc, append-nil, length-append}
+use Rattle.std.proofs.lemmas.List.Elements.{All-head, All-tail}
+use Rattle.git_names.specs.declared.object_format.Format.{Format}
 use Rattle.git_pkt.specs.declared.fault.Fault.{Fault}
 use Rattle.git_msg.specs.Asked.{Asked}
+use Rattle.git_client.specs.Events.{EventValue}
 use Rattle.git_client.specs.Parts.{Terms}
-use Rattle.git2show_lib.specs.Machine.CheckedStreams.{AreHeard, ComeInTurn, Heard, MayCome, Turn, asked_in, bytes_in, heard_in, heard_of, known_of, moved}
-use Rattle.git2show_lib.specs.Machine.CheckedStreams.{passed_in, passed_of, questions_in, whole_of}
+use Rattle.git2show_lib.specs.OtherLines.{Question}
+use Rattle.git2show_lib.specs.Machine.CheckedStreams.{AreHeard, ComeInTurn, Heard, MayCome, Turn, asked_in, bytes_in, events_in, known_of, moved}
+use Rattle.git2show_lib.specs.Machine.CheckedStreams.{Begun, events_shown, heard_shown, lines_begun, passed_in, questions_in, received_in, turn_shown}
+use Rattle.git2show_lib.specs.Machine.CheckedStreams.{form_of, last_form, place_after, turns_shown, whole_of}
 
 -- ---- one more turn
 
-asked_snoc : (turns : List Turn) (turn : Turn) → asked_in (turns ++ turn ∷ []) ≡ asked_in turns ++ known_of turn.question
+pub asked_snoc : (turns : List Turn) (turn : Turn) → asked_in (turns ++ turn ∷ []) ≡ asked_in turns ++ known_of turn.question
 asked_snoc [] turn = append-nil (known_of turn.question)
 asked_snoc (x ∷ turns) turn =
     ap (λ (l : List Asked). known_of x.question ++ l) (asked_snoc turns turn)
     ∙ sym (append_assoc (known_of x.question) (asked_in turns) (known_of turn.question))
 
-heard_snoc : (turns : List Turn) (turn : Turn) → heard_in (turns ++ turn ∷ []) ≡ heard_in turns ++ heard_of turn.question turn.bytes
-heard_snoc [] turn = append-nil (heard_of turn.question turn.bytes)
-heard_snoc (x ∷ turns) turn =
-    ap (λ (l : List ℕ). heard_of x.question x.bytes ++ l) (heard_snoc turns turn)
-    ∙ sym (append_assoc (heard_of x.question x.bytes) (heard_in turns) (heard_of turn.question turn.bytes))
+received_snoc : (turns : List Turn) (turn : Turn) → received_in (turns ++ turn ∷ []) ≡ received_in turns ++ turn.received
+received_snoc [] turn = append-nil turn.received
+received_snoc (x ∷ turns) turn =
+    ap (λ (l : List ℕ). x.received ++ l) (received_snoc turns turn) ∙ sym (append_assoc x.received (received_in turns) turn.received)
 
-pub passed_snoc : (turns : List Turn) (turn : Turn) → passed_in (turns ++ turn ∷ []) ≡ passed_in turns ++ passed_of turn.question turn.bytes
-passed_snoc [] turn = append-nil (passed_of turn.question turn.bytes)
-passed_snoc (x ∷ turns) turn =
-    ap (λ (l : List ℕ). passed_of x.question x.bytes ++ l) (passed_snoc turns turn)
-    ∙ sym (append_assoc (passed_of x.question x.bytes) (passed_in turns) (passed_of turn.question turn.bytes))
+pub events_snoc : (turns : List Turn) (turn : Turn) → events_in (turns ++ turn ∷ []) ≡ events_in turns ++ turn.events
+events_snoc [] turn = append-nil turn.events
+events_snoc (x ∷ turns) turn =
+    ap (λ (l : List EventValue). x.events ++ l) (events_snoc turns turn) ∙ sym (append_assoc x.events (events_in turns) turn.events)
 
 bytes_snoc : (turns : List Turn) (turn : Turn) → bytes_in (turns ++ turn ∷ []) ≡ bytes_in turns ++ turn.bytes
 bytes_snoc [] turn = append-nil turn.bytes
 bytes_snoc (x ∷ turns) turn =
     ap (λ (l : List ℕ). x.bytes ++ l) (bytes_snoc turns turn) ∙ sym (append_assoc x.bytes (bytes_in turns) turn.bytes)
 
+pub passed_snoc : (turns : List Turn) (turn : Turn) → passed_in (turns ++ turn ∷ []) ≡ passed_in turns + (length turn.bytes - length turn.received)
+passed_snoc [] turn = omega arith
+passed_snoc (x ∷ turns) turn = omega (arith, passed_snoc turns turn)
+
 pub questions_snoc : (turns : List Turn) (turn : Turn) → questions_in (turns ++ turn ∷ []) ≡ questions_in turns ++ turn.question ∷ []
 questions_snoc [] turn = refl
-questions_snoc (x ∷ turns) turn = ap (λ (l : List (Option Asked)). x.question ∷ l) (questions_snoc turns turn)
+questions_snoc (x ∷ turns) turn = ap (λ (l : List Question). x.question ∷ l) (questions_snoc turns turn)
 
-in_turn_snoc : (t : Terms) (asked : List Asked) (used : List ℕ) (turns : List Turn) (turn : Turn) → ComeInTurn t asked used turns
-    → MayCome t (asked ++ asked_in turns) (used ++ heard_in turns) turn → ComeInTurn t asked used (turns ++ turn ∷ [])
-in_turn_snoc t asked used [] turn come may = (
-  subst (λ (qs : List Asked). MayCome t qs used turn) (append-nil asked)
-      (subst (λ (bytes : List ℕ). MayCome t (asked ++ []) bytes turn) (append-nil used) may),
-  tt,
-)
-in_turn_snoc t asked used (x ∷ turns) turn (first, come) may = (
+-- the form in which the last response comes
+pub form_snoc : (format : Format) (turns : List Turn) (turn : Turn) → last_form format (turns ++ turn ∷ []) ≡ form_of format turn.question
+form_snoc format [] turn = refl
+form_snoc format (x ∷ []) turn = refl
+form_snoc format (x ∷ y ∷ turns) turn = form_snoc format (y ∷ turns) turn
+
+pub shown_snoc : (turns : List Turn) (turn : Turn) → turns_shown (turns ++ turn ∷ []) ≡ turns_shown turns ++ turn_shown turn
+shown_snoc [] turn = append-nil (turn_shown turn)
+shown_snoc (x ∷ turns) turn =
+    ap (λ (l : List ℕ). turn_shown x ++ l) (shown_snoc turns turn) ∙ sym (append_assoc (turn_shown x) (turns_shown turns) (turn_shown turn))
+
+in_turn_snoc : (t : Terms) (opening : List ℕ) (greeting : List EventValue) (earlier turns : List Turn) (turn : Turn)
+    → ComeInTurn t opening greeting earlier turns → MayCome t opening greeting (earlier ++ turns) turn
+    → ComeInTurn t opening greeting earlier (turns ++ turn ∷ [])
+in_turn_snoc t opening greeting earlier [] turn come may =
+    (subst (λ (before : List Turn). MayCome t opening greeting before turn) (append-nil earlier) may, tt)
+in_turn_snoc t opening greeting earlier (x ∷ turns) turn (first, come) may = (
   first,
-  in_turn_snoc t (asked ++ known_of x.question) (used ++ heard_of x.question x.bytes) turns turn come
-      (subst (λ (qs : List Asked). MayCome t qs ((used ++ heard_of x.question x.bytes) ++ heard_in turns) turn)
-      (sym (append_assoc asked (known_of x.question) (asked_in turns)))
-      (subst (λ (bytes : List ℕ). MayCome t (asked ++ (known_of x.question ++ asked_in turns)) bytes turn)
-      (sym (append_assoc used (heard_of x.question x.bytes) (heard_in turns))) may)),
+  in_turn_snoc t opening greeting (earlier ++ x ∷ []) turns turn come
+      (subst (λ (before : List Turn). MayCome t opening greeting before turn) (sym (append_assoc earlier (x ∷ []) turns)) may),
 )
 
 module _ (r : Heard) (turn : Turn) where
   abbrev pub with_turn : Heard
-  with_turn = record { opening = r.opening; turns = r.turns ++ turn ∷ []; begun = [] }
+  with_turn = record { opening = r.opening; greeting = r.greeting; turns = r.turns ++ turn ∷ []; begun = None }
 
   -- all bytes with one turn more
   pub whole_with : whole_of with_turn ≡ whole_of r ++ turn.bytes
   whole_with =
       ap (λ (l : List ℕ). r.opening ++ l) (bytes_snoc r.turns turn) ∙ sym (append_assoc r.opening (bytes_in r.turns) turn.bytes)
 
+  -- all lines with one turn more
+  pub shown_with : r.begun ≡ None → heard_shown with_turn ≡ heard_shown r ++ turn_shown turn
+  shown_with none =
+      append-nil (events_shown r.greeting ++ turns_shown (r.turns ++ turn ∷ []))
+      ∙ ap (λ (l : List ℕ). events_shown r.greeting ++ l) (shown_snoc r.turns turn)
+      ∙ sym (append_assoc (events_shown r.greeting) (turns_shown r.turns) (turn_shown turn))
+      ∙ ap (λ (l : List ℕ). l ++ turn_shown turn) (sym (append-nil (events_shown r.greeting ++ turns_shown r.turns)))
+      ∙ ap (λ (b : Option Begun). ((events_shown r.greeting ++ turns_shown r.turns) ++ lines_begun b) ++ turn_shown turn) (sym none)
+
   -- what a client was asked and received, with one turn more
-  pub heard_with : {t : Terms} {asked : List Asked} {used : List ℕ} → AreHeard t asked used r → MayCome t asked used turn
-      → AreHeard t (asked ++ known_of turn.question) (used ++ heard_of turn.question turn.bytes) with_turn
+  pub heard_with : {t : Terms} {asked : List Asked} {used : List ℕ} {events : List EventValue} → AreHeard t asked used events r
+      → MayCome t r.opening r.greeting r.turns turn
+      → AreHeard t (asked ++ known_of turn.question) (used ++ turn.received) (events ++ turn.events) with_turn
   heard_with {t} {asked} {used} h may = record {
     asked_is = ap (λ (l : List Asked). l ++ known_of turn.question) h.asked_is ∙ sym (asked_snoc r.turns turn);
-    used_is = ap (λ (l : List ℕ). l ++ heard_of turn.question turn.bytes) h.used_is
-        ∙ append_assoc r.opening (heard_in r.turns) (heard_of turn.question turn.bytes)
-        ∙ ap (λ (l : List ℕ). r.opening ++ l) (sym (heard_snoc r.turns turn));
-    in_turn = in_turn_snoc t [] r.opening r.turns turn h.in_turn
-        (subst (λ (qs : List Asked). MayCome t qs (r.opening ++ heard_in r.turns) turn) h.asked_is
-        (subst (λ (bytes : List ℕ). MayCome t asked bytes turn) h.used_is may));
+    used_is = ap (λ (l : List ℕ). l ++ turn.received) h.used_is ∙ append_assoc r.opening (received_in r.turns) turn.received
+        ∙ ap (λ (l : List ℕ). r.opening ++ l) (sym (received_snoc r.turns turn));
+    events_are = ap (λ (l : List EventValue). l ++ turn.events) h.events_are ∙ append_assoc r.greeting (events_in r.turns) turn.events
+        ∙ ap (λ (l : List EventValue). r.greeting ++ l) (sym (events_snoc r.turns turn));
+    one_turn = h.one_turn;
+    in_turn = in_turn_snoc t r.opening r.greeting [] r.turns turn h.in_turn may;
   }
 
 -- ---- offsets
 
--- of the bytes of a turn each is received or passes
-turn_length : (question : Option Asked) (bytes : List ℕ) → length bytes ≡ length (heard_of question bytes) + length (passed_of question bytes)
-turn_length None bytes = omega arith
-turn_length (Some q) bytes = omega arith
-
-turns_length : (turns : List Turn) → length (bytes_in turns) ≡ length (heard_in turns) + length (passed_in turns)
-turns_length [] = refl
-turns_length (x ∷ turns) =
-    omega (
-      arith,
-      turn_length x.question x.bytes,
-      turns_length turns,
-      length-append x.bytes (bytes_in turns),
-      length-append (heard_of x.question x.bytes) (heard_in turns),
-      length-append (passed_of x.question x.bytes) (passed_in turns),
-    )
-
--- so all bytes are those that the client used and those that passed
-pub whole_length : {t : Terms} {asked : List Asked} {used : List ℕ} (r : Heard) → AreHeard t asked used r
-    → length (whole_of r) ≡ length used + length (passed_in r.turns)
-whole_length r h =
-    omega (arith, ap length h.used_is, length-append r.opening (heard_in r.turns), length-append r.opening (bytes_in r.turns), turns_length r.turns)
+-- where no more is received of each turn than comes, what comes after them begins after all of their bytes
+pub bytes_before : (opening : List ℕ) (turns : List Turn) → All (λ turn. length turn.received ≤ length turn.bytes) turns
+    → place_after opening turns ≡ length (opening ++ bytes_in turns)
+bytes_before opening turns within =
+    omega (arith, length-append opening (received_in turns), length-append opening (bytes_in turns), each turns within)
+  where
+    each : (turns : List Turn) → All (λ turn. length turn.received ≤ length turn.bytes) turns
+        → length (bytes_in turns) ≡ length (received_in turns) + passed_in turns
+    each [] within = refl
+    each (x ∷ turns) within =
+        let P : Turn → Type 0 = λ turn. length turn.received ≤ length turn.bytes in
+        omega (
+          arith,
+          All-head P x turns within,
+          each turns (All-tail P x turns within),
+          length-append x.bytes (bytes_in turns),
+          length-append x.received (received_in turns),
+        )
 
 -- a count that stops at the largest number counts on the same
 pub stops_once : (a b most : ℕ) → min (a + min b most) most ≡ min (a + b) most

@@ -1,4 +1,9 @@
 pub mod PacketLines
+pub mod PrettyLines
+pub mod JsonLines
+pub mod PacketViews
 pub mod Others
+pub mod Sieve
+pub mod OtherLines
 pub mod Scripts
 pub mod Machine

@@ -3,10 +3,13 @@ pub mod ShownStream
 pub mod Reports
 pub mod CheckFaults
 pub mod Noting
+pub mod KeptLines
 pub mod JudgedRequests
 pub mod OtherAnswers
 pub mod CheckSteps
+pub mod Sieving
 pub mod CheckedStreams
+pub mod TurnSteps
 pub mod HeldScripts
 pub mod ScriptLines
 pub mod ScriptFaults

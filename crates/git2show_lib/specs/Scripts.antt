@@ -1,11 +1,12 @@
 -- What the text of a script contains, requests one after another, and which of its lines is refused.
-use Rattle.std.specs.Prelude.{◌≡◌, ℕ, ◌+◌, ◌≤◌, List, [], ◌∷◌, ◌++◌, Option, Some, None, length, sum_by}
+use Rattle.std.specs.Prelude.{◌≡◌, ℕ, ◌+◌, ◌*◌, ◌≤◌, List, [], ◌∷◌, ◌++◌, Option, Some, None, length, sum_by}
 use Rattle.git_names.specs.declared.object_format.Format.{Format}
 use Rattle.git_msg.specs.declared.offers.Offer.{Offer}
 use Rattle.git_msg.specs.declared.arguments.Command.{Command}
 use Rattle.git_msg.specs.Arguments.{Arg, ReadsAs, TakesMemory as TakesMemoryFor, name_of, stored_in, written_text}
 use Rattle.git_msg.specs.Asked.{Asked, asked_by, bytes_of}
 use Rattle.git_msg.specs.Kept.{Kept}
+use Rattle.git_msg.specs.Memory.{HasRefused}
 use Rattle.git_repository.specs.RepositoryLines.{lines_of, longest_line}
 
 -- what a line is: an empty one, which ends a request; a command, which begins one; an argument of the request that is open
@@ -95,8 +96,14 @@ TakesMemory blank = ⊥
 TakesMemory (command c) = Unit {0}
 TakesMemory (argument arg) = TakesMemoryFor arg
 
--- memory ran out at a line that takes some, and that may follow the lines before it
-pub record WantsScriptMemory (offer : Offer) (limit : ℕ) (texts : List (List ℕ)) : Type 0 where
+-- the maximum number of bytes of a list that the line makes longer, after so many lines: that of the requests, each of which has `each` bytes, has at
+-- most one for each line, and a list of an argument has at most the limit
+abbrev pub list_bytes : ℕ → ℕ → ℕ → ScriptLine → ℕ
+list_bytes each limit before (command c) = (before + 1) * each
+list_bytes each limit before line = limit
+
+-- memory ran out at a line that takes some, and that may follow the lines before it: it refused a list that the line makes longer
+pub record WantsScriptMemory (refuses : ℕ → Type 0) (each : ℕ) (offer : Offer) (limit : ℕ) (texts : List (List ℕ)) : Type 0 where
   pub before : List (List ℕ)
   pub at : List ℕ
   pub others : List (List ℕ)
@@ -106,3 +113,4 @@ pub record WantsScriptMemory (offer : Offer) (limit : ℕ) (texts : List (List �
   pub line : ScriptLine
   pub may_follow : MayFollow offer limit (nearest lines []) at line
   pub takes_memory : TakesMemory line
+  pub refused : HasRefused refuses (list_bytes each limit (length before) line)

@@ -9,15 +9,15 @@ ghost use Rattle.git2show_lib.specs.Machine.CheckFaults.{run_fault, run_result, 
 ghost use Rattle.git2show_lib.specs.Machine.CheckedStreams.{of_responses, placed_result, Checked};
 
 use crate::advertisement::hear_advertisement;
+use crate::asking::{Remaining, answer, pass_other};
 use crate::judged_requests::JudgedRequests;
 use crate::left_over::see_the_end;
 use crate::noting::Noting;
-use crate::other_answers::pass_answer;
 use crate::requests_read::{Next, next_request};
-use git_client::{Client, Ending, Window, ask_next, hear};
+use git_client::{Client, Ending, Window};
 use git_msg::Limits;
 use git_names::Format;
-use git_pkt::{Discard, Fault, RunFault, Told};
+use git_pkt::{Fault, RunFault, Told};
 use std::alloc::Allocator;
 use std::io::{Read, Write};
 use thiserror::Error;
@@ -65,9 +65,10 @@ impl From<RunFault> for CheckFault {
 /// The transcript is written to `out`: a line for each event and for each request. It is flushed before each read and at the end.
 ///
 /// A request may have what was advertised and is not known: a capability line by its key, and an argument by its first word, where that is
-/// among the words of the command. It is taken as it comes, and changes nothing, but its text counts within the limit of the request. A
-/// request whose first line names a command that is not known and was advertised by its key passes up to its flush, and the answer to it up
-/// to what ends each response; offsets count what passed.
+/// among the words of the command. It is taken as it comes, its text counts within the limit of the request, and it has a line after that of
+/// the request: `capability` or `argument`, and its text, escaped. A request whose first line names a command that is not known and was
+/// advertised by its key has the line `request` with that name. It passes up to its flush, and the answer to it up to what ends each response;
+/// offsets count what passed.
 ///
 /// `Requests` and `Responses` with the first fault that is met in this order: a byte left over is `UnexpectedPacket` at its offset, and
 /// what [`Client::ask`] refuses of a request is a fault of the responses, at the offset where its response would begin. What an
@@ -106,7 +107,7 @@ pub fn check<Q: Read, R: Read, O: Write, A: Allocator + Copy>(
     let mut client = Client::new(format, ending);
     let mut noting = Noting::new(alloc);
     let heard = hear_advertisement(&mut client, &mut noting, responses, other_piece, out, turns);
-    let mut left = at_place(heard, 0)?;
+    let left = at_place(heard, 0)?;
     let advertised = match noting.into_text() {
         Ok(text) => text,
         Err(kind) => {
@@ -117,8 +118,7 @@ pub fn check<Q: Read, R: Read, O: Write, A: Allocator + Copy>(
     let offer = client.caps().offer(format);
     let mut asking = JudgedRequests::new(alloc, offer, advertised, Limits::DEFAULT);
     let mut waiting = Window { start: 0, end: 0 };
-    // How many bytes of the responses passed by the client.
-    let mut passed: u64 = 0;
+    let mut over = Remaining { left, passed: 0 };
     'requests: loop {
         match next_request(
             &mut asking,
@@ -127,39 +127,37 @@ pub fn check<Q: Read, R: Read, O: Write, A: Allocator + Copy>(
             &mut waiting,
             turns - responses.reads(),
         )? {
-            Next::Request(request) => {
-                at_place(ask_next(&mut client, request, &mut Discard, out), passed)?;
-                let heard = hear(
+            Next::Request(judged) => {
+                over = answer(
                     &mut client,
+                    judged,
+                    format,
                     responses,
                     other_piece,
-                    left,
+                    over,
                     out,
-                    &mut Discard,
-                    &mut Discard,
                     turns - requests.reads(),
-                );
-                left = at_place(heard, passed)?;
+                )?;
             }
-            Next::Other => {
-                let place = client.position().saturating_add(passed);
-                let answer = pass_answer(
+            Next::Other(others) => {
+                let place = client.position().saturating_add(over.passed);
+                over = pass_other(
+                    &others,
                     ending,
+                    place,
                     responses,
                     other_piece,
-                    left,
+                    over,
+                    out,
                     turns - requests.reads(),
-                );
-                let over = at_place(answer, place)?;
-                left = over.left;
-                passed = passed.saturating_add(over.count);
+                )?;
             }
             Next::Nothing => {
                 return see_the_end(
                     responses,
                     other_piece,
-                    left,
-                    client.position().saturating_add(passed),
+                    over.left,
+                    client.position().saturating_add(over.passed),
                     turns - requests.reads(),
                 );
             }
@@ -168,7 +166,7 @@ pub fn check<Q: Read, R: Read, O: Write, A: Allocator + Copy>(
 }
 
 /// The same answer of a run over the responses, where so many bytes of them were before what it counts.
-fn at_place<T>(run: Result<T, RunFault>, before: u64) -> Result<T, CheckFault>
+pub(crate) fn at_place<T>(run: Result<T, RunFault>, before: u64) -> Result<T, CheckFault>
     ensures { result ≡ placed_result before run }
 {
     match run {

@@ -2,9 +2,11 @@
 
 ghost use Rattle.std.specs.Prelude.{◌≡◌, ◌<◌, ◌≤◌, [], length, true, false};
 ghost use Rattle.git_pkt.specs.Packets.{seen};
-ghost use Rattle.git2show_lib.specs.Machine.JudgedRequests.{got_as, got_passed, kept_brought, limited_got, place_brought, stage_brought};
-ghost use Rattle.git2show_lib.specs.Machine.JudgedRequests.{stage_passed};
+ghost use Rattle.git2show_lib.specs.Machine.JudgedRequests.{got_as, got_passed, kept_brought, limited_got, noted_brought, noted_passed, place_brought};
+ghost use Rattle.git2show_lib.specs.Machine.JudgedRequests.{stage_brought, stage_passed};
+ghost use Rattle.git2show_lib.specs.Machine.KeptLines.{noted_in};
 
+use crate::other_lines::OtherLines;
 use crate::others::{Place, counted, judged_packet, names_other};
 use git_msg::{AdmitsAll, Limits, Offer, ReadGot, Request, RequestReader, take_packet};
 use git_names::Steps;
@@ -25,6 +27,15 @@ enum Stage {
     Failed(Fault),
 }
 
+/// A request, with what it has that is not known.
+#[derive(Drop)]
+pub(crate) struct Judged<A: Allocator + Copy> {
+    /// The request.
+    pub(crate) request: Request<A>,
+    /// What is not known.
+    pub(crate) others: OtherLines<A>,
+}
+
 /// What came of some bytes of a piece.
 #[derive(Drop)]
 pub(crate) struct JudgedRead<A: Allocator + Copy> {
@@ -40,9 +51,9 @@ pub(crate) enum JudgedGot<A: Allocator + Copy> {
     /// Nothing whole yet: all of the piece was used.
     More,
     /// A whole request.
-    Request(Request<A>),
-    /// A whole request for a command that is not known, and was advertised.
-    Other,
+    Request(Judged<A>),
+    /// A whole request for a command that is not known, and was advertised, with its line.
+    Other(OtherLines<A>),
     /// A flush with nothing before it, by which the other end leaves. Nothing after it is read.
     Stop,
     /// The first fault of the bytes.
@@ -59,6 +70,16 @@ impl<A: Allocator + Copy> JudgedRead<A> {
             got: JudgedGot::More,
         }
     }
+
+    /// Bytes that were refused.
+    fn failed(used: usize, fault: Fault) -> JudgedRead<A>
+        ensures { result ≡ record { used = used; got = JudgedGot.Failed fault } }
+    {
+        JudgedRead {
+            used,
+            got: JudgedGot::Failed(fault),
+        }
+    }
 }
 
 /// Reads requests, gitprotocol-v2(5), against what was offered, and takes what else was advertised as it comes.
@@ -73,6 +94,8 @@ pub(crate) struct JudgedRequests<A: Allocator + Copy> {
     limit: u32,
     // How many bytes count as kept of the request that has begun, within the limit.
     kept: u64,
+    // What it has so far that is not known.
+    others: OtherLines<A>,
 }
 
 impl<A: Allocator + Copy> JudgedRequests<A> {
@@ -98,6 +121,7 @@ impl<A: Allocator + Copy> JudgedRequests<A> {
             stage: Stage::Between,
             limit: limits.args,
             kept: 0,
+            others: OtherLines::new(alloc),
         }
     }
 
@@ -154,33 +178,38 @@ impl<A: Allocator + Copy> JudgedRequests<A> {
             Got::More => JudgedRead::more(used),
             Got::Failed(fault) => {
                 self.stage = Stage::Failed(fault);
-                let got = JudgedGot::Failed(fault);
-                JudgedRead { used, got }
+                JudgedRead::failed(used, fault)
             }
             Got::Packet(packet, offset) => {
                 if let Stage::Passing = self.stage {
                     self.stage = stage_passed(packet);
                     return JudgedRead {
                         used,
-                        got: got_passed(packet),
+                        got: got_passed(packet, &mut self.others),
                     };
                 }
                 if let Stage::Between = self.stage {
                     if names_other(&self.advertised, packet) {
+                        if self.others.keep_name(packet).is_err() {
+                            let fault = fault_at(Kind::OutOfMemory, offset);
+                            self.stage = Stage::Failed(fault);
+                            return JudgedRead::failed(used, fault);
+                        }
                         self.stage = Stage::Passing;
                         return JudgedRead::more(used);
                     }
                 }
                 let more = counted(&self.advertised, self.place, packet) as u64;
                 let kept = self.kept.saturating_add(more);
-                let over = is_over(kept, self.limit);
+                let refused = self
+                    .others
+                    .keep_within(&self.advertised, self.place, packet, kept, self.limit);
                 let next = self.place.after(packet);
                 let Some(judged) = judged_packet(&self.advertised, self.place, packet) else {
-                    if over {
-                        let fault = too_much(offset);
+                    if let Some(kind) = refused {
+                        let fault = fault_at(kind, offset);
                         self.stage = Stage::Failed(fault);
-                        let got = JudgedGot::Failed(fault);
-                        return JudgedRead { used, got };
+                        return JudgedRead::failed(used, fault);
                     }
                     self.place = next;
                     self.kept = kept;
@@ -193,46 +222,35 @@ impl<A: Allocator + Copy> JudgedRequests<A> {
                     offset,
                     &mut Steps::new(),
                 );
-                let got = limited(taken, over, offset);
+                let got = limited(taken, refused, offset);
                 self.place = place_brought(&got, next);
                 self.kept = kept_brought(&got, kept);
                 self.stage = stage_after(&got);
                 JudgedRead {
                     used,
-                    got: judged_got(got),
+                    got: judged_got(got, &mut self.others),
                 }
             }
         }
     }
 }
 
-/// Whether so many bytes are more than the limit.
-fn is_over(kept: u64, limit: u32) -> bool
-    ensures over { result ≡ true → limit < kept }
-    ensures within { result ≡ false → kept ≤ limit }
+/// The fault of a packet.
+fn fault_at(kind: Kind, offset: u64) -> Fault
+    ensures { result ≡ record { kind = kind; offset = offset } }
 {
-    kept > u64::from(limit)
+    Fault { kind, offset }
 }
 
-/// The fault of a packet with which more is kept than the limit.
-fn too_much(offset: u64) -> Fault
-    ensures { result ≡ record { kind = Kind.TooMuchKept; offset = offset } }
+/// What a packet brought, unless it can't be kept, which comes after all else that refuses it.
+fn limited<A: Allocator + Copy>(got: ReadGot<A>, refused: Option<Kind>, offset: u64) -> ReadGot<A>
+    ensures { result ≡ limited_got refused offset got }
 {
-    Fault {
-        kind: Kind::TooMuchKept,
-        offset,
-    }
-}
-
-/// What a packet brought, unless it passes the limit, which comes after all else that refuses it.
-fn limited<A: Allocator + Copy>(got: ReadGot<A>, over: bool, offset: u64) -> ReadGot<A>
-    ensures { result ≡ limited_got over offset got }
-{
-    if !over {
+    let Some(kind) = refused else {
         return got;
-    }
+    };
     match got {
-        ReadGot::More | ReadGot::Request(_) => ReadGot::Failed(too_much(offset)),
+        ReadGot::More | ReadGot::Request(_) => ReadGot::Failed(fault_at(kind, offset)),
         got => got,
     }
 }
@@ -269,13 +287,17 @@ fn place_brought<A: Allocator + Copy>(got: &ReadGot<A>, next: Place) -> Place
     }
 }
 
-/// What a packet of a request brought.
-fn judged_got<A: Allocator + Copy>(got: ReadGot<A>) -> JudgedGot<A>
-    ensures { result ≡ got_as got }
+/// What a packet of a request brought. What was noted of the request goes with it.
+fn judged_got<A: Allocator + Copy>(got: ReadGot<A>, others: &mut OtherLines<A>) -> JudgedGot<A>
+    ensures got { result ≡ got_as got others.old }
+    ensures noted { noted_in others.new ≡ noted_brought got (noted_in others.old) }
 {
     match got {
         ReadGot::More => JudgedGot::More,
-        ReadGot::Request(request) => JudgedGot::Request(request),
+        ReadGot::Request(request) => {
+            let others = others.take();
+            JudgedGot::Request(Judged { request, others })
+        }
         ReadGot::Stop => JudgedGot::Stop,
         ReadGot::Failed(fault) => JudgedGot::Failed(fault),
     }
@@ -291,12 +313,13 @@ fn stage_passed(packet: Packet<'_>) -> Stage
     }
 }
 
-/// And what it brought.
-fn got_passed<A: Allocator + Copy>(packet: Packet<'_>) -> JudgedGot<A>
-    ensures { result ≡ got_passed (seen packet.entry) }
+/// And what it brought. The line of the request goes with its flush.
+fn got_passed<A: Allocator + Copy>(packet: Packet<'_>, others: &mut OtherLines<A>) -> JudgedGot<A>
+    ensures got { result ≡ got_passed (seen packet.entry) others.old }
+    ensures noted { noted_in others.new ≡ noted_passed (seen packet.entry) (noted_in others.old) }
 {
     match packet {
-        Packet::Flush => JudgedGot::Other,
+        Packet::Flush => JudgedGot::Other(others.take()),
         _ => JudgedGot::More,
     }
 }

@@ -2,24 +2,35 @@
 #![tactic(auto)]
 
 mod advertisement;
+mod asking;
 pub mod check_laws;
 mod checking;
+mod json_lines;
 mod judged_requests;
 mod left_over;
 mod lines;
 mod noting;
 mod other_answers;
+mod other_lines;
 mod others;
 mod playing;
+mod pretty;
 mod reports;
 mod requests_read;
 pub mod script_laws;
 mod script_lines;
 mod scripts;
 mod showing;
+mod sieve;
+pub mod sieve_laws;
+mod sieved_response;
+pub mod view_laws;
+mod views;
 
 pub use checking::{CheckFault, check};
 pub use playing::play;
+pub use pretty::Look;
 pub use reports::{ProgramFault, report};
 pub use scripts::read_script;
-pub use showing::show;
+pub use showing::{show, show_view};
+pub use views::{Form, Tally, View, summarize};

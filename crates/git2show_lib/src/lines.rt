@@ -1,11 +1,17 @@
 //! Lines on their way to a writer.
 
-ghost use Rattle.std.specs.Prelude.{◌≡◌, ◌+◌, ◌≤◌, ◌++◌, [], length, take, OnOk, decimal};
-ghost use Rattle.git_pkt.specs.Packets.{body_of, seen};
+ghost use Rattle.std.specs.Prelude.{◌≡◌, ◌+◌, ◌≤◌, ◌++◌, [], length, take, OnOk, decimal, flat_map};
+ghost use Rattle.git_pkt.specs.Packets.{seen};
 ghost use Rattle.git_pkt.specs.Escape.{escaped_of};
 ghost use Rattle.git_pkt.specs.Machine.Sends.{Puts, Sends};
 ghost use Rattle.git2show_lib.specs.PacketLines.{kind_shown, line_of};
+ghost use Rattle.git2show_lib.specs.PacketViews.{after, view_line, viewed};
+ghost use Rattle.git2show_lib.specs.PrettyLines.{pretty_line};
+ghost use Rattle.git2show_lib.specs.JsonLines.{coded, json_line, json_start};
 
+use crate::json_lines::{Coding, json_end, write_json_start};
+use crate::pretty::{LINE, Label, Look, body, write_pretty};
+use crate::views::{Form, Tally, View};
 use git_pkt::{Packet, RunFault, Told, escape_into, flush, is_plain, put_at, send};
 use itoa::Buffer;
 use std::io::Write;
@@ -82,6 +88,124 @@ impl Lines {
         self.emit_head(writer, packet, offset)?;
         self.emit_escaped(writer, body(packet))?;
         self.emit(writer, b"\n")
+    }
+
+    /// Puts what is shown of a packet, after those that were counted, behind the others, and counts it.
+    pub(crate) fn put_viewed<W: Write>(
+        &mut self,
+        writer: &mut Told<W>,
+        view: Option<View>,
+        tally: &mut Tally,
+        packet: Packet<'_>,
+        offset: u64,
+    ) -> Result<(), RunFault>
+        ensures puts { Puts W.contents writer.old self.old (viewed view tally.old (record { packet = seen packet.entry; offset = offset })) result
+            writer.new self.new }
+        ensures tally { tally.new ≡ after view tally.old (record { packet = seen packet.entry; offset = offset }) }
+    {
+        let Some(view) = view else {
+            return self.put(writer, packet, offset);
+        };
+        let before = *tally;
+        *tally = before.count(packet, offset);
+        self.put_formed(writer, view, before.in_pack, packet, offset)
+    }
+
+    /// Puts what a view shows of a packet after the others.
+    fn put_formed<W: Write>(
+        &mut self,
+        writer: &mut Told<W>,
+        view: View,
+        in_pack: bool,
+        packet: Packet<'_>,
+        offset: u64,
+    ) -> Result<(), RunFault>
+        ensures { Puts W.contents writer.old self.old (view_line view in_pack (record { packet = seen packet.entry; offset = offset })) result
+            writer.new self.new }
+    {
+        if view.leaves_out(Label::of(in_pack, packet), offset) {
+            return Ok(());
+        }
+        match view.form {
+            Form::Lines => self.put(writer, packet, offset),
+            Form::Columns(look) => self.put_pretty(writer, look, in_pack, packet, offset),
+            Form::Json => self.put_json(writer, packet, offset),
+        }
+    }
+
+    /// Puts the line of columns of a packet after the others.
+    fn put_pretty<W: Write>(
+        &mut self,
+        writer: &mut Told<W>,
+        look: Look,
+        in_pack: bool,
+        packet: Packet<'_>,
+        offset: u64,
+    ) -> Result<(), RunFault>
+        ensures { Puts W.contents writer.old self.old
+            (pretty_line look.colours look.width in_pack (record { packet = seen packet.entry; offset = offset })) result writer.new self.new }
+    {
+        let mut line = [0; LINE];
+        let end = write_pretty(look, in_pack, packet, offset, &mut line);
+        self.emit(writer, &line[..end])
+    }
+
+    /// Puts the JSON object of a packet after the others.
+    fn put_json<W: Write>(
+        &mut self,
+        writer: &mut Told<W>,
+        packet: Packet<'_>,
+        offset: u64,
+    ) -> Result<(), RunFault>
+        ensures { Puts W.contents writer.old self.old (json_line (record { packet = seen packet.entry; offset = offset })) result writer.new self.new }
+    {
+        self.emit_json_start(writer, packet, offset)?;
+        self.emit_coded(writer, Coding::of(body(packet)), body(packet))?;
+        self.emit(writer, json_end(packet))
+    }
+
+    /// Puts what a JSON object has before the payload after the others.
+    fn emit_json_start<W: Write>(
+        &mut self,
+        writer: &mut Told<W>,
+        packet: Packet<'_>,
+        offset: u64,
+    ) -> Result<(), RunFault>
+        ensures { Puts W.contents writer.old self.old (json_start (record { packet = seen packet.entry; offset = offset })) result writer.new self.new }
+    {
+        self.make_room(writer)?;
+        self.count = write_json_start(packet, offset, &mut self.bytes, self.count);
+        Ok(())
+    }
+
+    /// Puts what bytes become in a JSON string after the others, a block at a time.
+    fn emit_coded<W: Write>(
+        &mut self,
+        writer: &mut Told<W>,
+        coding: Coding,
+        bytes: &[u8],
+    ) -> Result<(), RunFault>
+        ensures { Puts W.contents writer.old self.old (flat_map (coded coding) bytes.now) result writer.new self.new }
+    {
+        for block in bytes.chunks(BLOCK) {
+            self.emit_coded_block(writer, coding, block)?;
+        }
+        Ok(())
+    }
+
+    /// Puts what one block becomes in a JSON string after the others.
+    fn emit_coded_block<W: Write>(
+        &mut self,
+        writer: &mut Told<W>,
+        coding: Coding,
+        block: &[u8],
+    ) -> Result<(), RunFault>
+        requires { length block.now ≤ BLOCK }
+        ensures { Puts W.contents writer.old self.old (flat_map (coded coding) block.now) result writer.new self.new }
+    {
+        self.make_room(writer)?;
+        self.count = coding.write(block, &mut self.bytes, self.count);
+        Ok(())
     }
 
     /// Puts what a packet's line has before the payload after the others.
@@ -162,16 +286,6 @@ impl Lines {
             return Ok(());
         }
         self.drain(writer)
-    }
-}
-
-/// The bytes after a packet's four digits.
-fn body<'a>(packet: Packet<'a>) -> &'a [u8]
-    ensures { result.now ≡ body_of (seen packet.entry) }
-{
-    match packet {
-        Packet::Payload(payload) => payload,
-        Packet::Flush | Packet::Delim | Packet::RespEnd => b"",
     }
 }
 

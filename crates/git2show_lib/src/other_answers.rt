@@ -112,8 +112,8 @@ fn is_last(ending: Ending, packet: Packet<'_>) -> bool
     }
 }
 
-/// The input ends inside an answer: it is truncated, at the end of the last whole packet.
-fn close(packets: &mut PacketReader) -> Fault
+/// The input ends although more packets are expected: it is truncated, at the end of the last whole packet.
+pub(crate) fn close(packets: &mut PacketReader) -> Fault
     requires { fault_of packets.old ≡ None }
     ensures { ClosesAnswer result packets.old }
 {

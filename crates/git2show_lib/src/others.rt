@@ -18,9 +18,9 @@ use git_pkt::{Packet, text};
 #[derive(Clone, Copy, Debug)]
 pub(crate) struct Place {
     /// Whether the delimiter came before it.
-    arguments: bool,
+    pub(crate) arguments: bool,
     /// The request's command, if it is one that has words of its own in an advertisement.
-    command: Option<Command>,
+    pub(crate) command: Option<Command>,
 }
 
 impl Place {
@@ -150,7 +150,7 @@ pub(crate) fn is_other_line(line: &[u8]) -> bool
 
 /// Whether a capability line of a request is not known, and has a key that was advertised.
 #[tactic(auto, unfolding(crate::specs::Others::is_other_capability))]
-fn is_other_capability(advertised: &[u8], line: &[u8]) -> bool
+pub(crate) fn is_other_capability(advertised: &[u8], line: &[u8]) -> bool
     ensures { result ≡ is_other_capability advertised.now line.now }
 {
     let (key, value) = key_and_value(line);
@@ -162,7 +162,7 @@ fn is_other_capability(advertised: &[u8], line: &[u8]) -> bool
 
 /// Whether an argument begins with a word that is not known, and was advertised of the request's command.
 #[tactic(auto, unfolding(crate::specs::Others::is_other_argument))]
-fn is_other_argument(advertised: &[u8], command: Option<Command>, line: &[u8]) -> bool
+pub(crate) fn is_other_argument(advertised: &[u8], command: Option<Command>, line: &[u8]) -> bool
     ensures { result ≡ is_other_argument advertised.now command line.now }
 {
     let word = first_word(line);
@@ -230,7 +230,7 @@ fn word_passes(wanted: Option<&[u8]>, word: &[u8]) -> bool
 }
 
 #[tactic(auto, using(crate::proofs::OtherLines::before_cut, crate::proofs::OtherLines::after_cut))]
-fn key_and_value(line: &[u8]) -> (&[u8], &[u8])
+pub(crate) fn key_and_value(line: &[u8]) -> (&[u8], &[u8])
     ensures key { result.0.now ≡ key_of line.now }
     ensures value { result.1.now ≡ value_of line.now }
 {
@@ -241,7 +241,7 @@ fn key_and_value(line: &[u8]) -> (&[u8], &[u8])
 }
 
 #[tactic(auto, using(crate::proofs::OtherLines::before_cut))]
-fn first_word(line: &[u8]) -> &[u8]
+pub(crate) fn first_word(line: &[u8]) -> &[u8]
     ensures { result.now ≡ before_first (λ c. c == 32) line.now }
 {
     split_at_first(line, b' ').0

@@ -10,9 +10,9 @@ ghost use Rattle.git2show_lib.specs.Machine.CheckSteps.{ReadsTo};
 ghost use Rattle.git2show_lib.specs.Machine.JudgedRequests.{IsReady};
 
 use crate::checking::CheckFault;
-use crate::judged_requests::{JudgedGot, JudgedRequests};
+use crate::judged_requests::{Judged, JudgedGot, JudgedRequests};
+use crate::other_lines::OtherLines;
 use git_client::Window;
-use git_msg::Request;
 use git_pkt::{Told, receive};
 use std::alloc::Allocator;
 use std::io::Read;
@@ -20,10 +20,10 @@ use std::io::Read;
 /// What comes next of the requests.
 #[derive(Drop)]
 pub(crate) enum Next<A: Allocator + Copy> {
-    /// A request.
-    Request(Request<A>),
-    /// A request for a command that is not known, and was advertised.
-    Other,
+    /// A request, with what it has that is not known.
+    Request(Judged<A>),
+    /// A request for a command that is not known, and was advertised, with its line.
+    Other(OtherLines<A>),
     /// None after the last one.
     Nothing,
 }
@@ -62,8 +62,8 @@ pub(crate) fn next_request<R: Read, A: Allocator + Copy>(
         let read = stream.feed(&piece[waiting.start..waiting.end]);
         waiting.start += read.used;
         match read.got {
-            JudgedGot::Request(request) => return Ok(Next::Request(request)),
-            JudgedGot::Other => return Ok(Next::Other),
+            JudgedGot::Request(judged) => return Ok(Next::Request(judged)),
+            JudgedGot::Other(others) => return Ok(Next::Other(others)),
             JudgedGot::Stop => return Ok(Next::Nothing),
             JudgedGot::Failed(fault) => return Err(CheckFault::Requests(fault)),
             JudgedGot::More => {}

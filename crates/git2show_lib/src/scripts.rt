@@ -1,13 +1,13 @@
 //! Scripts: what a client is to ask, read from a text.
 
 ghost use Rattle.std.specs.Prelude.{MatchResult};
+ghost use Rattle.git2show_lib.specs.Machine.HeldScripts.{request_bytes};
 ghost use Rattle.git2show_lib.specs.Machine.ScriptFaults.{IsScriptFault, IsWholeScript};
 
 use crate::script_lines::Script;
-use git_msg::{Limits, Request, split_at_first};
+use git_msg::{Limits, Memory, Request, split_at_first};
 use git_names::Format;
 use git_repository::{LineFault, TextFault};
-use std::alloc::Allocator;
 
 /// Reads the text of a script: the requests that a client is to ask, one after another.
 ///
@@ -15,16 +15,17 @@ use std::alloc::Allocator;
 /// arguments, as gitprotocol-v2(5) spells them and as one who offers everything reads them. An empty line or the end of
 /// the text ends it, and further empty lines are passed over. Lines are parted by LF, which the last may lack, and have at most
 /// [`git_repository::LONGEST_LINE`] bytes. The first line that is none of these, or whose argument has no room within the limit, is
-/// `Bad`. `OutOfMemory` is reported at a line that is allowed there, of a command or of an argument that takes memory, and all
-/// memory comes from `alloc`. What is judged at the end of a request, as that a fetch wants nothing, is not judged here.
-pub fn read_script<A: Allocator + Copy>(
+/// `Bad`. `OutOfMemory` is reported at a line that is allowed there, of a command or of an argument that takes memory, and only where
+/// `alloc` refused a list: that of the requests, or one of an argument that was to have at most the bytes of the limit. All memory
+/// comes from `alloc`. What is judged at the end of a request, as that a fetch wants nothing, is not judged here.
+pub fn read_script<A: Memory + Copy>(
     alloc: A,
     text: &[u8],
     format: Format,
     limits: Limits,
 ) -> Result<Vec<Request<A>, A>, TextFault>
     ensures { MatchResult result (λ requests. IsWholeScript format limits.args text.now requests.items)
-        (IsScriptFault format limits.args text.now) }
+        (IsScriptFault A.refuses (request_bytes A.row A.Allocator) format limits.args text.now) }
 {
     let mut script = Script::new(alloc, format, limits);
     let mut rest = Some(git_pkt::text(text));

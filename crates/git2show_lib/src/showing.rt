@@ -6,9 +6,10 @@ ghost use Rattle.git_pkt.specs.Machine.Told.{inner_of, reads_of, has_failed, has
 ghost use Rattle.git_pkt.specs.Machine.Engine.{FailsAs, IsShownBy, IsSpent};
 ghost use Rattle.git_pkt.specs.Streams.{flow, is_broken, Moves};
 ghost use Rattle.git_pkt.specs.Machine.PacketReader.{fault_of, passes_of};
-ghost use Rattle.git2show_lib.specs.Machine.ShownStream.{Shows, ShowsPiece, PrintsPiece, WritesFront};
+ghost use Rattle.git2show_lib.specs.Machine.ShownStream.{Shows, ShowsView, ShowsPiece, PrintsPiece, WritesFront};
 
 use crate::lines::Lines;
+use crate::views::{Tally, View};
 use git_names::Steps;
 use git_pkt::{Fault, Got, PacketReader, RunFault, Told, receive};
 use std::io::{Read, Write};
@@ -39,6 +40,33 @@ pub fn show<R: Read, W: Write>(
         (flow (R.remaining (inner_of reader.old)) (R.remaining (inner_of reader.new)) ∷ [])
         (flow (W.contents (inner_of writer.old)) (W.contents (inner_of writer.new)) ∷ []) }
 {
+    show_view(reader, writer, piece, turns, None, &mut Tally::START)
+}
+
+/// Shows the packets that a reader gives as [`show`] does, by a view, and counts those that it read. What is left out is counted too, and
+/// a malformed packet is refused wherever it is. Without a view each line is that of `show`, and nothing is counted.
+pub fn show_view<R: Read, W: Write>(
+    reader: &mut Told<R>,
+    writer: &mut Told<W>,
+    piece: &mut [u8],
+    turns: u64,
+    view: Option<View>,
+    tally: &mut Tally,
+) -> Result<(), RunFault>
+    requires room { 0 < length piece.old }
+    requires new_reader { IsNew reader.old }
+    requires sound_writer { has_failed writer.old ≡ false }
+
+    ensures reads { reads_of reader.new ≤ turns }
+    ensures useful { has_wasted reader.new ≡ false }
+    ensures ok { OnOk result (IsTrue (has_ended reader.new)) }
+    ensures end { OnOk result (IsAtEnd (R.remaining (inner_of reader.new))) }
+    ensures fault { IfErr result (IsShownBy (IsTrue (has_failed reader.new)) (IsTrue (has_failed writer.new)) (IsSpent reader.new turns)) }
+    ensures told { FailsAs result (has_failed reader.new) (has_failed writer.new) }
+    ensures shown { Moves (is_broken result) (ShowsView view tally.old tally.new result (has_ended reader.new) turns)
+        (flow (R.remaining (inner_of reader.old)) (R.remaining (inner_of reader.new)) ∷ [])
+        (flow (W.contents (inner_of writer.old)) (W.contents (inner_of writer.new)) ∷ []) }
+{
     let mut packets = PacketReader::new();
     let mut lines = Lines::new();
     for _ in 0..turns {
@@ -46,7 +74,14 @@ pub fn show<R: Read, W: Write>(
         if count == 0 {
             return packets.close().map_err(RunFault::Refused);
         }
-        show_piece(&mut packets, &piece[..count], &mut lines, writer)?;
+        show_piece(
+            &mut packets,
+            &piece[..count],
+            view,
+            tally,
+            &mut lines,
+            writer,
+        )?;
     }
     Err(RunFault::ReadLimit)
 }
@@ -55,6 +90,8 @@ pub fn show<R: Read, W: Write>(
 fn show_piece<W: Write>(
     packets: &mut PacketReader,
     piece: &[u8],
+    view: Option<View>,
+    tally: &mut Tally,
     lines: &mut Lines,
     writer: &mut Told<W>,
 ) -> Result<(), RunFault>
@@ -62,14 +99,14 @@ fn show_piece<W: Write>(
     requires gathers { passes_of packets.old ≡ false }
     requires empty { lines.old ≡ [] }
     requires sound_writer { has_failed writer.old ≡ false }
-    ensures shown { ShowsPiece result packets.old packets.new piece.now
+    ensures shown { ShowsPiece view tally.old tally.new result packets.old packets.new piece.now
         (flow (W.contents (inner_of writer.old)) (W.contents (inner_of writer.new))) }
     ensures gathers { passes_of packets.new ≡ false }
     ensures sent { OnOk result (lines.new ≡ []) }
     ensures told { FailsAs result false (has_failed writer.new) }
     ensures fault { IfErr result (IsShownBy ⊥ (IsTrue (has_failed writer.new)) ⊥) }
 {
-    let stopped = print_piece(packets, piece, lines, writer)?;
+    let stopped = print_piece(packets, piece, view, tally, lines, writer)?;
     lines.send_all(writer)?;
     match stopped {
         Some(fault) => Err(RunFault::Refused(fault)),
@@ -81,16 +118,18 @@ fn show_piece<W: Write>(
 fn print_piece<W: Write>(
     packets: &mut PacketReader,
     piece: &[u8],
+    view: Option<View>,
+    tally: &mut Tally,
     lines: &mut Lines,
     writer: &mut Told<W>,
 ) -> Result<Option<Fault>, RunFault>
     requires sound { fault_of packets.old ≡ None }
     requires gathers { passes_of packets.old ≡ false }
     requires empty { lines.old ≡ [] }
-    ensures ok { IfOk result (λ stopped. PrintsPiece stopped packets.old packets.new piece.now lines.new
+    ensures ok { IfOk result (λ stopped. PrintsPiece view tally.old tally.new stopped packets.old packets.new piece.now lines.new
         (flow (W.contents (inner_of writer.old)) (W.contents (inner_of writer.new)))) }
     ensures gathers { passes_of packets.new ≡ false }
-    ensures front { OnErr result (WritesFront packets.old packets.new piece.now
+    ensures front { OnErr result (WritesFront view tally.old tally.new packets.old packets.new piece.now
         (flow (W.contents (inner_of writer.old)) (W.contents (inner_of writer.new)))) }
     ensures fault { IfErr result (λ fault. fault ≡ RunFault.WriteFault) }
     ensures failed { has_failed writer.new ≡ (has_failed writer.old || is_err result) }
@@ -101,7 +140,7 @@ fn print_piece<W: Write>(
         match fed.got {
             Got::More => return Ok(None),
             Got::Failed(fault) => return Ok(Some(fault)),
-            Got::Packet(packet, offset) => lines.put(writer, packet, offset)?,
+            Got::Packet(packet, offset) => lines.put_viewed(writer, view, tally, packet, offset)?,
         }
         done += fed.used;
     }

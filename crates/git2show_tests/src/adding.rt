@@ -1,4 +1,4 @@
-//! Requests that arguments are added to. These functions promise nothing, which keeps the proofs of the tests that call them short.
+//! Requests to which arguments are added. These functions promise nothing, which keeps the proofs of the tests that call them short.
 use git_msg::{Argument, Command, Limits, Request};
 use git_names::{Format, Oid};
 use git_pkt::Kind;

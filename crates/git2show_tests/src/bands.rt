@@ -1,4 +1,4 @@
-//! Bytes of a pack and of the progress, as they pass: what the packet reader returns of them, and what a client hands out.
+//! Bytes of a pack and of the progress, as they pass: what the packet reader returns for them, and what a client hands out.
 
 ghost use Rattle.git_pkt.specs.Machine.BandReader.{MayPass};
 
@@ -11,10 +11,10 @@ use std::alloc::{AllocError, Global};
 use std::process::Abort;
 use std::test::Fail;
 
-/// More answers than any of these pieces has.
+/// More results than any of these chunks has.
 const MANY: usize = 100;
 
-/// Appends a line of what was returned: how many bytes were used, and what came of them.
+/// Appends a line of a result: how many bytes were used, and what was returned for them.
 fn note(
     lines: &mut Vec<u8>,
     alloc: Global,
@@ -38,7 +38,7 @@ fn note(
     lines.extend_from_slice(b"\n")
 }
 
-/// Feeds a piece until it is used up.
+/// Feeds a chunk until it is used up.
 fn feed_piece(
     reader: &mut PacketReader,
     alloc: Global,
@@ -60,7 +60,7 @@ fn feed_piece(
     Ok(())
 }
 
-/// What the reader returns of these pieces, and how the stream ends after them.
+/// What the reader returns for these chunks, and how the stream ends after them.
 fn told(alloc: Global, pieces: &[&[u8]]) -> Result<Vec<u8>, AllocError> {
     let mut lines = Vec::new(alloc);
     let mut reader = PacketReader::new();
@@ -91,7 +91,7 @@ fn a_part_is_all_that_the_piece_has(rt: HostRuntime) -> Result<(), Fail> {
     Ok(())
 }
 
-/// Appends the bytes of an event of side bands and a bar, of another one its name.
+/// Appends the bytes of an event of side bands, and a bar; the name of any other event.
 fn hear(heard: &mut Vec<u8>, event: &Event<'_>) -> Result<(), AllocError> {
     match event {
         Event::Pack(bytes) => heard.extend_from_slice(bytes)?,
@@ -114,7 +114,7 @@ fn hear_piece(
     }
 }
 
-/// Feeds a client until the piece is used up.
+/// Feeds a client until the chunk is used up.
 fn feed_client(client: &mut Client<Global>, piece: &[u8]) {
     let mut rest = piece;
     for _ in 0..MANY {

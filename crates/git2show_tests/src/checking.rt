@@ -1,5 +1,5 @@
-//! Recorded streams that are checked against each other: what is reported where one stops, where memory or the reads run out, and how far
-//! each is read.
+//! Recorded streams that are checked against each other: what is reported if one stops, or if memory or the reads run out, and how far each
+//! is read.
 use crate::expecting::{expect, expect_bytes};
 use crate::stopping::{ALL, MANY, TURNS, expect_due, expect_front};
 use git_client::Ending;
@@ -13,7 +13,7 @@ use std::process::Abort;
 use std::test::Fail;
 use test_streams::{Endless, Pieces, Sink, Stream};
 
-/// Nothing fails at this number.
+/// No call with this number fails.
 const NEVER: u32 = u32::MAX;
 
 /// An advertisement of 100 bytes, with a capability that no client knows, references, and a pack.
@@ -21,16 +21,16 @@ const RESPONSES: &[u8] =
     b"000eversion 2\n0011agent=git2/1\n000cls-refs\n0012fetch=shallow\n0017object-format=sha1\n000cx-later\n0000\
 0032aaaaaaaaaaaaaaaaaaaaaaaaaaaaaaaaaaaaaaaa HEAD\n0000000dpackfile\n0007\x01AB0006\x01C0000";
 
-/// What was asked for that, in 113 bytes.
+/// The requests for that, in 113 bytes.
 const REQUESTS: &[u8] =
     b"0014command=ls-refs\n00000012command=fetch\n00010032want aaaaaaaaaaaaaaaaaaaaaaaaaaaaaaaaaaaaaaaa\n0009done\n00000000";
 
-/// The transcript that is due of both.
+/// The expected transcript of both.
 const TRANSCRIPT: &[u8] =
     b"capability agent=git2/1\ncapability ls-refs\ncapability fetch=shallow\ncapability object-format=sha1\ncapability x-later\noffered\n\
 request ls-refs\nref aaaaaaaaaaaaaaaaaaaaaaaaaaaaaaaaaaaaaaaa HEAD\nend 0 0\nrequest fetch\nend 3 0\n";
 
-/// Where the advertisement ends, in the responses and in the transcript.
+/// The end of the advertisement, in the responses and in the transcript.
 const ADVERTISED: (u64, usize) = (100, 125);
 
 #[test]
@@ -70,7 +70,7 @@ fn faults_are_reported_with_their_stream(rt: HostRuntime) -> Result<(), Fail> {
     Ok(())
 }
 
-/// After how many calls each stream stops, and how many reads may be made.
+/// After how many calls each stream stops, and the maximum number of reads.
 #[derive(Clone, Copy)]
 struct Stopping {
     requests: u32,
@@ -79,7 +79,7 @@ struct Stopping {
     turns: u64,
 }
 
-/// Streams of which none stops.
+/// Streams that do not stop.
 const SOUND: Stopping = Stopping {
     requests: ALL,
     responses: ALL,
@@ -87,7 +87,7 @@ const SOUND: Stopping = Stopping {
     turns: TURNS,
 };
 
-/// What came of a check.
+/// The result of a check.
 #[derive(Drop)]
 struct Checked {
     answer: Result<(), CheckFault>,
@@ -97,7 +97,7 @@ struct Checked {
     out: Sink,
 }
 
-/// Checks the streams, which stop so.
+/// Checks the streams, which stop as stated.
 fn check_stopping(
     alloc: Global,
     requests: impl Read + Drop,
@@ -126,7 +126,7 @@ fn check_stopping(
     }
 }
 
-/// The responses, a piece at a read.
+/// The responses, one chunk for each read.
 const HEARD: [&[u8]; 11] = [
     b"000eversion 2\n",
     b"0011agent=git2/1\n000cls-refs\n00",
@@ -141,7 +141,7 @@ const HEARD: [&[u8]; 11] = [
     b"0000",
 ];
 
-/// The lines that are due after each read of them, and none before the first.
+/// The lines expected after each read of them; none before the first.
 const LINES_OF_HEARD: [&[u8]; 12] = [
     b"",
     b"",
@@ -157,7 +157,7 @@ const LINES_OF_HEARD: [&[u8]; 12] = [
     b"end 3 0\n",
 ];
 
-/// The requests, a piece at a read.
+/// The requests, one chunk for each read.
 const SAID: [&[u8]; 5] = [
     b"0014command=ls-refs\n",
     b"0000",
@@ -166,7 +166,7 @@ const SAID: [&[u8]; 5] = [
     b"0000",
 ];
 
-/// The lines that are due before the first read of them, and after each but the last.
+/// The lines expected before the first read of them, and after each one but the last.
 const LINES_OF_SAID: [&[u8]; 5] = [
     b"capability agent=git2/1\ncapability ls-refs\ncapability fetch=shallow\ncapability object-format=sha1\ncapability x-later\noffered\n",
     b"",
@@ -175,12 +175,12 @@ const LINES_OF_SAID: [&[u8]; 5] = [
     b"request fetch\nend 3 0\n",
 ];
 
-/// The whole conversation, over streams that stop so.
+/// The whole conversation, over streams that stop as stated.
 fn conversation(alloc: Global, stopping: Stopping) -> Checked {
     check_stopping(alloc, Pieces::new(&SAID), Pieces::new(&HEARD), stopping)
 }
 
-/// The whole conversation, by so many bytes at a read, in so many reads.
+/// The whole conversation, with this many bytes for each read, and this many reads.
 fn slow_conversation(alloc: Global, step: usize, turns: u64) -> Checked {
     check_stopping(
         alloc,
@@ -190,7 +190,7 @@ fn slow_conversation(alloc: Global, step: usize, turns: u64) -> Checked {
     )
 }
 
-/// A read of the responses that fails is reported after the lines before it: the requests are read as soon as they are due.
+/// A read of the responses that fails is reported after the lines before it: the requests are read as soon as one is expected.
 #[test]
 fn each_read_of_the_responses_fails_in_turn_while_they_are_checked(
     rt: HostRuntime,
@@ -212,7 +212,7 @@ fn each_read_of_the_responses_fails_in_turn_while_they_are_checked(
     Ok(())
 }
 
-/// The requests are read up to the flush alone.
+/// The requests are read only up to the flush.
 #[test]
 fn each_read_of_the_requests_fails_in_turn_while_they_are_checked(
     rt: HostRuntime,
@@ -252,7 +252,7 @@ fn each_write_and_flush_fails_in_turn_while_streams_are_checked(
     Ok(())
 }
 
-/// The client asks for the references for ever, and receives for ever that there is none.
+/// The client keeps asking for the references, and keeps receiving that there are none.
 #[test]
 fn a_conversation_without_an_end_ends_at_the_limit_of_reads(rt: HostRuntime) -> Result<(), Fail> {
     let asked = Endless::new(b"", b"0014command=ls-refs\n0000");
@@ -272,13 +272,13 @@ fn a_conversation_without_an_end_ends_at_the_limit_of_reads(rt: HostRuntime) -> 
     Ok(())
 }
 
-/// As many reads as are made suffice, and one fewer does not, however small they are.
+/// As many reads as are made are enough, and one fewer is not, however small they are.
 #[test]
 fn reads_that_are_spent_are_told(rt: HostRuntime) -> Result<(), Fail> {
     for step in [1, 7, 256] {
         let whole = slow_conversation(rt.alloc(), step, TURNS);
         if step == 256 {
-            // Each stream lies in one piece. The responses are read to their end, the requests to the flush alone.
+            // Each stream is one chunk. The responses are read to their end, the requests only to the flush.
             expect(&rt, &(whole.requests, whole.responses), &(1, 2));
         }
         let reads = whole.requests.saturating_add(whole.responses);
@@ -299,7 +299,7 @@ fn reads_that_are_spent_are_told(rt: HostRuntime) -> Result<(), Fail> {
     Ok(())
 }
 
-/// Of each stream just so many bytes are read as are due: each read gives one.
+/// No byte of a stream is read before it is expected: each read returns one byte.
 #[test]
 fn nothing_is_read_before_it_is_due(rt: HostRuntime) -> Result<(), Fail> {
     let unknown = Stream::new(b"0017command=bundle-uri\n0000", 1, NEVER);
@@ -326,7 +326,7 @@ fn nothing_is_read_before_it_is_due(rt: HostRuntime) -> Result<(), Fail> {
     Ok(())
 }
 
-// Whether the conversation is checked well with so much memory. Without it the want that memory ran out at is reported, at its offset.
+// Whether the check succeeds with this much memory. If not, the want at which memory ran out is reported, with its offset.
 fn check_with(rt: &(impl Abort + AllocGlobal), size: usize) -> Result<bool, Fail> {
     let heap = LocalHeap::new(rt.alloc(), size)?;
     let answer = check(

@@ -1,4 +1,4 @@
-//! A client in steps of which none promises anything, which keeps the proofs of the tests that take them short.
+//! A client in steps that promise nothing, which keeps the proofs of the tests that call them short.
 use crate::conversing::requests;
 use git_client::{Client, Ending, Sent};
 use git_names::Format;
@@ -6,12 +6,12 @@ use std::alloc::{Allocator, Global};
 use std::process::Abort;
 use std::test::Fail;
 
-/// A client that leaves by a flush alone, in SHA-1.
+/// A client whose responses end with a flush alone, in SHA-1.
 pub fn new_client<A: Allocator + Copy>() -> Client<A> {
     Client::new(Format::Sha1, Ending::FlushOnly)
 }
 
-/// Asks all of a script, for which the client is ready.
+/// Asks all requests of a script, for which the client is ready.
 pub fn ask_all(
     rt: &(impl Abort + AllocGlobal),
     client: &mut Client<Global>,
@@ -24,7 +24,7 @@ pub fn ask_all(
     Ok(())
 }
 
-/// Takes what the client has to send, so many packets at the most.
+/// Takes the packets that the client has to send, at most this many.
 pub fn say<A: Allocator + Copy>(client: &mut Client<A>, packets: usize) {
     for _ in 0..packets {
         if !matches!(client.pull(), Sent::Packet(_)) {

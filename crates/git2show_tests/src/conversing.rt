@@ -1,4 +1,4 @@
-//! A client over readers and writers: what it sends and receives, what is flushed when, and what is reported of streams that stop.
+//! A client over readers and writers: what it sends and receives, when it flushes, and what is reported if streams stop.
 ghost use Rattle.std.specs.Prelude.{◌≡◌, ◌<◌, false, length};
 ghost use Rattle.git_pkt.specs.Machine.Told.{IsNew, has_failed};
 
@@ -17,10 +17,10 @@ use std::process::Abort;
 use std::test::Fail;
 use test_streams::{Endless, Pieces, Sink, Stream};
 
-/// Nothing fails at this number.
+/// No call with this number fails.
 const NEVER: u32 = u32::MAX;
 
-/// What is asked: the references, and then a pack.
+/// The requests: the references, and then a pack.
 const SCRIPT: &[u8] = b"ls-refs\n\nfetch\nwant aaaaaaaaaaaaaaaaaaaaaaaaaaaaaaaaaaaaaaaa\ndone\n";
 
 /// What the server sends: its advertisement of 71 bytes, the references, and a pack of three bytes with three of progress.
@@ -37,7 +37,7 @@ const LISTS: &[u8] = b"0014command=ls-refs\n0017object-format=sha1\n00010000";
 const FETCHES: &[u8] =
     b"0012command=fetch\n0017object-format=sha1\n00010032want aaaaaaaaaaaaaaaaaaaaaaaaaaaaaaaaaaaaaaaa\n0009done\n0000";
 
-/// All that it sends, up to its leaving.
+/// Everything that it sends, up to its leaving.
 const SAID: [&[u8]; 3] = [LISTS, FETCHES, b"0000"];
 
 /// The transcript of it.
@@ -45,10 +45,10 @@ const TRANSCRIPT: &[u8] =
     b"capability ls-refs\ncapability fetch=shallow\ncapability object-format=sha1\noffered\n\
 request ls-refs\nref aaaaaaaaaaaaaaaaaaaaaaaaaaaaaaaaaaaaaaaa HEAD\nend 0 0\nrequest fetch\nend 3 3\n";
 
-/// The pack that is due.
+/// The expected pack.
 const PACK: &[u8] = b"ABC";
 
-/// The progress that is due.
+/// The expected progress.
 const PROGRESS: &[u8] = b"hi\n";
 
 /// The requests of a script.
@@ -60,7 +60,7 @@ pub fn requests(
     Ok(read.expect(rt, "a script"))
 }
 
-/// How the run of a client ends that asks this script over these streams.
+/// How a client's run ends that asks this script over these streams.
 fn run_client<R: Read, W: Write, O: Write, P: Write, E: Output>(
     rt: &(impl Abort + AllocGlobal),
     script: &[u8],
@@ -104,7 +104,7 @@ fn joined(rt: &(impl Abort + AllocGlobal), texts: &[&[u8]]) -> Result<Vec<u8>, F
     Ok(all)
 }
 
-/// What was given to each writer.
+/// What was written to each writer.
 #[derive(Drop)]
 struct Given {
     got: Result<(), RunFault>,
@@ -114,7 +114,7 @@ struct Given {
     progress: Sink,
 }
 
-/// After how many calls each stream stops, and how many reads may be made.
+/// After how many calls each stream stops, and the maximum number of reads.
 #[derive(Clone, Copy)]
 struct Stopping {
     reads: u32,
@@ -167,7 +167,7 @@ fn run<R: Read + Drop>(
     })
 }
 
-/// That a client receives the answers whole, and sends this.
+/// Expects that a client receives the whole answers, and sends this.
 fn expect_whole(
     rt: &(impl Abort + AllocGlobal),
     answers: &[u8],
@@ -197,7 +197,7 @@ fn a_client_with_response_ends_asks_and_does_not_leave(rt: HostRuntime) -> Resul
     expect_whole(&rt, &answers, Ending::ResponseEnd, &said)
 }
 
-/// What comes, a piece at a read.
+/// The input, one chunk for each read.
 const PIECES: [&[u8]; 11] = [
     b"000eversion 2\n",
     b"000cls-refs\n",
@@ -212,8 +212,8 @@ const PIECES: [&[u8]; 11] = [
     b"0000",
 ];
 
-/// What is due after so many reads: to the server, in the transcript, of the pack, and of the progress. Then nothing more is, up to the
-/// next of these.
+/// What is expected after this many reads: sent to the server, in the transcript, of the pack, and of the progress. Nothing more is
+/// expected before the next row.
 const DUE: [(u32, &[u8], &[u8], &[u8], &[u8]); 8] = [
     (2, b"", b"capability ls-refs\n", b"", b""),
     (3, b"", b"capability fetch=shallow\n", b"", b""),
@@ -237,7 +237,7 @@ const DUE: [(u32, &[u8], &[u8], &[u8], &[u8]); 8] = [
     (10, b"", b"", b"C", b""),
 ];
 
-/// How much of what is sent, of the transcript, of the pack and of the progress is due after so many reads.
+/// How many bytes sent, of the transcript, of the pack and of the progress are expected after this many reads.
 fn due_after(reads: u32) -> (usize, usize, usize, usize) {
     let mut due = (0usize, 0usize, 0usize, 0usize);
     for (number, said, out, pack, progress) in DUE {
@@ -251,7 +251,7 @@ fn due_after(reads: u32) -> (usize, usize, usize, usize) {
     due
 }
 
-/// That the run ended so, and that just what is due after so many reads was written and flushed.
+/// Expects that the run ended like this, and that exactly what is expected after this many reads was written and flushed.
 fn expect_interrupted(
     rt: &(impl Abort + AllocGlobal),
     given: &Given,
@@ -268,7 +268,7 @@ fn expect_interrupted(
     Ok(())
 }
 
-/// A read that fails, and reads that are spent, are reported after all that is due before them.
+/// A failed read, and a read above the limit, are reported after everything expected before them.
 #[test]
 fn each_read_fails_in_turn_while_a_client_converses(rt: HostRuntime) -> Result<(), Fail> {
     for reads in 0..11u32 {
@@ -292,7 +292,7 @@ fn each_read_fails_in_turn_while_a_client_converses(rt: HostRuntime) -> Result<(
     Ok(())
 }
 
-/// How much was written to each writer by the runs before.
+/// How much the runs before wrote to each writer.
 #[derive(Default, Drop)]
 struct Longest {
     said: usize,
@@ -301,7 +301,7 @@ struct Longest {
     progress: usize,
 }
 
-/// That what was written begins what the whole run writes, and is no shorter than before. Whether the run is whole.
+/// Expects that the written bytes are a prefix of what the whole run writes, and no shorter than before. Returns whether the run is whole.
 fn expect_fronts(
     rt: &(impl Abort + AllocGlobal),
     given: &Given,
@@ -357,7 +357,7 @@ const ADVERTISEMENT: &[u8] =
 const FETCHES_FROM_AN_AGENT: &[u8] =
     b"0012command=fetch\n0011agent=git2/1\n0017object-format=sha1\n00010032want aaaaaaaaaaaaaaaaaaaaaaaaaaaaaaaaaaaaaaaa\n0009done\n0000";
 
-/// Runs a client that asks for a pack over this stream, and sees that all that it wrote was flushed. How the run ended, and the pack.
+/// Runs a client that asks for a pack over this stream, and expects that everything it wrote was flushed. Returns how the run ended, and the pack.
 fn run_fetch<R: Read + Drop>(
     rt: &(impl Abort + AllocGlobal),
     answers: R,
@@ -391,7 +391,7 @@ fn run_fetch<R: Read + Drop>(
     Ok((got, pack.taken))
 }
 
-/// What was received before a fatal error has been passed on by the time that the error is reported.
+/// What was received before a fatal error is passed on before the error is reported.
 #[test]
 fn what_came_before_a_fault_is_flushed(rt: HostRuntime) -> Result<(), Fail> {
     let response = b"000dpackfile\n0007\x01AB0008\x02hi\n0005\x010008\x03bad";
@@ -406,7 +406,7 @@ fn what_came_before_a_fault_is_flushed(rt: HostRuntime) -> Result<(), Fail> {
     Ok(())
 }
 
-/// The advertisement and a part of the response come in one piece.
+/// The advertisement and a part of the response come in one chunk.
 #[test]
 fn a_piece_is_heard_whole_before_the_read_that_fails(rt: HostRuntime) -> Result<(), Fail> {
     let answers = joined(&rt, &[ADVERTISEMENT, b"000dpackfile\n0007\x01AB"])?;
@@ -416,7 +416,7 @@ fn a_piece_is_heard_whole_before_the_read_that_fails(rt: HostRuntime) -> Result<
     Ok(())
 }
 
-/// The server sends progress for ever.
+/// The server keeps sending progress.
 #[test]
 fn a_response_without_an_end_ends_at_the_limit_of_reads(rt: HostRuntime) -> Result<(), Fail> {
     let first = joined(&rt, &[ADVERTISEMENT, b"000dpackfile\n0007\x01AB"])?;
@@ -458,7 +458,7 @@ fn each_request_is_flushed_before_its_response_is_read(rt: HostRuntime) -> Resul
     Ok(())
 }
 
-/// The server does not offer references by name.
+/// The server does not advertise references by name.
 #[test]
 fn a_request_that_is_not_offered_is_not_said(rt: HostRuntime) -> Result<(), Fail> {
     let [advertisement, _, _] = ANSWERS;

@@ -3,7 +3,7 @@ use crate::expecting::expect;
 use git_pkt::{escape_into, is_plain};
 use std::test::Fail;
 
-/// Bytes, and what is shown of them.
+/// Bytes, and how they are shown.
 const SHOWN: [(&[u8], &[u8]); 8] = [
     (b"", b""),
     (b"refs/heads/main ~", b"refs/heads/main ~"),

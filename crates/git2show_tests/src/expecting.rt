@@ -1,13 +1,13 @@
-//! What tests expect: equations that are proved and built once, where each `assert_eq!` is a formatter, a branch and an end of its own.
+//! Expectations of tests, as functions that are proved and built once: each `assert_eq!` would be a formatter, a branch and an end of its own.
 use std::fmt::Debug;
 use std::process::Abort;
 
-/// That what came is what is due.
+/// Expects that the value is the expected one.
 pub fn expect<T: PartialEq + Debug>(rt: &impl Abort, came: &T, due: &T) {
     assert_eq!(rt; came, due);
 }
 
-/// That the bytes that came are those that are due.
+/// Expects that the bytes are the expected ones.
 pub fn expect_bytes(rt: &impl Abort, came: &[u8], due: &[u8]) {
     assert_eq!(rt; came, due);
 }

@@ -1,9 +1,9 @@
-//! The names and numbers of the refusals, and how faults print.
+//! The names and numbers of the refusals, and how errors print.
 use crate::expecting::{expect, expect_bytes};
 use git_pkt::{Fault, Kind, RunFault};
 use std::test::Fail;
 
-// Every refusal with its name and number, as they were laid down.
+// Every refusal with its published name and number.
 const TABLE: [(Kind, &[u8], u8); 34] = [
     (Kind::BadDigit, b"BadDigit", 1),
     (Kind::BadLength, b"BadLength", 2),

@@ -1,4 +1,4 @@
-//! Memory is given back: all that an end or a reader took, wherever its input ends and whichever growth is refused.
+//! Memory is given back: everything that a side or a reader took, wherever its input ends and whichever allocation fails.
 use crate::adding::{add_filter, add_have, add_revision, add_want, new_request};
 use crate::clients::{new_client, say};
 use crate::expecting::expect;
@@ -23,7 +23,7 @@ const NOT_OURS: &[u8] =
     b"0012command=fetch\n00010032want aaaaaaaaaaaaaaaaaaaaaaaaaaaaaaaaaaaaaaaa\n\
 0035shallow cccccccccccccccccccccccccccccccccccccccc\n0032want dddddddddddddddddddddddddddddddddddddddd\n0000";
 
-/// What a server sends to a client: its advertisement, and a pack that breaks off.
+/// What a server sends to a client: its advertisement, and the beginning of a pack.
 const BROKEN_OFF: &[u8] =
     b"000eversion 2\n000cls-refs\n0019fetch=shallow filter\n0017object-format=sha1\n0000\
 0014acknowledgments\n0031ACK bbbbbbbbbbbbbbbbbbbbbbbbbbbbbbbbbbbbbbbb\n000aready\n0001000dpackfile\n0007\x01AB0008\x02hi\n0008\x03no\n";
@@ -36,7 +36,7 @@ enum Of {
     Reader,
 }
 
-/// Who is given which bytes.
+/// Who receives which bytes.
 const GIVEN: [(Of, &[u8]); 5] = [
     (Of::Server, REFUSED),
     (Of::Server, NOT_OURS),
@@ -48,10 +48,10 @@ const GIVEN: [(Of, &[u8]); 5] = [
 /// More memory than any of them takes.
 const ENOUGH: usize = 4_096;
 
-/// More packets than any of them gives.
+/// More packets than any of them sends.
 const PACKETS: usize = 100;
 
-/// Takes all that the server owes.
+/// Takes all packets that the server has to send.
 fn drain(server: &mut Server<ListRepo, &LocalHeap>) {
     for _ in 0..PACKETS {
         if !matches!(server.pull(), Pulled::Packet(_)) {
@@ -60,13 +60,13 @@ fn drain(server: &mut Server<ListRepo, &LocalHeap>) {
     }
 }
 
-/// Feeds a server. The bytes that it did not use.
+/// Feeds a server. Returns the bytes that it did not use.
 fn feed<'a>(server: &mut Server<ListRepo, &LocalHeap>, piece: &'a [u8]) -> &'a [u8] {
     let used = server.feed(piece, &mut Steps::new());
     &piece[used..]
 }
 
-/// Feeds a server, and drops it. How much memory it had at the most.
+/// Feeds a server, and drops it. Returns the maximum of the memory that it had.
 fn serve(rt: &(impl Abort + AllocGlobal), heap: &LocalHeap, input: &[u8]) -> Result<usize, Fail> {
     let mut server = new_server(rt, heap, usual())?;
     let mut rest = input;
@@ -79,7 +79,7 @@ fn serve(rt: &(impl Abort + AllocGlobal), heap: &LocalHeap, input: &[u8]) -> Res
     Ok(most)
 }
 
-/// Adds what is asked of a pack, where there is memory for it.
+/// Adds the arguments for a pack, if there is memory for them.
 fn add_all(rt: &impl Abort, request: &mut Request<&LocalHeap>) -> Result<(), Kind> {
     let id = object(rt, Format::Sha1, b'a');
     add_want(request, id)?;
@@ -88,7 +88,7 @@ fn add_all(rt: &impl Abort, request: &mut Request<&LocalHeap>) -> Result<(), Kin
     add_filter(request, b"blob:none")
 }
 
-/// A request for a pack, where there is memory for it.
+/// A request for a pack, if there is memory for it.
 fn request<'h>(rt: &impl Abort, heap: &'h LocalHeap) -> Option<Request<&'h LocalHeap>> {
     let mut request = new_request(heap, Command::Fetch, Limits::DEFAULT);
     match add_all(rt, &mut request) {
@@ -97,7 +97,7 @@ fn request<'h>(rt: &impl Abort, heap: &'h LocalHeap) -> Option<Request<&'h Local
     }
 }
 
-/// Feeds a client. The bytes that it did not use, unless it fails.
+/// Feeds a client. Returns the bytes that it did not use, unless it fails.
 fn hear<'a>(client: &mut Client<&LocalHeap>, piece: &'a [u8]) -> Option<&'a [u8]> {
     let heard = client.feed(piece, &mut Steps::new());
     match heard.got {
@@ -106,8 +106,8 @@ fn hear<'a>(client: &mut Client<&LocalHeap>, piece: &'a [u8]) -> Option<&'a [u8]
     }
 }
 
-/// Asks for a pack where the client can ask, and sends so many packets of that. How much memory the request took, where there was
-/// memory for it.
+/// Asks for a pack if the client can ask, and sends this many packets of the request. Returns how much memory the request took, if there
+/// was memory for it.
 fn ask_where_due<'h>(
     rt: &impl Abort,
     heap: &'h LocalHeap,
@@ -124,7 +124,7 @@ fn ask_where_due<'h>(
     Some(taken)
 }
 
-/// Feeds a client that asks as soon as it can, and sends so many packets of that, and drops it. How much memory its request took.
+/// Feeds a client that asks as soon as it can, sends this many packets of the request, and drops the client. Returns how much memory the request took.
 fn ask(rt: &impl Abort, heap: &LocalHeap, input: &[u8], packets: usize) -> usize {
     let mut client = new_client();
     let mut rest = input;
@@ -142,7 +142,7 @@ fn ask(rt: &impl Abort, heap: &LocalHeap, input: &[u8], packets: usize) -> usize
     most
 }
 
-/// Feeds a reader of requests, lets each request go, and drops it. How much memory there was at the most.
+/// Feeds a reader of requests, drops each request, and then the reader. Returns the maximum of the memory taken.
 fn read(heap: &LocalHeap, input: &[u8]) -> usize {
     let offer = Offer::everything(Format::Sha1);
     let mut reader = RequestStream::new(heap, offer, Limits::DEFAULT);
@@ -159,7 +159,7 @@ fn read(heap: &LocalHeap, input: &[u8]) -> usize {
     most
 }
 
-/// How much memory one took that was given the bytes, and was let go.
+/// How much memory a side or a reader took that received the bytes and was dropped.
 fn taken(
     rt: &(impl Abort + AllocGlobal),
     of: Of,
@@ -210,7 +210,7 @@ fn a_request_is_given_back_wherever_it_breaks_off(rt: HostRuntime) -> Result<(),
     Ok(())
 }
 
-/// Writes a request, for which no memory is taken. How many packets it has.
+/// Writes a request, which takes no memory. Returns how many packets it has.
 fn packets_of(rt: &impl Abort, heap: &LocalHeap, request: &Request<&LocalHeap>) -> u32 {
     let before = heap.used();
     let mut writer = RequestWriter::new(request, &Caps::new());
@@ -230,7 +230,7 @@ fn packets_of(rt: &impl Abort, heap: &LocalHeap, request: &Request<&LocalHeap>) 
 fn a_request_is_written_without_memory(rt: HostRuntime) -> Result<(), Fail> {
     let heap = LocalHeap::new(rt.alloc(), ENOUGH)?;
     let request = request(&rt, &heap).expect(&rt, "a request");
-    // The command, the delimiter, the filter, the revision, the object that is wanted, the one that is had, and the flush.
+    // The command, the delimiter, the filter, the revision, the wanted object, the client's object, and the flush.
     expect(&rt, &packets_of(&rt, &heap, &request), &7);
     Ok(())
 }

@@ -11,14 +11,14 @@ use git_server::{Faulty, ListRepo, Outcome, Repo, Server, serve};
 use std::process::Abort;
 use std::test::Fail;
 
-/// One byte more than the longest packet has room for.
+/// One byte more than fits into the longest packet.
 const PACK_BYTES: usize = 65_516;
 
 /// A clone of the one object, from a server that advertises nothing.
 const REQUEST: &[u8] =
     b"0012command=fetch\n00010032want aaaaaaaaaaaaaaaaaaaaaaaaaaaaaaaaaaaaaaaa\n0009done\n00000000";
 
-/// The length of the packet at the front of the bytes, by its four digits, and what comes after it.
+/// The length of the packet at the front of the bytes, by its four digits, and the bytes after it.
 fn split_packet(bytes: &[u8]) -> (usize, &[u8]) {
     let mut length = 0usize;
     for digit in bytes.iter().take(4) {
@@ -62,7 +62,7 @@ fn a_pack_comes_in_full_packets(rt: HostRuntime) -> Result<(), Fail> {
     Ok(())
 }
 
-/// A pack of so many bytes, in which no two packets are alike.
+/// A pack of this many bytes, in which no two packets are the same.
 fn pack_of(rt: &(impl Abort + AllocGlobal), length: usize) -> Result<Vec<u8>, Fail> {
     let mut pack = Vec::new(rt.alloc());
     let mut byte = 0u8;
@@ -73,8 +73,8 @@ fn pack_of(rt: &(impl Abort + AllocGlobal), length: usize) -> Result<Vec<u8>, Fa
     Ok(pack)
 }
 
-/// What is written for the request by a server whose reads of the pack fail from this one on, counted from 0, and give so many bytes
-/// at the most, and how its run ends.
+/// What a server writes for the request if its reads of the pack fail from this one on, counted from 0, and return at most this many bytes;
+/// and how its run ends.
 fn serve_failing(
     rt: &(impl Abort + AllocGlobal),
     pack: &[u8],
@@ -98,7 +98,7 @@ fn serve_failing(
     Ok((given, run))
 }
 
-/// That an answer has the header, packets of the pack whose joined bytes are these, and after them just this packet.
+/// Expects that an answer has the header, packets of the pack with these bytes joined, and after them only this packet.
 fn expect_pack(
     rt: &(impl Abort + AllocGlobal),
     answer: &[u8],
@@ -125,7 +125,7 @@ fn expect_pack(
     Ok(())
 }
 
-/// That each read of a pack of so many bytes, by so many at a time, fails in turn: what the reads before it gave is passed on.
+/// Expects that each read of a pack of this many bytes, in parts of at most `most`, fails in turn: what the reads before it returned is passed on.
 fn expect_failures(rt: &(impl Abort + AllocGlobal), length: usize, most: usize) -> Result<(), Fail>
     requires { 1 ≤ most }
 {
@@ -154,6 +154,6 @@ fn expect_failures(rt: &(impl Abort + AllocGlobal), length: usize, most: usize) 
 fn each_read_of_a_pack_fails_in_turn(rt: HostRuntime) -> Result<(), Fail> {
     expect_failures(&rt, 9, 1)?;
     expect_failures(&rt, 9, 2)?;
-    // Two reads as long as the longest packet has room for, and a byte.
+    // Two reads as long as the longest packet, and one of a byte.
     expect_failures(&rt, 131_031, 65_515)
 }

@@ -81,7 +81,7 @@ fn id(rt: &impl Abort, digit: u8) -> Oid {
     object(rt, Format::Sha1, digit)
 }
 
-/// A report that was not asked for changes nothing, nor does an object of another format.
+/// A report that was not requested changes nothing, nor does an object of another format.
 #[test]
 fn a_fetch_is_admitted(rt: HostRuntime) -> Result<(), AllocError> {
     let fetch = fetch_of(&rt, NEGOTIATION);
@@ -144,7 +144,7 @@ enum Report {
     PackEnd,
 }
 
-/// The packets given since the last comparison, and the buffer that each is written into.
+/// The packets returned since the last comparison, and the buffer that each is written into.
 #[derive(Drop)]
 struct Given {
     hold: Hold,
@@ -179,7 +179,7 @@ fn fits(bytes: &[u8]) -> bool
     !bytes.is_empty() && bytes.len() < 65_516
 }
 
-/// Makes the report. Whether a packet was given.
+/// Makes the report. Returns whether there was a packet.
 fn make_report(answer: &mut FetchAnswer<Global>, report: &Report, hold: &mut Hold) -> bool {
     match report {
         Report::Common => answer.common(hold),
@@ -198,7 +198,7 @@ fn make_report(answer: &mut FetchAnswer<Global>, report: &Report, hold: &mut Hol
     }
 }
 
-/// Takes the packets up to the next question, or to the end.
+/// Takes the packets up to the next question, or up to the end.
 fn take_lines(answer: &mut FetchAnswer<Global>, given: &mut Given) -> Result<(), AllocError> {
     for _ in 0..PACKETS {
         let Step::Packet = answer.next(&mut given.hold) else {
@@ -209,7 +209,7 @@ fn take_lines(answer: &mut FetchAnswer<Global>, given: &mut Given) -> Result<(),
     Ok(())
 }
 
-/// Makes the reports: the answer has to begin with the opening, each report has to bring its packets, and after the last one it is whole.
+/// Makes the reports: the answer has to begin with the opening, each report has to result in its packets, and after the last one it is whole.
 fn expect_answer(
     rt: &(impl Abort + AllocGlobal),
     answer: &mut FetchAnswer<Global>,
@@ -230,7 +230,7 @@ fn expect_answer(
     Ok(())
 }
 
-/// Whether a fetch wants just so many references by their names.
+/// Whether a fetch wants exactly this many references by their names.
 fn wants_names(fetch: &Fetch<Global>, count: usize) -> bool
     ensures { result ≡ true → count ≡ length fetch.now.asked.want_refs }
 {
@@ -254,7 +254,7 @@ fn answer_to(
     FetchAnswer::new(fetch, ids, Format::Sha1)
 }
 
-/// One of three objects is common, the boundary has two lines, and the pack comes in two pieces with progress between them.
+/// One of three objects is common, the boundary has two lines, and the pack comes in two chunks with progress between them.
 #[test]
 fn a_fetch_that_negotiates_is_given_each_section(rt: HostRuntime) -> Result<(), Fail> {
     let wanted = Vec::from_slice(rt.alloc(), &[id(&rt, b'b')])?;
@@ -305,7 +305,7 @@ fn a_fetch_that_is_done_is_given_the_pack(rt: HostRuntime) -> Result<(), Fail> {
     Ok(())
 }
 
-/// Reports an unborn `HEAD` that points to this name, if it is a reference's.
+/// Reports an unborn `HEAD` that points to this name, if that is a reference name.
 fn report_unborn(
     answer: &mut ReferencesAnswer<Global>,
     target: &[u8],
@@ -317,7 +317,7 @@ fn report_unborn(
     }
 }
 
-/// A reference as a store reports it: its name, what it points to and what it is peeled to; what came of it, and its packet.
+/// A reference as a store reports it: its name, what it points to and what it is peeled to; the result, and its packet.
 #[derive(Clone, Copy, Debug)]
 struct Row {
     name: &'static [u8],
@@ -341,7 +341,7 @@ impl Row {
     }
 }
 
-/// Reports each reference in turn, from which the outcome and the packet of its row are expected.
+/// Reports each reference in turn, and expects the outcome and the packet of its row.
 fn expect_references(
     rt: &(impl Abort + AllocGlobal),
     answer: &mut ReferencesAnswer<Global>,
@@ -373,7 +373,7 @@ fn an_unborn_head_is_given_as_it_is_reported(rt: HostRuntime) -> Result<(), Fail
     expect_references(&rt, &mut answer, &mut given, &[head])
 }
 
-/// A reference that is refused changes nothing: the next one is given.
+/// A refused reference changes nothing: the next one is returned.
 #[test]
 fn references_are_given_as_they_are_reported(rt: HostRuntime) -> Result<(), Fail> {
     let mut answer = ReferencesAnswer::new(ls_refs_of(&rt, REFERENCES), Format::Sha1);

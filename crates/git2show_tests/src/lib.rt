@@ -1,6 +1,6 @@
-//! Tests that need code: memory that is refused, and given back, packs that come in parts or fail, readers and writers that fail or are
-//! asked when they were flushed, what a repository is asked, answers over a store that is asked, bytes of a pack as they pass, many packets
-//! and prefixes at once, and the names and texts of faults. What a text can state is a case of `worked_conversations`.
+//! Tests that need code: memory that is refused, and given back, packs that come in parts or fail, readers and writers that fail or record
+//! when they were flushed, how often a repository is asked, answers over a store that is asked, bytes of a pack as they pass, many packets
+//! and prefixes at once, and the names and texts of errors. What a text can state is a case of `worked_conversations`.
 #![tactic(auto)]
 
 #[cfg(test)]
@@ -26,6 +26,8 @@ mod full_packets;
 #[cfg(test)]
 mod host_answers;
 #[cfg(test)]
+mod host_memory;
+#[cfg(test)]
 mod many_packets;
 #[cfg(test)]
 mod many_prefixes;
@@ -39,6 +41,8 @@ mod packs;
 mod playing_memory;
 #[cfg(test)]
 mod readiness;
+#[cfg(test)]
+mod repository_memory;
 #[cfg(test)]
 mod repository_text;
 #[cfg(test)]

@@ -1,4 +1,4 @@
-//! Many packets in one piece, of which the reader is given what is left each time: it looks at none of that but the packet it reads.
+//! Many packets in one chunk. Each call of the reader gets the rest of it, and looks at the packet that it reads and at nothing after it.
 use crate::expecting::expect;
 use git_names::Steps;
 use git_pkt::{Got, Packet, PacketReader};

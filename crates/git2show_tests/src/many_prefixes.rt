@@ -1,5 +1,5 @@
 //! A request of many prefixes is answered with the references that begin with one of them, in their order, whatever the order of the
-//! prefixes is, however often each comes, and whether or not one begins with another.
+//! prefixes, however often each comes, and whether or not one begins with another.
 use crate::servers::{converse, object, usual};
 use git_msg::Offer;
 use git_names::Format;
@@ -8,20 +8,20 @@ use std::alloc::{AllocError, Global};
 use std::process::Abort;
 use std::test::Fail;
 
-/// The branches of the repository have five digits as names, those of each twentieth number below this.
+/// The branches of the repository: each twentieth number below this, as a name of five digits.
 const NUMBERS: u32 = 60_000;
 
-/// How many prefixes are asked for: the names of the branches of each third number, of which one in twenty exists.
+/// How many prefixes are in a request: the names of the branches of each third number. One in twenty of them exists.
 const PREFIXES: u32 = 20_000;
 
-/// How a request is made of them.
+/// The order of the prefixes in a request.
 #[derive(Clone, Copy, Debug)]
 struct Order {
-    /// How many places lie between one prefix and that which is asked for after it.
+    /// The distance between two consecutive prefixes.
     step: u32,
-    /// How often all of them are asked for.
+    /// How often all of them are repeated.
     rounds: u32,
-    /// Whether each seventh ten of the branches is asked for as well, by the four digits that they begin with.
+    /// Whether there is also a prefix of four digits for each seventh ten of the branches.
     tens: bool,
 }
 
@@ -48,7 +48,7 @@ fn repository(rt: &(impl Abort + AllocGlobal)) -> Result<ListRepo, Fail> {
     Ok(repo.expect(rt, "a repository"))
 }
 
-// The request, of which each packet has its length in digits before it.
+// The request. Each of its packets has its length in digits before it.
 fn request(alloc: Global, order: Order) -> Result<Vec<u8>, AllocError> {
     let mut request = Vec::from_slice(alloc, b"0014command=ls-refs\n0001")?;
     for turn in 0..PREFIXES.saturating_mul(order.rounds) {
@@ -65,7 +65,7 @@ fn request(alloc: Global, order: Order) -> Result<Vec<u8>, AllocError> {
     Ok(request)
 }
 
-// The packets that are due: a branch is asked for where its number is a third one, or its ten is asked for.
+// The expected packets: a branch is shown if its number is a multiple of three, or if its ten is requested.
 fn due(alloc: Global, tens: bool) -> Result<Vec<u8>, AllocError> {
     let mut due = Vec::new(alloc);
     for number in (0..NUMBERS).step_by(20) {
@@ -93,7 +93,7 @@ fn check_answer(rt: &(impl Abort + AllocGlobal), order: Order) -> Result<(), Fai
     Ok(())
 }
 
-/// The prefixes as they rise, as they fall and far from each other; with prefixes of others among them; and all of that twice.
+/// The prefixes ascending, descending and far apart; with prefixes of others among them; and all of that twice.
 const ORDERS: [Order; 3] = [
     Order {
         step: 1,

@@ -1,4 +1,4 @@
-//! A server and a client that meet in a loop of the test's own: what the client receives where the server refuses.
+//! A server and a client that meet in a loop of the test: what the client receives if the server refuses.
 use crate::clients::{ask_all, new_client};
 use crate::expecting::{expect, expect_bytes};
 use crate::servers::{advertising, new_server, repository, server_of};
@@ -11,10 +11,10 @@ use std::alloc::{Allocator, Global};
 use std::process::Abort;
 use std::test::Fail;
 
-/// More packets than either end gives here.
+/// More packets than either side sends here.
 const PACKETS: usize = 100;
 
-/// Gives the client all that the server owes. The fault that ends the conversation, if one does.
+/// Gives the client everything that the server has to send. Returns the error that ends the conversation, if one does.
 fn hear<A: Allocator + Copy>(
     server: &mut Server<ListRepo, A>,
     client: &mut Client<Global>,
@@ -40,20 +40,20 @@ fn say<A: Allocator + Copy>(client: &mut Client<Global>, server: &mut Server<Lis
     }
 }
 
-/// What came of a meeting.
+/// The result of a meeting.
 #[derive(Drop)]
 struct Met {
     /// Why the server refused the request, if it did.
     refused: Option<Fault>,
-    /// The fault that the client received, if one.
+    /// The error that the client received, if any.
     heard: Option<Fault>,
-    /// The message that the client has of it; nothing where it has none.
+    /// The client's message of that error, or nothing.
     message: Vec<u8>,
     /// Whether the client can ask again.
     can_ask: bool,
 }
 
-/// The message that the client has of its fault; nothing where it has none.
+/// The client's message of its error, or nothing.
 fn message_of(alloc: Global, client: &Client<Global>) -> Result<Vec<u8>, Fail> {
     let mut message = Vec::new(alloc);
     message.extend_from_slice(client.message().unwrap_or(b""))?;
@@ -104,7 +104,7 @@ fn a_client_hears_why_a_server_refuses(rt: HostRuntime) -> Result<(), Fail> {
     Ok(())
 }
 
-/// Asks for a pack of a server that has so much memory, by a revision and an object name.
+/// Asks a server with this much memory for a pack, with a revision and an object name.
 fn meet_within(rt: &(impl Abort + AllocGlobal), size: usize) -> Result<Met, Fail> {
     let script = b"fetch\nwant aaaaaaaaaaaaaaaaaaaaaaaaaaaaaaaaaaaaaaaa\ndeepen-not v1\ndone\n";
     let repo = repository(rt, Format::Sha1)?;
@@ -113,8 +113,7 @@ fn meet_within(rt: &(impl Abort + AllocGlobal), size: usize) -> Result<Met, Fail
     meet(rt, &mut server, &mut new_client(), script)
 }
 
-/// Where a server with so much memory refuses the request as OutOfMemory, which the client receives with its offset; or nothing where
-/// it answers.
+/// The offset at which a server with this much memory refuses the request with OutOfMemory, as the client receives it; none if it answers.
 fn refused_within(rt: &(impl Abort + AllocGlobal), size: usize) -> Result<Option<u64>, Fail> {
     let met = meet_within(rt, size)?;
     let Some(refused) = met.refused else {
@@ -133,7 +132,7 @@ fn refused_within(rt: &(impl Abort + AllocGlobal), size: usize) -> Result<Option
     Ok(Some(refused.offset))
 }
 
-/// The revision comes before the object name. It takes two blocks of 16 bytes, and the places of four object names take nine.
+/// The revision comes before the object name. It takes two blocks of 16 bytes, and the space for four object names takes nine.
 #[test]
 fn a_client_hears_where_a_server_has_no_memory(rt: HostRuntime) -> Result<(), Fail> {
     for (size, refused) in [

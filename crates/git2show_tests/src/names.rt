@@ -1,4 +1,4 @@
-//! Formats and object names: what is derived on them, and texts.
+//! Formats and object names: what is derived for them, and texts.
 ghost use Rattle.std.specs.Prelude.{◌≡◌, ◌+◌, ◌↔◌, IsTrue};
 ghost use Rattle.std.specs.Ordering.{nat_cmp};
 ghost use Rattle.std.specs.Cmp.Lexicographic.{slice_cmp};
@@ -36,14 +36,14 @@ fn faults_by_name(rt: HostRuntime) -> Result<(), Fail> {
     Ok(())
 }
 
-// `==` answers whether the values are equal.
+// `==` returns whether the values are equal.
 fn is_same(a: &Oid, b: &Oid) -> bool
     ensures { IsTrue result ↔ (a.now ≡ b.now) }
 {
     *a == *b
 }
 
-// Names of one format are in the order of their bytes.
+// Names of one format are ordered by their bytes.
 fn stands_before(a: &Oid, b: &Oid) -> bool
     requires { a.now.format ≡ b.now.format }
     ensures { IsTrue result ↔ (slice_cmp nat_cmp a.now.bytes b.now.bytes ≡ Ordering.Less) }
@@ -51,7 +51,7 @@ fn stands_before(a: &Oid, b: &Oid) -> bool
     a.cmp(b) == Ordering::Less
 }
 
-// What is written reads back as an equal name.
+// The written form reads back as an equal name.
 fn reads_back(id: &Oid) -> bool
     ensures { IsTrue result }
 {

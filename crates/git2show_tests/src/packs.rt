@@ -1,4 +1,4 @@
-//! A pack that comes in parts, and reads of it that fail.
+//! A pack that is read in parts, and reads of it that fail.
 
 ghost use Rattle.std.specs.Prelude.{◌≤◌};
 
@@ -25,7 +25,7 @@ fn repository(rt: &(impl Abort + AllocGlobal)) -> Result<ListRepo, Fail> {
     Ok(repo.expect(rt, "a repository"))
 }
 
-// Reads the pack for the request from its start, until it ends or a read fails. How many reads gave bytes, and the fault.
+// Reads the pack for the request from its start, until it ends or a read fails. Returns how many reads gave bytes, and the error.
 fn read_pack<R: Repo, A: Allocator + Copy>(
     repo: &mut R,
     request: &Fetch<A>,
@@ -42,7 +42,7 @@ fn read_pack<R: Repo, A: Allocator + Copy>(
     Ok((100, None))
 }
 
-// What comes of the pack of a repository: the bytes, how many reads gave some, and the fault.
+// Expects the result of reading a repository's pack: the bytes, how many reads gave some, and the error.
 fn check_read<R: Repo>(
     rt: &(impl Abort + AllocGlobal),
     repo: &mut R,
@@ -59,7 +59,7 @@ fn check_read<R: Repo>(
     Ok(())
 }
 
-// That the pack comes whole in parts of so many bytes, by so many reads.
+// Expects that the whole pack comes in parts of this many bytes, with this many reads.
 fn check_parts(rt: &(impl Abort + AllocGlobal), most: usize, reads: u32) -> Result<(), Fail>
     requires { 1 ≤ most }
 {

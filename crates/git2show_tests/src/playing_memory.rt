@@ -1,4 +1,4 @@
-//! Both ends in one memory, which has room for what the client asks and not for what the server keeps of it.
+//! Both sides in one memory. The client's request fits into it, and what the server keeps of it does not.
 use crate::expecting::{expect, expect_bytes};
 use crate::servers::repository;
 use git_client::Ending;
@@ -10,25 +10,25 @@ use linked_list_allocator::LocalHeap;
 use std::process::Abort;
 use std::test::Fail;
 
-/// What the client asks: a pack for an object name and two texts, which both ends keep.
+/// The client's request: a pack, with an object name and two texts, which both sides keep.
 const SCRIPT: &[u8] =
     b"fetch\nfilter blob:none\nwant aaaaaaaaaaaaaaaaaaaaaaaaaaaaaaaaaaaaaaaa\ndeepen-not v1\ndone\n";
 
-/// The transcript of what the server offers, and of the request.
+/// The transcript of the server's advertisement, and of the request.
 const ASKED: &[u8] =
     b"capability agent=git2/1\ncapability ls-refs=unborn\ncapability fetch=shallow ref-in-want wait-for-done filter\n\
 capability server-option\ncapability object-format=sha1\ncapability object-info\noffered\nrequest fetch\n";
 
-/// And of the response.
+/// And that of the response.
 const ANSWERED: &[u8] = b"end 4 0\n";
 
 /// Where the first response begins.
 const OFFERED: u64 = 162;
 
-/// More memory than both ends take.
+/// More memory than both sides take.
 const ENOUGH: usize = 8_192;
 
-/// How a play ended, and what its two writers got.
+/// How a play ended, and what its two writers received.
 #[derive(Drop)]
 struct Played {
     ended: Result<(), RunFault>,
@@ -36,12 +36,12 @@ struct Played {
     pack: Vec<u8>,
 }
 
-/// The requests of the script, where the heap has room for them.
+/// The requests of the script, if they fit into the heap.
 fn requests<'h>(heap: &'h LocalHeap) -> Option<Vec<Request<&'h LocalHeap>, &'h LocalHeap>> {
     read_script(heap, SCRIPT, Format::Sha1, Limits::DEFAULT).ok()
 }
 
-/// Plays the requests, in small pieces.
+/// Plays the requests, in small chunks.
 fn play_within<'h>(
     rt: &(impl Abort + AllocGlobal),
     heap: &'h LocalHeap,
@@ -63,7 +63,7 @@ fn play_within<'h>(
     Ok(Played { ended, out, pack })
 }
 
-/// That the client received an error of the server, or got the filtered pack. Whether it was an error.
+/// Expects that the client received an error of the server, or the filtered pack. Returns whether it was an error.
 fn is_refused(rt: &impl Abort, played: &Played) -> bool {
     assert!(rt; played.out.as_slice().starts_with(ASKED));
     let rest = &played.out.as_slice()[ASKED.len().min(played.out.len())..];

@@ -13,7 +13,7 @@ use std::cell::Cell;
 use std::process::Abort;
 use std::test::Fail;
 
-// A repository that answers as another does, and counts how often it is asked whether it is ready.
+// A repository that answers as another one does, and counts how often it is asked whether it is ready.
 #[derive(Drop)]
 struct AskedRepo<'a> {
     inner: ListRepo,
@@ -91,7 +91,7 @@ fn times_asked(rt: &(impl Abort + AllocGlobal), requests: &[u8]) -> Result<u32, 
     Ok(times.get())
 }
 
-/// A fetch that negotiates alone gets no pack, and one that is done, or contains nothing of what the client has, gets it in any case.
+/// A fetch that negotiates alone gets no pack, and one with `done`, or without an object of the client's, gets it in any case.
 #[test]
 fn a_repository_is_asked_whether_it_is_ready_only_where_its_pack_may_follow(
     rt: HostRuntime,

@@ -1,4 +1,4 @@
-//! Memory that runs out at each growth in turn.
+//! Memory that runs out at each allocation in turn.
 ghost use Rattle.std.specs.Prelude.{◌≡◌, false};
 ghost use Rattle.git_msg.specs.Machine.RequestReader.{is_waiting};
 
@@ -12,7 +12,7 @@ use linked_list_allocator::LocalHeap;
 use std::alloc::{AllocError, Allocator, Global};
 use std::process::Abort;
 
-/// An offer of all but `object-info`, in SHA-1.
+/// An offer of everything but `object-info`, in SHA-1.
 fn offer() -> Offer {
     Offer {
         object_info: false,
@@ -43,9 +43,9 @@ fn kept_within(rt: &impl Abort, alloc: Global, size: usize) -> Result<u32, Alloc
     Ok(kept)
 }
 
-/// How many of the two prefixes a heap of this size keeps. It gives blocks of 16 bytes and multiples of them. The first prefix takes
-/// two: one for the places of four texts, of four bytes each, and one for its bytes, 13 with those of its length. The second has a
-/// place there already, and makes the bytes move to a block of 32, twice 13 and what fills it up, while the old block is still taken.
+/// How many of the two prefixes a heap of this size can keep. It has blocks of 16 bytes and multiples of them. The first prefix takes two:
+/// one for the ends of four texts, of four bytes each, and one for its bytes, 13 with those of its length. The second has space for its end
+/// already, and moves the bytes to a block of 32, twice 13 rounded up, while the old block is still taken.
 fn due_within(size: usize) -> u32 {
     match size {
         0..=16 => 0,
@@ -63,7 +63,7 @@ fn each_growth_of_a_request_is_refused_in_turn(rt: HostRuntime) -> Result<(), Al
     Ok(())
 }
 
-/// Two filters, which take the blocks that the two prefixes do: their bytes are 14, and then 24, with those of their lengths.
+/// Two filters, which take the same blocks as the two prefixes: their bytes are 14, and then 24, with those of their lengths.
 const FILTERS: [&[u8]; 2] = [b"blob:limit=8", b"tree:100"];
 
 /// Adds the filters to a fetch that may use this much memory, and returns how many were kept.
@@ -106,7 +106,7 @@ fn filters_are_kept_in_order(rt: HostRuntime) -> Result<(), AllocError> {
     for spec in [FILTERS[0], FILTERS[1], FILTERS[0]] {
         expect(&rt, &add_filter(&mut request, spec), &Ok(()));
     }
-    // Each counts with the seven bytes of its word and the space, and its repetition counts again.
+    // Each counts with the seven bytes of its word and the space, and a repetition counts again.
     expect(&rt, &bytes_kept(&request), &53);
     expect(&rt, &request.filter(0), &Some(FILTERS[0]));
     expect(&rt, &request.filter(1), &Some(FILTERS[1]));
@@ -123,7 +123,7 @@ fn filters_are_kept_in_order(rt: HostRuntime) -> Result<(), AllocError> {
     Ok(())
 }
 
-/// More wants than fit into the first place that is taken for them.
+/// More wants than fit into the first block taken for them.
 const MANY: usize = 20;
 
 /// Adds wants to a request that may use this much memory, and returns how many were kept.
@@ -162,14 +162,14 @@ fn each_growth_of_the_wants_is_refused_in_turn(rt: HostRuntime) -> Result<(), Al
     Ok(())
 }
 
-/// A reader of the requests that are offered.
+/// A reader of the requests that are advertised.
 fn new_reader<A: Allocator + Copy>(alloc: A) -> RequestReader<A>
     ensures { is_waiting result ≡ false }
 {
     RequestReader::new(alloc, offer(), Limits { args: 1000 })
 }
 
-/// Gives the reader a packet, and keeps the argument that it is.
+/// Gives the reader a packet, and keeps its argument, if it is one.
 fn hear<A: Allocator + Copy>(
     reader: &mut RequestReader<A>,
     packet: Packet<'_>,
@@ -188,7 +188,7 @@ fn hear<A: Allocator + Copy>(
     Ok(())
 }
 
-/// That the reader takes the packet, and keeps the argument that it is.
+/// Expects that the reader takes the packet, and keeps its argument, if it is one.
 fn expect_kept<A: Allocator + Copy>(
     rt: &impl Abort,
     reader: &mut RequestReader<A>,
@@ -203,7 +203,7 @@ fn expect_kept<A: Allocator + Copy>(
 
 #[test]
 fn a_reader_without_memory_refuses_the_first_prefix(rt: HostRuntime) -> Result<(), AllocError> {
-    // The places of four texts take all of it, and their bytes find none.
+    // The ends of four texts take all of it, and their bytes do not fit.
     let heap = LocalHeap::new(rt.alloc(), 16)?;
     let mut reader = new_reader(&heap);
     let refused = Err(Fault {
@@ -250,7 +250,7 @@ const KEPT: [&[u8]; 6] = [
     b"filter blob:none\n",
 ];
 
-/// Reads the flags and numbers of a fetch, and then this line, with so much memory. What comes of the line.
+/// Reads the flags and numbers of a fetch, and then this line, with this much memory. Returns the result of the line.
 fn heard_within(
     rt: &impl Abort,
     alloc: Global,

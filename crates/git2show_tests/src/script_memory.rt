@@ -1,4 +1,4 @@
-//! Memory that runs out while a script is read, at each growth in turn.
+//! Memory that runs out while a script is read, at each allocation in turn.
 use crate::expecting::expect;
 use git_msg::{Caps, Limits, Request, RequestWriter};
 use git_names::Format;
@@ -9,14 +9,14 @@ use linked_list_allocator::LocalHeap;
 use std::alloc::{AllocError, Allocator, Global};
 use std::process::Abort;
 
-/// A heap gives blocks of this many bytes, and multiples of them.
+/// A heap has blocks of this many bytes, and multiples of them.
 const BLOCK: usize = 16;
 
 /// More memory than the script takes.
 const ENOUGH: usize = 16_384;
 
-/// The lines of a script, and whether a line takes memory beyond that of those before it. The first request takes the places of four, and
-/// the fifth those of eight; an object name or a text takes some where it is the first of its kind in its request.
+/// The lines of a script, and whether a line takes more memory than those before it. The first request takes space for four, and the fifth
+/// takes space for eight; an object name or a text takes some if it is the first of its kind in its request.
 const LINES: [(&[u8], bool); 22] = [
     (b"\n", false),
     (b"ls-refs\n", true),
@@ -42,7 +42,7 @@ const LINES: [(&[u8], bool); 22] = [
     (b"ls-refs\n", true),
 ];
 
-/// The packets of its requests, to one who advertised nothing.
+/// The packets of its requests, to a server that advertised nothing.
 const WRITTEN: &[u8] =
     b"0014command=ls-refs\n00010009peel\n000csymrefs\n001bref-prefix refs/heads/\n0000\
 0012command=fetch\n00010035shallow cccccccccccccccccccccccccccccccccccccccc\n0013deepen-since 0\n0012deepen-not v1\n\
@@ -70,7 +70,7 @@ fn append_written<A: Allocator + Copy>(
     Ok(())
 }
 
-/// The least memory within which the script is read. With less it is refused for that reason alone. All is given back in either case.
+/// The minimum of memory with which the script is read. With less it is refused for lack of memory. All of it is given back in either case.
 fn least_memory(rt: &impl Abort, alloc: Global, script: &[u8]) -> Result<usize, AllocError> {
     for size in (0..ENOUGH).step_by(BLOCK) {
         let heap = LocalHeap::new(alloc, size)?;

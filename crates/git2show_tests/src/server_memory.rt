@@ -1,4 +1,4 @@
-//! Memory that runs out at each growth in turn.
+//! Memory that runs out at each allocation in turn.
 use crate::expecting::{expect, expect_bytes};
 use crate::servers::{converse, new_server, refusal, repository, server_of, usual};
 use git_names::Format;
@@ -12,7 +12,7 @@ use std::test::Fail;
 /// A request that keeps two texts.
 struct Kept {
     request: &'static [u8],
-    /// Where the packet of each text begins.
+    /// The offsets of the packets of both texts.
     places: [u64; 2],
     /// The answer to it.
     answer: &'static [u8],
@@ -33,7 +33,7 @@ const FILTERS: Kept = Kept {
     answer: b"0014acknowledgments\n0008NAK\n0000",
 };
 
-// What is written for the input by a server that has so much memory and reads it from a stream, and how its run ends.
+// What a server with this much memory writes for the input, which it reads from a stream, and how its run ends.
 fn serve_with(
     rt: &(impl Abort + AllocGlobal),
     input: &[u8],
@@ -53,7 +53,7 @@ fn serve_with(
     Ok((written, run))
 }
 
-// What a server that has so much memory gives for the request, and how its session ends.
+// What a server with this much memory sends for the request, and how its session ends.
 fn converse_with(
     rt: &(impl Abort + AllocGlobal),
     request: &[u8],
@@ -64,8 +64,8 @@ fn converse_with(
     Ok(converse(&mut server_of(repo, &heap, usual()), rt.alloc(), &[request])?)
 }
 
-// What is given for it with a heap of this size, and how the session ends. The first text takes two blocks of 16 bytes, for the
-// places of four texts and for its bytes; the second makes the bytes move to a block of 32, while the old one is still taken.
+// What it sends with a heap of this size, and how the session ends. The first text takes two blocks of 16 bytes, for the ends of four texts
+// and for its bytes; the second moves the bytes to a block of 32, while the old one is still taken.
 fn due_with(alloc: Global, kept: &Kept, size: usize) -> Result<(Vec<u8>, Outcome), AllocError> {
     let offset = match size {
         0..=16 => kept.places[0],
@@ -76,7 +76,7 @@ fn due_with(alloc: Global, kept: &Kept, size: usize) -> Result<(Vec<u8>, Outcome
     Ok((told.into_bytes(), refusal(Kind::OutOfMemory, offset)))
 }
 
-// That a server with each size of memory is refused the growth that is due.
+// Expects that a server with each size of memory is refused the expected allocation.
 fn expect_refusals(rt: &(impl Abort + AllocGlobal), kept: &Kept) -> Result<(), Fail> {
     for size in 0..256 {
         let (given, ended) = converse_with(rt, kept.request, size)?;
@@ -100,7 +100,7 @@ fn each_growth_of_the_filters_is_refused_in_turn(rt: HostRuntime) -> Result<(), 
     expect_refusals(&rt, &FILTERS)
 }
 
-// A fetch of the same object so many times.
+// A fetch that names the same object this many times.
 fn fetch(alloc: Global, wants: u32) -> Result<Vec<u8>, AllocError> {
     let mut request = Vec::from_slice(alloc, b"0012command=fetch\n0001")?;
     for _ in 0..wants {
@@ -144,10 +144,10 @@ fn each_growth_of_the_wants_is_refused_in_turn(rt: HostRuntime) -> Result<(), Fa
 const LATE_TEXT: &[u8] = b"0014command=ls-refs\n0016object-format=sha10001\
     0009peel\n000csymrefs\n001bref-prefix refs/heads/\n0000";
 
-/// What is reported of it without memory.
+/// The error packet for it without memory.
 const LATE_TEXT_REFUSED: &[u8] = b"001aERR OutOfMemory at 67\n";
 
-/// Less than a text takes: the places of four texts fit, and their bytes do not.
+/// Less than a text takes: the ends of four texts fit, and their bytes do not.
 const NO_ROOM: usize = 16;
 
 #[test]

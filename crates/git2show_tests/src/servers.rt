@@ -1,4 +1,4 @@
-//! A repository of three references, and a server of it over a list of pieces, or over streams.
+//! A repository of three references, and a server of it over a list of chunks, or over streams.
 ghost use Rattle.std.specs.Prelude.{◌≡◌, ◌<◌, false, length};
 ghost use Rattle.git_pkt.specs.Machine.Told.{IsNew, has_failed};
 
@@ -12,18 +12,18 @@ use std::io::{Read, Write};
 use std::process::Abort;
 use std::test::Fail;
 
-/// What a server is made with.
+/// The parameters of a server.
 #[derive(Clone, Copy, Debug)]
 pub struct Setup {
-    /// Of the repository's object names.
+    /// The format of the repository's object names.
     pub format: Format,
-    /// How many bytes of a request's arguments are kept.
+    /// The limit on the bytes kept of a request's arguments.
     pub limits: Limits,
     /// Whether the advertisement comes first.
     pub advertise: bool,
 }
 
-/// SHA-1, the usual limit, and no advertisement.
+/// SHA-1, the default limit, and no advertisement.
 pub fn usual() -> Setup {
     Setup {
         format: Format::Sha1,
@@ -32,7 +32,7 @@ pub fn usual() -> Setup {
     }
 }
 
-/// The usual, with the advertisement first.
+/// The default limit, with the advertisement first.
 pub fn advertising(format: Format) -> Setup {
     Setup {
         format,
@@ -41,7 +41,7 @@ pub fn advertising(format: Format) -> Setup {
     }
 }
 
-/// The object name that has this digit throughout.
+/// The object name whose digits are all this one.
 pub fn object(rt: &impl Abort, format: Format, digit: u8) -> Oid {
     Oid::from_hex(&[digit; 64][..format.digits()]).expect(rt, "an object name")
 }
@@ -110,7 +110,7 @@ pub fn new_server<A: Allocator + Copy>(
     Ok(server_of(repository(rt, setup.format)?, alloc, setup))
 }
 
-/// How the run of such a server ends over these streams.
+/// How a run of such a server ends over these streams.
 pub fn run_server<In: Read, W: Write>(
     rt: &(impl Abort + AllocGlobal),
     setup: Setup,
@@ -127,7 +127,7 @@ pub fn run_server<In: Read, W: Write>(
     Ok(serve(reader, writer, piece, &mut server, turns))
 }
 
-// Appends all that the server owes. The outcome, if there is one.
+// Appends everything that the server has to send. Returns the outcome, if there is one.
 fn drain<A: Allocator + Copy>(
     server: &mut Server<ListRepo, A>,
     output: &mut Vec<u8>,
@@ -142,7 +142,7 @@ fn drain<A: Allocator + Copy>(
     Ok(None)
 }
 
-// Feeds the piece, and appends all that the server gives for it. The outcome, if there is one.
+// Feeds the chunk, and appends everything that the server sends for it. Returns the outcome, if there is one.
 fn feed_piece<A: Allocator + Copy>(
     server: &mut Server<ListRepo, A>,
     piece: &[u8],
@@ -160,7 +160,7 @@ fn feed_piece<A: Allocator + Copy>(
     Ok(None)
 }
 
-/// What a server gives for these pieces, and how its session ended where the input ends with them.
+/// What a server sends for these chunks, and how its session ends if the input ends after them.
 pub fn converse<A: Allocator + Copy>(
     server: &mut Server<ListRepo, A>,
     alloc: Global,
@@ -178,7 +178,7 @@ pub fn converse<A: Allocator + Copy>(
     Ok((output, outcome))
 }
 
-/// How a session ends that this fault ends.
+/// The outcome of a session that ends with this error.
 pub fn refusal(kind: Kind, offset: u64) -> Outcome {
     Outcome::Refused(Fault { kind, offset })
 }

@@ -1,4 +1,4 @@
-//! Servers over readers and writers: what is flushed when, what is reported of streams that stop, and reads that are spent.
+//! Servers over readers and writers: when they flush, what is reported if streams stop, and reads above the limit.
 use crate::expecting::{expect, expect_bytes};
 use crate::servers::{Setup, advertising, new_server, run_server, usual};
 use crate::stopping::{ALL, MANY, TURNS, expect_due, expect_front};
@@ -34,7 +34,7 @@ impl Write for Held {
     }
 }
 
-// How a run of so many turns over the input ends, and its writer, which has passed on all that it was given.
+// How a run with at most this many reads ends, and its writer, which has passed on everything that was written to it.
 fn run_held(
     rt: &(impl Abort + AllocGlobal),
     input: &[u8],
@@ -74,7 +74,7 @@ fn all_is_flushed_where_the_reads_are_spent(rt: HostRuntime) -> Result<(), Fail>
     let (run, held) = run_held(&rt, b"0014command=ls-refs\n0000", usual(), 5)?;
     expect(&rt, &run, &Err(RunFault::ReadLimit));
     expect(&rt, &held.passed.len(), &173);
-    // Once before each read and once at the end, though the answer has four packets.
+    // Once before each read and once at the end, although the answer has four packets.
     expect(&rt, &held.flushes, &6);
     let (run, held) = run_held(&rt, b"", advertising(Format::Sha1), 0)?;
     expect(&rt, &run, &Err(RunFault::ReadLimit));
@@ -82,7 +82,7 @@ fn all_is_flushed_where_the_reads_are_spent(rt: HostRuntime) -> Result<(), Fail>
     Ok(())
 }
 
-// Gives a piece at a read, and notes how many bytes had been flushed by then.
+// Returns one chunk for each read, and notes how many bytes had been flushed by then.
 #[derive(Drop)]
 pub(crate) struct Asking<'a> {
     pub(crate) pieces: &'a [&'a [u8]],
@@ -147,7 +147,7 @@ fn each_answer_is_flushed_before_the_next_read(rt: HostRuntime) -> Result<(), Fa
     Ok(())
 }
 
-/// What comes, a piece at a read: two requests, and the flush by which the client leaves.
+/// The input, one chunk for each read: two requests, and the flush of a client that leaves.
 const PIECES: [&[u8]; 6] = [
     b"0014command=ls",
     b"-refs\n0000",
@@ -157,7 +157,7 @@ const PIECES: [&[u8]; 6] = [
     b"0000",
 ];
 
-/// What is due before the first read, and after each but the last.
+/// The output expected before the first read, and after each one but the last.
 const ANSWERS: [&[u8]; 6] = [
     b"000eversion 2\n0011agent=git2/1\n0013ls-refs=unborn\n0033fetch=shallow ref-in-want wait-for-done filter\n\
 0012server-option\n0017object-format=sha1\n0000",
@@ -170,7 +170,7 @@ const ANSWERS: [&[u8]; 6] = [
     b"000dpackfile\n000a\x01PACK!0000",
 ];
 
-/// How a run of so many turns ends over streams that stop after so many calls, and what it wrote.
+/// How a run with at most this many reads ends if its streams stop after this many calls, and what it wrote.
 fn serve_stopping(
     rt: &(impl Abort + AllocGlobal),
     reads: u32,
@@ -185,7 +185,7 @@ fn serve_stopping(
     Ok((run, sink))
 }
 
-/// A read that fails, and reads that are spent, are reported after the whole answers before them.
+/// A failed read, and a read above the limit, are reported after the whole answers before them.
 #[test]
 fn each_read_fails_in_turn_while_a_session_is_served(rt: HostRuntime) -> Result<(), Fail> {
     let mut due = Vec::new(rt.alloc());
@@ -225,7 +225,7 @@ fn each_write_and_flush_fails_in_turn_while_a_session_is_served(
     Ok(())
 }
 
-/// The client asks for the references, again and again.
+/// The client keeps asking for the references.
 #[test]
 fn a_session_without_an_end_ends_at_the_limit_of_reads(rt: HostRuntime) -> Result<(), Fail> {
     let mut sink = Sink::new(Vec::new(rt.alloc()), usize::MAX, u32::MAX);
@@ -249,7 +249,7 @@ fn reads_that_are_spent(rt: HostRuntime) -> Result<(), Fail> {
     let run = serve(&mut reader, &mut writer, &mut piece, &mut server, 24);
     expect(&rt, &run, &Err(RunFault::ReadLimit));
     expect(&rt, &given.len(), &173);
-    // The session goes on over another reader.
+    // The session continues over another reader.
     let mut reader = Told::new(b"0014command=ls-refs\n00000000".as_slice());
     let mut writer = Told::new(&mut given);
     let run = serve(&mut reader, &mut writer, &mut piece, &mut server, 100);

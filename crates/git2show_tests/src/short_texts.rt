@@ -1,4 +1,4 @@
-//! Many short texts: they are in one vector with the places where they end, and none has a block of its own.
+//! Many short texts: they are in one vector with their ends in another, and none has a block of its own.
 use crate::adding::{add_name, add_prefix, bytes_kept, new_request};
 use crate::expecting::expect;
 use git_msg::{Command, Limits, Request};
@@ -8,19 +8,19 @@ use std::alloc::{Allocator, Global};
 use std::process::Abort;
 use std::test::Fail;
 
-/// A text, and what is compared of it.
+/// A text, and what is compared for it.
 #[derive(Clone, Copy)]
 struct Text {
     command: Command,
     bytes: &'static [u8],
-    /// What the limit counts of it: the bytes of its line.
+    /// What the limit counts for it: the bytes of its line.
     counted: usize,
-    /// How many halves of that it may take. Both vectors have room for twice what they hold at the most, and while one of them
-    /// moves the old block is still taken.
+    /// How many halves of that it may take. Each vector has space for at most twice its contents, and while one of them moves, the old
+    /// block is still taken.
     halves: usize,
 }
 
-/// Prefixes of no byte and of one, and the shortest name of a reference.
+/// Prefixes of no byte and of one, and the shortest reference name.
 const TEXTS: [Text; 3] = [
     Text {
         command: Command::LsRefs,
@@ -42,7 +42,7 @@ const TEXTS: [Text; 3] = [
     },
 ];
 
-// Adds a text as the argument of its command.
+// Adds a text as an argument of its command.
 fn add_text<A: Allocator + Copy>(request: &mut Request<A>, text: &Text) -> Result<(), Kind> {
     match text.command {
         Command::Fetch => add_name(request, text.bytes),
@@ -50,7 +50,7 @@ fn add_text<A: Allocator + Copy>(request: &mut Request<A>, text: &Text) -> Resul
     }
 }
 
-// Adds a text so many times.
+// Adds a text this many times.
 fn add_times<A: Allocator + Copy>(
     request: &mut Request<A>,
     text: &Text,
@@ -62,7 +62,7 @@ fn add_times<A: Allocator + Copy>(
     Ok(())
 }
 
-// That so many of a text are kept where no more memory is left than it may take.
+// Expects that a text is kept this many times if only as much memory is left as it may take.
 fn check_kept(rt: &impl Abort, alloc: Global, text: &Text, times: usize) -> Result<(), Fail> {
     let counted = text.counted.saturating_mul(times);
     let heap = LocalHeap::new(alloc, counted.saturating_mul(text.halves) / 2)?;
@@ -82,7 +82,7 @@ fn short_texts_take_little_more_than_they_are_counted_for(rt: HostRuntime) -> Re
         for times in 1..=500 {
             check_kept(&rt, rt.alloc(), text, times)?;
         }
-        // Just more than fit before the last move of the one vector or the other.
+        // A few more than fit before the last move of either vector.
         for times in [8_193, 10_923, 16_385, 43_691] {
             check_kept(&rt, rt.alloc(), text, times)?;
         }

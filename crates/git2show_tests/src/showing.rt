@@ -1,4 +1,4 @@
-//! Streams without an end, or that stop, while their packets are shown, and how faults are reported.
+//! Streams without an end, and streams that stop, while their packets are shown, and how errors are reported.
 use crate::expecting::{expect, expect_bytes};
 use crate::stopping::{ALL, MANY, TURNS, expect_due, expect_front};
 use git_pkt::{Fault, Kind, RunFault, Stops, Told};
@@ -7,13 +7,13 @@ use std::alloc::Global;
 use std::test::Fail;
 use test_streams::{Endless, Pieces, Sink, Stream};
 
-/// Nothing fails at this number.
+/// No call with this number fails.
 const NEVER: u32 = u32::MAX;
 
-/// What comes, a piece at a read.
+/// The input, one chunk for each read.
 const PIECES: [&[u8]; 5] = [b"0000", b"0001000", b"8a\\", b"\nb0002", b"00040003"];
 
-/// The lines that are due after each read, and none before the first.
+/// The lines expected after each read; none before the first.
 const LINES: [&[u8]; 6] = [
     b"",
     b"0 flush\n",
@@ -23,7 +23,7 @@ const LINES: [&[u8]; 6] = [
     b"20 data 0\n",
 ];
 
-/// Shows the packets over streams that stop after so many calls, by so many reads at the most.
+/// Shows the packets over streams that stop after this many calls, with at most this many reads.
 fn show_stopping(
     alloc: Global,
     reads: u32,
@@ -37,7 +37,7 @@ fn show_stopping(
     (got, sink)
 }
 
-/// How the run ends that nothing cuts short: three is no length.
+/// How a run ends that is not stopped: three is no length.
 fn bad_length() -> Result<(), RunFault> {
     Err(RunFault::Refused(Fault {
         kind: Kind::BadLength,
@@ -57,7 +57,7 @@ fn an_endless_stream_ends_at_the_limit_of_reads(rt: HostRuntime) -> Result<(), F
     Ok(())
 }
 
-/// A read that fails, and reads that are spent, are reported after the lines before them.
+/// A failed read, and a read above the limit, are reported after the lines before them.
 #[test]
 fn each_read_fails_in_turn_while_packets_are_shown(rt: HostRuntime) -> Result<(), Fail> {
     let mut due = Vec::new(rt.alloc());

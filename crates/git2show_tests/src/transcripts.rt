@@ -14,7 +14,7 @@ fn event_of(value: Option<&'static [u8]>) -> Event<'static> {
     Event::Capability(Capability { key: b"key", value })
 }
 
-/// That the event, in a response of 7 bytes of pack and 8 of progress, is this line, or none.
+/// Expects that the event, in a response of 7 bytes of pack and 8 of progress, has this line, or none.
 fn expect_line(
     rt: &(impl Abort + AllocGlobal),
     event: &Event<'_>,

@@ -1,4 +1,4 @@
--- A client asks only after the advertisement: so it has noted the server's format before it sends the first request.
+-- A client asks only after the advertisement, so it has noted the server's format before it sends the first request.
 use Rattle.std.proofs.Common.{arith, ◌≡◌, ◌⊎◌, inl, inr, ℕ, ◌+◌, ◌<◌, List, [], ◌∷◌, ◌++◌, codes, length, refl, ap, sym, ◌∙◌, subst, append_assoc, take}
 use Rattle.git_names.specs.declared.object_format.Format.{Format}
 use Rattle.git_pkt.specs.Packets.{Pkt, flush, flushes}
@@ -31,7 +31,7 @@ use Rattle.git_both_ends.proofs.RequestsHeard.{join_packets}
 
 -- ---- what comes before the first request
 
--- packets with a flush among them, of which none is refused, began the bytes used
+-- the bytes used begin with packets that are not refused, with a flush among them
 pub record HasOffer (t : Terms) (asked : List Asked) (used : List ℕ) : Type 0 where
   pub first : List Given
   pub rest : List ℕ
@@ -43,7 +43,7 @@ pub record HasOffer (t : Terms) (asked : List Asked) (used : List ℕ) : Type 0 
 abbrev pub AsksAfterOffer : Terms → List Asked → List ℕ → Type 0
 AsksAfterOffer t asked used = (asked ≡ []) ⊎ HasOffer t asked used
 
--- more was used
+-- more bytes were used
 offer_stays : (t : Terms) (asked : List Asked) (used more : List ℕ) → AsksAfterOffer t asked used → AsksAfterOffer t asked (used ++ more)
 offer_stays t asked used more (inl none) = inl none
 offer_stays t asked used more (inr o) = inr (record {
@@ -82,14 +82,14 @@ module _ {A : Type 0} where
   asks_after_offer t (feed piece answer) h before old after new made c o = offer_stays t h.asked h.used (take answer.used piece) o
   asks_after_offer t (close fault) h before old after new made c o = o
 
--- ---- what it notes
+-- ---- what the advertisement notes
 
 flushes_nearest : (gs : List Given) (before : List Pkt) → flushes (nearest gs before) ≡ flushes (packets_of gs) + flushes before
 flushes_nearest [] before = omega arith
 flushes_nearest (g ∷ gs) before =
     omega (arith, flushes_nearest gs (g.packet ∷ before), flushes-append (g.packet ∷ []) before, flushes-append (g.packet ∷ []) (packets_of gs))
 
--- packets that go on past the first flush of a list begin with the list up to it
+-- packets that go on past the first flush of a list begin with the list up to that flush
 past_flush : (ps lines more back : List Pkt) → ps ++ more ≡ (lines ++ flush ∷ []) ++ back → flushes lines ≡ 0 → 0 < flushes ps
     → (tail : List Pkt) × (ps ≡ (lines ++ flush ∷ []) ++ tail)
 past_flush [] lines more back e clear some = absurd (omega (arith, some))
@@ -114,11 +114,11 @@ all_lines format = refl
 clear_lines : (format : Format) → flushes (lines_all format) ≡ 0
 clear_lines format = refl
 
--- a client that has asked notes that requests name the format
+-- requests of a client that has asked name the format
 module _ (t : Terms) (h : History) (caps : Caps) (noted : HasNoted t h.asked h.used caps) (o : HasOffer t h.asked h.used)
     (good owed bad answers : List Pkt) (more : List ℕ) (report : IsReport bad) (fit : AllFit (good ++ bad))
     (parts : good ++ owed ≡ server_says (everything t.format) ++ answers) (same : h.used ++ more ≡ spelled (good ++ bad)) where
-  -- the packets of which none is refused begin with the advertisement
+  -- the packets up to the first refused one begin with the advertisement
   offered_first : (gs : List Given) → gs ≡ noted.0 → (tail : List Pkt) × (packets_of gs ≡ server_says (everything t.format) ++ tail)
   offered_first gs is =
       let sounds = noted.2 in

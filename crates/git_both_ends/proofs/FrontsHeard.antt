@@ -1,4 +1,4 @@
--- What a client hands out of the first bytes that a server gives.
+-- What a client hands out for the first bytes that a server sends.
 use Rattle.std.proofs.Common.{arith, ◌≡◌, ◌⊎◌, inl, inr, ℕ, zero, suc, ◌+◌, ◌-◌, ◌≤◌, ◌==◌, Bool, true, false, cond, List, [], ◌∷◌, ◌++◌, codes}
 use Rattle.std.proofs.Common.{Option, Some, None, Ok, Err, refl, ap, sym, ◌∙◌, subst, append_assoc, length, length-append, take, drop, map}
 use Rattle.std.proofs.Common.{take-append-drop}
@@ -29,9 +29,9 @@ use Rattle.git_client.proofs.Opened.{nothing_opened, on_pack, on_progress}
 use Rattle.git_server.specs.Answers.{AllFit, error_packet}
 use Rattle.git_both_ends.specs.ToldAnswers.{packets_of}
 
--- ---- where bytes are the first of spelled packets
+-- ---- bytes that begin spelled packets
 
--- their packets are the first of these, and their rest begins the next one
+-- their packets are the first of these, and the bytes after them begin the next one
 pub record IsFront (gs : List Given) (rest more : List ℕ) (ps : List Pkt) : Type 0 where
   pub later : List Pkt
   pub are : ps ≡ packets_of gs ++ later
@@ -55,7 +55,7 @@ front_of offset bytes more (g ∷ gs) rest (p ∷ ps) (now, fit) (s, others, par
       fit = then.fit;
     }
 
--- bytes that begin spelled packets can become a packet, or there are none
+-- bytes that begin spelled packets are an open packet, or there are none
 pub spelled_open : (ps : List Pkt) → AllFit ps → IsOpen (spelled ps)
 spelled_open [] fit = open_nothing
 spelled_open (p ∷ ps) (now, fit) =
@@ -68,7 +68,7 @@ spelled_open (p ∷ ps) (now, fit) =
       allowed = λ long. rw same (allowed_field p s spells);
     }
 
--- ---- what has come of an open packet
+-- ---- the bytes so far of an open packet
 
 -- one of two lists is no longer than the other
 shorter : (a b : List ℕ) → (length a ≤ length b) ⊎ (length b ≤ length a)
@@ -83,7 +83,7 @@ drop_of_take (suc n) (suc m) [] = sym (take_all (suc m - suc n) [] (omega arith)
 drop_of_take (suc n) (suc m) (x ∷ xs) =
     let on : suc m - suc n ≡ m - n = omega arith in drop_of_take n m xs ∙ ap (λ (k : ℕ). take k (drop n xs)) (sym on)
 
--- what an open packet has after its digits are the first bytes of what it has there
+-- the bytes of an open packet after its digits begin the contents of the whole packet
 open_body : (rest more : List ℕ) (p : Pkt) (ps : List Pkt) → AllFit (p ∷ ps) → NoneBegins rest → rest ++ more ≡ spelled (p ∷ ps)
     → drop 4 rest ≡ take (length rest - 4) (body_of p)
 open_body rest more p ps (now, fit) none same =
@@ -101,7 +101,7 @@ open_body rest more p ps (now, fit) none same =
           (sym (take-append-drop (length s) rest) ∙ ap (λ (l : List ℕ). l ++ drop (length s) rest) (sym front)) spells)
     ]
 
--- of a payload on a band the first bytes give the first events
+-- the first bytes of a payload on a band give its first events
 first_bytes : (first second third : Bool) (bytes : List ℕ) (k : ℕ) (now : List EventValue)
     → cond first (Ok (map pack bytes)) (cond second (Ok (map progress bytes)) (cond third (Err RemoteFatal) (Err BadBand))) ≡ Ok now
     → (later : List EventValue)
@@ -144,9 +144,9 @@ opened_front format ending packfile resp_end rest k now e gives =
     (now, ap (λ (l : List EventValue). l ++ now) (sym (ap (λ (l : List ℕ). events_on (passed_in l)) e ∙ none_of_nothing k)))
 opened_front format ending place p rest k now e gives = (now, refl)
 
--- ---- the packet by which a server reports a fault
+-- ---- the packet with which a server reports an error
 
--- it is given nowhere
+-- it gives events at no place
 error_refused : (format : Format) (ending : Ending) (place : Place) (fault : Fault) (now : List EventValue)
     → Gives format ending place (error_packet fault) now → ⊥
 error_refused format ending packfile fault now gives = cc
@@ -164,7 +164,7 @@ error_hidden : (place : Option Place) (fault : Fault) (rest : List ℕ) (k : ℕ
 error_hidden (Some packfile) fault rest k e = ap (λ (l : List ℕ). events_on (passed_in l)) e ∙ none_on_band k _
 error_hidden place fault rest k e = refl
 
--- what ends a session early: nothing, or the packet of a fault
+-- what ends a session early: nothing, or the packet of an error
 abbrev pub IsReport : List Pkt → Type 0
 IsReport bad = (bad ≡ []) ⊎ ((fault : Fault) × (bad ≡ error_packet fault ∷ []))
 
@@ -178,7 +178,7 @@ module _ (t : Terms) (asked : List Asked) where
       let same : p ≡ error_packet fault = cc in
       error_refused t.format t.ending gives.place fault now (subst (λ (q : Pkt). Gives t.format t.ending gives.place q now) same gives.gives)
 
-  -- packets of which none is refused come before such a report
+  -- packets that are not refused come before such a report
   pub before_report : (before : List Pkt) (clean : List Given) (events : List EventValue) (good bad later : List Pkt) → GiveAll t asked before clean events
       → IsReport bad → packets_of clean ++ later ≡ good ++ bad → (behind : List Pkt) × (good ≡ packets_of clean ++ behind) × (later ≡ behind ++ bad)
   before_report before [] events good bad later gives report e = (good, refl, e)
@@ -190,7 +190,7 @@ module _ (t : Terms) (asked : List Asked) where
       let (behind, is, after) = before_report (g.packet ∷ before) gs gives.1 good bad later gives.4 report rest in
       (behind, ap (λ (q : Pkt). q ∷ good) (sym same) ∙ ap (λ (l : List Pkt). g.packet ∷ l) is, after)
 
-  -- what has come of the packet after these is the first of what comes of the others
+  -- the events so far of the open packet are the first of the remaining events
   opened_first : (before : List Pkt) (gs : List Given) (events : List EventValue) (behind owed bad : List Pkt) (rest more : List ℕ)
       → GiveAll t asked before gs events → packets_of gs ≡ behind ++ owed → IsReport bad → rest ++ more ≡ spelled (behind ++ bad)
       → AllFit (behind ++ bad) → NoneBegins rest
@@ -217,7 +217,7 @@ module _ (t : Terms) (asked : List Asked) where
             ∙ ap (λ (o : Option Place). opened_in o rest ++ (later ++ gives.1)) (sym at.is_place),
       )
 
-  -- the events of the first packets, and of an open one, are the first of all
+  -- the events of the first packets and of an open one are the first of all events
   pub first_events : (before : List Pkt) (clean gs : List Given) (heard events : List EventValue) (behind owed bad : List Pkt) (rest more : List ℕ)
       → GiveAll t asked before clean heard → GiveAll t asked before gs events → packets_of gs ≡ packets_of clean ++ (behind ++ owed) → IsReport bad
       → rest ++ more ≡ spelled (behind ++ bad) → AllFit (behind ++ bad) → NoneBegins rest
@@ -241,7 +241,7 @@ module _ (t : Terms) (asked : List Asked) where
             ∙ ap (λ (l : List EventValue). (l ++ opened) ++ later) (sym hears.2),
       )
 
-  -- each packet of those that give their events gives some after those before it
+  -- each packet in a list with events has its own events, after the packets before it
   pub given_at : (before : List Pkt) (clean gs : List Given) (p : Pkt) (events : List EventValue) (rest : List Pkt) → GiveAll t asked before gs events
       → packets_of gs ≡ packets_of clean ++ (p ∷ rest) → (now : List EventValue) × GivesAt t asked (nearest clean before) p now
   given_at before clean [] p events rest gives are = absurd (none_of clean are) where

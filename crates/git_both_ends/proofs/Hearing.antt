@@ -1,4 +1,4 @@
--- How a client goes on from packet to packet of an answer.
+-- How a client advances from packet to packet of an answer.
 use Rattle.std.proofs.Common.{◌≡◌, ℕ, Bool, true, false, All, map, List, [], ◌∷◌, ◌++◌, None, Ok, refl, ap, sym, ◌∙◌, subst}
 use Rattle.std.proofs.Common.{append_assoc, slice_index, ◌≢◌}
 use Rattle.std.proofs.lemmas.List.{map-append}
@@ -30,11 +30,11 @@ use Rattle.git_client.proofs.PartSteps.{due_after, next_part, part_due, stands}
 use Rattle.git_client.proofs.SectionSteps.{allowed_stays, inside_more}
 use Rattle.git_both_ends.specs.ToldAnswers.{end_packets, packets_of}
 
--- a text whose first byte is no `E` is no error packet's
+-- a text whose first byte is not `E` is not that of an error packet
 pub no_error : (text : List ℕ) → slice_index text 0 ≢ 69 → ¬ IsErrorText text
 no_error text other error = other (ap (λ (xs : List ℕ). slice_index xs 0) error.spelled)
 
--- the lines of which any may follow the other
+-- what is expected is a line of a list, in which any line may follow any other
 abbrev pub IsOfLines : Due → Type 0
 IsOfLines References = Unit {0}
 IsOfLines (ShallowInfo allowed) = Unit {0}
@@ -50,7 +50,7 @@ MayEnd Packfile = Unit {0}
 MayEnd Sizes = Unit {0}
 MayEnd due = ⊥
 
--- where such lines are due no response end is; a line leaves it due, and gives what its text does
+-- while such lines are expected no response end is; after a line they are still expected, and a line gives the events of its text
 line_stays : (done : Bool) (message : List Pkt) (format : Format) (ending : Ending) (caps : Caps) (due : Due) (line : List ℕ) (now : List EventValue)
     → IsOfLines due
     → (awaits_end due ≡ 0) × (IsDueIn (part_due done due) message due → IsDueIn (next_part (part_due done due)) (payload line ∷ message) due)
@@ -63,7 +63,7 @@ line_stays done message format ending caps (WantedRefs allowed) line now of =
     (refl, (λ is. (inside_more _ message line is.0, is.1 ∙ sym (allowed_stays done (payload line) message is.0.inside))), (λ gives. gives))
 line_stays done message format ending caps due line now of = absurd of
 
--- what a flush gives that may come: it notes nothing, and ends the response
+-- a flush that may come notes nothing, and ends the response
 flush_ends : (ending : Ending) (caps : Caps) (format : Format) (due : Due) → MayEnd due
     → (flush_says ending (place_due caps format due) ≡ Ok (ended_by ending)) × NotesAfter due caps flush caps
     × (phase_after ending due flush ≡ phase_after_response ending)
@@ -74,13 +74,13 @@ flush_ends ending caps format Sizes may = (refl, refl, refl)
 flush_ends ending caps format due may = absurd may
 
 module _ (t : Terms) (asked : List Asked) where
-  -- the packets of the rest of an answer, after those before them, have no fault and give these events, in order, and then the answer is whole
+  -- the packets of the rest of an answer, after those before them, have no error and give these events, in order, and then the answer is whole
   abbrev pub AnswerGives : List Pkt → List Pkt → List EventValue → Type 0
   AnswerGives before [] events = (events ≡ []) × AreWhole t asked before
   AnswerGives before (p ∷ ps) events =
       (now : List EventValue) × (later : List EventValue) × (events ≡ now ++ later) × GivesAt t asked before p now × AnswerGives (p ∷ before) ps later
 
-  -- wherever they are
+  -- they give these events at any offset
   pub given_give : (before : List Pkt) (gs : List Given) (events : List EventValue) → AnswerGives before (packets_of gs) events
       → GiveAll t asked before gs events
   given_give before [] events (e, whole) = e
@@ -92,17 +92,17 @@ module _ (t : Terms) (asked : List Asked) where
   given_whole before [] events (e, whole) = whole
   given_whole before (g ∷ gs) events (now, later, e, at, rest) = given_whole (g.packet ∷ before) gs later rest
 
-  -- what the advertisement noted
+  -- what the advertisement notes
   abbrev pub caps_at : List Pkt → Caps
   caps_at before = noted_of (advertisement_of before)
 
-  -- a text line gives what its text does
+  -- a text line gives the events of its text
   pub of_text : (due : Due) (caps : Caps) (text : List ℕ) (now : List EventValue) → GivesLine (place_due caps t.format due) t.format text now
       → GivesLine (place_due caps t.format due) t.format (text_of (text ++ 10 ∷ [])) now
   of_text due caps text now gives =
       rw (text_of-line_end text) gives
 
-  -- a packet that has no fault, and then the others
+  -- one packet without an error, and then the others
   pub packet_gives : (before : List Pkt) (due : Due) (p : Pkt) (now : List EventValue) (ps : List Pkt) (later : List EventValue) → IsDue t asked before due
       → Gives t.format t.ending (place_due (caps_at before) t.format due) p now → NotesAfter due (caps_at before) p (caps_at before)
       → (Behind t asked (p ∷ before) None (phase_after t.ending due p) → AnswerGives (p ∷ before) ps later) → AnswerGives before (p ∷ ps) (now ++ later)
@@ -110,7 +110,7 @@ module _ (t : Terms) (asked : List Asked) where
       let given = gives_well t asked before due (caps_at before) (caps_at before) p now is refl gives notes in
       (now, later, refl, given.0, others given.2)
 
-  -- lines of which each gives its event, and then the others
+  -- lines that each give one event, and then the others
   pub lines_give : {X : Type 0} (text : X → List ℕ) (event : X → EventValue) (due : Due) → IsOfLines due → (xs : List X) (before ps : List Pkt)
       (later : List EventValue) → IsDue t asked before due
       → ((caps : Caps) → All (λ x. GivesLine (place_due caps t.format due) t.format (text x) (event x ∷ [])) xs)
@@ -162,7 +162,7 @@ module _ (t : Terms) (asked : List Asked) where
       subst (λ (l : List EventValue). AnswerGives before (p ∷ (bands ++ ps)) l) (sym events)
       (subst (λ (q : Pkt). AnswerGives before (q ∷ (bands ++ ps)) (map pack part ++ (map pack more ++ later))) (sym same) one)
 
--- the flush that ends an answer, and the response end after it where there is one
+-- the flush that ends an answer, and the response end after it if there is one
 pub end_gives : (format : Format) (ending : Ending) (asked : List Asked) (before : List Pkt) (due : Due) → MayEnd due
     → IsDue (terms_of format ending) asked before due → AnswerGives (terms_of format ending) asked before (flush ∷ end_packets ending) (ended ∷ [])
 end_gives format FlushOnly asked before due may is =

@@ -59,17 +59,17 @@ use Rattle.git_both_ends.proofs.Hearing.{lines_give, no_error, of_text, packet_g
 
 -- ---- lines that are no error packets
 
--- `R` is no digit
+-- `R` is not a digit
 no_digit : ¬ IsHexDigit 82
 unfolding digit_value
 no_digit is = omega arith
 
--- an object name has more than one
+-- an object name has more than one digit
 some_digits : (format : Format) → 1 < digits_of format
 some_digits Sha1 = omega arith
 some_digits Sha256 = omega arith
 
--- a line that begins with an object name: its second byte is a digit, and no `R`
+-- a line that begins with an object name is no error packet: its second byte is a digit and not `R`
 name_no_error : (format : Format) (id : ObjectName) (rest : List ℕ) → IsNameIn format id → ¬ IsErrorText (hex_of id ++ rest)
 name_no_error format id rest h error =
     let long : 1 < length (hex_of id) = omega (arith, length-hex_of format id h, some_digits format) in
@@ -77,14 +77,14 @@ name_no_error format id rest h error =
     let second : slice_index (hex_of id) 1 ≡ 82 = sym (get_or_append_left (hex_of id) rest 0 1 long) ∙ ap (λ (xs : List ℕ). slice_index xs 1) error.spelled in
     no_digit (subst IsHexDigit second digit)
 
--- what is shown where it was asked for is what there is
+-- an attribute that is shown is one that exists
 chosen : {X : Type 0} (flag : Bool) (found : Option X) (x : X) → cond flag found None ≡ Some x → found ≡ Some x
 chosen true found x h = h
 chosen false found x h = absurd (cc)
 
--- ---- what a line of each kind gives
+-- ---- the event of each kind of line
 
--- the line of a reference, of which its target and its peeled object are shown where they were asked for
+-- the line of a reference: its target and its peeled object are shown only if the request asks for them
 reference_line : (format : Format) (symrefs peel : Bool) (entry : Entry) → IsNamed entry.name entry.target → IsOfFormat format entry
     → IsEntryOfNames entry
     → GivesLine references format (reference_text (shown_line symrefs peel entry)) (reference (shown_line symrefs peel entry) ∷ [])
@@ -135,7 +135,7 @@ boundary_line format (Unshallow id) of_format oid =
       says = boundary_reads_back format (Unshallow id) (record { of_format = of_format; is_oid = oid });
     }
 
--- the line of a reference that was asked for by its name
+-- the line of a reference that was requested by its name
 wanted_line : (format : Format) (wanted : Wanted) → IsNameIn format wanted.id → IsRefName wanted.name
     → GivesLine wanted_place format (wanted_text wanted) (wanted_ref wanted ∷ [])
 wanted_line format wanted in_format name =
@@ -147,9 +147,9 @@ size_line_is : (format : Format) (id : ObjectName) (size : Option ℕ) → IsNam
 size_line_is format id size in_format fits =
     record { no_error = name_no_error format id _ in_format; says = info_reads_back format (record { id = id; size = size }) in_format fits }
 
--- ---- the references that are found by their names
+-- ---- references that are found by their names
 
--- what holds of each reference holds of one that was found
+-- a property of each reference holds of a found one
 found_holds : (P : List ℕ → ObjectName → Type 0) (refs : List Entry) (name : List ℕ) (id : ObjectName) → All (λ ref. P ref.name ref.id) refs
     → found_ref refs name ≡ Some id → P name id
 found_holds P [] name id all h = absurd (cc)
@@ -160,7 +160,7 @@ found_holds P (ref ∷ refs) name id all h =
     rw ((bytes_eq-Decides ref.name name).0 same, there) at (All-head (λ (r : Entry). P r.name r.id) ref refs all))
     (λ other. found_holds P refs name id (All-tail (λ (r : Entry). P r.name r.id) ref refs all)) h
 
--- the packets of the wanted references are those of the references that are found
+-- the packets of the wanted references are those of the references found
 wanted_packets : (repo : Repository) (names : List (List ℕ))
     → filter_map (wanted_packet repo) names ≡ map (λ wanted. text_line (wanted_text wanted)) (found_refs repo names)
 wanted_packets repo [] = refl
@@ -171,7 +171,7 @@ wanted_packets repo (name ∷ names) = go (wanted_packets repo names) (found_ref
   go others None = others
   go others (Some id) = ap (λ (ps : List Pkt). text_line (wanted_text (wanted_of id name)) ∷ ps) others
 
--- what holds of each that can be found holds of all that are
+-- a property of each reference that can be found holds of all those found
 all_found : (P : Wanted → Type 0) (repo : Repository) → ((name : List ℕ) (id : ObjectName) → found_ref repo.refs name ≡ Some id → P (wanted_of id name))
     → (names : List (List ℕ)) → All P (found_refs repo names)
 all_found P repo each names =
@@ -200,7 +200,7 @@ module _ (t : Terms) (asked : List Asked) (repo : Repository) (sound : IsSound r
 
   -- ---- the wanted references
 
-  -- what each line gives
+  -- the event of each line
   wanted_lines : (names : List (List ℕ)) → All (λ wanted. GivesLine wanted_place t.format (wanted_text wanted) (wanted_ref wanted ∷ [])) (found_refs repo names)
   wanted_lines names =
       all_found (λ wanted. GivesLine wanted_place t.format (wanted_text wanted) (wanted_ref wanted ∷ [])) repo
@@ -209,7 +209,7 @@ module _ (t : Terms) (asked : List Asked) (repo : Repository) (sound : IsSound r
       (λ k d within. record { of_format = (sound.of_format k d within).by_id ∙ same; is_oid = (written.refs k d within).by_id }) found)
       (found_holds (λ name id. IsRefName name) repo.refs name id (λ k d within. (sound.named k d within).by_name) found)) names
 
-  -- the section of wanted references, which is there where some were asked for, and then the pack
+  -- the section of wanted references, which is sent only if there are some, and then the pack
   refs_give : (names : List (List ℕ)) (bytes : List ℕ) (allowed : Allowed) (before others : List Pkt) → allowed.wanted_refs ≡ true
       → IsPackfile whole bytes others → IsDue t asked before (Header allowed)
       → AnswerGives t asked before ((wanted_refs repo names ++ others) ++ end_packets t.ending)
@@ -229,7 +229,7 @@ module _ (t : Terms) (asked : List Asked) (repo : Repository) (sound : IsSound r
 
   -- ---- the shallow boundary
 
-  -- what each line gives
+  -- the event of each line
   boundary_lines : (q : FetchAsked) → All (λ line. GivesLine shallow_place t.format (boundary_text line) (told_boundary line ∷ [])) (repo.boundaries q)
   boundary_lines q k d within = boundary_line t.format _ (sound.boundaries_of_format q k d within ∙ same) (written.boundaries q k d within)
 
@@ -243,7 +243,7 @@ module _ (t : Terms) (asked : List Asked) (repo : Repository) (sound : IsSound r
   later_gives q packets h allowed before may is =
       rw h.packets_are (refs_give q.want_refs (repo.pack q) allowed before h.others may h.holds is)
 
-  -- the section of the shallow boundary, which is there where the boundary has commits, and then the others
+  -- the section of the shallow boundary, which is sent only if the boundary has commits, and then the others
   boundary_gives : (lines : List Boundary) (allowed : Allowed) (before others : List Pkt) (later : List EventValue)
       → All (λ line. GivesLine shallow_place t.format (boundary_text line) (told_boundary line ∷ [])) lines → allowed.shallow_info ≡ true
       → allowed.wanted_refs ≡ true → IsDue t asked before (Header allowed)
@@ -263,7 +263,7 @@ module _ (t : Terms) (asked : List Asked) (repo : Repository) (sound : IsSound r
       (λ behind is. packet_gives t asked behind (ShallowInfo left) delim [] (others ++ end_packets t.ending) later is refl refl
       (λ is. then left (delim ∷ behind) may_refs is))))
 
-  -- from the section of the shallow boundary on
+  -- the rest of the answer, from the section of the shallow boundary on
   rest_gives : (q : FetchAsked) (allowed : Allowed) (before packets : List Pkt) → EndsWithBoundary whole repo q packets → allowed.shallow_info ≡ true
       → allowed.wanted_refs ≡ true → IsDue t asked before (Header allowed)
       → AnswerGives t asked before (packets ++ end_packets t.ending) (told_pack repo q ++ ended ∷ [])
@@ -275,11 +275,11 @@ module _ (t : Terms) (asked : List Asked) (repo : Repository) (sound : IsSound r
 
   -- ---- the acknowledgments
 
-  -- so far there was no `NAK` and no `ready`
+  -- neither `NAK` nor `ready` was sent so far
   abbrev told_acks : Bool → Acks
   told_acks any = record { any = any; nak = false; ready = false }
 
-  -- a line for each object that both ends have: none of them is `NAK` or `ready`
+  -- a line for each object that both sides have: none of them is `NAK` or `ready`
   acks_give : (ids : List ObjectName) (any : Bool) (before ps : List Pkt) (later : List EventValue) → All (IsNameIn t.format) ids
       → IsDue t asked before (Acknowledgments (told_acks any))
       → ((told : Acks) (behind : List Pkt) → told.ready ≡ false → IsDue t asked behind (Acknowledgments told) → AnswerGives t asked behind ps later)
@@ -294,7 +294,7 @@ module _ (t : Terms) (asked : List Asked) (repo : Repository) (sound : IsSound r
       (λ behind. acks_give ids true (ack_packet id ∷ before) ps later (All-tail (IsNameIn t.format) id ids all)
       (rw (text_of-line_end (ack_text id)) at behind) then)
 
-  -- a line for each object that both ends have, or `NAK` where there is none
+  -- a line for each object that both sides have, or `NAK` if there is none
   common_gives : (ids : List ObjectName) (before ps : List Pkt) (later : List EventValue) → All (IsNameIn t.format) ids
       → IsDue t asked before (Acknowledgments (told_acks false))
       → ((told : Acks) (behind : List Pkt) → told.ready ≡ false → IsDue t asked behind (Acknowledgments told) → AnswerGives t asked behind ps later)
@@ -317,7 +317,7 @@ module _ (t : Terms) (asked : List Asked) (repo : Repository) (sound : IsSound r
 
   -- ---- a fetch
 
-  -- the acknowledgments, and then the pack, where the repository is ready, or else nothing
+  -- the acknowledgments, and then the pack if the repository is ready, or else nothing
   negotiated_gives : (is_ready : Bool) (q : FetchAsked) (allowed : Allowed) (before packets : List Pkt) → allowed.acknowledgments ≡ true
       → IsDue t asked before (Header allowed) → All (IsNameIn t.format) q.haves → IsNegotiated is_ready (acknowledgments repo q) whole repo q packets
       → AnswerGives t asked before (packets ++ end_packets t.ending) ((told_common (common repo.has q.haves) ++ told_ready is_ready repo q) ++ ended ∷ [])
@@ -358,7 +358,7 @@ module _ (t : Terms) (asked : List Asked) (repo : Repository) (sound : IsSound r
 
   -- ---- references
 
-  -- an unborn `HEAD`, where there is one that is asked for, and then the others
+  -- an unborn `HEAD`, if there is one and the request asks for it, and then the others
   unborn_gives : (q : LsRefsAsked) (head : Option (List ℕ)) (before ps : List Pkt) (later : List EventValue) → ForSome head (IsUnbornHead repo.refs)
       → IsDue t asked before References → ((behind : List Pkt) → IsDue t asked behind References → AnswerGives t asked behind ps later)
       → AnswerGives t asked before (unborn_packets q head ++ ps) (told_unborn q head ++ later)
@@ -410,7 +410,7 @@ module _ (t : Terms) (asked : List Asked) (repo : Repository) (sound : IsSound r
 
   -- ---- each answer
 
-  -- the answer to a request, where that is due
+  -- the answer to a request, when it is expected
   pub answer_gives : (q : Asked) (before packets : List Pkt) → IsDue t asked before (first_due q) → AsksIn t.format q → IsAnswer repo q packets
       → AnswerGives t asked before (packets ++ end_packets t.ending) (told_by repo q ++ ended ∷ [])
   answer_gives (ls_refs q) before packets is asks answer = listing_gives q before packets is answer
@@ -419,18 +419,18 @@ module _ (t : Terms) (asked : List Asked) (repo : Repository) (sound : IsSound r
       fetch_gives (negotiates q) q (allowed_after q.done []) before packets ends refl refl is asks answer
   answer_gives (object_info q) before packets is asks answer = sizes_give q before packets is asks answer
 
--- what an answer gives, wherever it is, and that the next one may come after it
+-- an answer gives its events after any requests, and the next one may come after it
 module _ (t : Terms) (repo : Repository) (earlier : List Asked) (q : Asked) (before packets : List Pkt) (gs : List Given) (sound : IsSound repo)
     (written : CanBeWritten repo) (same : repo.format ≡ t.format) (asks : AsksIn t.format q) (answer : IsAnswer repo q packets)
     (before_whole : AreWhole t earlier before) (cut : packets_of gs ≡ packets ++ end_packets t.ending) where
-  -- its packets, and that it is whole after them
+  -- the events of its packets, and that it is whole after them
   given : AnswerGives t (earlier ++ q ∷ []) before (packets_of gs) (told_by repo q ++ ended ∷ [])
   given =
       let asked = earlier ++ q ∷ [] in
       let is = due_said t asked before q (record { earlier = earlier; last = q; asked_is = refl; question_is = refl; whole = before_whole }) in
       rw cut (answer_gives t asked repo sound written same q before packets is asks answer)
 
-  -- whatever was asked later
+  -- the same, whatever was asked later
   pub heard : (later : List Asked) → GiveAll t (earlier ++ q ∷ later) before gs (told_by repo q ++ ended ∷ [])
   heard later =
       let events = told_by repo q ++ ended ∷ [] in

@@ -1,4 +1,4 @@
--- The advertisement of a server, as a client receives it and notes it.
+-- The advertisement of a server, as a client receives it and notes its capabilities.
 use Rattle.std.proofs.Common.{arith, ◌≡◌, ℕ, suc, Bool, true, false, List, [], ◌∷◌, ◌++◌, Option, Some, None, Ok, Err, codes, map}
 use Rattle.std.proofs.Common.{refl, ap, sym, ◌∙◌, subst, length, length-append}
 use Rattle.std.proofs.Common.{cond, eqb, ltb, not, unwrap_or, slice_index, tests, ◌&&◌, ◌||◌, ◌≢◌, ◌≤◌, if◌then◌else◌}
@@ -36,11 +36,11 @@ use Rattle.git_both_ends.proofs.SpelledPackets.{front_are}
 
 -- ---- the lines
 
--- a line: a key, and a value where there is one
+-- a line: a key, and a value if it has one
 abbrev OfferLine : Type 0
 OfferLine = List ℕ × Option (List ℕ)
 
--- a key alone, where it is offered
+-- a line with a key alone, if it is advertised
 abbrev line_where : Bool → List ℕ → List OfferLine
 line_where is_offered key = if is_offered then (key, None) ∷ [] else []
 
@@ -61,7 +61,7 @@ line_packets = map (λ line. text_line (valued line.0 line.1))
 abbrev capabilities_in : List OfferLine → List EventValue
 capabilities_in = map (λ line. capability line.0 line.1)
 
--- they are what an advertisement has, and what is received of it
+-- these are the lines of an advertisement, and its packets
 others_packets : (server_option object_info : Bool) (format : Format)
     → offered_line server_option (codes "server-option") ++ format_line format ∷ (offered_line object_info (codes "object-info") ++ flush ∷ [])
     ≡ line_packets (other_lines server_option object_info format) ++ flush ∷ []
@@ -88,12 +88,12 @@ pushed (p ∷ ps) before = pushed ps (p ∷ before)
 abbrev pub lines_said : Offer → List Pkt
 lines_said offer = pushed (line_packets (offer_lines offer)) (text_line (codes "version 2") ∷ [])
 
--- lines are no flushes
+-- a line is not a flush
 lines_flush : (lines : List OfferLine) (before : List Pkt) → flushes (pushed (line_packets lines) before) ≡ flushes before
 lines_flush [] before = refl
 lines_flush ((key, value) ∷ lines) before = lines_flush lines (text_line (valued key value) ∷ before)
 
--- so they are all of one advertisement
+-- so all of them are in one advertisement
 lines_advertised : (lines : List OfferLine) (before : List Pkt) → flushes before ≡ 0
     → advertisement_of (pushed (line_packets lines) before) ≡ pushed (line_packets lines) (advertisement_of before)
 lines_advertised [] before none = refl
@@ -102,7 +102,7 @@ lines_advertised ((key, value) ∷ lines) before none =
     lines_advertised lines (line ∷ before) none
     ∙ ap (λ (n : ℕ). pushed (line_packets lines) (cond (is_zero n) (line ∷ advertisement_of before) (advertisement_of before))) none
 
--- in which another line may come
+-- after them another line may come
 lines_due : (format : Format) (ending : Ending) (lines : List OfferLine) (line : List ℕ) (before : List Pkt) → flushes before ≡ 0
     → place_after (terms_of format ending) [] (pushed (line_packets lines) (payload line ∷ before))
     ≡ Some (capabilities (is_spoken (noted_of (pushed (line_packets lines) (payload line ∷ message_of before))) format))
@@ -110,14 +110,14 @@ lines_due format ending [] line before none = line_due (terms_of format ending) 
 lines_due format ending ((key, value) ∷ lines) line before none =
     lines_due format ending lines (valued key value ++ 10 ∷ []) (payload line ∷ before) none
 
--- the flush after them is that of no response
+-- the flush after them has no response end
 no_end : (ending : Ending) (before : List Pkt) → flushes before ≡ 0 → is_end_due ending (flush ∷ before) ≡ false
 no_end FlushOnly before none = refl
 no_end ResponseEnd before none = ap (λ (n : ℕ). not (is_zero n)) none
 
--- ---- what is noted of them
+-- ---- the capabilities noted from them
 
--- what holds of what is offered and of what is not
+-- a property for both values of a flag
 each : (P : Bool → Type 0) → P true → P false → (is_offered : Bool) → P is_offered
 each P where_it_is where_not true = where_it_is
 each P where_it_is where_not false = where_not
@@ -126,7 +126,7 @@ abbrev is_sha1 : Format → Bool
 is_sha1 Sha1 = true
 is_sha1 Sha256 = false
 
--- what is noted of the lines of the commands
+-- the capabilities noted from the lines of the commands
 abbrev commands_noted : Offer → Caps
 commands_noted offer = record {
   agent = true;
@@ -144,7 +144,7 @@ commands_noted offer = record {
   sha256 = false;
 }
 
--- and then of the others
+-- and those noted from the other lines too
 abbrev others_noted : (server_option object_info : Bool) → Format → Caps → Caps
 others_noted server_option object_info format caps = record caps {
   server_option = server_option || caps.server_option;
@@ -154,7 +154,7 @@ others_noted server_option object_info format caps = record caps {
   sha256 = not (is_sha1 format) || caps.sha256;
 }
 
--- the lines of the commands, the last one first, where these features are offered
+-- the lines of the commands for these features, the last one first
 abbrev commands_said : Offer → List Pkt
 commands_said offer = fetch_line offer ∷ ls_refs_line offer ∷ agent_line ∷ text_line (codes "version 2") ∷ []
 
@@ -201,7 +201,7 @@ lines_noted offer =
     ∙ ap (others_noted offer.server_option offer.object_info offer.format)
     (commands_are offer.format offer.object_info offer.server_option offer.unborn offer.shallow offer.ref_in_want offer.wait_for_done offer.filter)
 
--- by them the server speaks its format
+-- with these capabilities the server speaks its format
 spoken_by : (server_option object_info : Bool) (format : Format) (caps : Caps)
     → is_spoken (others_noted server_option object_info format caps) format ≡ true
 spoken_by server_option object_info Sha1 caps = refl
@@ -212,7 +212,7 @@ is_said offer =
     ap (λ (caps : Caps). is_spoken caps offer.format) (lines_noted offer)
     ∙ spoken_by offer.server_option offer.object_info offer.format (commands_noted offer)
 
--- and offers what it offers
+-- and advertises exactly this offer
 offered_so : (offer : Offer) → noted_offer (all_noted offer) offer.format ≡ offer
 offered_so offer = λ i. record {
   format = offer.format;
@@ -234,9 +234,9 @@ pub format_meant : (offer : Offer) (format : Format) (named : Bool) → named �
 format_meant offer Sha1 named e = tt
 format_meant offer Sha256 named e = e ∙ ap (λ (caps : Caps). caps.object_format) (lines_noted offer)
 
--- ---- what the lines give
+-- ---- the events of the lines
 
--- each is a capability line, begins as no error packet does, and is short
+-- each is a capability line, does not begin like an error packet, and is short
 abbrev is_line : OfferLine → Bool
 is_line (key, value) =
     not (eqb (slice_index (valued key value) 0) 69) && ((is_key key && is_value (unwrap_or value [])) && ltb (length (valued key value)) 100)
@@ -303,7 +303,7 @@ lines_fit ((key, value) ∷ lines) are =
     (fits_short (valued key value) short, lines_fit lines is.1)
 
 module _ (format : Format) (ending : Ending) where
-  -- capability lines give their capabilities, and then the others
+  -- capability lines give their capabilities, and then the others follow
   capabilities_give : (lines : List OfferLine) (line : List ℕ) (before ps : List Pkt) (later : List EventValue) → flushes before ≡ 0
       → list_all is_line lines ≡ true → AnswerGives (terms_of format ending) [] (pushed (line_packets lines) (payload line ∷ before)) ps later
       → AnswerGives (terms_of format ending) [] (payload line ∷ before) (line_packets lines ++ ps) (capabilities_in lines ++ later)
@@ -326,7 +326,7 @@ module _ (format : Format) (ending : Ending) where
       )
 
 module _ (offer : Offer) (ending : Ending) where
-  -- the flush gives that all was advertised
+  -- the flush gives the event of a complete advertisement
   end_gives : AnswerGives (terms_of offer.format ending) [] (lines_said offer) (flush ∷ []) (offered ∷ [])
   end_gives = (
     offered ∷ [],
@@ -368,14 +368,14 @@ module _ (offer : Offer) (ending : Ending) where
         lines_give,
   )
 
--- and so do all packets of the advertisement
+-- all packets of the advertisement fit
 advertisement_fits : (offer : Offer) → AllFit (server_says offer)
 advertisement_fits offer =
     rw (others_packets offer.server_option offer.object_info offer.format) (omega arith, lines_fit (offer_lines offer) (are_lines offer))
 
--- ---- wherever the packets are
+-- ---- packets at any offset
 
--- packets are the same wherever they are in the stream
+-- the order of the packets does not depend on their offsets
 pub nearest_pushed : (gs : List Given) (before : List Pkt) → nearest gs before ≡ pushed (packets_of gs) before
 nearest_pushed [] before = refl
 nearest_pushed (g ∷ gs) before = nearest_pushed gs (g.packet ∷ before)
@@ -391,7 +391,7 @@ nearest_offer offer gs e =
     ∙ ap (λ (ps : List Pkt). pushed ps (commands_said offer)) (others_packets offer.server_option offer.object_info offer.format)
     ∙ pushed-append (line_packets (other_lines offer.server_option offer.object_info offer.format)) (flush ∷ []) (commands_said offer)
 
--- what is noted of an advertisement, whatever comes after it
+-- the capabilities noted from an advertisement, whatever follows it
 pub noted_after_all : (offer : Offer) (back : List Given)
     → noted_of (advertisement_of (nearest back (flush ∷ lines_said offer))) ≡ noted_of (flush ∷ lines_said offer)
 noted_after_all offer back =
@@ -416,7 +416,7 @@ module _ (t : Terms) (offer : Offer) (gs : List Given) (format : offer.format �
   pub offer_whole : AreWhole t [] (nearest gs [])
   offer_whole = given_whole t [] [] gs (told_offer offer) given
 
--- of bytes that begin with the advertisement just the offer is noted
+-- from bytes that begin with the advertisement exactly the offer is noted
 pub offer_noted : (t : Terms) (asked : List Asked) (offer : Offer) (more : List ℕ) (caps : Caps) → offer.format ≡ t.format
     → HasNoted t asked (spelled (server_says offer) ++ more) caps → noted_offer caps t.format ≡ offer
 offer_noted t asked offer more caps format (clean, events, sounds, is) =

@@ -39,13 +39,13 @@ use Rattle.git_both_ends.proofs.HearingAnswers.{heard, whole_after}
 
 -- ---- answers one after the other
 
--- the packets are an answer to each request, in their order, each with what comes after its flush
+-- the packets are an answer to each request, in order, each with the packets after its flush
 abbrev pub AreEnded : Ending → Repository → List Asked → List Pkt → Type 0
 AreEnded ending repo [] packets = packets ≡ []
 AreEnded ending repo (q ∷ asked) packets =
     (answer : List Pkt) × (more : List Pkt) × (packets ≡ (answer ++ end_packets ending) ++ more) × IsAnswer repo q answer × AreEnded ending repo asked more
 
--- after an answer's flush comes nothing
+-- nothing follows an answer's flush
 pub ended_by_flush : (repo : Repository) (asked : List Asked) (packets : List Pkt) → AreAnswers repo asked packets → AreEnded FlushOnly repo asked packets
 ended_by_flush repo [] packets none = none
 ended_by_flush repo (q ∷ asked) packets (answer, more, parts, is, rest) =
@@ -72,9 +72,9 @@ module _ (t : Terms) (repo : Repository) (sound : IsSound repo) (written : CanBe
         rw (c.whole, nearest-append c.first c.second before, ← append_assoc earlier (q ∷ []) asked) others.1,
       )
 
--- ---- what a text contains can be written
+-- ---- the contents of a text can be written
 
--- the object names of a reference line are names
+-- the object names of a reference line are valid
 names_of : (format : Format) (line : List ℕ) (entry : Entry) → IsReferenceLine format line (ref_of entry) → IsEntryOfNames entry
 names_of format line entry h = record {
   by_id = IsOid-of_text format h.id entry.id h.id_is;
@@ -86,7 +86,7 @@ names_of format line entry h = record {
       let there : named ≡ id = cc in
       subst IsOid there (IsOid-of_text format digits named is)
 
--- each thing that a text contains is in a line
+-- each item of a text is in a line
 each_said : (format : Format) (lines : List (List ℕ)) (said : List Said) → SayAll format lines said
     → All (λ s. (line : List ℕ) × Says format line s) said
 each_said format [] [] h = All-nil (λ s. (line : List ℕ) × Says format line s)
@@ -96,14 +96,14 @@ each_said format [] (s ∷ said) h = absurd h
 each_said format (line ∷ lines) [] h = absurd h
 
 module _ (format : Format) where
-  -- what holds of a part that a line contains holds of those that all lines contain
+  -- a property of the items that one line may have holds of those of all lines
   parts_written : {X : Type 0} (P : X → Type 0) (part : Said → Option X) → ((s : Said) (line : List ℕ) → Says format line s → IfSome (part s) P)
       → (lines : List (List ℕ)) (said : List Said) → SayAll format lines said → All P (filter_map part said)
   parts_written P part is lines said h =
       All-filter_map P part said
       (All-weaker (λ s. (line : List ℕ) × Says format line s) (λ s. IfSome (part s) P) (λ s says. is s says.0 says.1) said (each_said format lines said h))
 
-  -- the object names of a reference are names
+  -- the object names of a reference are valid
   ref_written : (s : Said) (line : List ℕ) → Says format line s → IfSome (ref_in s) IsEntryOfNames
   ref_written (reference entry) line says = names_of format says.value entry says.holds
   ref_written s line says = tt
@@ -113,13 +113,13 @@ module _ (format : Format) where
   size_written (object id size) line says = says.holds.in_range
   size_written s line says = tt
 
-  -- the object name of a line of the shallow boundary is one
+  -- the object name of a line of the shallow boundary is valid
   boundary_written : (s : Said) (line : List ℕ) → Says format line s → IfSome (boundary_in s) (λ line. IsOid (object_of line))
   boundary_written (boundary (Shallow id)) line says = IsOid-of_text format says.value id says.holds
   boundary_written (boundary (Unshallow id)) line says = IsOid-of_text format says.value id says.holds
   boundary_written s line says = tt
 
--- the size that is found is one of those
+-- a size that is found is one of the text's
 found_size : (objects : List (ObjectName × ℕ)) (id : ObjectName) (size : ℕ) → All (λ object. IsSize object.1) objects → size_among objects id ≡ Some size
     → IsSize size
 found_size [] id size all found = absurd (cc)
@@ -128,7 +128,7 @@ found_size (first ∷ objects) id size all found =
     (λ it here. let same : first.1 ≡ size = cc in rw same at (All-head (λ (o : ObjectName × ℕ). IsSize o.1) first objects all))
     (λ other. found_size objects id size (All-tail (λ (o : ObjectName × ℕ). IsSize o.1) first objects all)) found
 
--- what a repository answers that is made of what a text contains can be written
+-- the answers of a repository that was read from a text can be written
 pub can_be_written : (repo : ListRepo) (text : List ℕ) (packs : PackBytes) → IsRepositoryText text packs (lists_of repo) → CanBeWritten (state_of repo).answers
 can_be_written repo text packs h =
     let lines = h.begins.others in

@@ -1,4 +1,4 @@
--- After any calls of both ends: what the client handed out is the first of what the repository's answers mean, and one of both can go on.
+-- After any calls of both sides: what the client handed out is the first part of the events of the repository's answers, and one side can go on.
 use Rattle.std.proofs.Common.{◌≡◌, ◌⊎◌, inl, inr, ℕ, Bool, true, false, All, List, [], ◌∷◌, ◌++◌, ◌-◌, Option, Some, None, length}
 use Rattle.std.proofs.Common.{refl, ap, sym, ◌∙◌, subst, append_assoc, append-nil}
 use Rattle.std.proofs.lemmas.Grind.{flat_map-append}
@@ -61,12 +61,12 @@ use Rattle.git_both_ends.proofs.RequestsHeard.{HaveValues, join_packets, whereve
 use Rattle.git_both_ends.proofs.ServerGave.{Gave, gave, gave_all, gave_clean, read_front}
 use Rattle.git_both_ends.proofs.SpelledPackets.{are_spelled}
 
--- of packets that fit the last ones do
+-- if packets fit, so do the last ones of them
 fit_back : (ps qs : List Pkt) → AllFit (ps ++ qs) → AllFit qs
 fit_back [] qs fit = fit
 fit_back (p ∷ ps) qs fit = fit_back ps qs fit.1
 
--- the packets before the first that is refused: all, or so many, and nothing after the last of all
+-- no packet was refused, or the packets go on after those before the refused one and no bytes follow them
 all_or_first : (t : Terms) (asked : List Asked) (clean given : List Given) (rest : List ℕ) (end : ℕ) (question : Option Asked) (reader : PacketReader)
     (phase : Phase) → StandsIn phase t asked clean given rest end question reader
     → (given ≡ clean) ⊎ ((rest ≡ []) × (others : List Given) × (given ≡ clean ++ others))
@@ -75,20 +75,20 @@ all_or_first t asked clean given rest end question reader (Failed fault) (inr (i
 all_or_first t asked clean given rest end question reader (Failed fault) (inr (inr h)) = inl h.cut
 all_or_first t asked clean given rest end question reader phase h = inl h.cut
 
--- reading stops at the end of the input or of the positions of a stream, or is refused
+-- reading stops at the end of the input or of the positions of a stream, or because the bytes are refused
 stop_kind : (p : ℕ) (rest : List ℕ) (end : ℕ) (kind : Kind) (offset : ℕ) → StopsBy p rest end kind offset
     → ((kind ≡ Truncated) ⊎ (kind ≡ StreamTooLong)) ⊎ IsRefused p rest kind offset
 stop_kind p rest end Truncated offset by = inl (inl refl)
 stop_kind p rest end StreamTooLong offset by = inl (inr refl)
 stop_kind p rest end kind offset by = inr by.0
 
--- where bytes are due nothing is left to be sent, and nobody has left
+-- while packets of the server are expected, none is left to be sent, and the client has not left
 nothing_left : {A : Type 0} (phase : Phase) (request : Option (Request A)) → takes_packets phase ≡ true
     → (left_in phase request ≡ []) × (has_left_in phase ≡ false)
 nothing_left (Hearing due) request waits = (refl, refl)
 nothing_left phase request waits = absurd (cc)
 
--- a client that neither can ask nor waits has a packet to give, unless it has left or failed
+-- a client that neither can ask nor waits has a packet to send, unless it has left or failed
 client_gives : {A : Type 0} (client : Client A) → can_ask client ≡ false → waits_for_input client ≡ false → fault_of client ≡ None → has_left client ≡ false
     → (sent : Sent) (new : Client A) → PullsClient client sent new → IsSentPacket sent
 client_gives client no_turn no_wait sound stays (Packet bytes) new pulls = tt
@@ -97,7 +97,7 @@ client_gives client no_turn no_wait sound stays CanAsk new pulls = let ready = p
 client_gives client no_turn no_wait sound stays Finished new pulls = let left = pulls.tells.0 in absurd (cc)
 client_gives client no_turn no_wait sound stays (FailedSent fault) new pulls = let failed = pulls.tells.0 in absurd (cc)
 
--- what a call adds to what a client gave and used
+-- what a call adds to the bytes that the client sent and used
 history_adds : {A : Type 0} (h : History) (call : ClientCall A)
     → ((after_call h call).given ≡ h.given ++ sent_by call) × ((after_call h call).used ≡ h.used ++ taken_by call)
 history_adds h (ask request) = (sym (append-nil h.given), sym (append-nil h.used))
@@ -108,14 +108,14 @@ history_adds h (feed_client piece answer) = (sym (append-nil h.given), refl)
 history_adds h (close_client fault) = (sym (append-nil h.given), sym (append-nil h.used))
 
 module _ {R A : Type 0} (state : R → RepoState) where
-  -- a server that does not wait has a packet to give, unless its session has ended
+  -- a server that does not wait has a packet to send, unless its session has ended
   server_gives : (server : Server R A) → wants_input server ≡ false → outcome_of server ≡ None → (pulled : Pulled) (new : Server R A)
       → Pulls state server pulled new → IsPulledPacket pulled
   server_gives server no_wait goes (PulledPacket bytes) new pulls = tt
   server_gives server no_wait goes NeedMore new pulls = let waits = pulls.tells.0 in absurd (cc)
   server_gives server no_wait goes (PulledEnd outcome) new pulls = let over = pulls.tells.0 in absurd (cc)
 
-  -- a call goes on with what held before it
+  -- a call extends what held before it
   runs_on : (refuses : ℕ → Type 0) (call : ServerCall) (s : Setting) (used : List ℕ) (over : Bool) (given : List ℕ)
       (before : ℕ) (old : Server R A) (after : ℕ) (new : Server R A)
       → Makes state refuses call before old after new → Running state s used over given old
@@ -130,7 +130,7 @@ module _ {R A : Type 0} (state : R → RepoState) where
 
 module _ {R A : Type 0} (state : R → RepoState) (format : Format) (limit : ℕ) (before : RepoState) (sound : IsSound before.answers)
     (written : CanBeWritten before.answers) (same_format : before.answers.format ≡ format) where
-  -- what holds between both ends
+  -- the relation between both sides
   record Agree (h : History) (now : BothEnds R A) : Type 0 where
     used : List ℕ
     over : Bool
@@ -144,7 +144,7 @@ module _ {R A : Type 0} (state : R → RepoState) (format : Format) (limit : ℕ
   -- ---- at one moment
 
   module _ (h : History) (now : BothEnds R A) (agree : Agree h now) (values : All (HasValues format) h.asked) where
-    -- the values of each request are allowed in one of some format
+    -- the values of each request are allowed in a request of some format
     have_values : HaveValues h.asked
     have_values = All-weaker (HasValues format) (λ (q : Asked). (f : Format) × HasValues f q) (λ q is. (format, is)) h.asked values
 
@@ -162,7 +162,7 @@ module _ {R A : Type 0} (state : R → RepoState) (format : Format) (limit : ℕ
           noted_meant (terms_with format) h (caps_of now.client) (has_noted (terms_with format) h now.client agree.converses) o g.good g.owed g.bad g.answers
           now.to_client g.report g.fit g.parts client_hears
 
-      -- what it sent is what is written of the requests
+      -- the bytes that it sent are the written form of the requests
       wrote : (says_agent : Bool) × (says_format : Bool) × IsFormatMeant format says_format
           × (agree.used ++ (now.to_server ++ spelled (left_to_say now.client))
           ≡ spelled (written_all says_agent says_format format h.asked ++ farewell h.left))
@@ -177,14 +177,14 @@ module _ {R A : Type 0} (state : R → RepoState) (format : Format) (limit : ℕ
         | inr o ↦ ((caps_of now.client).agent, (caps_of now.client).object_format, meant o, client_sends)
       ]
 
-      -- the requests that the server read are the first that were asked
+      -- the requests that the server read are the first ones that were asked
       read : (after : List Asked) × (h.asked ≡ g.asked ++ after) × All (HasValues format) g.asked
       read =
           let (says_agent, says_format, is_meant, sends) = wrote in
           read_front format limit before says_agent says_format h.asked g.asked h.left agree.used (now.to_server ++ spelled (left_to_say now.client))
           g.left g.rest is_meant have_values sends g.stream
 
-      -- the packets of the advertisement and of the answers, wherever they are
+      -- the packets of the advertisement and of the answers, at any offsets
       abbrev first_packets : List Given
       first_packets = wherever (server_says (everything format))
 
@@ -198,7 +198,7 @@ module _ {R A : Type 0} (state : R → RepoState) (format : Format) (limit : ℕ
           ∙ ap (λ (l : List Pkt). server_says (everything format) ++ l) (wherever_are g.answers)
           ∙ sym g.parts
 
-      -- what they give
+      -- the events that they give
       all_give : (after : List Asked) → h.asked ≡ g.asked ++ after → All (HasValues format) g.asked
           → GiveAll (terms_with format) h.asked [] all_packets (told_offer (everything format) ++ told_all before.answers g.asked)
           × AreWhole (terms_with format) g.asked (nearest all_packets [])
@@ -216,7 +216,7 @@ module _ {R A : Type 0} (state : R → RepoState) (format : Format) (limit : ℕ
             subst (AreWhole t g.asked) (sym (nearest-append first_packets (wherever g.answers) [])) whole,
           )
 
-      -- what was handed out is the first of what the answers mean: from packets of which none is refused, and what has come of the next one
+      -- the events handed out, of packets that are not refused and of the open one, are the first events of the answers
       handed_out : (later : List Pkt) (more : List ℕ) → packets_of agree.converses.clean ++ later ≡ g.good ++ g.bad
           → agree.converses.rest ++ more ≡ spelled later
           → (others : List EventValue) × (told_play format before.answers h.asked ≡ h.events ++ others)
@@ -263,7 +263,7 @@ module _ {R A : Type 0} (state : R → RepoState) (format : Format) (limit : ℕ
 
     -- ---- what is refused
 
-    -- the packet after those of which none is refused is none that the server gave
+    -- the packet that the client refuses, after the good ones, is not one that the server sent
     refused_none : (g : Gave (setting_of (terms_with format) limit before true) agree.used agree.given) → g.bad ≡ [] → (bad : Given) (kind : Kind)
         → agree.converses.given ≡ agree.converses.clean ++ bad ∷ []
         → RefusesAt (terms_with format) h.asked (nearest agree.converses.clean []) bad.packet kind → ⊥
@@ -282,7 +282,7 @@ module _ {R A : Type 0} (state : R → RepoState) (format : Format) (limit : ℕ
         (f.later ++ g.owed) (all_give g after is in_format).0 are in
         excluded t h.asked (nearest c.clean []) bad.packet events kind at refused
 
-    -- nor can the bytes after them not become one
+    -- and the bytes after the packets can become one
     rest_open : (g : Gave (setting_of (terms_with format) limit before true) agree.used agree.given) → IsOpen (agree.converses.rest ++ now.to_client)
     rest_open g =
         let c = agree.converses in
@@ -313,7 +313,7 @@ module _ {R A : Type 0} (state : R → RepoState) (format : Format) (limit : ℕ
 
     -- ---- what can be done next
 
-    -- where both wait for bytes, some are on their way
+    -- if both wait for bytes, some are on their way
     some_on_the_way : wants_input now.server ≡ true → waits_for_input now.client ≡ true → now.to_server ≡ [] → now.to_client ≡ [] → ⊥
     some_on_the_way waits due no_questions no_answers =
         let t = terms_with format in

@@ -1,4 +1,4 @@
--- The packs of the answers.
+-- The packs in the answers.
 use Rattle.std.proofs.Common.{◌≡◌, ℕ, Bool, true, false, not, ◌||◌, cond, flat_map, map, List, [], ◌∷◌, ◌++◌, Option, Some, None}
 use Rattle.std.proofs.Common.{codes, refl, ap, ◌∙◌}
 use Rattle.std.proofs.lemmas.Bool.{cond_both}
@@ -16,7 +16,7 @@ use Rattle.git_server.specs.Repository.{Entry, Repository}
 use Rattle.git_both_ends.specs.ToldAnswers.{answered_pack, found_refs, told_all, told_boundary, told_by, told_common, told_fetch, told_pack, told_ready}
 use Rattle.git_both_ends.specs.ToldAnswers.{told_unborn}
 
--- events of which none is of the pack
+-- events that have no byte of the pack
 no_pack : {X : Type 0} (event : X → EventValue) → ((x : X) (later : List EventValue) → pack_bytes (event x ∷ later) ≡ pack_bytes later) → (xs : List X)
     → pack_bytes (map event xs) ≡ []
 no_pack event none [] = refl
@@ -41,7 +41,7 @@ common_packs : (ids : List ObjectName) → pack_bytes (told_common ids) ≡ []
 common_packs [] = refl
 common_packs (id ∷ ids) = no_pack ack (λ x later. refl) (id ∷ ids)
 
--- after events without a pack
+-- the pack after events without a pack
 after_none : (events later : List EventValue) (bytes : List ℕ) → pack_bytes events ≡ [] → pack_bytes later ≡ bytes → pack_bytes (events ++ later) ≡ bytes
 after_none events later bytes none is = pack_bytes-append events later ∙ rw none is
 
@@ -65,7 +65,7 @@ module _ (repo : Repository) where
       (common_packs (common repo.has q.haves)) (ready_packs (is_ready_for repo q) q)
   fetch_packs false q = packfile_packs q
 
-  -- that of one answer
+  -- the pack of one answer
   one_pack : (q : Asked) → pack_bytes (told_by repo q) ≡ answered_pack repo q
   one_pack (ls_refs q) =
       let shown = map (λ (entry : Entry). reference (shown_line q.symrefs q.peel entry)) (shown_refs q.ref_prefixes repo.refs) in
@@ -77,7 +77,7 @@ module _ (repo : Repository) where
   after_pack : (q : Asked) → pack_bytes (told_by repo q ++ ended ∷ []) ≡ answered_pack repo q
   after_pack q = pack_bytes-append (told_by repo q) (ended ∷ []) ∙ append-nil (pack_bytes (told_by repo q)) ∙ one_pack q
 
-  -- those of all answers, one after the other
+  -- the packs of all answers, one after the other
   pub all_packs : (asked : List Asked) → pack_bytes (told_all repo asked) ≡ flat_map (answered_pack repo) asked
   all_packs [] = refl
   all_packs (q ∷ asked) =

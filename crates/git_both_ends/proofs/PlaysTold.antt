@@ -1,4 +1,4 @@
--- What a play gives that ended well.
+-- What a play that ended well gives.
 use Rattle.std.proofs.Common.{arith, ◌≡◌, ℕ, Bool, true, false, All, flat_map, map, List, [], ◌∷◌, ◌++◌, Option, IfSome, Ok}
 use Rattle.std.proofs.Common.{refl, ap, sym, ◌∙◌, subst}
 use Rattle.std.specs.List.{filter_map}
@@ -57,7 +57,7 @@ object_named format object_id (id_value name) fits = fits
 object_named format (of_flag Flag.Size) value fits = tt
 object_named format word value fits = tt
 
--- the values that are object names of the format
+-- the arguments that are object names have the format
 names_in : (format : Format) (command : Command) (named : Arg → Option ObjectName)
     → ((arg : Arg) → IsValue command format arg → IfSome (named arg) (IsNameIn format)) → (args : List Arg)
     → All (IsValue command format) args → All (IsNameIn format) (filter_map named args)
@@ -73,7 +73,7 @@ asks_in format (object_info q) values =
     subst (All (IsNameIn format)) (ap oids_of (arguments_in_order (object_info q)))
     (names_in format ObjectInfo (id_in object_id) (λ arg value. object_named format arg.word arg.value value.1) (arguments_in (object_info q)) values)
 
--- ---- what a server reads that offers everything
+-- ---- what a server that advertises everything reads
 
 pub takes_all : (format : Format) (command : Command) → takes_command (everything format) command ≡ true
 takes_all format LsRefs = refl
@@ -87,7 +87,7 @@ offers_word format word = refl
 pub offers_all : (format : Format) (arg : Arg) → is_offered (everything format) arg ≡ true
 offers_all format arg = offers_word format arg.word
 
--- the requests that it has read and answered, of written requests, are those
+-- of the written requests, the server has read and answered exactly these
 pub stream_asks : (format : Format) (ending : Ending) (limit : ℕ) (state : RepoState) (advertise says_agent says_format : Bool) (asked : List Asked)
     {used given : List ℕ} → IsFormatMeant format says_format → HaveValues asked → used ≡ spelled (written_all says_agent says_format format asked)
     → (a : IsAnswered (setting_of (terms_of format ending) limit state advertise) used given) → (a.asked ≡ asked) × All (HasValues format) asked
@@ -100,7 +100,7 @@ stream_asks format ending limit state advertise says_agent says_format asked {us
 
 -- ---- what a client notes and receives
 
--- a whole conversation has its events
+-- the events of a whole conversation are those of its bytes
 heard_so : (t : Terms) (asked : List Asked) (used : List ℕ) (events : List EventValue) (c : IsConversation t asked used events)
     → Sounds t asked used c.given events
 heard_so t asked used events c = record {
@@ -113,7 +113,7 @@ heard_so t asked used events c = record {
   stops = tt;
 }
 
--- what was advertised names the format that is meant
+-- the advertisement names the format that is meant
 meant_after : (t : Terms) (asked : List Asked) (used more : List ℕ) (events : List EventValue) (caps : Caps) → IsConversation t asked used events
     → HasNoted t asked used caps → AllFit (server_says (everything t.format)) → used ≡ spelled (server_says (everything t.format)) ++ more
     → IsFormatMeant t.format caps.object_format
@@ -130,7 +130,7 @@ meant_after t asked used more events caps c noted fit e =
     ∙ ap (λ (l : List Pkt). noted_of (advertisement_of l)) order ∙ noted_after_all (everything t.format) back in
     format_meant (everything t.format) t.format caps.object_format (ap (λ (k : Caps). k.object_format) same)
 
--- what is received of the advertisement and the answers is what they give
+-- the events received of the advertisement and of the answers are those that they have
 events_told : (t : Terms) (repo : Repository) (asked : List Asked) (answers : List Pkt) (used : List ℕ) (events : List EventValue) → IsSound repo
     → CanBeWritten repo → repo.format ≡ t.format → All (HasValues t.format) asked → AreEnded t.ending repo asked answers
     → AllFit (server_says (everything t.format) ++ answers) → used ≡ spelled (server_says (everything t.format) ++ answers)
@@ -151,12 +151,12 @@ events_told t repo asked answers used events sound written same values are fit e
 
 -- ---- each ending
 
--- the values of a request are allowed there, where its object names have some format
+-- the values of a request are allowed in a request of some format
 abbrev HasOwn : Asked → Type 0
 HasOwn q = (format : Format) × HasValues format q
 
 module _ (format : Format) (limit : ℕ) (state : RepoState) where
-  -- the packets of the answers of servers that answer one request each
+  -- the answers of servers that answer one request each
   record EachTold (later : List Talk) (asked : List Asked) : Type 0 where
     packets : List Pkt
     fit : AllFit packets
@@ -245,7 +245,7 @@ module _ {A : Type 0} (now : ℕ) (format : Format) (limit : ℕ) (state : RepoS
   told_whole FlushOnly rest h values p = told_by_flush rest h values p
   told_whole ResponseEnd rest h values p = told_by_ends rest h values p
 
--- ---- what is given
+-- ---- the results of a play
 
 pub as_told : {A : Type 0} (now : ℕ) (t : Terms) (limit : ℕ) (state : RepoState) (requests : List (Request A)) (done : Unit {0})
     (read given : List (List ℕ))

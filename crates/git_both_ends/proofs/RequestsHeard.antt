@@ -1,4 +1,4 @@
--- A server reads of what a client wrote just the requests that were written.
+-- A server reads exactly the requests that a client wrote.
 use Rattle.std.proofs.Common.{arith, ◌≡◌, ℕ, ◌+◌, ◌≤◌, Bool, true, false, All, flat_map, List, [], ◌∷◌, ◌++◌, codes, refl}
 use Rattle.std.proofs.Common.{ap, sym, ◌∙◌, append_assoc, get_or, subst}
 use Rattle.std.proofs.lemmas.List.{map-append}
@@ -26,7 +26,7 @@ use Rattle.git_both_ends.proofs.ValuesRead.{argument_packets, arguments_fit_in}
 
 -- ---- one request
 
--- a line within a limit is one within a greater limit
+-- a line within a limit is within any greater limit
 line_within_in : (part : Bool) (offer : Offer) (limit most : ℕ) (before : List Line) (packet : Pkt) (line : Line) → limit ≤ most
     → IsLineIn part offer limit before packet line → IsLineIn part offer most before packet line
 line_within_in false offer limit most before (payload bytes) line more h = h
@@ -48,7 +48,7 @@ lines_within offer limit most before (g ∷ gs) (l ∷ ls) more h = (
 
 module _ (offer : Offer) (says_agent says_format : Bool) (meant : IsFormatMeant offer.format says_format)
     (takes : (c : Command) → takes_command offer c ≡ true) (offers : (arg : Arg) → is_offered offer arg ≡ true) where
-  -- what is read of the packets of a request is that request
+  -- the request read from the packets of a request is that request
   one_written : (limit kept : ℕ) (q other : Asked) (gs : List Given) → HasValues offer.format q
       → packets_of gs ≡ lines_written says_agent says_format offer.format q → Asks offer limit gs other kept → other ≡ q
   one_written limit kept q other gs values e a =
@@ -91,7 +91,7 @@ lines_clear true false format q = arguments_clear (arguments_in q)
 lines_clear false true format q = arguments_clear (arguments_in q)
 lines_clear false false format q = arguments_clear (arguments_in q)
 
--- what comes up to the first flush, and after it
+-- the packets before the first flush, and those after it
 first_flush : (xs more : List Given) (last : Given) (front back : List Pkt) → NoFlush xs → last.packet ≡ flush → flushes front ≡ 0
     → packets_of (xs ++ last ∷ more) ≡ front ++ flush ∷ back → (packets_of xs ≡ front) × (packets_of more ≡ back)
 first_flush [] more last [] back none ends clear e = (refl, cc)
@@ -106,7 +106,7 @@ first_flush (x ∷ xs) more last (p ∷ front) back none ends clear e =
     let then = first_flush xs more last front back none.1 ends (omega (arith, clear, flushes-append (p ∷ []) front)) rest in
     (rw (same, then.0), then.1)
 
--- packets with a flush among them
+-- packets without a flush are not packets with a flush among them
 no_flush_among : (gs : List Given) (front back : List Pkt) → NoFlush gs → packets_of gs ≡ front ++ flush ∷ back → ⊥
 no_flush_among [] [] back none e = cc
 no_flush_among [] (p ∷ front) back none e = cc
@@ -115,7 +115,7 @@ no_flush_among (g ∷ gs) (p ∷ front) back none e =
     let rest : packets_of gs ≡ front ++ flush ∷ back = cc in
     no_flush_among gs front back none.1 rest
 
--- ---- packets wherever they are
+-- ---- packets at any offset
 
 -- packets of a stream, at any offsets
 pub wherever : List Pkt → List Given
@@ -132,26 +132,26 @@ join_packets gs hs = map-append (λ (g : Given). g.packet) gs hs
 
 -- ---- all requests
 
--- no lines are a request
+-- an empty list of lines is no request
 no_lines : (offer : Offer) (limit : ℕ) (front : List Given) (lines : List Line) (command : Command) → front ≡ [] → AreLines offer limit [] front lines
     → commands_of lines ≡ command ∷ [] → ⊥
 no_lines offer limit [] [] command none taken once = cc
 no_lines offer limit [] (line ∷ lines) command none taken once = taken
 no_lines offer limit (g ∷ front) lines command none taken once = cc
 
--- nor is the flush by which a client leaves
+-- nor is the flush of a client that leaves
 no_request : (leaves : Bool) (front more : List Given) (last : Given) (later : List Pkt) → packets_of (front ++ last ∷ more) ++ later ≡ farewell leaves
     → NoFlush front → (front ≡ [] → ⊥) → ⊥
 no_request leaves [] more last later e none some = some refl
 no_request false (g ∷ front) more last later e none some = cc
 no_request true (g ∷ front) more last later e none some = let same : g.packet ≡ flush = cc in none.0 same
 
--- packets with one among them are some
+-- a list with a packet in it is not empty
 some_packet : (front more : List Given) (last : Given) → packets_of (front ++ last ∷ more) ≡ [] → ⊥
 some_packet [] more last e = cc
 some_packet (g ∷ front) more last e = cc
 
--- the values of each request are allowed there, where its object names have some format
+-- the values of each request are allowed in a request of some format
 abbrev pub HaveValues : List Asked → Type 0
 HaveValues asked = All (λ q. (format : Format) × HasValues format q) asked
 
@@ -161,7 +161,7 @@ written_all says_agent says_format format asked = flat_map (lines_written says_a
 
 module _ (s : Setting) (says_agent says_format : Bool) (meant : IsFormatMeant s.offer.format says_format)
     (takes : (c : Command) → takes_command s.offer c ≡ true) (offers : (arg : Arg) → is_offered s.offer arg ≡ true) where
-  -- the first request that is read is the first that was written, and what comes after it was written after it
+  -- the first request read is the first one written, and the packets after it are those written after it
   first_read : (q r : Asked) (kept : ℕ) (front more gs : List Given) (back : List Pkt) → (format : Format) × HasValues format q → gs ≡ front ++ more
       → packets_of gs ≡ lines_written says_agent says_format s.offer.format q ++ back → Asks s.offer s.limit front r kept
       → (r ≡ q) × HasValues s.offer.format q × (packets_of more ≡ back)
@@ -179,7 +179,7 @@ module _ (s : Setting) (says_agent says_format : Bool) (meant : IsFormatMeant s.
       a.taken parts.0 in_written in
       (one_written s.offer says_agent says_format meant takes offers s.limit kept q r front in_format own a, in_format, parts.1)
 
-  -- the requests that are read are those that were written, and their object names have the reader's format
+  -- the requests read are those written, and their object names have the reader's format
   pub requests_are : (asked others : List Asked) (gs left : List Given) → HaveValues asked
       → packets_of gs ≡ written_all says_agent says_format s.offer.format asked → NoFlush left → AreRequests (IsRequest s) gs others left
       → (others ≡ asked) × All (HasValues s.offer.format) asked
@@ -199,7 +199,7 @@ module _ (s : Setting) (says_agent says_format : Bool) (meant : IsFormatMeant s.
       let rest = requests_are qs rs more left (All-tail (λ (q : Asked). (format : Format) × HasValues format q) q qs values) back over later in
       (rw (first, rest.0), All-cons (HasValues format) q qs in_format rest.1)
 
-  -- the requests that are read of the first packets are the first that were written: the flush by which a client leaves is none
+  -- the requests read from the first packets are the first ones written: the flush of a client that leaves is not one
   pub requests_front : (asked others : List Asked) (leaves : Bool) (gs left : List Given) (later : List Pkt) → HaveValues asked
       → packets_of gs ++ later ≡ written_all says_agent says_format s.offer.format asked ++ farewell leaves → AreRequests (IsRequest s) gs others left
       → (more : List Asked) × (asked ≡ others ++ more) × All (HasValues s.offer.format) others

@@ -1,4 +1,4 @@
--- What a server has given at any moment, and which requests it has read of what a client sent.
+-- What a server has sent at any moment, and which of a client's requests it has read.
 use Rattle.std.proofs.Common.{arith, ◌≡◌, inl, inr, ℕ, Bool, true, false, All, List, [], ◌∷◌, ◌++◌, Option, Some, None}
 use Rattle.std.proofs.Common.{refl, ap, sym, ◌∙◌, subst, append-nil}
 use Rattle.git_names.specs.declared.object_format.Format.{Format}
@@ -26,9 +26,9 @@ use Rattle.git_both_ends.proofs.PlaysTold.{offers_all, takes_all}
 use Rattle.git_both_ends.proofs.RequestsHeard.{HaveValues, requests_front, written_all}
 use Rattle.git_both_ends.proofs.SpelledPackets.{fit_both, requests_fit}
 
--- ---- what it gave
+-- ---- what it sent
 
--- the first packets of its advertisement and of an answer to each request that it read, and then the report of a fault, where it refused something
+-- the first packets of its advertisement and of an answer to each request that it read, and then the error packet if it refused something
 pub record Gave (s : Setting) (used given : List ℕ) : Type 0 where
   pub asked : List Asked
   pub left : List Given
@@ -83,7 +83,7 @@ module _ (s : Setting) (used given : List ℕ) where
         fit = subst AllFit (sym (append-nil good)) g.fit;
       }
 
--- nothing is the first of nothing
+-- the first part of an empty list is empty
 none_first : (front back : List Pkt) → [] ≡ front ++ back → front ≡ []
 none_first [] back e = refl
 none_first (p ∷ front) back e = absurd (cc)
@@ -130,13 +130,13 @@ gave_end s used over given outcome owed g other =
       fit = g.fit;
     }
 
--- where a pack was wanted and not had, the session lost it
+-- if a pack was wanted and missing, the session lost it
 lost_where : (o : Option Outcome) (outcome : Outcome) → o ≡ Some outcome → WantsPack outcome → IsPackLost o
 lost_where o Flush e wants = absurd wants
 lost_where o Closed e wants = absurd wants
 lost_where o (Refused fault) e wants = (fault, e, wants)
 
--- an outcome that refuses nothing lacks no pack, and reports nothing
+-- an outcome that is no refusal lacks no pack and has no error packet
 not_lost : (outcome : Outcome) → ((fault : Fault) → outcome ≡ Refused fault → ⊥) → WantsPack outcome → ⊥
 not_lost Flush clean wants = wants
 not_lost Closed clean wants = wants
@@ -156,7 +156,7 @@ module _ {R A : Type 0} (state : R → RepoState) (server : Server R A) (s : Set
       let (owed, ends) = ending state server s used over given r outcome e in
       gave_end s used over given outcome owed ends (λ wants. kept (lost_where (outcome_of server) outcome e wants))
 
-  -- a server that lost no pack gave so
+  -- what a server that lost no pack sent
   pub gave : (IsPackLost (outcome_of server) → ⊥) → Gave s used given
   gave kept = gave_by (outcome_of server) refl kept
 
@@ -167,7 +167,7 @@ module _ {R A : Type 0} (state : R → RepoState) (server : Server R A) (s : Set
       let reasons : (fault : Fault) → outcome ≡ Refused fault → ⊥ = λ fault is. clean (fault, e ∙ ap (λ (o : Outcome). Some o) is) in
       (gave_end s used over given outcome owed ends (not_lost outcome reasons), unreported outcome s ends.left ends.sent owed reasons ends.parts)
 
-  -- one that refused nothing reported nothing
+  -- a server that refused nothing sent no error packet
   pub gave_clean : (HasRefused server → ⊥) → (g : Gave s used given) × (g.bad ≡ [])
   gave_clean clean = gave_clean_by (outcome_of server) refl clean
 

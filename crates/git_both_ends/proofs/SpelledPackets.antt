@@ -1,4 +1,4 @@
--- Packets as they are written: that they fit, and that bytes fall into them again.
+-- Packets as they are written: they fit, and their bytes are split into the same packets again.
 use Rattle.std.proofs.Common.{arith, ◌≡◌, ◌≤◌, ℕ, ◌+◌, Bool, true, false, All, length, List, [], ◌∷◌, ◌++◌, codes}
 use Rattle.std.proofs.Common.{refl, ap, sym, ◌∙◌, append_assoc, length-append}
 use Rattle.std.proofs.lemmas.List.Elements.{All-head, All-tail}
@@ -22,7 +22,7 @@ use Rattle.git_both_ends.proofs.RequestsHeard.{HaveValues, written_all}
 
 -- ---- packets as they are written
 
--- the bytes of packets are these packets
+-- the bytes split into these packets
 pub record AreSpelled (bytes : List ℕ) (ps : List Pkt) : Type 0 where
   pub given : List Given
   pub are : packets_of given ≡ ps
@@ -53,12 +53,12 @@ are_spelled bytes ps fit e =
       splits = record { spelled = rw e s.spells; ends = none_begins_nothing };
     }
 
--- and no others
+-- and into no others
 pub packets_are : (bytes : List ℕ) (ps : List Pkt) (gs : List Given) (rest : List ℕ) → AreSpelled bytes ps → Splits 0 bytes gs rest → packets_of gs ≡ ps
 packets_are bytes ps gs rest s h =
     ap packets_of (one_split 0 bytes gs s.given rest [] h.spelled s.splits.spelled h.ends s.splits.ends).packets ∙ s.are
 
--- packets of two lists
+-- the packets of two lists fit
 pub fit_both : (ps qs : List Pkt) → AllFit ps → AllFit qs → AllFit (ps ++ qs)
 fit_both [] qs h k = k
 fit_both (p ∷ ps) qs (now, h) k = (now, fit_both ps qs h k)
@@ -67,7 +67,7 @@ pub fit_front : (ps qs : List Pkt) → AllFit (ps ++ qs) → AllFit ps
 fit_front [] qs h = tt
 fit_front (p ∷ ps) qs (now, h) = (now, fit_front ps qs h)
 
--- packets of bytes that begin with the spelling of some are those, and others
+-- bytes that begin with the spelling of packets split into these, and others after them
 pub front_are : (offset : ℕ) (ps : List Pkt) (more : List ℕ) (gs : List Given) (rest : List ℕ) → AllFit ps → SpellsAll offset (spelled ps ++ more) gs rest
     → NoneBegins rest → (front : List Given) × (back : List Given) × (gs ≡ front ++ back) × (packets_of front ≡ ps)
 front_are offset [] more gs rest fit spells none = ([], gs, refl, refl)

@@ -1,4 +1,4 @@
--- The values of requests that a server reads: object names of its format, whatever the format of the request.
+-- The values of requests that a server reads: object names have its format, whatever the format of the request.
 use Rattle.std.proofs.Common.{arith, ◌≡◌, ℕ, Bool, true, false, All, map, List, [], ◌∷◌, ◌++◌, refl, ◌∙◌}
 use Rattle.std.proofs.lemmas.Bool.{or_left, or_right}
 use Rattle.std.proofs.lemmas.List.Elements.{All-cons, All-head, All-nil, All-tail}
@@ -22,7 +22,7 @@ use Rattle.git_msg.proofs.Rows.{headed, one_value, one_word}
 use Rattle.git_msg.proofs.WrittenNames.{length-hex_of}
 use Rattle.git_both_ends.specs.ToldAnswers.{packets_of}
 
--- ---- an object name that is read has the format of the reader
+-- ---- an object name that is read has the reader's format
 
 abbrev IsSomeName : Format → List ℕ → Type 0
 IsSomeName format name = (id : ObjectName) × IsObjectName format name id
@@ -41,7 +41,7 @@ value_stays object_name word written read (id_value id) (id_value other) fits sa
 value_stays object_name word written read (id_value id) other fits says = absurd says
 value_stays shape word written read value other fits says = fits
 
--- so an argument whose text is read is allowed in a request of that format
+-- so an argument that is read is allowed in a request of that format
 in_range : (written read : Format) (arg other : Arg) → IsInRange written arg → SaysArgument read (written_text arg) other → IsInRange read arg
 in_range written read arg other value says =
     let same = one_word (written_text arg) other.word arg.word (headed read (written_text arg) other says)
@@ -59,7 +59,7 @@ delimiter_line : (part : Bool) (offer : Offer) (limit : ℕ) (before : List Line
 delimiter_line false offer limit before delimiter h = refl
 delimiter_line part offer limit before line h = absurd h
 
--- after the delimiter each argument whose line is taken is allowed there
+-- each argument that is read after the delimiter is allowed there
 arguments_behind : (offer : Offer) (limit : ℕ) (command : Command) (format : Format) (args : List Arg) (before : List Line) (gs : List Given)
     (lines : List Line) → has_delimiter before ≡ true → AreLines offer limit before gs lines → packets_of gs ≡ argument_packets args
     → All (IsValue command format) args → All (IsValue command offer.format) args
@@ -78,7 +78,7 @@ arguments_behind offer limit command format (arg ∷ args) before (g ∷ gs) (li
     (delimiter_snoc before line ∙ or_right (is_delimiter line) (has_delimiter before) behind) taken rest
     (All-tail (IsValue command format) arg args values))
 
--- so may those of all lines of a request
+-- so is each argument of a whole request
 pub arguments_fit_in : (offer : Offer) (limit : ℕ) (command : Command) (format : Format) (args : List Arg) (front : List Pkt) (before : List Line)
     (gs : List Given) (lines : List Line) → AreLines offer limit before gs lines → packets_of gs ≡ front ++ delim ∷ argument_packets args
     → All (IsValue command format) args → All (IsValue command offer.format) args

@@ -19,17 +19,17 @@ use Rattle.git_client.proofs.OneTurn.{Adds, turn_adds}
 use Rattle.git_client.proofs.Packs.{pack_bytes-append}
 use Rattle.git_client.proofs.Phases.{not_ready_where_due}
 
--- ---- what is known of a history
+-- ---- what a history fixes of the transcript
 
--- however the conversation goes on, its transcript begins with these lines. Where the client can ask, the line of the next
--- request comes after them; else so many bytes of the pack and the progress of the response have come.
+-- Whatever follows, the transcript begins with these lines. If the client can ask, the next request's line follows them; if not, the response goes on
+-- after the counted bytes of the pack and of the progress.
 abbrev pub IsTold : Bool → History → List ℕ → Counts → Type 0
 IsTold true h lines counts = (later : List Asked) (more : List EventValue)
     → transcript_of (h.asked ++ later) (h.events ++ more) ≡ lines ++ next_asked later ++ transcript_from (drop 1 later) 0 0 more
 IsTold false h lines counts = (later : List Asked) (more : List EventValue)
     → transcript_of (h.asked ++ later) (h.events ++ more) ≡ lines ++ transcript_from later counts.pack counts.progress more
 
--- these lines go on by what the events add
+-- events add their lines to these
 lines_told : (asks : Bool) (h : History) (used : List ℕ) (events : List EventValue) (lines : List ℕ) (counts : Counts) → IsTold false h lines counts
     → Adds asks events
     → IsTold asks (record h { used = h.used ++ used; events = h.events ++ events })
@@ -48,14 +48,14 @@ lines_told false h used events lines counts told adds = λ later more.
     ∙ sym (append_assoc lines (transcript_from [] counts.pack counts.progress events)
     (transcript_from later (counts.pack + length (pack_bytes events)) (counts.progress + length (progress_bytes events)) more))
 
--- however the conversation goes on after the request: its line comes next, and no byte of its response has come
+-- after a request its line comes next, and no byte of its response was received yet
 told_asked : (h : History) (question : Asked) (lines : List ℕ) (counts : Counts) → IsTold true h lines counts
     → IsTold false (record h { asked = h.asked ++ question ∷ [] }) (lines ++ asked_line (command_asked question)) no_counts
 told_asked h question lines counts told later more =
     ap (λ (asked : List Asked). transcript_of asked (h.events ++ more)) (append_assoc h.asked (question ∷ []) later) ∙ told (question ∷ later) more
 
 module _ {A : Type 0} where
-  -- no count reaches its end that has counted some of a client's events, by what it receives next
+  -- counts that are at most the number of events so far do not overflow by what the client receives next
   pub can_count : (t : Terms) (h : History) (old new : Client A) (used : List ℕ) (events : List EventValue) (counts : Counts) → Converses t h old
       → HearsOn old used events new → counts.pack + counts.progress ≤ length h.events → CanCount counts events
   can_count t h old new used events counts stands hears within =
@@ -66,7 +66,7 @@ module _ {A : Type 0} where
         progress = omega (arith, few, all, within, bytes_fit events);
       }
 
-  -- what holds of a client on these terms after this history, with these lines of the transcript, and these bytes of the pack
+  -- a client with these terms and this history, its lines of the transcript and its bytes of the pack
   pub record Along (t : Terms) (h : History) (client : Client A) (lines packed : List ℕ) (counts : Counts) : Type 0 where
     pub stands : Converses t h client
     pub told : IsTold (can_ask client) h lines counts
@@ -84,7 +84,7 @@ module _ {A : Type 0} where
   }
 
   module _ {t : Terms} {h : History} {client : Client A} {lines packed : List ℕ} {counts : Counts} (along : Along t h client lines packed counts) where
-    -- at the next response a client that can ask counts from nothing
+    -- a client that can ask counts the next response from zero
     pub along_anew : can_ask client ≡ true → Along t h client lines packed no_counts
     along_anew ready = record {
       stands = along.stands;
@@ -107,7 +107,7 @@ module _ {A : Type 0} where
       within = omega arith;
     }
 
-    -- no count reaches its end by what a client receives
+    -- no count overflows by what the client receives
     pub counts_on : {new : Client A} {used : List ℕ} {events : List EventValue} → HearsOn client used events new → CanCount counts events
     counts_on {new = new} {used = used} {events = events} hears = can_count t h client new used events counts along.stands hears along.within
 
@@ -128,7 +128,7 @@ module _ {A : Type 0} where
           within = omega (arith, along.within, bytes_fit step.events, length-append h.events step.events);
         })
 
-  -- ---- the fault of the client
+  -- ---- the client's error
 
   pub in_time_where_sound : (client : Client A) (ended : Bool) (unused : List ℕ) → fault_of client ≡ None → FaultsInTime client ended unused
   in_time_where_sound client ended unused sound fault failed = absurd (cc)

@@ -1,4 +1,4 @@
--- Requests that were asked, each in its turn, and that may be asked by what was advertised.
+-- Requests that were asked, each in its turn, and each allowed by what was advertised.
 use Rattle.std.proofs.Common.{arith, ◌≡◌, ◌⊎◌, inl, inr, ℕ, ◌≤◌, true, All, List, [], ◌∷◌, ◌++◌, length, map}
 use Rattle.std.proofs.Common.{refl, sym, ap, ◌∙◌, subst, append_assoc, append-nil, length-append}
 use Rattle.std.proofs.lemmas.List.{map-append, nil_from_length}
@@ -21,31 +21,31 @@ use Rattle.git_client.proofs.EventsHeard.{has_noted, is_whole}
 use Rattle.git_client.proofs.Notes.{noted_at}
 use Rattle.git_client.proofs.Sequences.{turns-append}
 
--- ---- requests that come off a vector
+-- ---- taking requests off a vector
 
--- one more came off it
+-- one more was taken
 pub next_is : {X : Type 0} (all front rest later : List X) (x : X) → all ≡ front ++ rest → rest ≡ x ∷ later → all ≡ front ++ x ∷ later
 next_is {X} all front rest later x split next = split ∙ ap (λ (l : List X). front ++ l) next
 
 pub one_more : {X : Type 0} (all front rest later : List X) (x : X) → all ≡ front ++ rest → rest ≡ x ∷ later → all ≡ (front ++ x ∷ []) ++ later
 one_more all front rest later x split next = next_is all front rest later x split next ∙ sym (append_assoc front (x ∷ []) later)
 
--- and then none
+-- no more is left
 pub none_more : {X : Type 0} (all front rest : List X) → all ≡ front ++ rest → length rest ≡ 0 → all ≡ front ++ []
 none_more {X} all front rest split none = split ∙ ap (λ (l : List X). front ++ l) (nil_from_length rest none)
 
 -- ---- requests that were asked
 
--- the command of a request was advertised
+-- the command of this request was advertised
 abbrev pub HasCommand : Caps → Asked → Type 0
 HasCommand caps q = offers_command caps (command_asked q) ≡ true
 
 module _ {A : Type 0} (t : Terms) where
-  -- the request may be asked by what was noted
+  -- the request is allowed by these advertised capabilities
   abbrev pub MayAsk : Caps → Request A → Type 0
   MayAsk caps request = Passes (ask_checks t.format caps request)
 
-  -- a whole conversation began these bytes, and each of the requests may be asked by what it noted
+  -- These bytes begin with a whole conversation, and its advertisement allows each of the requests.
   pub record MayBeAsked (asked : List Asked) (used : List ℕ) (front : List (Request A)) : Type 0 where
     pub first : List Asked
     pub begun : List ℕ
@@ -57,7 +57,7 @@ module _ {A : Type 0} (t : Terms) where
     pub used_is : used ≡ begun ++ later
     pub passes : All (MayAsk (noted_of (advertisement_of (nearest whole.given [])))) front
 
-  -- just these requests were asked, and no more than one for the advertisement and one for each whole response
+  -- exactly these requests were asked: at most one for the advertisement, and one for each whole response
   pub record AskedInTurn (asked : List Asked) (used : List ℕ) (events : List EventValue) (front : List (Request A)) : Type 0 where
     pub are : asked ≡ map asked_of front
     pub in_turn : length asked ≤ turns_of events
@@ -88,10 +88,10 @@ module _ {A : Type 0} (t : Terms) where
     ];
   }
 
-  -- a request was asked where that may be
+  -- a request is asked when it is allowed
   module _ (h : History) (client : Client A) (front : List (Request A)) (request : Request A) (stands : Converses t h client)
       (ready : can_ask client ≡ true) (passes : Passes (ask_checks (format_of client) (caps_of client) request)) where
-    -- it may be asked by what was noted, also of a conversation that began this one
+    -- it is allowed by the advertisement, also by that of a conversation that began this one
     passes_by : (caps : Caps) → caps_of client ≡ caps → Passes (ask_checks t.format caps request)
     passes_by caps same =
         subst (λ (c : Caps). Passes (ask_checks t.format c request)) same
@@ -143,7 +143,7 @@ module _ {A : Type 0} (t : Terms) where
           may_be = inr (elim a.may_be [ inl none ↦ may_be_first none | inr m ↦ may_be_next m ]);
         }
 
-  -- so each may be asked by what was noted
+  -- so the advertisement allows each request
   pub may_be_asked : (asked : List Asked) (used : List ℕ) (events : List EventValue) (front : List (Request A)) → AskedInTurn asked used events front
       → (caps : Caps) → HasNoted t asked used caps → All (MayAsk caps) front
   may_be_asked asked used events front a caps noted = elim a.may_be [
@@ -152,7 +152,7 @@ module _ {A : Type 0} (t : Terms) where
         (sym (noted_at t m.first m.begun m.events m.whole m.more asked m.later used caps m.asked_is m.used_is noted)) m.passes
   ]
 
-  -- and the command of each request was advertised
+  -- and advertises the command of each
   commands_of_each : (caps : Caps) (front : List (Request A)) → All (MayAsk caps) front
       → All (HasCommand caps) (map asked_of front)
   commands_of_each caps [] all = All-nil (HasCommand caps)
@@ -167,7 +167,7 @@ module _ {A : Type 0} (t : Terms) where
       subst (All (HasCommand caps)) (sym a.are)
       (commands_of_each caps front (may_be_asked asked used events front a caps noted))
 
-  -- of these requests just these were asked
+  -- the requests that were asked are the first of these
   pub has_asked : (requests front rest : List (Request A)) (h : History) → requests ≡ front ++ rest → AskedInTurn h.asked h.used h.events front
       → HasAsked t requests rest h
   has_asked requests front rest h split a = record {

@@ -1,4 +1,4 @@
--- What holds of a client after any calls, one after the other.
+-- What holds of a client after any sequence of calls.
 use Rattle.std.proofs.Common.{arith, ◌≡◌, ◌≢◌, ℕ, ◌+◌, ◌≤◌, true, false, List, [], ◌∷◌, ◌++◌, Option, Some, None, length, take, refl, sym, ◌∙◌, ap, subst}
 use Rattle.std.proofs.Common.{length-append, append-nil}
 use Rattle.std.specs.Prelude.{flat_map}
@@ -21,7 +21,7 @@ use Rattle.git_client.proofs.Faults.{first_fault}
 use Rattle.git_client.proofs.OneFault.{one_shown, one_by_name}
 use Rattle.git_client.proofs.Packs.{has_pack}
 
--- of a request that is asked no more is stored than is kept, and no more is kept than its limit
+-- a request that is being asked stores no more than it has counted, and has counted no more than its limit
 pub stored_within : {A : Type 0} (request : Option (Request A)) → ((q : Request A) → request ≡ Some q → stored_of q ≤ kept_of q)
     → stored_in request ≤ kept_in request
 stored_within None h = omega arith
@@ -32,12 +32,12 @@ pub kept_within : {A : Type 0} (request : Option (Request A)) → ((q : Request 
 kept_within None h = omega arith
 kept_within (Some q) h = h q refl
 
--- where bytes are due no packet is left to be sent
+-- while packets are expected from the server, none is left to be sent
 nothing_left : {A : Type 0} (phase : Phase) (request : Option (Request A)) → takes_packets phase ≡ true → left_in phase request ≡ []
 nothing_left (Hearing due) request waits = refl
 nothing_left phase request waits = absurd (cc)
 
--- and else some are, where nobody has left or failed, and it is not the client's turn to ask
+-- some are left to be sent if none is expected, no error occurred, and the client has not left and cannot ask
 owes_some : {A : Type 0} (phase : Phase) (request : Option (Request A)) → (is_asking phase ≡ true → left_in phase request ≢ []) → fault_in phase ≡ None
     → has_left_in phase ≡ false → is_ready phase ≡ false → takes_packets phase ≡ false → left_in phase request ≢ []
 owes_some (Asking writer) request some sound stays no_turn no_wait = some refl
@@ -50,7 +50,7 @@ nothing_more h =
     ∙ ap (λ (events : List EventValue). record h { events = events }) (append-nil h.events)
 
 module _ {A : Type 0} where
-  -- whatever the history was, it goes on by what a call adds
+  -- a call extends any history by what it adds
   pub goes_on : (t : Terms) (call : Call A) (h : History) (before : ℕ) (old : Client A) (after : ℕ) (new : Client A) → Makes call before old after new
       → Converses t h old → Converses t (after_call h call) new
   goes_on t (ask request) h before old after new made c = made.0.asks t h c
@@ -68,12 +68,12 @@ module _ {A : Type 0} where
   all_go_on t (call ∷ calls) h before old after new (next, between, made, more) c =
       all_go_on t calls (after_call h call) next between after new more (goes_on t call h before old next between made c)
 
-  -- the bytes that a call uses
+  -- the bytes that the call uses
   abbrev used_by : Call A → List ℕ
   used_by (feed piece answer) = take answer.used piece
   used_by call = []
 
-  -- they are what it adds to those of the history
+  -- the history grows by these bytes
   adds_used : (call : Call A) (h : History) → length (after_call h call).used ≡ length h.used + length (used_by call)
   adds_used (feed piece answer) h = length-append h.used (take answer.used piece)
   adds_used call h = omega arith
@@ -86,7 +86,7 @@ module _ {A : Type 0} where
   abbrev credit : Client A → ℕ
   credit client = credit_of (reader_of client)
 
-  -- each call is paid
+  -- each call is paid for
   each_paid : (call : Call A) (before : ℕ) (old : Client A) (after : ℕ) (new : Client A) → Makes call before old after new
       → ArePaid (length (used_by call)) (feeds_by call) before after (credit old) (credit new)
   each_paid (ask request) before old after new (asks, same) =

@@ -1,4 +1,4 @@
--- Where a client can ask, by its history.
+-- When a client can ask, by its history.
 use Rattle.std.proofs.Common.{arith, ◌≡◌, ◌↔◌, ◌≤◌, ℕ, suc, Bool, true, false, List, [], ◌∷◌, length, Option, None, length-append, refl, sym, ap, ◌∙◌}
 use Rattle.git_pkt.specs.Packets.{flushes}
 use Rattle.git_pkt.specs.Splits.{Given}
@@ -28,7 +28,7 @@ turns_before t asked clean events n none g count =
     let turns = turns_are_messages t asked clean events g in
     omega (arith, turns, ap one_if none, count)
 
--- no more turns than requests have come while something is due
+-- while something is expected, there were at most as many turns as requests
 turns_while_due : (t : Terms) (asked : List Asked) (clean : List Given) (events : List EventValue) (due : Due) → GiveAll t asked [] clean events
     → IsDue t asked (nearest clean []) due → turns_of events ≤ length asked
 turns_while_due t asked clean events ResponseEnd g d =
@@ -40,7 +40,7 @@ turns_while_due t asked clean events due g d =
     let turns = turns_are_messages t asked clean events g in
     omega (arith, turns, d.counts)
 
--- a client can ask exactly where it has not left, and had one turn more than the requests that it asked
+-- a client can ask exactly if it has no error, has not left, and had one turn more than it asked requests
 turn_is : (phase : Phase) (t : Terms) (asked : List Asked) (clean given : List Given) (rest : List ℕ) (end : ℕ) (question : Option Asked)
     (reader : PacketReader) (events : List EventValue) → StandsIn phase t asked clean given rest end question reader → GiveAll t asked [] clean events
     → (is_ready phase ≡ true) ↔ ((fault_in phase ≡ None) × (has_left_in phase ≡ false) × (turns_of events ≡ suc (length asked)))
@@ -58,7 +58,7 @@ turn_is Leaving t asked clean given rest end question reader events h g = (λ e.
 turn_is Left t asked clean given rest end question reader events h g = (λ e. absurd (cc), λ (none, stays, more). absurd (cc))
 turn_is (Failed fault) t asked clean given rest end question reader events h g = (λ e. absurd (cc), λ (none, stays, more). absurd (cc))
 
--- what the answer means for the history
+-- the history for each result of `can_ask`
 pub can_ask_tells : {A : Type 0} (client : Client A) (answer : Bool) → can_ask client ≡ answer → (t : Terms) (h : History) → Converses t h client
     → (answer ≡ true) ↔ ((fault_of client ≡ None) × (h.left ≡ false) × (turns_of h.events ≡ suc (length h.asked)))
 can_ask_tells client answer is t h c =

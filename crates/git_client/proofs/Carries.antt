@@ -1,4 +1,4 @@
--- A step of a client that receives carries what it represents.
+-- Each step of a client that receives keeps its history true.
 use Rattle.std.proofs.Common.{arith, ◌≡◌, inl, inr, Bool, Option, Some, ◌+◌, ◌-◌, ℕ, List, [], ◌∷◌, ◌++◌}
 use Rattle.std.proofs.Common.{length, zero-add, true, false, None, ap, sym, ◌∙◌, refl, subst, append_assoc}
 use Rattle.std.proofs.lemmas.List.{append-nil}
@@ -38,13 +38,13 @@ use Rattle.git_client.proofs.Judged.{place_is, judged_well, judged_badly}
 use Rattle.git_client.proofs.Opened.{nothing_opened}
 use Rattle.git_client.proofs.Reached.{Reached, Reaches}
 
--- the client receives, or can ask
+-- the client receives or can ask
 abbrev pub goes_on : Phase → Bool
 goes_on (Hearing due) = true
 goes_on Ready = true
 goes_on phase = false
 
--- what holds in a phase in which the conversation goes on, whatever the request was
+-- the state of a phase in which the conversation continues does not depend on the request
 stands_on : (phase : Phase) (t : Terms) (asked : List Asked) (clean given : List Given) (rest : List ℕ) (end : ℕ) (question : Option Asked)
     (reader : PacketReader) → goes_on phase ≡ true → Goes t asked clean given rest None phase reader
     → StandsIn phase t asked clean given rest end question reader
@@ -54,7 +54,7 @@ stands_on Ready t asked clean given rest end question reader e h =
     record { cut = h.cut; sound = h.sound; behind = h.behind; shut = h.shut }
 stands_on phase t asked clean given rest end question reader e h = absurd (cc)
 
--- a phase in which the client sends nothing, and has not left
+-- a phase in which the client has nothing to send and has not left
 abbrev pub is_quiet : Phase → Bool
 is_quiet (Failed fault) = true
 is_quiet phase = goes_on phase
@@ -73,7 +73,7 @@ owes_nothing (Asking writer) request e = absurd (cc)
 owes_nothing Leaving request e = absurd (cc)
 owes_nothing phase request e = refl
 
--- after a packet nothing is left
+-- after a packet no byte is left over
 nothing_left : (reader : PacketReader) (bytes : List ℕ) (given : List Given) (rest : List ℕ) → reader_fault_of reader ≡ None → is_open reader ≡ false
     → Reads reader 0 bytes given rest → rest ≡ []
 nothing_left reader bytes given rest sound shut reads = none_between reader rest (sound_rest reader 0 bytes given rest sound reads).0 shut
@@ -83,7 +83,7 @@ on_terms : (P : Format → Ending → Type 0) (format : Format) (ending : Ending
     → P t.format t.ending
 on_terms P format ending t same_format same_ending h = subst (P t.format) same_ending (subst (λ (f : Format). P f ending) same_format h)
 
--- where something is due, it has a place
+-- what is expected next has a place
 pub some_place : (t : Terms) (asked : List Asked) (before : List Pkt) (due : Due) → IsDue t asked before due → HasDue t asked before
 some_place t asked before due d = (_, place_is t asked before due (noted_of (advertisement_of before)) d refl)
 
@@ -91,7 +91,7 @@ none_of : (asked : List Asked) → length asked ≡ 0 → asked ≡ []
 none_of [] e = refl
 none_of (q ∷ asked) e = absurd (omega arith)
 
--- what is noted changes only before anything was asked
+-- capabilities are noted only before anything is asked
 same_questions : (t : Terms) (asked : List Asked) (before : List Pkt) (due : Due) (caps after : Caps) (p : Pkt) → IsDue t asked before due
     → NotesAfter due caps p after → questions_of t.format after asked ≡ questions_of t.format caps asked
 same_questions t asked before Capabilities caps after (payload line) d notes =
@@ -100,14 +100,14 @@ same_questions t asked before Capabilities caps after (payload line) d notes =
 same_questions t asked before due caps after p d notes = ap (λ (a : Caps). questions_of t.format a asked) notes
 
 module _ {A : Type 0} where
-  -- the client has read these bytes, after which these packets are returned, and these events were handed out of what passed
+  -- The client has read these bytes. Then these packets are returned, and these events were handed out for bytes that were passed on.
   pub record HearsBytes (old new : Client A) (due : Due) (u : List ℕ) (told : List Given) (parts : List EventValue) : Type 0 where
     pub hearing : phase_of old ≡ Hearing due
     pub reaches : Reaches old due u told parts (reader_of new)
     pub format : format_of new ≡ format_of old
     pub ending : ending_of new ≡ ending_of old
 
-  -- what holds of the conversation after it
+  -- the state of the conversation after them
   pub record Continues (t : Terms) (h : History) (old new : Client A) (now : List EventValue) (given : List Given) (rest : List ℕ) (end : ℕ) : Type 0 where
     pub clean : List Given
     pub whole : List EventValue
@@ -117,7 +117,7 @@ module _ {A : Type 0} where
     pub stands : StandsIn (phase_of new) t h.asked clean given rest end (question_in (request_of new)) (reader_of new)
     pub same_questions : questions_of t.format (caps_of new) h.asked ≡ questions_of t.format (caps_of old) h.asked
 
-  -- it goes on by these bytes, whatever they are
+  -- so the history goes on by these bytes
   hears_bytes : (old new : Client A) (due : Due) (u : List ℕ) (told : List Given) (parts now : List EventValue) → HearsBytes old new due u told parts
       → is_quiet (phase_of new) ≡ true
       → ((t : Terms) (h : History) (c : Converses t h old) (r : Reached t h old due u told parts (reader_of new))
@@ -145,7 +145,7 @@ module _ {A : Type 0} where
             ∙ c.spoken ∙ ap (λ (l : List Pkt). spelled (l ++ farewell h.left)) (sym a.same_questions);
       }
 
-  -- no packet is returned: the same is due as before
+  -- no packet is returned, and the same is expected as before
   pub hears_parts : (old new : Client A) (due : Due) (u : List ℕ) (parts : List EventValue) → HearsBytes old new due u [] parts
       → reader_fault_of (reader_of new) ≡ None → phase_of new ≡ Hearing due → caps_of new ≡ caps_of old → HearsOn old u parts new
   hears_parts old new due u parts b sound now caps =
@@ -165,14 +165,14 @@ module _ {A : Type 0} where
         same_questions = ap (λ (a : Caps). questions_of t.format a h.asked) caps;
       })
 
-  -- one packet, which lies in the hold
+  -- one packet was read, and is in the hold
   pub record HearsPacket (old new : Client A) (due : Due) (u : List ℕ) (g : Given) : Type 0 where
     pub bytes : HearsBytes old new due u (g ∷ []) []
     pub sound : reader_fault_of (reader_of new) ≡ None
     pub shut : is_open (reader_of new) ≡ false
     pub held : Spells g.packet (held_of (reader_of new))
 
-  -- a packet without a fault
+  -- a packet without an error
   pub hears_packet : (old new : Client A) (due : Due) (u : List ℕ) (g : Given) (found : Said) (turn : Turn) → HearsPacket old new due u g
       → IsTurn (format_of old) (ending_of old) due (caps_of old) g.packet found (caps_of new) turn → goes_on (phase_in turn) ≡ true
       → phase_of new ≡ phase_in turn → HearsOn old u (events_at found (body_of g.packet)) new
@@ -210,7 +210,7 @@ module _ {A : Type 0} where
             same_questions t h.asked (nearest r.clean []) due (caps_of old) (caps_of new) g.packet r.is_due of_terms.notes;
       })
 
-  -- where the client fails nothing was given, and all else stays
+  -- a client that fails hands out no event, and keeps all else
   fails : (t : Terms) (h : History) (old new : Client A) (due : Due) (u : List ℕ) (told : List Given) (f : Fault)
       → (r : Reached t h old due u told [] (reader_of new)) → phase_of new ≡ Failed f → caps_of new ≡ caps_of old
       → StandsIn (Failed f) t h.asked r.clean (r.clean ++ told) r.rest (length (h.used ++ u)) (question_in (request_of new)) (reader_of new)
@@ -243,7 +243,7 @@ module _ {A : Type 0} where
         held = b.held;
       })))
 
-  -- bytes that the reader refuses
+  -- bytes that the packet reader refuses
   pub hears_failed : (old new : Client A) (due : Due) (u : List ℕ) (f : Fault) → HearsBytes old new due u [] []
       → reader_fault_of (reader_of new) ≡ Some f → phase_of new ≡ Failed f → caps_of new ≡ caps_of old → HearsOn old u [] new
   hears_failed old new due u f b told failed caps =

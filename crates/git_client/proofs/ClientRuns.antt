@@ -1,4 +1,4 @@
--- A run of a client over its streams so far, and what it results in at each of its ends.
+-- A run of a client over its streams so far, and what is true of it at each of its ends.
 use Rattle.std.proofs.Common.{◌≡◌, inl, inr, ℕ, Bool, true, false, List, [], ◌∷◌, ◌++◌, Option, None}
 use Rattle.std.proofs.Common.{◌||◌, IsTrue, Result, Ok, Err, is_err, IfErr, IsErrAnd, refl, sym, ap, ◌∙◌, subst, append_assoc, append-nil}
 use Rattle.std.proofs.Math.Bool.{or-false}
@@ -40,14 +40,14 @@ use Rattle.git_client.proofs.AskedInTurn.{AskedInTurn, asked_in_turn, has_asked,
 
 -- ---- what was read and written
 
--- of the bytes that waited and those that came, some were used
+-- some of the waiting and the newly read bytes were used
 pub read_on : (before held after : Option (List ℕ)) (used waiting came more unused : List ℕ) → Consumes before held (used ++ waiting)
     → Consumes held after came → waiting ++ came ≡ more ++ unused → Consumes before after ((used ++ more) ++ unused)
 read_on before held after used waiting came more unused first second parts =
     subst (Consumes before after) (append_assoc used waiting came ∙ ap (λ (l : List ℕ). used ++ l) parts ∙ sym (append_assoc used more unused))
     (Consumes-trans before held after (used ++ waiting) came first second)
 
--- where nothing is asked and received any more, the lines so far are all of the transcript
+-- if nothing more is asked or received, the lines so far are the whole transcript
 all_lines : (ready : Bool) (h : History) (lines : List ℕ) (counts : Counts) → IsTold ready h lines counts
     → transcript_of (h.asked ++ []) (h.events ++ []) ≡ lines
 all_lines true h lines counts told = told [] [] ∙ append-nil (lines ++ []) ∙ append-nil lines
@@ -60,14 +60,14 @@ all_told ready h lines counts told =
 
 -- ---- which streams failed
 
--- a stream that has not failed changes nothing, as the last or as the first
+-- a stream without a failure does not change which ones failed
 pub sound_last : (a b c : Bool) → c ≡ false → (a || b) ≡ (a || (b || c))
 sound_last a b c sound = ap (λ (x : Bool). a || x) (sym (or-false b) ∙ ap (λ (x : Bool). b || x) (sym sound))
 
 pub sound_first : (a b : Bool) → a ≡ false → b ≡ (a || b)
 sound_first a b sound = ap (λ (x : Bool). x || b) (sym sound)
 
--- what `?` answers reports the same as the fault that it met
+-- the error that `?` returns is reported like the one that occurred
 pub fails_at : (r : Result (Unit {0}) RunFault) (fault : RunFault) (read reads written writes : Bool) → IsErrAnd r (λ e. e ≡ fault) → read ≡ reads
     → written ≡ writes → FailsAs {T = Unit {0}} (Err fault) read written → FailsAs r reads writes
 fails_at r fault read reads written writes met same others told =
@@ -88,7 +88,7 @@ pub shown_at : (r : Result (Unit {0}) RunFault) (fault : RunFault) (R S : Type 0
 shown_at r fault R S written writes met reads spends others shown =
     holds_at_fault r fault (λ _. Unit {0}) (IsShownBy R (IsTrue writes) S) met (shown_by fault R S written writes reads spends others shown)
 
--- the last flush fails or not, where nothing has failed before
+-- the last flush fails or not, and nothing failed before it
 module _ (before after others : Bool) (sound : before ≡ false) where
   pub flush_fails : (r : Result (Unit {0}) RunFault) (read : Bool) → read ≡ false → others ≡ false → after ≡ (before || is_err r)
       → IfErr r (λ fault. fault ≡ WriteFault) → FailsAs r read (after || others)
@@ -106,8 +106,8 @@ module _ (before after others : Bool) (sound : before ≡ false) where
 module _ {A : Type 0} where
   -- ---- a run so far
 
-  -- a run of a client with this history, which can go on: it asked the requests of the front, these bytes were read beside those that it
-  -- used, and so each stream moved
+  -- A run with this history that can go on: it asked these first requests, read the used and the unused bytes, and wrote to each stream what belongs
+  -- there.
   pub record Running (broken : Bool) (t : Terms) (h : History) (front : List (Request A)) (client : Client A) (counts : Counts) (unused : List ℕ)
       (reader writer out pack progress : Flow) : Type 0 where
     pub lines : List ℕ
@@ -121,7 +121,7 @@ module _ {A : Type 0} where
     pub sent : WrittenAs broken pack packed
     pub reported : WrittenAs broken progress (progress_bytes h.events)
 
-  -- the same of a run that ends here, with this history
+  -- the same for a run that ends here
   pub record Ran (broken : Bool) (t : Terms) (h : History) (front : List (Request A)) (client : Client A) (unused : List ℕ)
       (reader writer out pack progress : Flow) : Type 0 where
     pub stands : Converses t h client
@@ -132,7 +132,7 @@ module _ {A : Type 0} where
     pub sent : WrittenAs broken pack (pack_bytes h.events)
     pub reported : WrittenAs broken progress (progress_bytes h.events)
 
-  -- a run may end wherever it is
+  -- a run may end at any point
   pub ran : {broken : Bool} {t : Terms} {h : History} {front : List (Request A)} {client : Client A} {counts : Counts} {unused : List ℕ}
       {reader writer out pack progress : Flow} → Running broken t h front client counts unused reader writer out pack progress
       → Ran broken t h front client unused reader writer out pack progress
@@ -146,7 +146,7 @@ module _ {A : Type 0} where
     reported = r.reported;
   }
 
-  -- its streams were moved otherwise to the same
+  -- the same run over streams that moved in another way to the same contents
   pub ran_as : {broken again : Bool} {t : Terms} {h : History} {front : List (Request A)} {client : Client A} {unused more : List ℕ}
       {reader writer out pack progress reader_now writer_now out_now pack_now progress_now : Flow}
       → Ran broken t h front client unused reader writer out pack progress → Consumes reader_now.before reader_now.after (h.used ++ more)
@@ -155,10 +155,10 @@ module _ {A : Type 0} where
   ran_as r read said told sent reported =
       record { stands = r.stands; in_turn = r.in_turn; read = read; said = said; told = told; sent = sent; reported = reported }
 
-  -- ---- its steps
+  -- ---- the steps of a run
 
   module _ (t : Terms) where
-    -- before the first byte: the writer was flushed, or failed in that
+    -- before the first byte: the writer was flushed, or the flush failed
     pub begins : (client : Client A) (reader writer flushed out pack progress : Option (List ℕ)) → wants_input client ≡ true → Converses t nothing_yet client
         → Keeps writer flushed → Running false t nothing_yet [] client no_counts [] (flow reader reader) (flow writer flushed) (flow out out)
         (flow pack pack) (flow progress progress)
@@ -175,7 +175,7 @@ module _ {A : Type 0} where
       reported = written_nothing progress;
     }
 
-    -- a request was asked, or a write failed while it was
+    -- a request was asked, or a write failed meanwhile
     pub asks_on : (broken : Bool) {h : History} (front : List (Request A)) (old new : Client A) (request : Request A) (counts : Counts)
         (unused : List ℕ) {reader pack progress : Flow} {writer_before writer_held writer_after out_before out_held out_after : Option (List ℕ)}
         → Running false t h front old counts unused reader (flow writer_before writer_held) (flow out_before out_held) pack progress
@@ -196,7 +196,7 @@ module _ {A : Type 0} where
           reported = written_whole broken progress (progress_bytes h.events) r.reported;
         }
 
-    -- bytes were received, or a write failed while they were
+    -- bytes were received, or a write failed meanwhile
     pub hears_on : (broken : Bool) {h : History} (front : List (Request A)) (old new : Client A) (waiting unused : List ℕ)
         {writer : Flow} {left_before left left_after out_before out_held out_after pack_before pack_held pack_after : Option (List ℕ)}
         {progress_before progress_held progress_after : Option (List ℕ)}
@@ -225,7 +225,7 @@ module _ {A : Type 0} where
               (written_then broken q0 q1 q2 (progress_bytes h.events) (progress_bytes heard.events) r.reported heard.reported);
         }
 
-    -- at the next response a client that can ask counts from nothing
+    -- a client that can ask counts the next response from zero
     pub anew : {h : History} {front : List (Request A)} {client : Client A} {counts : Counts} {unused : List ℕ} {reader writer out pack progress : Flow}
         → can_ask client ≡ true → Running false t h front client counts unused reader writer out pack progress
         → Running false t h front client no_counts unused reader writer out pack progress
@@ -256,7 +256,7 @@ module _ {A : Type 0} where
     hears_whole front old new waiting window piece r waits step =
         anew step.can_ask_on (hears_on false front old new waiting (window_of window piece) r waits step.hears)
 
-    -- the conversation was left, or a write failed while it was
+    -- the client left, or a write failed meanwhile
     pub leaves_on : (broken : Bool) {h : History} (front : List (Request A)) (old mid new : Client A) (counts : Counts) (unused : List ℕ)
         {reader out pack progress : Flow} {before held after : Option (List ℕ)}
         → Running false t h front old counts unused reader (flow before held) out pack progress → Leaves old mid
@@ -274,14 +274,14 @@ module _ {A : Type 0} where
           reported = written_whole broken progress (progress_bytes h.events) at.reported;
         }
 
-    -- the writer was flushed, or failed in that
+    -- the writer was flushed, or the flush failed
     ran_flushed : {h : History} {front : List (Request A)} {client : Client A} {unused : List ℕ} {reader out pack progress : Flow}
         {before held after : Option (List ℕ)}
         → Ran false t h front client unused reader (flow before held) out pack progress → Keeps held after
         → Ran false t h front client unused reader (flow before after) out pack progress
     ran_flushed {h} {before} {held} {after} r kept = ran_as r r.read (Appends-kept before held after h.given r.said kept) r.told r.sent r.reported
 
-    -- where only a flush failed, all was written
+    -- if only a flush failed, all bytes were written
     ran_in_part : {h : History} {front : List (Request A)} {client : Client A} {unused : List ℕ} {reader writer out pack progress : Flow}
         → Ran false t h front client unused reader writer out pack progress → Ran true t h front client unused reader writer out pack progress
     ran_in_part {h} {writer} {out} {pack} {progress} r =
@@ -290,13 +290,13 @@ module _ {A : Type 0} where
 
 -- ---- the ends of a run
 
--- a conversation is left only where each response ends with its flush alone
+-- a client leaves only if responses end with a flush alone
 stays_last : (ending : Ending) → (ending ≡ FlushOnly → ⊥) → leaves_last ending ≡ false
 stays_last FlushOnly other = absurd (other refl)
 stays_last ResponseEnd other = refl
 
 module _ {A : Type 0} (t : Terms) where
-  -- a client that owes nothing has sent all that is due
+  -- a client with no packet left to send has sent all that it had to
   pub has_said : (h : History) (client : Client A) → Converses t h client → left_to_say client ≡ [] → HasSaid t h
   has_said h client stands nothing =
       record { caps = caps_of client; noted = has_noted t h client stands; said = all_is_said t h client stands nothing }
@@ -307,7 +307,7 @@ module _ {A : Type 0} (t : Terms) where
   pub stayed : (h : History) (client : Client A) → Converses t h client → is_quiet (phase_of client) ≡ true → h.left ≡ false
   stayed h client stands quiet = stands.left ∙ not_left (phase_of client) quiet
 
-  -- where bytes of the server are due, a run that ends here was interrupted
+  -- a run that ends while the server's bytes are expected was interrupted
   pub interrupted : (h : History) (client : Client A) → Converses t h client → wants_input client ≡ true → IsInterrupted t [] h
   interrupted h client stands due =
       let quiet = quiet_where_due (phase_of client) due in
@@ -343,17 +343,17 @@ module _ {A : Type 0} (t : Terms) where
       ran_as at at.read (subst (WrittenAs false (flow w0 w2)) (append-nil h.given) (written_then false w0 w1 w2 h.given [] at.said step.said))
       (subst (WrittenAs false (flow o0 o2)) (append-nil told) (written_then false o0 o1 o2 told [] at.told step.told)) at.sent at.reported
 
-  -- a client that waits for bytes has no fault
+  -- a client that waits for bytes has no error
   due_in_time : (ended : Bool) (client : Client A) → wants_input client ≡ true → FaultsInTime client ended []
   due_in_time ended client due = in_time_where_sound client ended [] (sound_where_due (phase_of client) due)
 
   module _ (requests : List (Request A)) where
-    -- how a run with this answer moved its streams
+    -- how a run with this result moved its streams
     abbrev pub RunEnds : Result (Unit {0}) RunFault → Bool → Client A → Flow → Flow → Flow → Flow → Flow → Type 0
     RunEnds result ended client reader writer out pack progress =
         Moves (is_broken result) (Conversed t requests result ended client) (reader ∷ []) (writer ∷ out ∷ pack ∷ progress ∷ [])
 
-    -- what `?` answers is the fault that it met
+    -- what `?` returns is the error that occurred
     pub ends_at : (result : Result (Unit {0}) RunFault) (fault : RunFault) (ended : Bool) (client : Client A) (reader writer out pack progress : Flow)
         → IsErrAnd result (λ e. e ≡ fault) → RunEnds (Err fault) ended client reader writer out pack progress
         → RunEnds result ended client reader writer out pack progress
@@ -361,7 +361,7 @@ module _ {A : Type 0} (t : Terms) where
         let (e, is, same) = err_from_is_err_and result met in
         subst (λ (x : Result (Unit {0}) RunFault). RunEnds x ended client reader writer out pack progress) (sym (is ∙ ap Err same)) ends
 
-    -- a write failed in what `?` was asked of
+    -- a write failed in the call before `?`
     pub ends_at_write : (result : Result (Unit {0}) RunFault) (fault : RunFault) (ended : Bool) (client : Client A) (reader writer out pack progress : Flow)
         → IsErrAnd result (λ e. e ≡ fault) → fault ≡ WriteFault → RunEnds (Err WriteFault) ended client reader writer out pack progress
         → RunEnds result ended client reader writer out pack progress
@@ -436,7 +436,7 @@ module _ {A : Type 0} (t : Terms) where
             quietly_said _ new on.along.stands quiet,
           ) (in_time_where_told new fault ended step.unused step.told step.timely)
 
-    -- a request was not asked, or a write failed while it was
+    -- a request was not asked, or a write failed meanwhile
     pub asking_stopped : {h : History} (fault : RunFault) (ended : Bool) (front later : List (Request A)) (request : Request A) (old new : Client A)
         (counts : Counts) (unused : List ℕ) {reader pack progress : Flow}
         {writer_before writer_held writer_after out_before out_held out_after : Option (List ℕ)} → requests ≡ front ++ request ∷ later
@@ -458,10 +458,10 @@ module _ {A : Type 0} (t : Terms) where
           quietly_said h old stands (quiet_where_ready (phase_of old) ready),
         ) (in_time_where_sound old ended unused (sound_where_ready (phase_of old) ready)))
 
-    -- ---- all requests were asked, and each response is whole
+    -- ---- all requests were asked, and all responses are whole
 
     module _ (front : List (Request A)) (split : requests ≡ front ++ []) where
-      -- the last flush of the writer, by its answer
+      -- the last flush of the writer, by its result
       finishes : (result : Result (Unit {0}) RunFault) (ended : Bool) (h : History) (client : Client A) (unused : List ℕ) {reader out pack progress : Flow}
           {before held after : Option (List ℕ)} → IfErr result (λ fault. fault ≡ WriteFault)
           → Ran false t h front client unused reader (flow before held) out pack progress → Keeps held after → IsWholeRun {A = A} t [] h

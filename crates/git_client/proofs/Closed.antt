@@ -1,4 +1,4 @@
--- Where the input ended.
+-- The end of the input.
 use Rattle.std.proofs.Common.{arith, ◌≡◌, ◌⊎◌, inl, inr, ℕ, ◌+◌, List, [], length, true, false, Some, None, ap, refl, sym, subst}
 use Rattle.git_pkt.specs.Splits.{Given, Splits}
 use Rattle.git_pkt.specs.Machine.PacketReader.{ReadsOn, Holds, is_open, open_length, position_of, fault_of as reader_fault_of}
@@ -24,20 +24,20 @@ hearing_in phase takes = absurd (cc)
 pub is_sound : {A : Type 0} (client : Client A) → wants_input client ≡ true → reader_fault_of (reader_of client) ≡ None
 is_sound client wants = client.sound (ap fault_in (hearing_in (phase_of client) wants).1)
 
--- a reader whose stream ended: it was between two packets, or reported a fault
+-- a reader at the end of its stream: it was between two packets, or reported an error
 abbrev pub EndsBy : PacketReader → Fault → Type 0
 EndsBy reader f =
     ((reader_fault_of reader ≡ None) × (is_open reader ≡ false) × (f.kind ≡ Truncated) × (f.offset ≡ position_of reader))
     ⊎ (reader_fault_of reader ≡ Some f)
 
--- all but the reader and the phase is left alone
+-- only the reader and the phase change
 pub record Keeps {A : Type 0} (old new : Client A) (left : PacketReader) : Type 0 where
   pub reader : reader_of new ≡ left
   pub format : format_of new ≡ format_of old
   pub ending : ending_of new ≡ ending_of old
   pub caps : caps_of new ≡ caps_of old
 
--- a client whose input ended where more was due
+-- a client whose input ended while more was expected
 pub closes : {A : Type 0} (old new : Client A) (reader : PacketReader) (f : Fault) → wants_input old ≡ true → ReadsOn (reader_of old) [] [] reader
     → EndsBy reader f → Keeps old new reader → phase_of new ≡ Failed f → HearsOn old [] [] new
 closes old new reader f wants reads by keeps failed =
@@ -55,7 +55,7 @@ closes old new reader f wants reads by keeps failed =
 
 module _ {A : Type 0} (t : Terms) (h : History) (client : Client A) (c : Converses t h client) (wants : wants_input client ≡ true)
     (given : List Given) (rest : List ℕ) (splits : Splits 0 h.used given rest) where
-  -- the reader holds what comes after the last whole packet
+  -- the reader holds the bytes after the last whole packet
   rest_held : Holds (reader_of client) rest
   rest_held =
       let same = one_split 0 h.used c.given given c.rest rest c.reads.splits.spelled splits.spelled c.reads.splits.ends splits.ends in

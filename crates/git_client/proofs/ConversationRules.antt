@@ -1,4 +1,4 @@
--- A conversation goes by its messages exactly where each of its packets is in its place, and it is whole.
+-- A conversation follows the rules of its messages exactly if it is whole and each of its packets is in its place.
 use Rattle.std.proofs.Common.{arith, ◌≡◌, ◌↔◌, ◌⊎◌, ◌||◌, inl, inr, ℕ, zero, suc, ◌<◌, ◌≤◌, Bool, true, false, not, List, [], ◌∷◌, ◌++◌}
 use Rattle.std.proofs.Common.{Option, Some, Ok, Err, refl, sym, ap, ◌∙◌, subst, append_assoc, append-nil, codes, cond, drop, length, length-append}
 use Rattle.std.proofs.Common.{slice_get, take, take-append-drop}
@@ -25,9 +25,9 @@ use Rattle.git_client.proofs.ResponseRules.{packets_in, response_is}
 use Rattle.git_client.proofs.Sequences.{give_all_append, gives_more, nearest-append}
 use Rattle.git_client.proofs.Truncation.{none_due}
 
--- ---- packets that are two lists
+-- ---- packets that are two lists joined
 
--- they fall into these two
+-- the two lists
 pub record Cut (gs : List Given) (front back : List Pkt) : Type 0 where
   pub first : List Given
   pub second : List Given
@@ -46,7 +46,7 @@ cut_at gs front back e =
       second_are = rw (← drop-map packets (length front) gs, e) (drop_at front back (length front) refl);
     }
 
--- ---- what packets note, in either order
+-- ---- what packets note does not depend on their order
 
 or_moved : (a b c : Bool) → (a || (b || c)) ≡ ((b || a) || c)
 or_moved true true c = refl
@@ -67,7 +67,7 @@ any_nearest passes (g ∷ gs) before =
 any_order : (passes : Pkt → Bool) (gs : List Given) → list_any passes (nearest gs []) ≡ list_any passes (packets_in gs)
 any_order passes gs = any_nearest passes gs [] ∙ or_false (list_any passes (packets_in gs))
 
--- a line names the format, or any
+-- the line names this format, perhaps among others
 names_format : List ℕ → Pkt → Bool
 names_format format p = has_value (codes "object-format") format (key_in p) (value_in p) (spaced_words (value_in p))
 
@@ -83,7 +83,7 @@ spoken_order Sha256 gs = any_order (names_format (codes "sha256")) gs
 
 -- ---- the places of an advertisement
 
--- after a line of it, a line of it or its flush may come
+-- after a line of the advertisement comes another, or its flush
 pub line_due : (t : Terms) (asked : List Asked) (line : List ℕ) (before : List Pkt) → flushes before ≡ 0
     → place_after t asked (payload line ∷ before) ≡ Some (capabilities (is_spoken (noted_of (payload line ∷ message_of before)) t.format))
 line_due t asked line before none = by t.ending where
@@ -92,13 +92,13 @@ line_due t asked line before none = by t.ending where
   by FlushOnly = rw none refl
   by ResponseEnd = rw none refl
 
--- after its flush no response end is due
+-- no response end is expected after its flush
 offer_ends : (ending : Ending) (before : List Pkt) → flushes before ≡ 0 → is_end_due ending (flush ∷ before) ≡ false
 offer_ends FlushOnly before none = refl
 offer_ends ResponseEnd before none = ap (λ (n : ℕ). not (is_zero n)) none
 
 module _ (t : Terms) (asked : List Asked) where
-  -- the lines so far are the message, and the last of them is due
+  -- these lines are the message so far, and another may follow
   record IsLine (before : List Pkt) : Type 0 where
     clear : flushes before ≡ 0
     message : message_of before ≡ before
@@ -114,7 +114,7 @@ module _ (t : Terms) (asked : List Asked) where
   whole_offer : (before : List Pkt) → flushes before ≡ 0 → AreWhole t [] (flush ∷ before)
   whole_offer before clear = record { all_flushes = ap suc clear; no_end_due = offer_ends t.ending before clear; no_message = refl }
 
-  -- ---- by the rule each packet is in its place
+  -- ---- if the rule is followed, each packet is in its place
 
   no_packets : (gs : List Given) → packets_in gs ≡ [] → gs ≡ []
   no_packets [] e = refl
@@ -182,9 +182,9 @@ module _ (t : Terms) (asked : List Asked) where
       let (others, whole) = lines_go gs (g.packet ∷ []) later next more (spoken_order t.format (g ∷ gs) ∙ spoken) in
       ((now, later, e, at, others), whole)
 
-  -- ---- and where each is, they go by it
+  -- ---- if each packet is in its place, the rule is followed
 
-  -- what a line gives there
+  -- the event of a line there
   line_says : (spoken : Bool) (format : Format) (text : List ℕ) (now : List EventValue) → GivesLine (capabilities spoken) format text now
       → (key : List ℕ) × (value : Option (List ℕ)) × (now ≡ capability key value ∷ []) × IsCapability text key value
   line_says spoken format text (capability key value ∷ []) h = (key, value, refl, h.says)
@@ -194,7 +194,7 @@ module _ (t : Terms) (asked : List Asked) where
   version_says format text [] h = (h.says, refl)
   version_says format text (event ∷ now) h = absurd h.says
 
-  -- what a flush gives there
+  -- the event of a flush there
   flush_spoken : (spoken : Bool) (now : List EventValue) → flush_says t.ending (capabilities spoken) ≡ Ok now → (spoken ≡ true) × (now ≡ offered ∷ [])
   flush_spoken true now e = (refl, cc)
   flush_spoken false now e = absurd (cc)
@@ -264,7 +264,7 @@ module _ (t : Terms) where
 
 -- ---- the first message
 
--- what is asked later makes no difference to a place before its answer
+-- a place before its answer does not depend on what is asked later
 slice_get_less : {X : Type 0} (xs more : List X) (k : ℕ) → k < length xs → slice_get (xs ++ more) k ≡ slice_get xs k
 slice_get_less [] more k few = absurd (omega (arith, few))
 slice_get_less (x ∷ xs) more zero few = refl
@@ -291,7 +291,7 @@ module _ (t : Terms) (asked more : List Asked) where
       → GivesAt t (asked ++ more) before p now → GivesAt t asked before p now
   gives_less before p now within at = record { place = at.place; is_place = sym (place_less before within) ∙ at.is_place; gives = at.gives }
 
-  -- packets begin with a message that makes a whole conversation of those before them
+  -- the packets begin with a message that completes the conversation of those before them
   record FirstWhole (before : List Pkt) (gs : List Given) (es : List EventValue) : Type 0 where
     front : List Given
     back : List Given
@@ -303,14 +303,14 @@ module _ (t : Terms) (asked more : List Asked) where
     whole : AreWhole t asked (nearest front before)
     onward : GiveAll t (asked ++ more) (nearest front before) back later
 
-  -- a flush, or a packet that is none
+  -- a packet is a flush, or adds none
   flush_or_none : (p : Pkt) (before : List Pkt) → (p ≡ flush) ⊎ (flushes (p ∷ before) ≡ flushes before)
   flush_or_none flush before = inl refl
   flush_or_none delim before = inr refl
   flush_or_none resp_end before = inr refl
   flush_or_none (payload line) before = inr refl
 
-  -- where a response end is due nothing else may come
+  -- if a response end is expected, nothing else may come
   response_end_is : (before : List Pkt) (p q : Pkt) (now : List EventValue) → is_end_due t.ending (q ∷ before) ≡ true
       → GivesAt t (asked ++ more) (q ∷ before) p now → p ≡ resp_end
   response_end_is before p q now due at = by p place gives where
@@ -342,7 +342,7 @@ module _ (t : Terms) (asked more : List Asked) where
     none_after FlushOnly packets = refl
     none_after ResponseEnd packets = refl
 
-  -- it ends with its flush, or with the response end after it
+  -- the message ends with its flush, or with the response end after it
   message_ends : (due : Bool) (g : Given) (gs : List Given) (before : List Pkt) (es now later : List EventValue) → is_end_due t.ending (g.packet ∷ before) ≡ due
       → g.packet ≡ flush → flushes before ≡ length asked → es ≡ now ++ later → GivesAt t (asked ++ more) before g.packet now
       → GiveAll t (asked ++ more) (g.packet ∷ before) gs later → is_end_due t.ending (nearest gs (g.packet ∷ before)) ≡ false → FirstWhole before (g ∷ gs) es

@@ -1,4 +1,4 @@
--- The counts of a response: how they rise by its events.
+-- How a response's events raise its counts.
 use Rattle.std.proofs.Common.{arith, ◌≡◌, ℕ, ◌+◌, ◌≤◌, List, [], ◌∷◌, ◌++◌, length, refl, ap, ◌∙◌, length-append}
 use Rattle.git_client.specs.Events.{EventValue, pack, progress, pack_bytes, progress_bytes}
 use Rattle.git_client.specs.Machine.RunSteps.{counts_with, CanCount}
@@ -11,7 +11,7 @@ counts_of p q = record { pack = p; progress = q }
 pub same_counts : (p q r s : ℕ) → p ≡ r → q ≡ s → counts_of p q ≡ counts_of r s
 same_counts p q r s e f = ap (λ (n : ℕ). counts_of n q) e ∙ ap (λ (n : ℕ). counts_of r n) f
 
--- of events no more are of the pack and the progress than there are
+-- the bytes of the pack and the progress are at most as many as the events
 pub bytes_fit : (events : List EventValue) → length (pack_bytes events) + length (progress_bytes events) ≤ length events
 bytes_fit [] = omega arith
 bytes_fit (pack byte ∷ events) = omega (arith, bytes_fit events)
@@ -23,7 +23,7 @@ progress_bytes-append [] later = refl
 progress_bytes-append (progress byte ∷ events) later = ap (λ (l : List ℕ). byte ∷ l) (progress_bytes-append events later)
 progress_bytes-append (event ∷ events) later = progress_bytes-append events later
 
--- how many bytes of the pack, and of the progress, events and later ones have
+-- the pack and progress bytes of two lists of events add up
 packs_together : (events later : List EventValue) → length (pack_bytes (events ++ later)) ≡ length (pack_bytes events) + length (pack_bytes later)
 packs_together events later = ap length (pack_bytes-append events later) ∙ length-append (pack_bytes events) (pack_bytes later)
 
@@ -31,17 +31,17 @@ progress_together : (events later : List EventValue)
     → length (progress_bytes (events ++ later)) ≡ length (progress_bytes events) + length (progress_bytes later)
 progress_together events later = ap length (progress_bytes-append events later) ∙ length-append (progress_bytes events) (progress_bytes later)
 
--- no event changes no count
+-- an empty list of events changes no count
 pub counts_stay : (counts : Counts) → counts ≡ counts_with counts []
 counts_stay counts = same_counts counts.pack counts.progress _ _ (omega arith) (omega arith)
 
--- events count on from those before them
+-- counting two lists of events one after the other is counting them together
 pub counts_then : (counts : Counts) (events later : List EventValue)
     → counts_with (counts_with counts events) later ≡ counts_with counts (events ++ later)
 counts_then counts events later =
     same_counts _ _ _ _ (omega (arith, packs_together events later)) (omega (arith, progress_together events later))
 
--- where all can be counted, so can those before and those after them
+-- if all can be counted, so can the first part, and the rest after it
 pub can_count_then : (counts : Counts) (events later : List EventValue) → CanCount counts (events ++ later)
     → CanCount counts events × CanCount (counts_with counts events) later
 can_count_then counts events later can = (

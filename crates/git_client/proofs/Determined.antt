@@ -1,4 +1,4 @@
--- The events and the faults of packets are determined by the packets and by what was asked.
+-- The events and the errors of packets are determined by the packets and by what was asked.
 use Rattle.std.proofs.Common.{◌≡◌, inl, inr, ℕ, List, [], ◌∷◌, ◌++◌, Option, Some, Result, Ok, Err, ap, sym, ◌∙◌, refl, subst}
 use Rattle.git_names.specs.declared.object_format.Format.{Format}
 use Rattle.git_pkt.specs.Packets.{Pkt, flush, delim, resp_end, payload, text_of}
@@ -16,7 +16,7 @@ use Rattle.git_client.specs.Opened.{IsOfRest, opened_in, unless_refused}
 use Rattle.git_client.specs.Conversation.{GivesAt, RefusesAt, GiveAll, IsStop, FirstFault, Sounds, HasEvents, HasNoted}
 use Rattle.git_client.proofs.PlaceLines.{one_line, line_or_fault, one_line_fault}
 
--- what is computed is one thing
+-- a computed result is unique
 one_said : (says : Result (List EventValue) Kind) (events others : List EventValue) → says ≡ Ok events → says ≡ Ok others → events ≡ others
 one_said says events others h k = cc
 
@@ -26,7 +26,7 @@ one_error says kind other h k = cc
 said_or_error : (says : Result (List EventValue) Kind) (events : List EventValue) (kind : Kind) → says ≡ Ok events → says ≡ Err kind → ⊥
 said_or_error says events kind h k = cc
 
--- a text line at a place gives one list of events or is refused by one name
+-- a text line at a place has one list of events, or one error
 one_line_gift : (place : Place) (format : Format) (text : List ℕ) (events others : List EventValue) → GivesLine place format text events
     → GivesLine place format text others → events ≡ others
 one_line_gift place format text events others h k = one_line place format text events others h.says k.says
@@ -43,7 +43,7 @@ line_excluded : (place : Place) (format : Format) (text : List ℕ) (events : Li
 line_excluded place format text events kind h (inl k) = h.no_error k.0
 line_excluded place format text events kind h (inr k) = line_or_fault place format text events kind h.says k.1
 
--- and so does every packet
+-- and so has every packet
 gift_in : (format : Format) (ending : Ending) (place : Place) (p : Pkt) (events others : List EventValue) → Gives format ending place p events
     → Gives format ending place p others → events ≡ others
 gift_in format ending packfile (payload bytes) events others h k = one_said _ events others h k
@@ -101,7 +101,7 @@ stopped t asked before g gs (h ∷ hs) now e s a =
     let same : h ≡ g = cc in
     excluded t asked before h.packet now s.0 (subst (λ (x : Given). GivesAt t asked before x.packet now) (sym same) a) s.1
 
--- two ways to cut packets before the first that is refused are one
+-- two cuts before the first refused packet are the same
 pub record SameCut (clean others more tail : List Given) (events later : List EventValue) : Type 0 where
   pub clean_is : clean ≡ others
   pub more_is : more ≡ tail
@@ -132,7 +132,7 @@ same_sounds t asked bytes clean others events later a b =
     let same = one_split 0 bytes a.given b.given a.rest b.rest a.splits.spelled b.splits.spelled a.splits.ends b.splits.ends in
     same_cut t asked [] clean others a.more b.more events later (sym a.cut ∙ same.packets ∙ b.cut) a.gives b.gives a.stops b.stops
 
--- of a rest one part is open
+-- the part of a rest that is open is unique
 pub one_opened : {X : Type 0} (rest : List ℕ) (part a b : List X) → IsOfRest rest part a → IsOfRest rest part b → a ≡ b
 one_opened rest part a b h k =
     elim h [
@@ -140,7 +140,7 @@ one_opened rest part a b h k =
       | inr x ↦ elim k [ inl y ↦ absurd (x.0 y.0) | inr y ↦ x.1 ∙ sym y.1 ]
     ]
 
--- what is open is so by the one cut of the bytes
+-- the open rest does not depend on how the bytes were cut into packets
 pub moved_rest : {X : Type 0} (t : Terms) (asked : List Asked) (bytes : List ℕ) (clean others : List Given) (whole later : List EventValue)
     (a : Sounds t asked bytes clean whole) (b : Sounds t asked bytes others later) (part : Option Place → List ℕ → List X) (opened : List X)
     → IsOfRest a.rest (unless_refused a.more (part (place_after t asked (nearest clean [])) a.rest)) opened

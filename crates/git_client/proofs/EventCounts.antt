@@ -24,7 +24,7 @@ use Rattle.git_client.proofs.PlaceLines.{ReadsLine, boundary_event, line_read}
 use Rattle.git_client.proofs.Opened.{few_opened}
 use Rattle.git_client.proofs.EventsHeard.{has_events}
 
--- ---- the events of a packet: one at most, but of a band one for each of its bytes
+-- ---- the events of a packet: at most one, or on a band one for each byte
 
 of_one : (one events : List EventValue) → events ≡ one → length one ≤ 1 → length events ≤ 1
 of_one one events e few = omega (arith, ap length e, few)
@@ -44,7 +44,7 @@ line_gives sizes format text events h = of_one _ events h.2 (omega arith)
 line_gives packfile format text events h = absurd h
 line_gives response_end format text events h = absurd h
 
--- where these are events, there are no more than so many
+-- if these are events, they are at most this many
 abbrev HasAtMost : ℕ → Result (List EventValue) Kind → Type 0
 HasAtMost n (Ok events) = length events ≤ n
 HasAtMost n (Err kind) = Unit {0}
@@ -129,7 +129,7 @@ packets_give t asked before (g ∷ gs) more p bytes rest events (s, after, cut, 
       length-append s after,
     )
 
--- an open packet gives no more events than it has bytes
+-- an open packet has at most as many events as bytes
 few_unless : (more : List Given) (place : Option Place) (rest : List ℕ) → length (unless_refused more (opened_in place rest)) ≤ length rest
 few_unless [] place rest = few_opened place rest
 few_unless (g ∷ more) place rest = omega arith
@@ -155,6 +155,6 @@ module _ {A : Type 0} (t : Terms) (h : History) (client : Client A) (c : Convers
   pub events_fit : length h.events ≤ length h.used
   events_fit = events_of_bytes t h.asked h.used h.events (has_events t h client c)
 
-  -- a count of events never reaches its end
+  -- a count of events never overflows
   pub few_events : length h.events ≤ last_position
   few_events = omega (arith, events_fit, c.reads.within)

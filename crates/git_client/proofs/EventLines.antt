@@ -1,4 +1,4 @@
--- The line of an event is the word of its kind and its parts, one after another.
+-- The line of an event is the word of its kind, followed by its parts.
 use Rattle.std.proofs.Common.{◌≡◌, ℕ, List, [], ◌∷◌, map, codes, decimal, Option, Some, None, unwrap_or, Bor, refl, sym, subst}
 use Rattle.std.specs.Option.{option_copied}
 use Rattle.git_names.specs.ObjectName.{hex_of}
@@ -12,7 +12,7 @@ use Rattle.git_client.specs.Transcript.{lines_of, shown_after, target_shown, val
 use Rattle.git_client.specs.declared.events.Event.{Event}
 use Rattle.git_client.proofs.Writing.{line_by, one_line}
 
--- the bytes of an event's line, part after part
+-- the bytes of an event's line, part by part
 abbrev pub row_of : Parts → (packed told : ℕ) → List (List ℕ)
 row_of p packed told =
     unwrap_or (word_of p.kind) [] ∷ object_shown p.kind p.id ∷ shown_after (codes " ") p.name ∷ shown_after (text_word p.kind) p.text
@@ -26,7 +26,7 @@ pub no_lines_of_progress : (bytes : List ℕ) (p q : ℕ) → lines_of (map prog
 no_lines_of_progress [] p q = refl
 no_lines_of_progress (byte ∷ bytes) p q = no_lines_of_progress bytes p q
 
--- the line of a row, where the kind has a word for it
+-- the line of a row, if the kind has a word
 abbrev pub IsLineOfRow : Option (List ℕ) → (row line : List ℕ) → Type 0
 IsLineOfRow None row line = line ≡ []
 IsLineOfRow (Some word) row line = row ≡ line

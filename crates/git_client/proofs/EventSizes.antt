@@ -1,4 +1,4 @@
--- The parts of an event lie beside one another in the packet that gives it.
+-- The parts of an event are together no longer than the packet that gives it.
 use Rattle.std.proofs.Common.{arith, ◌≡◌, ◌∙◌, ℕ, ◌+◌, ◌≤◌, ◌==◌, Bool, true, false, List, [], ◌∷◌, ◌++◌, length, Option, Some, None, Ok, inl, inr}
 use Rattle.std.proofs.Common.{refl, ap, sym, subst, codes, cond, map, take, slice_index, length-append, ◌-◌, ◌&&◌, nat_lt}
 use Rattle.std.specs.Prelude.{sum_by}
@@ -33,7 +33,7 @@ use Rattle.git_client.proofs.Opened.{on_fatal, on_pack, on_progress}
 use Rattle.git_client.proofs.PlaceLines.{IsOfBand, ReadsLine, band_of, boundary_event, line_read}
 use Rattle.git_client.proofs.PlacePackets.{said_by, said_if, said_unless}
 
--- how long texts are together
+-- the length of all texts together
 total : List (List ℕ) → ℕ
 total words = sum_by length words
 
@@ -61,7 +61,7 @@ parts_fit : (p : ℕ → Bool) (xs : List ℕ) → total (slice_split p xs) ≤ 
 parts_fit p [] = omega (arith, total_of [] [], none_long)
 parts_fit p (x ∷ xs) = one_more (p x) x xs (slice_split p xs) (parts_fit p xs)
 
--- the words of a text lie in it
+-- the words of a text are no longer than it
 words_fit : (text : List ℕ) → total (spaced_words text) ≤ length text
 words_fit text = parts_fit (λ c. c == 32) text
 
@@ -80,7 +80,7 @@ peeled_key = codes "peeled:"
 same_heads : (word a b : List ℕ) → word ≡ a → word ≡ b → slice_index a 0 ≡ slice_index b 0
 same_heads word a b h k = ap (λ (l : List ℕ). slice_index l 0) (sym h ∙ k)
 
--- a word is an attribute of one key
+-- no word is an attribute of both keys
 not_both : (word a b : List ℕ) → word ≡ target_key ++ a → word ≡ peeled_key ++ b → ⊥
 not_both word a b h k = omega (arith, same_heads word (target_key ++ a) (peeled_key ++ b) h k)
 
@@ -97,7 +97,7 @@ unfolding optional
 more_values None values = omega arith
 more_values (Some value) values = total_of value values
 
--- the values of two keys lie in the attributes beside one another
+-- the values of the two keys are together no longer than the attributes
 values_fit : (words : List (List ℕ)) → total (values_of target_key words) + total (values_of peeled_key words) ≤ total words
 unfolding total
 values_fit [] = omega arith
@@ -110,7 +110,7 @@ values_fit (word ∷ words) = omega (
   more_values (value_behind peeled_key word) (values_of peeled_key words),
 )
 
--- how many digits an object name has that may be missing
+-- the number of digits of an object name, or 0 if there is none
 abbrev digits_in : Option ObjectName → ℕ
 digits_in id = option_map_or (λ (o : ObjectName). digits_of o.format) id 0
 
@@ -122,12 +122,12 @@ peeled_fits format (Some text) id (named, is, e) = rw (e, is.of_format) (omega (
 abbrev ref_length : Ref → ℕ
 ref_length ref = id_length ref.id + length ref.name + optional ref.target + digits_in ref.peeled
 
--- a line's first word is as long as is counted for its object
+-- the first word of a line is as long as is counted for its object name
 id_fits : (format : Format) (word : List ℕ) (id : Option ObjectName) → IsIdText format word id → id_length id ≡ length word
 id_fits format word None h = sym (ap length h)
 id_fits format word (Some id) h = ap digits_of h.of_format ∙ sym h.count
 
--- the parts of a reference lie in its line
+-- the parts of a reference fit into its line
 reference_fits : (format : Format) (text : List ℕ) (ref : Ref) → IsReferenceLine format text ref → ref_length ref ≤ length text
 unfolding optional
 reference_fits format text ref h =
@@ -150,7 +150,7 @@ reference_fits format text ref h =
       total_of ref.name h.attributes,
     )
 
--- a text less its line feed
+-- a text is no longer than its line
 text_within : (bytes : List ℕ) → length (text_of bytes) ≤ length bytes
 text_within bytes = go (nat_lt 0 (length bytes) && (slice_index bytes (length bytes - 1) == 10)) where
   go : (b : Bool) → length (cond b (take (length bytes - 1) bytes) bytes) ≤ length bytes
@@ -203,7 +203,7 @@ read_fits sizes format text events (told, is, e) within = rw e (object_fits (inf
 read_fits packfile format text events h within = absurd h
 read_fits response_end format text events h within = absurd h
 
--- bytes of a band are a part of one byte each
+-- bytes on a band are parts of one byte each
 each_one : (event : ℕ → EventValue) (bytes : List ℕ) → ((byte : ℕ) → parts_length (event byte) ≡ 1) → all_parts_length (map event bytes) ≡ length bytes
 each_one event [] one = refl
 each_one event (byte ∷ bytes) one =
@@ -260,7 +260,7 @@ payload_fits format ending response_end bytes events gives within = absurd gives
 payload_fits format ending place bytes events gives within =
     read_fits place format (text_of bytes) events (line_read place format (text_of bytes) events gives.says) (omega (arith, text_within bytes))
 
--- the parts of the events that a packet gives are together no longer than the longest payload
+-- the parts of a packet's events together are no longer than the longest payload
 pub events_fit : (format : Format) (ending : Ending) (place : Place) (p : Pkt) (events : List EventValue) → Gives format ending place p events
     → length (body_of p) ≤ longest_payload → all_parts_length events ≤ longest_payload
 events_fit format ending place (payload bytes) events gives within = payload_fits format ending place bytes events gives within

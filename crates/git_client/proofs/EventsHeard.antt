@@ -28,19 +28,19 @@ use Rattle.git_client.proofs.Opened.{nothing_opened, opened_short}
 use Rattle.git_client.proofs.Carries.{some_place}
 
 module _ (t : Terms) (asked : List Asked) (clean given : List Given) (rest : List ℕ) (end : ℕ) (question : Option Asked) (reader : PacketReader) where
-  -- a phase without a fault
+  -- a phase without an error
   pub goes_in : (phase : Phase) → fault_in phase ≡ None → StandsIn phase t asked clean given rest end question reader
       → Goes t asked clean given rest question phase reader
   goes_in (Failed fault) e h = absurd (cc)
   goes_in phase e h = h
 
-  -- where a client can ask, all before was whole, and nothing comes after it
+  -- if a client can ask, all before was whole, and nothing follows it
   ready_in : (phase : Phase) → is_ready phase ≡ true → StandsIn phase t asked clean given rest end question reader
       → Goes t asked clean given rest question Ready reader
   ready_in Ready e h = h
   ready_in phase e h = absurd (cc)
 
-  -- where bytes of the server are due, a place comes after the packets
+  -- if packets of the server are expected, a place comes after those so far
   due_in : (phase : Phase) → takes_packets phase ≡ true → StandsIn phase t asked clean given rest end question reader → HasDue t asked (nearest clean [])
   due_in (Hearing due) e h = some_place t asked (nearest clean []) due h.behind
   due_in phase e h = absurd (cc)
@@ -57,7 +57,7 @@ all_clean t asked bytes clean given rest events splits gives cut = record {
   stops = tt;
 }
 
--- what has come of an open packet counts, and of a rest that was refused nothing had come
+-- the bytes so far of an open packet count; those of a refused rest do not
 module _ (t : Terms) (asked : List Asked) (bytes : List ℕ) (clean given : List Given) (rest : List ℕ) (whole : List EventValue)
     (splits : Splits 0 bytes given rest) (gives : GiveAll t asked [] clean whole) (question : Option Asked) (reader : PacketReader) where
   sounds_in : (phase : Phase) → StandsIn phase t asked clean given rest (length bytes) question reader → Sounds t asked bytes clean whole
@@ -67,7 +67,7 @@ module _ (t : Terms) (asked : List Asked) (bytes : List ℕ) (clean given : List
   sounds_in (Failed fault) (inr (inr p)) = all_clean t asked bytes clean given rest whole splits gives p.cut
   sounds_in phase h = all_clean t asked bytes clean given rest whole splits gives h.cut
 
-  -- the events of the bytes, where these are those of the open packet
+  -- the events of the bytes, if those left are of the open packet
   made_of : (events : List EventValue) (sounds : Sounds t asked bytes clean whole)
       → events ≡ whole ++ opened_in (place_after t asked (nearest clean [])) rest
       → IsOfRest sounds.rest (unless_refused sounds.more (opened_in (place_after t asked (nearest clean [])) sounds.rest))
@@ -149,7 +149,7 @@ module _ {A : Type 0} (t : Terms) (h : History) (client : Client A) (c : Convers
         events_are = all_are goes.cut;
       }
 
-  -- where bytes of the server are due, nothing of those that came has a fault, and more is due after them
+  -- while the server's bytes are expected, those so far have no error, and more have to follow
   pub awaits_more : wants_input client ≡ true → GoesOn t h.asked h.used h.events
   awaits_more waits =
       let question = question_in (request_of client) in

@@ -1,4 +1,4 @@
--- A client fails at the first fault of its bytes.
+-- A client fails at the first error in its bytes.
 use Rattle.std.proofs.Common.{arith, ◌≡◌, ℕ, List, [], length, Option, Some, inl, inr, ap, sym, subst}
 use Rattle.git_pkt.specs.Splits.{Given, Splits}
 use Rattle.git_pkt.specs.Faults.{IsOpen}

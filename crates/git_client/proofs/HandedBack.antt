@@ -1,4 +1,4 @@
--- The client that a run hands back, by what each of its steps states where it fails.
+-- The client that a run hands back, for each step that may fail.
 use Rattle.std.proofs.Common.{◌≡◌, ◌∙◌, ℕ, Bool, true, List, Result, Ok, Err, IfErr, IsErrAnd, inl, inr, sym, ap, subst}
 use Rattle.std.proofs.lemmas.Result.{err_from_is_err_and}
 use Rattle.git_pkt.specs.Streams.{Flow}
@@ -11,7 +11,7 @@ use Rattle.git_client.specs.Machine.Runs.{IsHandedBack}
 use Rattle.git_client.specs.declared.client.Client.{Client}
 
 module _ {A : Type 0} where
-  -- what `?` answers is the fault that it met
+  -- what `?` returns is the error that occurred
   pub back_at : (result : Result (Unit {0}) RunFault) (fault : RunFault) (client : Client A) → IsErrAnd result (λ e. e ≡ fault)
       → IsHandedBack (Err fault) client → IsHandedBack result client
   back_at result fault client met back =
@@ -22,7 +22,7 @@ module _ {A : Type 0} where
   pub back_unwritten : (fault : RunFault) (client : Client A) → fault ≡ WriteFault → IsHandedBack (Err fault) client
   back_unwritten fault client named = subst (λ (f : RunFault). IsHandedBack (Err f) client) (sym named) tt
 
-  -- no step is left but a write
+  -- only a write may still fail
   pub back_written : (result : Result (Unit {0}) RunFault) (client : Client A) → IfErr result (λ fault. fault ≡ WriteFault) → IsHandedBack result client
   back_written (Ok done) client named = tt
   back_written (Err fault) client named = back_unwritten fault client named

@@ -1,4 +1,4 @@
--- What the client answers of a step whose event is not lent of the hold.
+-- What the client returns for a step whose event does not borrow from the hold.
 use Rattle.std.proofs.Common.{arith, ◌≡◌, ◌≢◌, ◌≤◌, ◌<◌, ℕ, List, [], length, map, take, true, Some, ap, sym, ◌∙◌, refl, subst}
 use Rattle.std.proofs.Common.{length-append}
 use Rattle.std.proofs.lemmas.List.{length-map, length-take-le}
@@ -62,7 +62,7 @@ module _ {A : Type 0} where
   shows_part band bytes shown event used piece new same some part waits is = absurd is
 
   module _ (old new : Client A) (piece : List ℕ) (used : ℕ) (wants : wants_input old ≡ true) (within : used ≤ length piece) where
-    -- what is answered, whose events have no more bytes than a payload
+    -- the result, whose events have no more bytes than a payload
     pub record Answers (got : HeardGot) : Type 0 where
       pub feeds : Feeds old piece (record { used = used; got = got }) new
       pub fits : all_parts_length (events_of got) ≤ longest_payload

@@ -1,4 +1,4 @@
--- Bytes of a response that were received, one part after another: their events, their lines, and their bytes of the pack and the progress.
+-- Bytes of a response that were received, part by part: their events, their lines, and their bytes of the pack and the progress.
 use Rattle.std.proofs.Common.{◌≡◌, ℕ, Bool, true, false, List, [], ◌++◌, Option, Some, sym, ap, ◌∙◌, subst, append_assoc, append-nil}
 use Rattle.git_pkt.specs.Streams.{Flow, flow, WrittenAs}
 use Rattle.git_pkt.specs.declared.fault.Fault.{Fault}
@@ -37,7 +37,7 @@ module _ {A : Type 0} where
 
   -- ---- what was received
 
-  -- bytes that give no event were received, by a client that is then in such a phase
+  -- bytes without an event were received, and then the client cannot ask and has no packet to send
   heard_quietly : {broken : Bool} {old new : Client A} {used : List ℕ} {out packs progress : Flow} (counts : Counts) → HearsOn old used [] new
       → can_ask new ≡ false → left_to_say new ≡ [] → WrittenAs false out [] → WrittenAs false packs [] → WrittenAs false progress []
       → HearsBytes broken old new counts counts used out packs progress
@@ -75,7 +75,7 @@ module _ {A : Type 0} where
   module _ {a b c : Client A} {k l m : Counts} {u v : List ℕ}
       {told_before told told_after sent_before sent sent_after reported_before reported reported_after : Option (List ℕ)}
       (quiet : can_ask b ≡ false) (first : HearsBytes false a b k l u (flow told_before told) (flow sent_before sent) (flow reported_before reported)) where
-    -- bytes were received, and then others
+    -- bytes were received, and then more
     pub heard_then : {broken : Bool} → HearsBytes broken b c l m v (flow told told_after) (flow sent sent_after) (flow reported reported_after)
         → HearsBytes broken a c k m (u ++ v) (flow told_before told_after) (flow sent_before sent_after) (flow reported_before reported_after)
     heard_then {broken = broken} second =
@@ -108,7 +108,7 @@ module _ {A : Type 0} where
               (written_then broken reported_before reported reported_after (progress_bytes events) (progress_bytes later) first.reported second.reported);
         }
 
-  -- the transcript, the pack and the progress were flushed, as far as that went
+  -- the transcript, the pack and the progress were flushed, or one of the flushes failed
   pub heard_flushed : {broken : Bool} {a b : Client A} {k l : Counts} {u : List ℕ}
       {told_before told told_after sent_before sent sent_after reported_before reported reported_after : Option (List ℕ)}
       → HearsBytes false a b k l u (flow told_before told) (flow sent_before sent) (flow reported_before reported)

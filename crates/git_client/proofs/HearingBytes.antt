@@ -1,4 +1,4 @@
--- The bytes of a response, received a piece at a time: what all pieces so far result in, and what each end of the receiving states of them.
+-- The bytes of a response, received in chunks: what all chunks so far result in, and what holds however the receiving ends.
 use Rattle.std.proofs.Common.{arith, ◌≡◌, ℕ, ◌+◌, ◌-◌, ◌≤◌, Bool, true, false, List, [], ◌++◌, length, take, drop, Option, Some, None}
 use Rattle.std.proofs.Common.{Result, Err, IsErrAnd, refl, sym, ap, ◌∙◌, subst, append_assoc, append-nil, length-drop, take-append-drop}
 use Rattle.std.proofs.lemmas.Grind.{common_steps}
@@ -33,13 +33,13 @@ pub window_length : (window : Window) (piece : List ℕ) → window.start ≤ wi
 window_length window piece ordered within =
     omega (arith, length-take (window.end - window.start) (drop window.start piece), length-drop window.start piece)
 
--- what is left of the front of a piece is a window of it
+-- the rest of a prefix of a chunk is a window of the chunk
 pub rest_of_front : (end used : ℕ) (piece : List ℕ) → used ≤ length (take end piece) → drop used (take end piece) ≡ take (end - used) (drop used piece)
 rest_of_front end used piece within =
     let same : used + (end - used) ≡ end = omega (arith, within, length-take end piece) in
     subst (λ (n : ℕ). drop used (take n piece) ≡ take (end - used) (drop used piece)) same (drop-take used (end - used) piece)
 
--- what is left of a window is a window
+-- the rest of a window is a window
 pub rest_of_window : (start end used : ℕ) (piece : List ℕ) → used ≤ length (take (end - start) (drop start piece))
     → drop used (take (end - start) (drop start piece)) ≡ take (end - (start + used)) (drop (start + used) piece)
 rest_of_window start end used piece within =
@@ -47,16 +47,16 @@ rest_of_window start end used piece within =
     rest_of_front (end - start) used (drop start piece) within ∙ ap (λ (n : ℕ). take n (drop used (drop start piece))) same
     ∙ ap (take (end - (start + used))) (drop-drop used start piece)
 
--- a fault that a piece shows came in time
+-- an error that a chunk shows is reported in time
 shown_in_time : (fault : Fault) (ended : Bool) (used : ℕ) (piece : List ℕ) → ShownByFeed fault used piece → IsTimely fault.kind ended (drop used piece)
 shown_in_time fault ended used piece shown =
     timely fault.kind ended (drop used piece) shown.not_the_end (λ long. omega (arith, shown.one_more long, length-drop used piece))
 
--- ---- all pieces so far
+-- ---- all chunks so far
 
 module _ {A : Type 0} where
-  -- of the bytes that waited and those that came all but the last were received. The counts, which `HearsFrom` hides, are named here: the
-  -- next piece is received with them.
+  -- The waiting and the newly read bytes were received, except for the unused ones. The counts, which `HearsFrom` hides, are arguments here, because
+  -- the next chunk is counted from them.
   pub record HeardSoFar (broken : Bool) (old new : Client A) (counts : Counts) (waiting unused : List ℕ) (reader out packs progress : Flow) : Type 0 where
     pub came : List ℕ
     pub used : List ℕ
@@ -69,14 +69,14 @@ module _ {A : Type 0} where
   hears_from so_far =
       record { came = so_far.came; used = so_far.used; counts = _; read = so_far.read; parts = so_far.parts; bytes = so_far.bytes }
 
-  -- a flush failed where the client has no fault
+  -- a flush failed, and the client has no error
   pub hears_unflushed : {old new : Client A} {counts : Counts} {waiting unused : List ℕ} {reader out packs progress : Flow} (ended : Bool)
       → fault_of new ≡ None → HeardSoFar true old new counts waiting unused reader out packs progress
       → HearsBroken ended old new waiting reader out packs progress
   hears_unflushed {new = new} {unused = unused} ended sound so_far =
       record { unused = unused; hears = hears_from so_far; timely = in_time_where_sound new ended unused sound }
 
-  -- what a `?` answers is the fault that it met
+  -- what `?` returns is the error that occurred
   pub hears_at : (result : Result Window RunFault) (fault met : RunFault) (ended : Bool) (old new : Client A) (waiting buffer : List ℕ)
       (reader out packs progress : Flow) → IsErrAnd result (λ e. e ≡ fault) → fault ≡ met
       → HearsTo (Err met) ended old new waiting buffer reader out packs progress
@@ -84,7 +84,7 @@ module _ {A : Type 0} where
   hears_at result fault met ended old new waiting buffer reader out packs progress answered is hears =
       at_fault result fault met (λ (r : Result Window RunFault). HearsTo r ended old new waiting buffer reader out packs progress) is answered hears
 
-  -- before the first piece all that waits is left
+  -- before the first chunk all waiting bytes are unused
   pub heard_nothing : (client : Client A) (waiting : List ℕ) (left told sent reported : Option (List ℕ)) → wants_input client ≡ true
       → HeardSoFar false client client no_counts waiting waiting (flow left left) (flow told told) (flow sent sent) (flow reported reported)
   heard_nothing client waiting left told sent reported waits = record {
@@ -99,7 +99,7 @@ module _ {A : Type 0} where
       {left_before left told_before told sent_before sent reported_before reported : Option (List ℕ)}
       (so_far : HeardSoFar false old middle counts waiting unused (flow left_before left) (flow told_before told) (flow sent_before sent)
       (flow reported_before reported)) where
-    -- the transcript, the pack and the progress were flushed, as far as that went
+    -- the transcript, the pack and the progress were flushed, or one of the flushes failed
     pub heard_and_flushed : (broken : Bool) {told_after sent_after reported_after : Option (List ℕ)} → WrittenAs false (flow told told_after) []
         → WrittenAs false (flow sent sent_after) [] → WrittenAs false (flow reported reported_after) []
         → HeardSoFar broken old middle counts waiting unused (flow left_before left) (flow told_before told_after) (flow sent_before sent_after)
@@ -125,7 +125,7 @@ module _ {A : Type 0} where
     }
 
     module _ (waits : wants_input middle ≡ true) where
-      -- one more piece was received, of what was left and what was read
+      -- one more chunk was received: the unused bytes and the newly read ones
       pub heard_on : {broken : Bool} {new : Client A} {counts_after : Counts} {piece rest : List ℕ}
           {left_after told_after sent_after reported_after : Option (List ℕ)} (used : ℕ) (came : List ℕ) → Consumes left left_after came
           → unused ++ came ≡ piece → drop used piece ≡ rest
@@ -143,7 +143,7 @@ module _ {A : Type 0} where
         bytes = heard_then (not_ready_where_due (phase_of middle) waits) so_far.bytes hears;
       }
 
-      -- a fault ended a piece
+      -- an error ended the receiving of a chunk
       pub heard_until : (fault : RunFault) (ended : Bool) (new : Client A) (counts_after : Counts) (came piece buffer : List ℕ)
           (left_after told_after sent_after reported_after : Option (List ℕ)) → Consumes left left_after came → unused ++ came ≡ piece
           → HearsPieceTo (Err fault) middle new counts counts_after piece (flow told told_after) (flow sent sent_after) (flow reported reported_after)
@@ -163,7 +163,7 @@ module _ {A : Type 0} where
         timely = shown_in_time fault ended step.used piece step.shown;
       }
 
-      -- the input ended where more was due
+      -- the input ended while more was expected
       pub heard_end : {fault : Fault} {ended : Bool} {new : Client A} {left_after : Option (List ℕ)} → unused ≡ [] → Consumes left left_after []
           → ended ≡ true → fault.kind ≡ Truncated → fault_of new ≡ Some fault → HearsOn middle [] [] new
           → HearsFault fault ended old new waiting (flow left_before left_after) (flow told_before told) (flow sent_before sent)
@@ -177,7 +177,7 @@ module _ {A : Type 0} where
         timely = subst (λ (k : Kind). IsTimely k ended []) (sym kind) (refl, at_end);
       }
 
-  -- before a read all that came was used, and the transcript, the pack and the progress were flushed
+  -- before a read all bytes so far were used, and the transcript, the pack and the progress were flushed
   pub heard_before_read : {old new : Client A} {counts : Counts} {waiting : List ℕ} {reader : Flow}
       {told_before told sent_before sent reported_before reported : Option (List ℕ)}
       (window : Window) (piece : List ℕ) (told_after sent_after reported_after : Option (List ℕ)) → window.start ≡ window.end

@@ -1,4 +1,4 @@
--- What calls of `feed` result in over a piece: what they give was written.
+-- What calls of `feed` over a chunk result in, when all that they return is written.
 use Rattle.std.proofs.Common.{arith, ◌≡◌, ℕ, ◌+◌, ◌-◌, ◌≤◌, ◌<◌, Bool, true, false, List, [], ◌∷◌, length, map, take, drop}
 use Rattle.std.proofs.Common.{Option, Some, None, Result, Err, refl, sym, ap, ◌∙◌, subst, length-drop}
 use Rattle.git_pkt.specs.Machine.PacketReader.{ShownByFeed}
@@ -28,7 +28,7 @@ use Rattle.git_client.proofs.OneTurn.{quiet_turn, event_lines}
 use Rattle.git_client.proofs.HeardBytes.{heard_then, heard_to_fault, heard_while_due}
 
 module _ {A : Type 0} where
-  -- ---- what an answer means for where the client is
+  -- ---- what the client can do after each event
 
   turns_quietly : (events : List EventValue) (c : Client A) → turns_of events ≡ 0 → wants_input c ≡ true → IsOneTurn events (can_ask c)
   turns_quietly events c none waits = subst (IsOneTurn events) (sym (not_ready_where_due (phase_of c) waits)) (quiet_turn events none)
@@ -45,21 +45,21 @@ module _ {A : Type 0} where
   sound_after Ended c leaves = sound_where_ready (phase_of c) leaves
   sound_after event c leaves = sound_where_due (phase_of c) leaves
 
-  -- after an event a client owes nothing
+  -- after an event a client has no packet to send
   owes_after : (e : Event) (c : Client A) → LeavesAfter e c → left_to_say c ≡ []
   owes_after Offered c leaves = owes_nothing (phase_of c) (request_of c) (quiet_where_ready (phase_of c) leaves)
   owes_after Ended c leaves = owes_nothing (phase_of c) (request_of c) (quiet_where_ready (phase_of c) leaves)
   owes_after event c leaves = owes_nothing (phase_of c) (request_of c) (quiet_where_due (phase_of c) leaves)
 
-  -- after an event a client that waits for no input can ask
+  -- after an event a client that needs no input can ask
   asks_after : (e : Event) (c : Client A) → LeavesAfter e c → wants_input c ≡ false → can_ask c ≡ true
   asks_after Offered c leaves none = leaves
   asks_after Ended c leaves none = leaves
   asks_after event c leaves none = absurd (cc)
 
--- ---- one call of `feed` over what is left of a piece
+-- ---- one call of `feed` over the rest of a chunk
 
--- what is left of a piece after `done` bytes, as a slice shows it
+-- the rest of a chunk after `done` bytes, as a slice shows it
 abbrev pub left : List ℕ → ℕ → List ℕ
 left piece done = take (length piece - done) (drop done piece)
 
@@ -87,7 +87,7 @@ module _ {A : Type 0} where
         (flow reported_before reported_after))
         (take_joined piece done heard.used within) (heard_then (not_ready_where_due (phase_of b) waits) so_far hears)
 
-    -- all of the piece was used, and more is due
+    -- the whole chunk was used, and more is expected
     pub heard_all : heard.got ≡ More
         → HearsInPiece old c counts now piece (length piece) (flow told_before told) (flow sent_before sent) (flow reported_before reported)
     heard_all is =
@@ -105,13 +105,13 @@ module _ {A : Type 0} where
           moves = λ some. some;
         }
 
-    -- a fault was met, which the piece shows
+    -- an error occurred, which the chunk shows
     shown_where_failed : (fault : Fault) → heard.got ≡ Failed fault → ShownByFeed fault (done + heard.used) piece
     shown_where_failed fault is =
         let shown = feeds.news fault (sound_where_due (phase_of b) waits) is in
         record { not_the_end = shown.not_the_end; one_more = λ e. omega (arith, shown.one_more e, rest_length) }
 
-    -- and the streams were flushed, of which one may have failed
+    -- and the streams were flushed, or one of the flushes failed
     heard_failed_then : (broken : Bool) (fault : Fault) (told_after sent_after reported_after : Option (List ℕ)) → heard.got ≡ Failed fault
         → WrittenAs false (flow told told_after) [] → WrittenAs false (flow sent sent_after) [] → WrittenAs false (flow reported reported_after) []
         → HearsBytes broken old c counts now (take (done + heard.used) piece) (flow told_before told_after) (flow sent_before sent_after)
@@ -142,7 +142,7 @@ module _ {A : Type 0} where
           subst (λ (f : Fault). ShownByFeed f (done + heard.used) piece) same (shown_where_failed fault is);
     }
 
-    -- an event was met, and what it contains was written, or a front of it
+    -- an event occurred, and all or a prefix of its contents was written
     module _ (e : Event) (is : heard.got ≡ EventGot e) where
       pub heard_event : (broken : Bool) (after : Counts) (told_after sent_after reported_after : Option (List ℕ))
           → (CanCount now (values_of e) → after ≡ counts_with now (values_of e))

@@ -1,4 +1,4 @@
--- The server's message on a fault of its own, as the hold has it.
+-- The server's message about its own error, as the hold has it.
 use Rattle.std.proofs.Common.{arith, ◌≡◌, ℕ, ◌<◌, Option, Some, None, Bor, MatchOption, true, List, ◌∷◌, length, drop, inl, inr, ap, sym, ◌∙◌, subst}
 use Rattle.git_pkt.specs.Packets.{body_of, text_of}
 use Rattle.git_pkt.specs.Splits.{Given, Splits}
@@ -29,7 +29,7 @@ not_own RemoteError told own = cc
 not_own RemoteFatal told own = cc
 not_own kind told own = absurd (cc)
 
--- it was reported in a packet
+-- the error was reported in a packet
 told_by_packet : (t : Terms) (asked : List Asked) (clean given : List Given) (rest : List ℕ) (end : ℕ) (fault : Fault) (reader : PacketReader)
     (question : _) → is_told fault.kind ≡ true → StandsIn (Failed fault) t asked clean given rest end question reader
     → RefusedPacket t asked clean given rest fault reader
@@ -39,7 +39,7 @@ told_by_packet t asked clean given rest end fault reader question told (inr (inr
     let never = sym told ∙ ap is_told early.kind in absurd (cc)
 
 module _ {A : Type 0} where
-  -- the payload in the hold reports the fault, and the bytes end with its message there
+  -- the payload in the hold reports the error, and the bytes end with its message
   pub record HoldsMessage (t : Terms) (h : History) (client : Client A) (kind : Kind) : Type 0 where
     pub line : List ℕ
     pub held : drop 4 (held_of (reader_of client)) ≡ line
@@ -75,7 +75,7 @@ module _ {A : Type 0} where
         | inr own ↦ absurd (not_own fault.kind told own)
       ]
 
-  -- what was read of an error packet in the hold
+  -- the message of an error packet in the hold
   pub error_told : (t : Terms) (h : History) (client : Client A) (text : List ℕ) (found : Option (Bor (List ℕ))) → HoldsMessage t h client RemoteError
       → text ≡ text_of (drop 4 (held_of (reader_of client))) → MatchOption found (¬ IsErrorText text) (λ m. IsErrorOf text m.now)
       → MatchOption found (EndsWithoutMessage client) (λ m. EndsWithMessage t h.asked h.used m.now)
@@ -83,7 +83,7 @@ module _ {A : Type 0} where
       absurd (none (record { message = holds.says.0; spelled = e ∙ ap text_of holds.held ∙ holds.says.1 }))
   error_told t h client text (Some m) holds e some = holds.ends m.now (sym (e ∙ ap text_of holds.held) ∙ some)
 
-  -- what is in the hold after the band of a fatal error
+  -- the bytes in the hold after the band of a fatal error
   pub fatal_told : (t : Terms) (h : History) (client : Client A) (bytes : List ℕ) (found : Option (Bor (List ℕ))) → HoldsMessage t h client RemoteFatal
       → bytes ≡ drop 4 (held_of (reader_of client)) → MatchOption found (length bytes < 1) (λ m. m.now ≡ drop 1 bytes)
       → MatchOption found (EndsWithoutMessage client) (λ m. EndsWithMessage t h.asked h.used m.now)

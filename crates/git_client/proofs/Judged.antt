@@ -1,4 +1,4 @@
--- What the judge of packets answers is what the packet gives, or why it is refused, after whatever came before.
+-- The judge of packets finds what a packet gives, or why it is refused, whatever came before.
 use Rattle.std.proofs.Common.{arith, ◌≡◌, ℕ, suc, Bool, true, false, not, List, [], ◌∷◌, length, Option, Some, None, ap}
 use Rattle.std.proofs.Common.{cond, codes, refl, sym, ◌∙◌, subst}
 use Rattle.git_names.specs.declared.object_format.Format.{Format}
@@ -49,7 +49,7 @@ place_where format done message SizeLine caps notes is = ap (λ (b : Bool). cond
 place_where format done message Sizes caps notes is = ap (λ (b : Bool). cond b (Some size_line) (Some sizes)) is
 place_where format done message ResponseEnd caps notes is = refl
 
--- the packets before determine the place where something is due
+-- the packets so far determine the place that is expected next
 pub place_is : (t : Terms) (asked : List Asked) (before : List Pkt) (due : Due) (caps : Caps) → IsDue t asked before due
     → caps ≡ noted_of (advertisement_of before) → place_after t asked before ≡ Some (place_due caps t.format due)
 place_is t asked before due caps is notes =
@@ -98,7 +98,7 @@ delimiter_due format ending caps done message (WantedRefs allowed) events (insid
     (refl, is ∙ sym (allowed_stays done delim message inside.inside))
 delimiter_due format ending caps done message due events is gives = absurd (cc)
 
--- a packet inside a message comes where no response end is due
+-- inside a message no response end is expected
 not_last : (format : Format) (ending : Ending) (caps : Caps) (due : Due) (p : Pkt) (events : List EventValue) → GoesInto p
     → Gives format ending (place_due caps format due) p events → awaits_end due ≡ 0
 not_last format ending caps ResponseEnd (payload line) events goes gives = absurd gives
@@ -118,7 +118,7 @@ response_over format WithResponseEnd asked before counts some = record {
   is_due = tt;
 }
 
--- the flush of a response ends it, or its response end is due
+-- after the flush of a response it is over, or its response end is expected
 response_flush : (t : Terms) (asked : List Asked) (before : List Pkt) (due : Due) → IsDue t asked before due → (s : Stands t asked before due)
     → awaits_end due ≡ 0 → is_early (part_due s.done due) ≡ false → Behind t asked (flush ∷ before) None (phase_after_response t.ending)
 response_flush t asked before due is s none late =
@@ -170,7 +170,7 @@ version_said format text (event ∷ events) says = absurd says
 version_notes : (line : List ℕ) (packets : List Pkt) → text_of line ≡ codes "version 2" → noted_of (payload line ∷ packets) ≡ noted_of packets
 version_notes line packets says = rw says refl
 
--- a packet that notes nothing leaves what the advertisement noted
+-- a packet that notes nothing leaves the noted capabilities unchanged
 nothing_noted : (p : Pkt) (before : List Pkt) → noted_of (p ∷ advertisement_of before) ≡ noted_of (advertisement_of before)
     → noted_of (advertisement_of (p ∷ before)) ≡ noted_of (advertisement_of before)
 nothing_noted p before same = go (is_zero (flushes before)) where
@@ -192,7 +192,7 @@ notes_after t asked before due caps after (payload line) events s gives same not
     same ∙ notes ∙ ap (λ (b : Bool). noted_of (cond b (payload line ∷ advertisement_of before) (advertisement_of before))) (sym late)
 notes_after t asked before due caps after p events s gives same notes = same ∙ notes ∙ sym (nothing_noted p before refl)
 
--- a packet that gives events where this is due: then what comes after it is due
+-- a packet that gives events at this place leads to what is expected after it
 pub gives_well : (t : Terms) (asked : List Asked) (before : List Pkt) (due : Due) (caps after : Caps) (p : Pkt) (events : List EventValue)
     → IsDue t asked before due → caps ≡ noted_of (advertisement_of before) → Gives t.format t.ending (place_due caps t.format due) p events
     → NotesAfter due caps p after
@@ -204,7 +204,7 @@ gives_well t asked before due caps after p events is notes gives adds =
       behind_after t asked before due caps p _ is s gives,
     )
 
--- a packet in which no fault was found gives what was found of it, and then what was found to be due is due
+-- a packet without an error gives the events that were found in it, and leads to the phase that was found
 pub judged_well : (t : Terms) (asked : List Asked) (before : List Pkt) (due : Due) (caps : Caps) (p : Pkt) (said : Said) (after : Caps) (turn : Turn)
     → IsDue t asked before due → caps ≡ noted_of (advertisement_of before) → IsTurn t.format t.ending due caps p said after turn
     → GivesAt t asked before p (events_at said (body_of p)) × (after ≡ noted_of (advertisement_of (p ∷ before)))
@@ -214,7 +214,7 @@ judged_well t asked before due caps p said after turn is notes judged =
     gives_well t asked before due caps after p (events_at said (body_of p)) is notes judged.gives judged.notes in
     (gives, noted, subst (Behind t asked (p ∷ before) None) (sym judged.next) behind)
 
--- a packet in which one was found is refused for it
+-- a packet with an error is refused for it
 pub judged_badly : (t : Terms) (asked : List Asked) (before : List Pkt) (due : Due) (caps : Caps) (p : Pkt) (kind : Kind) → IsDue t asked before due
     → caps ≡ noted_of (advertisement_of before) → Refuses t.format t.ending (place_due caps t.format due) p kind → RefusesAt t asked before p kind
 judged_badly t asked before due caps p kind is notes refuses =

@@ -1,4 +1,4 @@
--- A text line that was judged, as the payload whose text it is.
+-- A text line that was judged, as the payload that contains it.
 use Rattle.std.proofs.Common.{◌≡◌, ℕ, List, Result, Ok, Err, inr, refl, subst}
 use Rattle.git_names.specs.declared.object_format.Format.{Format}
 use Rattle.git_pkt.specs.Packets.{payload, text_of}
@@ -13,7 +13,7 @@ use Rattle.git_client.specs.declared.phase.Due.TheVariants.{Packfile, ResponseEn
 use Rattle.git_client.specs.declared.phase.Said.{Said}
 use Rattle.git_client.specs.declared.phase.Turn.{Turn}
 
--- what was found of a text line was found of its payload
+-- what was found in a text line was found in its payload
 of_payload : (said : Said) (bytes : List ℕ) → FitsLine said (text_of bytes) → (line_events said (text_of bytes) ≡ events_at said bytes) × Fits said bytes
 of_payload said bytes fits = (refl, fits)
 
@@ -38,7 +38,7 @@ line_refused format ending Packfile caps bytes kind takes no_error fault = absur
 line_refused format ending ResponseEnd caps bytes kind takes no_error fault = absurd takes
 line_refused format ending due caps bytes kind takes no_error fault = inr (no_error, fault)
 
--- a text line that is no error packet
+-- a text line that is not an error packet
 pub line_judged : (format : Format) (ending : Ending) (due : Due) (caps : Caps) (bytes : List ℕ) (said : Said) (after : Caps) (result : Result Turn Kind)
     → TakesLines due → ¬ IsErrorText (text_of bytes) → JudgesLine format due caps (text_of bytes) said after result
     → Judges format ending due caps (payload bytes) said after result

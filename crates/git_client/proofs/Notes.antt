@@ -1,4 +1,4 @@
--- What an advertisement noted stays the same, however the conversation goes on.
+-- What an advertisement noted never changes, however the conversation goes on.
 use Rattle.std.proofs.Common.{arith, if◌then◌else◌, ◌≡◌, ℕ, zero, suc, ◌+◌, ◌<◌, List, [], ◌∷◌, ◌++◌, length, refl, sym, ap, ◌∙◌, subst, append-nil}
 use Rattle.git_pkt.specs.Packets.{Pkt, flush, delim, resp_end, payload, flushes}
 use Rattle.git_pkt.specs.Splits.{Given, NoneBegins, SpellsAll}
@@ -18,7 +18,7 @@ same_given g h packet offset =
     ap (λ (p : Pkt). let made : Given = record { packet = p; offset = g.offset } in made) packet
     ∙ ap (λ (n : ℕ). let made : Given = record { packet = h.packet; offset = n } in made) offset
 
--- of the same bytes, packets up to anywhere are the first of those up to where none begins
+-- of two splits of the same bytes, the shorter one's packets are the first of the complete one's
 pub first_of_split : (p : ℕ) (bytes : List ℕ) (gs hs : List Given) (x rest : List ℕ) → SpellsAll p bytes gs x → SpellsAll p bytes hs rest → NoneBegins rest
     → (tail : List Given) × (hs ≡ gs ++ tail)
 first_of_split p bytes [] hs x rest a b none = (hs, refl)
@@ -38,7 +38,7 @@ refused_at t asked before g gs (h ∷ hs) now e s a =
     let same : h ≡ g = cc in
     excluded t asked before h.packet now s.0 (subst (λ (x : Given). GivesAt t asked before x.packet now) (sym same) a) s.1
 
--- packets of which none is refused are the first of those up to one that is
+-- packets that are not refused are the first of those before a refused one
 pub first_of_cut : (t : Terms) (asked : List Asked) (before : List Pkt) (gs clean x more : List Given) (events : List EventValue) → gs ++ x ≡ clean ++ more
     → GiveAll t asked before gs events → IsStop t asked (nearest clean before) more → (tail : List Given) × (clean ≡ gs ++ tail)
 first_of_cut t asked before [] clean x more events e a stop = (clean, refl)
@@ -62,14 +62,14 @@ no_part p before zero e some = absurd (omega (arith, some))
 no_part p before (suc n) e some =
     ap (λ (k : ℕ). if is_zero k then p ∷ advertisement_of before else advertisement_of before) e
 
--- after a flush the advertisement is whole
+-- the advertisement is whole after a flush
 pub stays_advertised : (gs : List Given) (before : List Pkt) → 0 < flushes before → advertisement_of (nearest gs before) ≡ advertisement_of before
 stays_advertised [] before some = refl
 stays_advertised (g ∷ gs) before some =
     stays_advertised gs (g.packet ∷ before) (some_more g.packet before some) ∙ no_part g.packet before (flushes before) refl some
 
 module _ (t : Terms) (asked : List Asked) (used : List ℕ) (events : List EventValue) (whole : IsConversation t asked used events) where
-  -- what a whole conversation noted is noted of each that goes on from it
+  -- a conversation that goes on from a whole one has the same notes
   pub noted_at : (more : List Asked) (asked_all : List Asked) (x used_all : List ℕ) (caps : Caps) → asked_all ≡ asked ++ more → used_all ≡ used ++ x
       → HasNoted t asked_all used_all caps → caps ≡ noted_of (advertisement_of (nearest whole.given []))
   noted_at more asked_all x used_all caps same_asked same_used (clean, later, sounds, is) =
@@ -82,7 +82,7 @@ module _ (t : Terms) (asked : List Asked) (used : List ℕ) (events : List Event
       is ∙ ap noted_of (ap (λ (l : List Given). advertisement_of (nearest l [])) cut ∙ ap advertisement_of (nearest-append whole.given others [])
       ∙ stays_advertised others (nearest whole.given []) (omega (arith, whole.all_flushes)))
 
-  -- two such conversations noted the same
+  -- two such conversations have the same notes
   pub noted_same : (more : List Asked) (asked_all : List Asked) (x used_all : List ℕ) (caps others : Caps) → asked_all ≡ asked ++ more → used_all ≡ used ++ x
       → HasNoted t asked_all used_all caps → HasNoted t asked used others → caps ≡ others
   noted_same more asked_all x used_all caps others same_asked same_used now before =

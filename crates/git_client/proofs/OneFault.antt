@@ -1,4 +1,4 @@
--- Bytes have one first fault, whoever looks for it.
+-- Bytes have only one first error.
 use Rattle.std.proofs.Common.{arith, ◌≡◌, ◌≢◌, ℕ, ◌-◌, List, [], ◌∷◌, length, inl, inr, ap, sym, ◌∙◌, subst}
 use Rattle.std.proofs.lemmas.List.{append-nil}
 use Rattle.git_pkt.specs.Splits.{Given, Splits}
@@ -15,7 +15,7 @@ use Rattle.git_client.specs.Events.{EventValue}
 use Rattle.git_client.specs.Conversation.{GiveAll, FirstFault, MalformedPacket, MalformedRest, CutShort, FirstMalformed}
 use Rattle.git_client.proofs.Determined.{one_first_fault, same_cut}
 
--- packets without a fault have no first one
+-- packets without an error have no first one
 pub none_among : (t : Terms) (asked : List Asked) (given : List Given) (events : List EventValue) (kind : Kind) (offset : ℕ) → GiveAll t asked [] given events
     → FirstFault t asked given kind offset → ⊥
 none_among t asked given events kind offset gives h =
@@ -62,7 +62,7 @@ module _ (t : Terms) (asked : List Asked) (bytes : List ℕ) (f g : Fault) where
       let same = (same_split h.given k.given h.rest k.rest h.splits k.splits).rest_is in same_fault f g name (omega (arith, h.at, k.at, ap length same))
 
 module _ (t : Terms) (asked : List Asked) (bytes : List ℕ) (f g : Fault) where
-  -- an input that was cut short has an open rest
+  -- an input that was cut short ends in an open rest
   rest_not_cut : f.kind ≢ Truncated → f.kind ≢ StreamTooLong → MalformedRest t asked bytes f → CutShort t asked bytes g → ⊥
   rest_not_cut a b h k =
       let same = (same_split t asked bytes f g h.given k.given h.rest k.rest h.splits k.splits).rest_is in
@@ -76,7 +76,7 @@ module _ (t : Terms) (asked : List Asked) (bytes : List ℕ) (f g : Fault) where
       subst (λ (n : Kind). StopsBy (length bytes - length h.rest) h.rest (length bytes) n f.offset) (name ∙ k.kind) h.by in
       omega (arith, by.2, k.at, ap length same)
 
--- a fault that the bytes show is the only one
+-- the bytes show only one error
 pub one_shown : (t : Terms) (asked : List Asked) (bytes : List ℕ) (f g : Fault) → FirstMalformed t asked bytes f
     → FirstMalformed t asked bytes g → f.kind ≢ Truncated → f.kind ≢ StreamTooLong → f ≡ g
 one_shown t asked bytes f g (inl h) (inl k) a b = packets t asked bytes f g h k
@@ -87,7 +87,7 @@ one_shown t asked bytes f g (inr (inl h)) (inr (inl k)) a b = rests_shown t aske
 one_shown t asked bytes f g (inr (inl h)) (inr (inr k)) a b = absurd (rest_not_cut t asked bytes f g a b h k)
 one_shown t asked bytes f g (inr (inr h)) k a b = absurd (a h.kind)
 
--- two faults of one name are one
+-- two errors of the same kind are equal
 pub one_by_name : (t : Terms) (asked : List Asked) (bytes : List ℕ) (f g : Fault) → FirstMalformed t asked bytes f
     → FirstMalformed t asked bytes g → f.kind ≡ g.kind → f ≡ g
 one_by_name t asked bytes f g (inl h) (inl k) name = packets t asked bytes f g h k

@@ -1,4 +1,4 @@
--- The events of one response: what they add to a transcript.
+-- The events of one response, and what they add to a transcript.
 use Rattle.std.proofs.Common.{arith, ◌≡◌, ℕ, suc, ◌+◌, Bool, true, false, List, [], ◌∷◌, ◌++◌, length, map, drop, refl, sym, ap, ◌∙◌, subst}
 use Rattle.std.proofs.Common.{append_assoc, append-nil}
 use Rattle.git_msg.specs.Asked.{Asked}
@@ -9,16 +9,16 @@ use Rattle.git_client.specs.Machine.RunSteps.{IsOneTurn}
 use Rattle.git_client.specs.declared.events.Event.{Event}
 use Rattle.git_client.specs.declared.events.Event.TheVariants.{Offered, Pack, Progress, Ended}
 
--- ---- events after which more are due
+-- ---- events after which more is expected
 
--- events that are no end of a response
+-- events that do not end a response
 pub quiet_turn : (events : List EventValue) → turns_of events ≡ 0 → IsOneTurn events false
 quiet_turn [] none = refl
 quiet_turn (offered ∷ events) none = absurd (omega (arith, none))
 quiet_turn (ended ∷ events) none = absurd (omega (arith, none))
 quiet_turn (event ∷ events) none = quiet_turn events none
 
--- events after which more are due, and then others
+-- events after which more is expected, and then others
 pub turn_then : (events later : List EventValue) (asks : Bool) → IsOneTurn events false → IsOneTurn later asks → IsOneTurn (events ++ later) asks
 turn_then [] later asks quiet one = one
 turn_then (offered ∷ events) later asks quiet one = let differs = quiet.1 in absurd (cc)
@@ -27,14 +27,14 @@ turn_then (event ∷ events) later asks quiet one = turn_then events later asks 
 
 -- ---- what they add to a transcript
 
--- the line of the next request comes after the line of an event after which the client can ask
+-- the next request's line follows the line of an event after which the client can ask
 before_question : (line : List ℕ) (asked : List Asked) (more : List EventValue)
     → line ++ next_asked asked ++ transcript_from (drop 1 asked) 0 0 more
     ≡ (line ++ [] ++ []) ++ next_asked asked ++ transcript_from (drop 1 asked) 0 0 more
 before_question line asked more =
     ap (λ (l : List ℕ). l ++ next_asked asked ++ transcript_from (drop 1 asked) 0 0 more) (sym (append-nil line) ∙ sym (append-nil (line ++ [])))
 
--- what these events add to a transcript, by whether the client can ask after them
+-- what these events add to a transcript, depending on whether the client can ask after them
 abbrev pub Adds : Bool → List EventValue → Type 0
 Adds true events = (asked : List Asked) (p q : ℕ) (more : List EventValue)
     → transcript_from asked p q (events ++ more) ≡ transcript_from [] p q events ++ next_asked asked ++ transcript_from (drop 1 asked) 0 0 more
@@ -42,7 +42,7 @@ Adds false events = (asked : List Asked) (p q : ℕ) (more : List EventValue)
     → transcript_from asked p q (events ++ more)
     ≡ transcript_from [] p q events ++ transcript_from asked (p + length (pack_bytes events)) (q + length (progress_bytes events)) more
 
--- events after which the client can ask
+-- if the client can ask after the events
 last_adds : (events : List EventValue) → IsOneTurn events true → Adds true events
 last_adds [] one asked p q more = absurd (cc)
 last_adds (offered ∷ events) one asked p q more =
@@ -62,7 +62,7 @@ last_adds (event ∷ events) one asked p q more =
     ∙ sym (append_assoc line (lines ++ next_asked asked) (transcript_from (drop 1 asked) 0 0 more))
     ∙ ap (λ (l : List ℕ). l ++ transcript_from (drop 1 asked) 0 0 more) (sym (append_assoc line lines (next_asked asked)))
 
--- events after which bytes are due
+-- if bytes are expected after the events
 quiet_adds : (events : List EventValue) → IsOneTurn events false → Adds false events
 quiet_adds [] one asked p q more =
     let first : p ≡ p + 0 = omega arith in
@@ -87,7 +87,7 @@ pub turn_adds : (asks : Bool) (events : List EventValue) → IsOneTurn events as
 turn_adds true events one = last_adds events one
 turn_adds false events one = quiet_adds events one
 
--- ---- the events of an answer
+-- ---- the events of a response
 
 -- bytes of the pack and of the progress have no lines
 no_lines_of_pack : (bytes : List ℕ) (p q r : ℕ) → lines_of (map pack bytes) p q ≡ transcript_from [] r q (map pack bytes)
@@ -98,7 +98,7 @@ no_lines_of_progress : (bytes : List ℕ) (p q r : ℕ) → lines_of (map progre
 no_lines_of_progress [] p q r = refl
 no_lines_of_progress (byte ∷ bytes) p q r = no_lines_of_progress bytes p q (suc r)
 
--- the lines of an answer are the transcript of its events
+-- the lines of an event are its transcript
 pub event_lines : (e : Event) (p q : ℕ) → lines_of (values_of e) p q ≡ transcript_from [] p q (values_of e)
 event_lines (Pack bytes) p q = no_lines_of_pack bytes.now p q p
 event_lines (Progress bytes) p q = no_lines_of_progress bytes.now p q q

@@ -1,4 +1,4 @@
--- What has come of an open packet: bytes on a band, none of which is a turn.
+-- What an open packet has given so far: bytes on a band, which are no turn.
 use Rattle.std.proofs.Common.{arith, ◌≡◌, ◌≢◌, ℕ, ◌≤◌, ◌==◌, Bool, true, false, cond, List, [], ◌∷◌, ◌++◌, length, map, drop}
 use Rattle.std.proofs.Common.{Option, Some, None, Ok, Err, refl, ap, sym, ◌∙◌, append_assoc, is_some, length-append, length-drop}
 use Rattle.std.proofs.lemmas.List.{length-map}
@@ -21,12 +21,12 @@ pub nothing_opened : (place : Option Place) → opened_in place [] ≡ []
 nothing_opened (Some packfile) = refl
 nothing_opened place = refl
 
--- of at most five bytes nothing has passed
+-- no bytes of a packet pass before its sixth
 pub opened_short : (place : Option Place) (rest : List ℕ) → length rest ≤ 5 → opened_in place rest ≡ []
 opened_short (Some packfile) rest few = ap events_on (passes_short rest few)
 opened_short place rest few = refl
 
--- where no bytes on bands are due an open packet has no events
+-- unless bytes on a band are expected, an open packet gives no events
 pub not_opened : (due : Due) → due ≢ Packfile → (caps : Caps) (format : Format) (rest : List ℕ) → opened_in (Some (place_due caps format due)) rest ≡ []
 not_opened Packfile other caps format rest = absurd (other refl)
 not_opened due other caps format rest = refl
@@ -58,12 +58,12 @@ by_band true second third bytes e = ap (λ (l : List EventValue). Ok l) (sym (on
 by_band false true third bytes e = ap (λ (l : List EventValue). Ok l) (sym (on_progress bytes))
 by_band false false third bytes e = absurd (cc)
 
--- a payload of the packfile section that begins with the byte of such a band gives what passes of it
+-- a payload of the packfile section that begins with such a band's byte gives the bytes that pass of it
 pub band_gives : (bytes : List ℕ) → begins_band bytes ≡ true → band_says bytes ≡ Ok (events_on (passed_in bytes))
 band_gives [] e = absurd (cc)
 band_gives (byte ∷ bytes) e = by_band (byte == 1) (byte == 2) (byte == 3) bytes e
 
--- ---- no turns
+-- ---- they are no turns
 
 turns_with : (band : Band) (byte : ℕ) (events : List EventValue) → turns_of (band_event band byte ++ events) ≡ turns_of events
 turns_with Pack byte events = refl
@@ -84,7 +84,7 @@ pub no_turns_opened : (place : Option Place) (rest : List ℕ) → turns_of (ope
 no_turns_opened (Some packfile) rest = no_turns_on (passed_by_rest rest)
 no_turns_opened place rest = refl
 
--- ---- how many they are
+-- ---- their number
 
 few_with : (band : Band) (byte : ℕ) → length (band_event band byte) ≤ 1
 few_with Pack byte = omega arith
@@ -108,7 +108,7 @@ pub few_opened : (place : Option Place) (rest : List ℕ) → length (opened_in 
 few_opened (Some packfile) rest = omega (arith, few_on (passed_by_rest rest), few_in (drop 4 rest), length-drop 4 rest)
 few_opened place rest = omega arith
 
--- ---- what they have of the pack
+-- ---- their bytes of the pack
 
 pack_all : (bytes : List ℕ) → pack_bytes (map pack bytes) ≡ bytes
 pack_all [] = refl

@@ -1,4 +1,4 @@
--- The pack bytes that are handed out are the pack of the bytes.
+-- The pack bytes that are handed out are the pack in the bytes received.
 use Rattle.std.proofs.Common.{◌≡◌, ℕ, List, [], ◌∷◌, ◌++◌, Option, inl, inr, refl, sym, ap, ◌∙◌, subst, append-nil}
 use Rattle.git_pkt.specs.Packets.{Pkt}
 use Rattle.git_pkt.specs.Splits.{Given, Splits}
@@ -20,7 +20,7 @@ pack_bytes-append [] later = refl
 pack_bytes-append (pack byte ∷ events) later = ap (λ (l : List ℕ). byte ∷ l) (pack_bytes-append events later)
 pack_bytes-append (event ∷ events) later = pack_bytes-append events later
 
--- packets give of the pack what they have of it
+-- packets give the pack bytes that they contain
 pub packs_all : (t : Terms) (asked : List Asked) (before : List Pkt) (gs : List Given) (events : List EventValue) → GiveAll t asked before gs events
     → pack_bytes events ≡ pack_of t asked before gs
 packs_all t asked before [] events e = ap pack_bytes e
@@ -38,7 +38,7 @@ module _ (t : Terms) (asked : List Asked) (bytes : List ℕ) where
   sound_pack all h =
       record { given = h.clean ++ h.more; rest = h.rest; more = h.more; splits = h.splits; cut = refl; gives = h.gives; stops = h.stops }
 
-  -- the pack is what whole packets give of it, and what an open one has
+  -- the pack is what the whole packets give and what the open one has so far
   pack_is : (all : List ℕ) (clean : List Given) (events : List EventValue) (h : HasPack t asked bytes all) → Sounds t asked bytes clean events
       → all ≡ pack_bytes events ++ h.opened
   pack_is all clean events h s =
@@ -47,7 +47,7 @@ module _ (t : Terms) (asked : List Asked) (bytes : List ℕ) where
       ∙ ap (λ (l : List ℕ). l ++ h.opened) (sym (packs_all t asked [] h.clean h.events h.gives))
       ∙ ap (λ (l : List EventValue). pack_bytes l ++ h.opened) same.events_are
 
-  -- what an open rest has of the pack is that of the one cut of the bytes
+  -- the open packet's part of the pack does not depend on how the bytes were cut into packets
   of_rest : (all : List ℕ) (clean : List Given) (events : List EventValue) (h : HasPack t asked bytes all) (s : Sounds t asked bytes clean events)
       → IsOfRest s.rest (unless_refused s.more (open_pack_in (place_after t asked (nearest clean [])) s.rest)) h.opened
   of_rest all clean events h s = moved_rest t asked bytes h.clean clean h.events events (sound_pack all h) s open_pack_in h.opened h.of_rest
@@ -61,7 +61,7 @@ one_pack t asked bytes all other h k =
     ∙ ap (λ (l : List ℕ). pack_bytes k.events ++ l) opened
     ∙ sym (pack_is t asked bytes other k.clean k.events k sound)
 
--- the pack bytes of what is open are what is open of the pack
+-- the pack bytes of the open packet's events are its part of the pack
 pack_unless : (more : List Given) (place : Option Place) (rest : List ℕ)
     → pack_bytes (unless_refused more (opened_in place rest)) ≡ unless_refused more (open_pack_in place rest)
 pack_unless [] place rest = pack_opened place rest

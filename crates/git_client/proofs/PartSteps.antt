@@ -19,12 +19,12 @@ is_early opening = true
 is_early advertisement = true
 is_early part = false
 
--- a response end is due
+-- one if a response end is expected, else zero
 abbrev pub ends : Part → ℕ
 ends closing = 1
 ends part = 0
 
--- the part of the packet after one that ends no message
+-- the part after a packet that does not end a message
 abbrev pub next_part : Part → Part
 next_part opening = advertisement
 next_part part = part
@@ -33,7 +33,7 @@ pub next_ends : (part : Part) → ends (next_part part) ≡ ends part
 next_ends opening = refl
 next_ends part = refl
 
--- the part where this is due
+-- the part in which this is expected
 abbrev pub part_due : Bool → Due → Part
 part_due done Version = opening
 part_due done Capabilities = advertisement
@@ -61,11 +61,11 @@ pub awaits_where : (done : Bool) (due : Due) → awaits_end due ≡ ends (part_d
 awaits_where done ResponseEnd = refl
 awaits_where done due = refl
 
--- a response end is due in one part alone
+-- a response end is expected in one part only
 pub awaits_in : (part : Part) (message : List Pkt) (due : Due) → IsDueIn part message due → awaits_end due ≡ ends part
 awaits_in part message due is = let (done, same) = part_is part message due is in awaits_where done due ∙ ap ends (sym same)
 
--- a part in which no response end is due goes on after so many flushes
+-- a part in which no response end is expected continues, after this many flushes
 pub record GoesOn (asked : List Asked) (n : ℕ) (part : Part) : Type 0 where
   pub stays : part_after asked n ≡ Some (next_part part)
   pub early : is_zero n ≡ is_early part
@@ -102,12 +102,12 @@ zero_is : (n : ℕ) → is_zero n ≡ true → n ≡ 0
 zero_is zero is = refl
 zero_is (suc n) is = absurd (cc)
 
--- no flush came before an early part
+-- no flush comes before an early part
 pub no_flush : (t : Terms) (asked : List Asked) (before : List Pkt) (part : Part) → part_of t asked before ≡ Some part → is_early part ≡ true
     → flushes before ≡ 0
 no_flush t asked before part is early = zero_is (flushes before) ((goes_on t asked before part is (early_ends part early)).early ∙ early)
 
--- where the packets are, by what is due after them
+-- the part that the next packet belongs to, by what is expected
 pub record Stands (t : Terms) (asked : List Asked) (before : List Pkt) (due : Due) : Type 0 where
   pub done : Bool
   pub is_part : part_of t asked before ≡ Some (part_due done due)
@@ -118,7 +118,7 @@ stands t asked before due is =
     let (done, same) = part_is is.part (message_of before) due is.is_due in
     record { done = done; is_part = is.is_part ∙ ap Some same; is_due = subst (λ (part : Part). IsDueIn part (message_of before) due) same is.is_due }
 
--- a packet that is no flush is followed by no response end
+-- no response end follows a packet other than a flush
 pub no_end : (ending : Ending) (p : Pkt) (before : List Pkt) → p ≢ flush → is_end_due ending (p ∷ before) ≡ false
 no_end FlushOnly p before other = refl
 no_end WithResponseEnd flush before other = absurd (other refl)
@@ -130,7 +130,7 @@ GoesInto flush = ⊥
 GoesInto resp_end = ⊥
 GoesInto p = Unit {0}
 
--- after it, this is due
+-- this is expected after the packet
 pub due_after : (t : Terms) (asked : List Asked) (before : List Pkt) (due next : Due) (p : Pkt) → GoesInto p → awaits_end due ≡ 0
     → IsDue t asked before due → (s : Stands t asked before due) → IsDueIn (next_part (part_due s.done due)) (p ∷ message_of before) next
     → IsDue t asked (p ∷ before) next

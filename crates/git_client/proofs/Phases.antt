@@ -1,4 +1,4 @@
--- What a phase is where bytes are due, where the client can ask, where it has left, and where it has failed.
+-- The properties of a phase in which packets are expected, the client can ask, has left or has failed.
 use Rattle.std.proofs.Common.{◌≡◌, true, false, Some, None, refl}
 use Rattle.git_pkt.specs.declared.fault.Fault.{Fault}
 use Rattle.git_client.specs.Machine.Turns.{takes_packets, fault_in, is_ready, has_left_in}
@@ -32,7 +32,7 @@ sound_where_left Leaving e = refl
 sound_where_left Left e = refl
 sound_where_left phase e = absurd (cc)
 
--- ---- where a client owes nothing, and has not left
+-- ---- a client with no packet to send that has not left
 
 pub quiet_where_ready : (phase : Phase) → is_ready phase ≡ true → is_quiet phase ≡ true
 quiet_where_ready Ready e = refl

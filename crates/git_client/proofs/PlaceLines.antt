@@ -28,14 +28,14 @@ abbrev pub boundary_event : Boundary → EventValue
 boundary_event (Shallow id) = shallow id
 boundary_event (Unshallow id) = unshallow id
 
--- the line `NAK`, the line `ready` or an acknowledgment, each where it may come
+-- `NAK`, `ready` or an acknowledgment, each only if it may come
 abbrev pub IsAcknowledging : Format → Acks → List ℕ → List EventValue → Type 0
 IsAcknowledging format told text events =
     ((text ≡ codes "NAK") × (told.any ≡ false) × (events ≡ nak ∷ []))
     ⊎ (((text ≡ codes "ready") × (told.ready ≡ false) × (events ≡ ready ∷ []))
     ⊎ ((id : ObjectName) × IsAckLine format text id × ((told.nak || told.ready) ≡ false) × (events ≡ ack id ∷ [])))
 
--- what is read of a text line at the place, and the events of that
+-- how a text line at the place is read, and its events
 abbrev pub ReadsLine : Place → Format → List ℕ → List EventValue → Type 0
 ReadsLine version format text events = (text ≡ codes "version 2") × (events ≡ [])
 ReadsLine (capabilities spoken) format text events =
@@ -90,7 +90,7 @@ one_acknowledging format told text events others (inr (inr h)) (inr (inl k)) = a
 one_acknowledging format told text events others (inr (inr h)) (inr (inr k)) =
     h.3 ∙ ap (λ (id : ObjectName). ack id ∷ []) (one_ack format text h.0 k.0 h.1 k.1) ∙ sym k.3
 
--- one text is read in one way
+-- a text is read in one way
 one_reading : (place : Place) (format : Format) (text : List ℕ) (events others : List EventValue) → ReadsLine place format text events
     → ReadsLine place format text others → events ≡ others
 one_reading version format text events others h k = h.1 ∙ sym k.1
@@ -119,7 +119,7 @@ pub one_line : (place : Place) (format : Format) (text : List ℕ) (events other
 one_line place format text events others h k =
     one_reading place format text events others (line_read place format text events h) (line_read place format text others k)
 
--- a line of the acknowledgments is none that is not due
+-- a line that may come in the acknowledgments is not one that may not
 due_or_not : (format : Format) (told : Acks) (text : List ℕ) (events : List EventValue) → IsAcknowledging format told text events
     → IsNotDue told text → ⊥
 due_or_not format told text events (inl h) not_due = let any = not_due.nak h.0 in cc
@@ -173,7 +173,7 @@ one_line_fault sizes format text kind other h k = one_info_fault format text kin
 one_line_fault packfile format text kind other h k = absurd h
 one_line_fault response_end format text kind other h k = absurd h
 
--- an event of a text line: no turn, and nothing of the pack
+-- the events of a text line: no turn, and no byte of the pack
 pub record IsOfLine (events : List EventValue) : Type 0 where
   pub turns : turns_of events ≡ 0
   pub bytes : pack_bytes events ≡ []
@@ -203,7 +203,7 @@ of_read response_end format text events h = absurd h
 pub line_is : (place : Place) (format : Format) (text : List ℕ) (events : List EventValue) → SaysLine place format text events → IsOfLine events
 line_is place format text events says = of_read place format text events (line_read place format text events says)
 
--- bytes of the pack, or of the progress where the first band has none
+-- bytes of the pack, or of the progress if the payload has none on the first band
 abbrev pub IsOfBand : List ℕ → List ℕ → List EventValue → Type 0
 IsOfBand first bytes events = (events ≡ map pack first) ⊎ ((first ≡ []) × (events ≡ map progress bytes))
 
@@ -228,7 +228,7 @@ band_is_of first bytes events (inl e) = (ap turns_of e ∙ (pack_is first).0, ap
 band_is_of first bytes events (inr (none, e)) =
     let of = progress_is bytes in (ap turns_of e ∙ of.turns, ap pack_bytes e ∙ of.bytes ∙ sym none)
 
--- a payload of the packfile section is no turn, and gives of the pack what it has on the first band
+-- a payload of the packfile section is no turn, and its pack bytes are those on the first band
 pub band_is : (bytes : List ℕ) (events : List EventValue) → band_says bytes ≡ Ok events → (turns_of events ≡ 0) × (pack_bytes events ≡ on_first_band bytes)
 band_is [] events says = absurd (cc)
 band_is (band ∷ bytes) events says =

@@ -1,4 +1,4 @@
--- What a packet without a fault adds, derived from its place: turns, and bytes of the pack.
+-- What a packet without an error adds, by its place: turns, and bytes of the pack.
 use Rattle.std.proofs.Common.{arith, ◌≡◌, ℕ, zero, suc, ◌+◌, Bool, true, false, not, List, [], ◌∷◌}
 use Rattle.std.proofs.Common.{Option, Some, None, Result, Ok, Err, refl, ap, subst, cond, slice_get}
 use Rattle.git_names.specs.declared.object_format.Format.{Format}
@@ -18,7 +18,7 @@ use Rattle.git_client.specs.Events.{EventValue, offered, Gives, GivesLine, ended
 use Rattle.git_client.specs.Packs.{pack_in}
 use Rattle.git_client.proofs.PlaceLines.{line_is, band_is}
 
--- how many flushes come before a place, and whether a response end is due there
+-- how many flushes come before a place, and whether a response end is expected there
 abbrev pub ComesAfter : Place → ℕ → Bool → Type 0
 ComesAfter version n due = (n ≡ 0) × (due ≡ false)
 ComesAfter (capabilities spoken) n due = (n ≡ 0) × (due ≡ false)
@@ -68,7 +68,7 @@ comes_after t asked (p ∷ before) place h =
 abbrev pub one_if : Bool → ℕ
 one_if b = cond b 1 0
 
--- the packet adds a turn or a response end that is due, and these bytes of the pack
+-- a flush adds a turn or lets a response end be expected, and an expected response end adds a turn; the packet adds these bytes of the pack
 pub record Adds (ending : Ending) (before : List Pkt) (p : Pkt) (now : List EventValue) (packed : List ℕ) : Type 0 where
   pub turn : turns_of now + one_if (is_end_due ending (p ∷ before)) + flushes before ≡ flushes (p ∷ before) + one_if (is_end_due ending before)
   pub bytes : pack_bytes now ≡ packed
@@ -84,7 +84,7 @@ pub said_unless : (refused : Bool) (kind : Kind) (one now : List EventValue) →
 said_unless true kind one now e = absurd (cc)
 said_unless false kind one now e = said_by (Ok one) one now refl e
 
--- a packet that is no flush and no response end
+-- a packet that is neither a flush nor a response end
 no_flush : (ending : Ending) (before : List Pkt) (p : Pkt) (now : List EventValue) (packed : List ℕ) → turns_of now ≡ 0 → pack_bytes now ≡ packed
     → flushes (p ∷ before) ≡ flushes before → is_end_due ending (p ∷ before) ≡ false → is_end_due ending before ≡ false → Adds ending before p now packed
 no_flush ending before p now packed turns bytes same after due =

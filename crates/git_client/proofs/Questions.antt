@@ -1,4 +1,4 @@
--- What a request, and each packet of it that is sent, does to all that came and went.
+-- What a request, and each packet of it that is sent, changes in the history.
 use Rattle.std.proofs.Common.{arith, ◌≡◌, ◌≢◌, ◌≤◌, ◌*◌, ℕ, Bool, true, false, List, [], ◌∷◌, ◌++◌, length, Option, Some, None}
 use Rattle.std.proofs.Common.{refl, sym, ap, ◌∙◌, subst, append_assoc, length-append, cond, slice_get}
 use Rattle.std.specs.Bool.{OnTrue, OnFalse}
@@ -41,7 +41,7 @@ slice_get_last : {X : Type 0} (xs : List X) (x : X) → slice_get (xs ++ x ∷ [
 slice_get_last [] x = refl
 slice_get_last (y ∷ xs) x = slice_get_last xs x
 
--- after the responses to all requests before it, a packet belongs to the answer to the last one
+-- after the responses to all earlier requests, a packet belongs to the response to the last one
 part_asked : (t : Terms) (earlier : List Asked) (last : Asked) (before : List Pkt) → AreWhole t earlier before
     → part_of t (earlier ++ last ∷ []) before ≡ answer_to (Some last)
 part_asked t earlier last [] whole = absurd (omega (arith, whole.all_flushes))
@@ -50,7 +50,7 @@ part_asked t earlier last (p ∷ before) whole =
     ap (λ (due : Bool). cond due (Some closing) (part_after asked (flushes (p ∷ before)))) whole.no_end_due
     ∙ ap (part_after asked) whole.all_flushes ∙ ap answer_to (slice_get_last earlier last)
 
--- where the last request has been sent, its response is due
+-- once the last request has been sent, its response is expected
 due_asked : (t : Terms) (earlier : List Asked) (last : Asked) (before : List Pkt) → AreWhole t earlier before
     → IsDue t (earlier ++ last ∷ []) before (first_due last)
 due_asked t earlier (ls_refs q) before whole =
@@ -85,7 +85,7 @@ due_said t asked before question h =
     subst (λ (l : List Asked). IsDue t l before (first_due question)) (sym h.asked_is)
     (subst (λ (q : Asked). IsDue t (h.earlier ++ h.last ∷ []) before (first_due q)) same (due_asked t h.earlier h.last before h.whole))
 
--- what is sent with one request more
+-- what is sent with one more request
 said_more : (format : Format) (caps : Caps) (asked : List Asked) (question : Asked) (given : List ℕ)
     → given ++ [] ≡ spelled (said_of format caps asked false)
     → given ++ spelled (lines_written caps.agent caps.object_format format question) ≡ spelled (said_of format caps (asked ++ question ∷ []) false)
@@ -96,7 +96,7 @@ said_more format caps asked question given h =
     ∙ sym (flat_map-append spelling_of (questions_of format caps asked) (write question))
     ∙ ap spelled (flat_map_more write [] asked question ∙ sym (append-nil (questions_of format caps (asked ++ question ∷ []))))
 
--- a reader between two packets, whose hold was lent, reads on as before
+-- a reader between two packets whose hold was lent reads on as before
 pub record IsLent (old new : PacketReader) : Type 0 where
   pub fault : reader_fault_of new ≡ reader_fault_of old
   pub reads : (start : ℕ) (bytes : List ℕ) (given : List Given) (rest : List ℕ) → Reads old start bytes given rest → Reads new start bytes given rest
@@ -121,7 +121,7 @@ lent r hold fits shut = (
   shut_lent r hold (is_open_in r.state) refl shut,
 )
 
--- a phase without a fault
+-- a phase without an error
 stands_in : (phase : Phase) (t : Terms) (asked : List Asked) (clean given : List Given) (rest : List ℕ) (end : ℕ) (question : Option Asked)
     (reader : PacketReader) → fault_in phase ≡ None → Goes t asked clean given rest question phase reader
     → StandsIn phase t asked clean given rest end question reader
@@ -140,7 +140,7 @@ ready_phase Leaving e = absurd (cc)
 ready_phase Left e = absurd (cc)
 ready_phase (Failed fault) e = absurd (cc)
 
--- where no packet is open, nothing of one was handed out, whatever is asked
+-- if no packet is open, no part of one was handed out, whatever is asked
 opened_stays : (t : Terms) (asked others : List Asked) (clean : List Given) (events whole : List EventValue) (rest : List ℕ) → rest ≡ []
     → events ≡ whole ++ opened_in (place_after t asked (nearest clean [])) rest → events ≡ whole ++ opened_in (place_after t others (nearest clean [])) rest
 opened_stays t asked others clean events whole rest none are =
@@ -149,13 +149,13 @@ opened_stays t asked others clean events whole rest none are =
     are ∙ ap (λ (l : List EventValue). whole ++ l) (nothing (place_after t asked (nearest clean [])) ∙ sym (nothing (place_after t others (nearest clean []))))
 
 module _ {A : Type 0} where
-  -- the terms and what is noted are as they were
+  -- the terms and the noted capabilities are unchanged
   pub record SameTerms (old new : Client A) : Type 0 where
     pub format : format_of new ≡ format_of old
     pub ending : ending_of new ≡ ending_of old
     pub caps : caps_of new ≡ caps_of old
 
-  -- a client that could ask now asks this
+  -- a client that could ask asks this request
   pub record BeginsToAsk (old : Client A) (request : Request A) (writer : RequestWriter) (new : Client A) : Type 0 where
     pub terms : SameTerms old new
     pub was : phase_of old ≡ Ready
@@ -165,7 +165,7 @@ module _ {A : Type 0} where
     pub format : request_format request ≡ format_of old
     pub writes : left_to_write writer request ≡ written_of request (caps_of old)
 
-  -- where it is then
+  -- its state then
   stands_asking : (t : Terms) (h : History) (old new : Client A) (request : Request A) (writer : RequestWriter) (c : Converses t h old)
       → BeginsToAsk old request writer new → StandsIn (phase_of new) t (h.asked ++ asked_of request ∷ []) c.clean c.given c.rest (length h.used)
       (question_in (request_of new)) (reader_of new)
@@ -221,7 +221,7 @@ module _ {A : Type 0} where
             ∙ ap (λ (noted : Caps). spelled (said_of t.format noted asked h.left)) (sym b.terms.caps);
       }
 
-  -- the writer of the request has put its next packet into the hold
+  -- the request's writer has put its next packet into the hold
   pub record PutsNext (old : Client A) (request : Request A) (writer next : RequestWriter) (bytes : List ℕ) (new : Client A) : Type 0 where
     pub terms : SameTerms old new
     pub was : phase_of old ≡ Asking writer
@@ -236,7 +236,7 @@ module _ {A : Type 0} where
       → left_to_say client ≡ left_to_write writer request
   left_of client request writer is kept = ap (λ (phase : Phase). left_in phase (request_of client)) is ∙ ap (left_in (Asking writer)) kept
 
-  -- the packet is the next one of what is sent
+  -- it is the next packet that has to be sent
   says_next : (old new : Client A) (request : Request A) (writer next : RequestWriter) (bytes : List ℕ) → PutsNext old request writer next bytes new
       → fault_in (phase_of new) ≡ None → has_left new ≡ false → left_to_say new ≡ left_to_write next request
       → ((t : Terms) (asked : List Asked) (before : List Pkt) → IsAsked t asked before (Some (asked_of request))
@@ -285,7 +285,7 @@ module _ {A : Type 0} where
     not_ready = not_ready;
   }
 
-  -- more of the request is to be sent
+  -- more of the request has to be sent
   pub asks_on : (old new : Client A) (request : Request A) (writer next : RequestWriter) (bytes : List ℕ) → PutsNext old request writer next bytes new
       → phase_of new ≡ Asking next → request_of new ≡ Some request → Puts old new
   asks_on old new request writer next bytes b now keeps =
@@ -300,7 +300,7 @@ module _ {A : Type 0} where
         credit = ap (λ (n : ℕ). 56 * n) (shut_counts_none (reader_of new) b.shut);
       }
 
-  -- all of it was sent
+  -- the whole request was sent
   pub hears_now : (old new : Client A) (request : Request A) (writer next : RequestWriter) (bytes : List ℕ) (due : Due)
       → PutsNext old request writer next bytes new → phase_of new ≡ Hearing due → due ≡ first_due (asked_of request)
       → left_to_write next request ≡ [] → Puts old new
@@ -316,7 +316,7 @@ module _ {A : Type 0} where
         credit = ap (λ (n : ℕ). 56 * n) (shut_counts_none (reader_of new) b.shut);
       }
 
-  -- a writer that had something left has put the first of it
+  -- a writer with packets left has put the first of them
   pub puts_next : (old : Client A) (request : Request A) (writer next : RequestWriter) (held : List ℕ) (pulled : Bool) (P Q : Type 0)
       → phase_of old ≡ Asking writer → request_of old ≡ Some request → left_to_say old ≢ []
       → OnTrue pulled (PutsFirst (left_to_write writer request) (left_to_write next request) held)

@@ -1,4 +1,4 @@
--- Where a conversation is once a client has read some bytes: by whole packets, or in the packfile section by bytes that pass.
+-- The state of a conversation once a client has read some bytes: after whole packets, or in the packfile section after bytes that passed.
 use Rattle.std.proofs.Common.{◌≡◌, ◌≢◌, ℕ, Bool, true, false, cond, List, [], ◌∷◌, ◌++◌, length, Option, refl, ap, sym, ◌∙◌, subst}
 use Rattle.std.proofs.Common.{append_assoc, append-nil}
 use Rattle.git_pkt.specs.Packets.{Pkt, payload}
@@ -41,7 +41,7 @@ first_on_band : (b : Bool) (g : Given) (gs : List Given) → cond b (others gs) 
 first_on_band true g gs e = (refl, e)
 first_on_band false g gs e = absurd (cc)
 
--- all of them: they give what passed, nothing is noted, and the section goes on
+-- all of them: they give the bytes that passed, note nothing, and stay in the section
 bands_give : (t : Terms) (asked : List Asked) (before : List Pkt) (caps : Caps) (gs : List Given) → IsDue t asked before Packfile
     → caps ≡ noted_of (advertisement_of before) → others gs ≡ []
     → GiveAll t asked before gs (events_on (passed_by_all gs)) × (caps ≡ noted_of (advertisement_of (nearest gs before)))
@@ -63,7 +63,7 @@ bands_give t asked before caps (g ∷ gs) is notes all =
     )
 
 module _ {A : Type 0} where
-  -- packets without a fault have come, and then those returned; of the open packet events were handed out as its bytes came
+  -- Packets without an error were read, and then the returned ones. The open packet's events were handed out while its bytes were read.
   pub record Reached (t : Terms) (h : History) (old : Client A) (due : Due) (u : List ℕ) (told : List Given) (parts : List EventValue)
       (reader : PacketReader) : Type 0 where
     pub clean : List Given
@@ -75,7 +75,7 @@ module _ {A : Type 0} where
     pub is_due : IsDue t h.asked (nearest clean []) due
     pub events_are : h.events ++ parts ≡ whole ++ opened_in (place_after t h.asked (nearest clean [])) rest
 
-  -- whatever came and went before
+  -- for any history before
   abbrev pub Reaches : Client A → Due → List ℕ → List Given → List EventValue → PacketReader → Type 0
   Reaches old due u told parts reader = (t : Terms) (h : History) → Converses t h old → Reached t h old due u told parts reader
 
@@ -84,7 +84,7 @@ module _ {A : Type 0} where
   goes_hearing t h old due c hearing =
       subst (λ (phase : Phase). StandsIn phase t h.asked c.clean c.given c.rest (length h.used) (question_in (request_of old)) (reader_of old)) hearing c.stands
 
-  -- by `feed`, where no bytes pass
+  -- by `feed`, which passes no bytes on
   pub reach_lines : (old : Client A) (due : Due) (u : List ℕ) (told : List Given) (reader : PacketReader) → phase_of old ≡ Hearing due
       → due ≢ Packfile → ReadsOn (reader_of old) u told reader → Reaches old due u told [] reader
   reach_lines old due u told reader hearing other reads t h c =
@@ -144,7 +144,7 @@ module _ {A : Type 0} where
             ∙ ap (λ (l : List EventValue). (c.whole ++ gifts) ++ l) (sym opened_after);
       }
 
-  -- at the end of the input, with no byte more
+  -- at the end of the input, without another byte
   pub reach_end : (old : Client A) (due : Due) (reader : PacketReader) → phase_of old ≡ Hearing due → ReadsOn (reader_of old) [] [] reader
       → Reaches old due [] [] [] reader
   reach_end old due reader hearing reads t h c =

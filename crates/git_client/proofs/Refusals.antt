@@ -1,4 +1,4 @@
--- Why a packet is refused: the server reports a fault in it, or the client's own rules refuse it.
+-- Why a packet is refused: the server reports an error in it, or a rule of the client refuses it.
 use Rattle.std.proofs.Common.{◌≡◌, ◌⊎◌, inl, inr, ℕ, ◌==◌, Bool, true, false, List, [], ◌∷◌, Result, Ok, Err, refl, ap, sym, ◌∙◌, cond, subst, map}
 use Rattle.std.proofs.lemmas.Bool.{eqb-true}
 use Rattle.git_names.specs.declared.object_format.Format.{Format}
@@ -16,7 +16,7 @@ use Rattle.git_client.specs.Places.{size_line, sizes, response_end}
 use Rattle.git_client.specs.Events.{EventValue, Refuses, RefusesLine, IsLineFault, band_says, flush_says, delimiter_says, response_end_says, pack, progress}
 use Rattle.git_client.specs.Machine.Client.{IsMessage}
 
--- a name of the client's own rules
+-- an error of the client's own rules
 abbrev pub is_own : Kind → Bool
 is_own NotVersion2 = true
 is_own BadCapability = true
@@ -31,7 +31,7 @@ is_own NoBand = true
 is_own BadBand = true
 is_own kind = false
 
--- the server reports a fault of this name in the packet
+-- the server reports an error of this kind in the packet
 pub record TellsFault (p : Pkt) (kind : Kind) : Type 0 where
   pub line : List ℕ
   pub message : List ℕ
@@ -150,7 +150,7 @@ band_why : (bytes : List ℕ) (kind : Kind) → band_says bytes ≡ Err kind →
 band_why [] kind e = inr (own _ NoBand kind refl e refl)
 band_why (band ∷ bytes) kind e = band_told (band == 1) (band == 2) (band == 3) band bytes kind (eqb-true band 3) e
 
--- the server reports a fault, or a rule of the client's own refuses the packet
+-- the server reports an error, or a rule of the client refuses the packet
 pub why_refused : (format : Format) (ending : Ending) (place : Place) (p : Pkt) (kind : Kind) → Refuses format ending place p kind → Why p kind
 why_refused format ending packfile (payload bytes) kind r = band_why bytes kind r
 why_refused format ending response_end (payload bytes) kind r = inr (ap is_own r)

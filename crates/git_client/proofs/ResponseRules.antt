@@ -1,4 +1,4 @@
--- A response goes by its rule exactly where each of its packets is in its place, and it is whole.
+-- A response follows its rule exactly if it is whole and each of its packets is in its place.
 use Rattle.std.proofs.Common.{◌≡◌, ◌≢◌, ◌⊎◌, ◌↔◌, ◌||◌, inl, inr, ℕ, Bool, true, false, List, [], ◌∷◌, ◌++◌, Option, Some, None, Ok}
 use Rattle.std.proofs.Common.{refl, sym, ap, ◌∙◌, subst, append-nil, codes, map}
 use Rattle.git_names.specs.ObjectName.{ObjectName}
@@ -39,7 +39,7 @@ use Rattle.git_client.proofs.Questions.{due_said}
 use Rattle.git_client.proofs.SectionSteps.{header_named}
 use Rattle.git_client.proofs.Truncation.{none_due}
 
--- nothing comes, and no packets are so
+-- no packet, and no event
 abbrev Nothing : Rule
 Nothing packets events = (packets ≡ []) × (events ≡ [])
 
@@ -50,7 +50,7 @@ Never packets events = ⊥
 abbrev LastPacket : Rule
 LastPacket packets events = (packets ≡ resp_end ∷ []) × (events ≡ ended ∷ [])
 
--- the rule of what is left of a response where this is due
+-- the rule of the rest of a response, by what is expected next
 abbrev AcksPart : Format → Ending → (ready_came nak_came any : Bool) → Rule
 AcksPart format ending true nak_came any = First IsDelimiter (PackPart format ending true true)
 AcksPart format ending false true any = AfterAcks format ending
@@ -76,12 +76,12 @@ RuleOf format ending Sizes = Many (IsText (SaysLine sizes format)) (IsEnd ending
 RuleOf format ending ResponseEnd = LastPacket
 RuleOf format ending due = Never
 
--- and of what is left in a phase: after a whole response nothing
+-- and of the rest in a phase: nothing after a whole response
 abbrev RuleIn : Format → Ending → Phase → Rule
 RuleIn format ending (Hearing due) = RuleOf format ending due
 RuleIn format ending phase = Nothing
 
--- a response is due, and `NAK` and `ready` are lines
+-- the next packet belongs to a response; if no acknowledgment was received, neither `NAK` nor `ready` was
 abbrev IsReached : Due → Type 0
 IsReached Version = ⊥
 IsReached Capabilities = ⊥
@@ -93,7 +93,7 @@ IsReachedIn (Hearing due) = IsReached due
 IsReachedIn phase = Unit {0}
 
 module _ (format : Format) (ending : Ending) (caps : Caps) where
-  -- a packet where this is due, and then by the rule of what is due then
+  -- a packet that is expected, and the rest by the rule of what is expected after it
   abbrev Steps : Due → Pkt → List Pkt → List EventValue → Type 0
   Steps due p packets events =
       (now : List EventValue) × (later : List EventValue) × (events ≡ now ++ later) × Gives format ending (place_due caps format due) p now
@@ -102,7 +102,7 @@ module _ (format : Format) (ending : Ending) (caps : Caps) where
 -- ---- the end of a response
 
 module _ (format : Format) where
-  -- the flush, and what comes after it
+  -- the flush, and what follows it
   abbrev EndsFrom : Ending → List Pkt → List EventValue → Type 0
   EndsFrom ending packets events =
       (later : List EventValue) × (events ≡ ended_by ending ++ later) × RuleIn format ending (phase_after_response ending) packets later
@@ -116,7 +116,7 @@ module _ (format : Format) where
       (ap (λ (l : List Pkt). flush ∷ l) none, es ∙ ap (λ (l : List EventValue). ended ∷ l) nothing)
   end_from WithResponseEnd packets events (later, es, (last, is)) = (ap (λ (l : List Pkt). flush ∷ l) last, es ∙ is)
 
-  -- it begins with a flush
+  -- only a flush begins the end of a response
   abbrev NoFlush : Pkt → Type 0
   NoFlush flush = ⊥
   NoFlush p = Unit {0}
@@ -130,7 +130,7 @@ module _ (format : Format) where
   none_ends FlushOnly events h = let e = h.0 in cc
   none_ends WithResponseEnd events h = let e = h.0 in cc
 
--- ---- each thing that is due
+-- ---- what is expected, case by case
 
 module _ (format : Format) (ending : Ending) (caps : Caps) where
   abbrev To : Due → Type 0
@@ -217,7 +217,7 @@ module _ (format : Format) (ending : Ending) (caps : Caps) where
   response_end_from (payload line) ps es x = absurd x.3
   response_end_from p ps es x = let gives = x.3 in absurd (cc)
 
-  -- the delimiter after a section, at a place where it gives nothing
+  -- the delimiter after a section, at a place where it gives no event
   delimiter_first : (rule : Rule) (ps : List Pkt) (es : List EventValue) → First IsDelimiter rule (delim ∷ ps) es
       → (now : List EventValue) × (later : List EventValue) × (es ≡ now ++ later) × (delimiter_says shallow_info ≡ Ok now) × rule ps later
   delimiter_first rule ps es (now, later, e, (is, none), rest) = (now, later, e, ap Ok (sym none), rest)
@@ -276,7 +276,7 @@ module _ (format : Format) (ending : Ending) (caps : Caps) where
       → SaysLine (header allowed) format text now
   says_header allowed text now none may = rw none may
 
-  -- a header that may come, and then the section
+  -- a header that may come, and its section
   begins_to : (allowed : Allowed) (section : Section) (rule : Rule) → allows allowed section ≡ true
       → ((ps : List Pkt) (es : List EventValue) → rule ps es → RuleOf format ending (due_in allowed section) ps es)
       → (p : Pkt) (ps : List Pkt) (es : List EventValue) → First (IsHeader section) rule (p ∷ ps) es → Steps format ending caps (Header allowed) p ps es
@@ -295,7 +295,7 @@ module _ (format : Format) (ending : Ending) (caps : Caps) where
   begins_to allowed section rule may on delim ps es x = absurd x.3
   begins_to allowed section rule may on resp_end ps es x = absurd x.3
 
-  -- the sections of a pack part, one way and the other
+  -- the sections before a pack, in both directions
   pack_out : (shallow wanted : Bool) (ps : List Pkt) (es : List EventValue) → PackPart format ending shallow wanted ps es
       → PackfileSection format ending ps es
       ⊎ (((shallow ≡ true) × ShallowInfoSection format ending (PackPart format ending false wanted) ps es)
@@ -437,7 +437,7 @@ module _ (format : Format) (ending : Ending) (caps : Caps) where
   ack_in true line ps es now later e is rest = inr (now, later, e, is, rest)
   ack_in false line ps es now later e is rest = inr (inr (now, later, e, is, rest))
 
-  -- what a line of the acknowledgments says
+  -- the event of a line of the acknowledgments
   abbrev AckSays : Acks → List ℕ → List EventValue → Type 0
   AckSays told text now =
       ((text ≡ codes "NAK") × (now ≡ nak ∷ []) × (told.any ≡ false))
@@ -480,7 +480,7 @@ module _ (format : Format) (ending : Ending) (caps : Caps) where
   acks_from false nak_came any reached delim ps es x = let gives = x.3 in absurd (cc)
   acks_from ready_came nak_came any reached resp_end ps es x = let gives = x.3 in absurd (cc)
 
-  -- ---- whatever is due
+  -- ---- all cases
 
   to : (due : Due) → To due
   to References p ps es h = references_to p ps es h
@@ -506,7 +506,7 @@ module _ (format : Format) (ending : Ending) (caps : Caps) where
   from ResponseEnd reached p ps es h = response_end_from p ps es h
   from due reached p ps es h = absurd reached
 
-  -- something is left while a response is due
+  -- while a response is expected, its rest is not empty
   pack_left : (shallow wanted : Bool) (es : List EventValue) → PackPart format ending shallow wanted [] es → ⊥
   pack_left shallow wanted es h = elim (pack_out shallow wanted [] es h) [ inl x ↦ x | inr others ↦ elim others [ inl x ↦ x.1 | inr x ↦ x.1 ] ]
 
@@ -539,7 +539,7 @@ module _ (format : Format) (ending : Ending) (caps : Caps) where
   none_left ResponseEnd es h = let e = h.0 in cc
   none_left due es h = h
 
-  -- what is due next is of a response too
+  -- what is expected next belongs to a response too
   header_reached : (allowed : Allowed) (named : Option Section) → IsReached (due_after_header allowed named)
   header_reached allowed None = tt
   header_reached allowed (Some AcknowledgmentsHeader) = λ e. (refl, refl)
@@ -574,7 +574,7 @@ module _ (format : Format) (ending : Ending) (caps : Caps) where
   reached_next due flush reached = flush_reached due reached
   reached_next due resp_end reached = tt
 
-  -- nothing is noted of a response
+  -- a response notes nothing
   notes_nothing : (due : Due) (p : Pkt) → IsReached due → NotesAfter due caps p caps
   notes_nothing Version p reached = absurd reached
   notes_nothing Capabilities p reached = absurd reached
@@ -586,7 +586,7 @@ abbrev pub packets_in : List Given → List Pkt
 packets_in gs = map (λ g. g.packet) gs
 
 module _ (t : Terms) (asked : List Asked) where
-  -- by the rule each packet is in its place
+  -- if the rule is followed, each packet is in its place
   goes_by : (gs : List Given) (before : List Pkt) (phase : Phase) (es : List EventValue) → IsReachedIn phase → Behind t asked before None phase
       → RuleIn t.format t.ending phase (packets_in gs) es → GiveAll t asked before gs es × AreWhole t asked (nearest gs before)
   goes_by [] before (Hearing due) es reached is h = absurd (none_left t.format t.ending (noted_of (advertisement_of before)) due es h)
@@ -608,7 +608,7 @@ module _ (t : Terms) (asked : List Asked) where
   nothing_more : (before : List Pkt) (g : Given) (now : List EventValue) → AreWhole t asked before → GivesAt t asked before g.packet now → ⊥
   nothing_more before g now whole at = let none = sym (none_due t asked before whole) ∙ at.is_place in cc
 
-  -- and where each is, they go by it
+  -- if each packet is in its place, the rule is followed
   comes_by : (gs : List Given) (before : List Pkt) (phase : Phase) (es : List EventValue) → IsReachedIn phase → Behind t asked before None phase
       → GiveAll t asked before gs es → AreWhole t asked (nearest gs before) → RuleIn t.format t.ending phase (packets_in gs) es
   comes_by [] before (Hearing due) es reached is h whole =
@@ -632,7 +632,7 @@ module _ (t : Terms) (asked : List Asked) where
   comes_by (g ∷ gs) before (Asking writer) es reached behind h whole = let none = behind.question_is in absurd (cc)
   comes_by (g ∷ gs) before (Failed fault) es reached behind h whole = absurd behind
 
--- the rule of a request's response is that of what is due first
+-- the rule of a response is the rule of what is expected first
 first_reached : (q : Asked) → IsReached (first_due q)
 first_reached (ls_refs q) = tt
 first_reached (fetch q) = tt

@@ -1,4 +1,4 @@
--- What comes of a client that sends a request, one packet after another, and what asking does to its history.
+-- How a client sends a request packet by packet, and what asking adds to its history.
 use Rattle.std.proofs.Common.{◌≡◌, ◌≢◌, inl, inr, ℕ, Bool, true, false, List, [], ◌∷◌, ◌++◌, Option, None}
 use Rattle.std.proofs.Common.{Result, Ok, Err, IfErr, refl, sym, ap, ◌∙◌, subst, append_assoc, append-nil}
 use Rattle.std.proofs.KnownBytes.{Appends-kept, Appends-nil, Appends-trans}
@@ -25,25 +25,25 @@ use denote.Ref.{Bor}
 
 -- ---- the phases of a client that sends something
 
--- a client that receives owes no packet
+-- a client that receives has no packet to send
 hearing_owes_nothing : {A : Type 0} (phase : Phase) (request : Option (Request A)) → takes_packets phase ≡ true → left_in phase request ≡ []
 hearing_owes_nothing (Hearing due) request e = refl
 hearing_owes_nothing phase request e = absurd (cc)
 
--- a client that owes a packet other than a flush asks, and has not left
+-- a client that has a packet other than a flush to send is asking, and has not left
 owes_before_leaving : {A : Type 0} (phase : Phase) (request : Option (Request A)) (bytes : List ℕ) (others : List Pkt)
     → left_in phase request ≡ payload bytes ∷ others → has_left_in phase ≡ false
 owes_before_leaving Leaving request bytes others owes = absurd (cc)
 owes_before_leaving Left request bytes others owes = absurd (cc)
 owes_before_leaving phase request bytes others owes = refl
 
--- a client that owes a packet has no fault
+-- a client that has a packet to send has no error
 sound_where_owed : {A : Type 0} (phase : Phase) (request : Option (Request A)) (packet : Pkt) (others : List Pkt)
     → left_in phase request ≡ packet ∷ others → fault_in phase ≡ None
 sound_where_owed (Failed fault) request packet others owes = absurd (cc)
 sound_where_owed phase request packet others owes = refl
 
--- a client that owes no packet, can't ask, and has not left or failed receives
+-- a client that has no packet to send, cannot ask, has no error and has not left receives
 hears_after_all : {A : Type 0} (phase : Phase) (request : Option (Request A)) → is_ready phase ≡ false → fault_in phase ≡ None
     → has_left_in phase ≡ false → (is_asking phase ≡ true → left_in phase request ≢ []) → left_in phase request ≡ [] → takes_packets phase ≡ true
 hears_after_all (Hearing due) request not_ready sound stays owes all = refl
@@ -52,11 +52,11 @@ hears_after_all phase request not_ready sound stays owes all = absurd (cc)
 
 -- ---- what was written
 
--- nothing was given
+-- no packet was written
 nothing_broke : (held : Option (List ℕ)) → BreaksOff (flow held held) []
 nothing_broke held = record { whole = []; front = []; rest = []; parts = refl; written = Appends-nil held; one_packet = inl refl }
 
--- all that was given was written
+-- all packets were written
 broke_after : (before after : Option (List ℕ)) (u : List ℕ) → Appends before after u → BreaksOff (flow before after) u
 broke_after before after u written = record {
   whole = u;
@@ -67,7 +67,7 @@ broke_after before after u written = record {
   one_packet = inl refl;
 }
 
--- packets that were written whole, and one of which a front was
+-- some packets were written whole, and a prefix of another
 broke_then : (broken : Bool) (before held after : Option (List ℕ)) (u v : List ℕ) (packet : Pkt) → v ≡ spelling_of packet
     → WrittenAs false (flow before held) u → WrittenAs broken (flow held after) v → broken ≡ true → BreaksOff (flow before after) (u ++ v)
 broke_then false before held after u v packet is first second e = absurd (cc)
@@ -83,7 +83,7 @@ broke_then true before held after u v packet is first (front, rest, parts, appen
 module _ {A : Type 0} where
   -- ---- what was sent
 
-  -- some of the packets that were owed were given, and written
+  -- some of the packets to be sent were pulled and written
   pub record SaysSome (broken : Bool) (old new : Client A) (writer : Flow) : Type 0 where
     pub given : List ℕ
     pub written : WrittenAs broken writer given
@@ -113,7 +113,7 @@ module _ {A : Type 0} where
     not_ready = not_ready;
   }
 
-  -- a client that can't ask and has no fault, and gives no packet, owes none
+  -- a client that cannot ask, has no error and returns no packet has none to send
   pub gives_no_packet : (sent : Sent) (middle new : Client A) → TellsSent sent middle new → can_ask middle ≡ false → fault_of middle ≡ None
       → ((bytes : Bor (List ℕ)) → sent ≡ Packet bytes → ⊥) → (new ≡ middle) × (left_to_say middle ≡ [])
   gives_no_packet (Packet bytes) middle new tells not_ready sound none = absurd (none bytes refl)
@@ -124,7 +124,7 @@ module _ {A : Type 0} where
 
   module _ (broken : Bool) (old middle new : Client A) (before held after : Option (List ℕ)) (sent : Sent)
       (so_far : SaysSome false old middle (flow before held)) (pulls : Pulls middle sent new) where
-    -- a packet was pulled, and written as far as that went
+    -- a packet was pulled and written, or the write failed
     pub says_packet : (bytes : Bor (List ℕ)) → sent ≡ Packet bytes → WrittenAs broken (flow held after) bytes.now
         → SaysSome broken old new (flow before after)
     says_packet bytes is written =
@@ -140,7 +140,7 @@ module _ {A : Type 0} where
           not_ready = tells.not_ready;
         }
 
-    -- no packet was left, and the writer was flushed as far as that went
+    -- no packet was left, and the writer was flushed, or the flush failed
     pub says_all : ((bytes : Bor (List ℕ)) → sent ≡ Packet bytes → ⊥) → Keeps held after → Says broken old new (flow before after)
     says_all none kept =
         let (stays, all) = gives_no_packet sent middle new pulls.tells so_far.not_ready so_far.sound none in
@@ -155,7 +155,7 @@ module _ {A : Type 0} where
           not_ready = so_far.not_ready;
         })
 
-  -- a write failed, so nothing is stated of what is left
+  -- a write failed, so nothing is stated of the packets left
   pub says_front : (old new : Client A) (writer : Flow) → SaysSome true old new writer → Says true old new writer
   says_front old new writer some = record {
     given = some.given;
@@ -168,10 +168,10 @@ module _ {A : Type 0} where
     not_ready = some.not_ready;
   }
 
-  -- ---- what asking does to the history
+  -- ---- what asking adds to the history
 
   module _ (broken : Bool) (old middle new : Client A) (request : Request A) (writer out : Flow) (asks : Asks old request middle) where
-    -- the request was asked, its line written as far as that went, and these bytes of it given, and written as far as that went
+    -- the request was asked, and its line and these bytes of it were written, or a write failed
     asks_giving : (given : List ℕ) → WrittenAs broken writer given → WrittenAs broken out (asked_line (command_asked (asked_of request)))
         → (broken ≡ true → BreaksOff writer given) → SaysOn middle given new → fault_of new ≡ None → can_ask new ≡ false
         → AsksNext broken old new request writer out
@@ -193,14 +193,14 @@ module _ {A : Type 0} where
       asks_giving true old middle middle request (flow held held) out asks [] (written_whole true (flow held held) [] (written_nothing held)) told
       (λ e. nothing_broke held) (says_nothing middle) (sound_where_owed middle.phase middle.request _ _ asks.owes) asks.no_more
 
-  -- all of the request was sent, so its response is due
+  -- the whole request was sent, so its response is expected
   pub hears_next : (old middle new : Client A) (request : Request A) (writer : Flow) → Asks old request middle → Says false middle new writer
       → wants_input new ≡ true
   hears_next old middle new request writer asks says =
       hears_after_all new.phase new.request says.not_ready says.sound
       (says.same_leaving ∙ owes_before_leaving middle.phase middle.request _ _ asks.owes) new.owes (says.all refl)
 
-  -- the request was taken, its line written, and its packets sent as far as that went
+  -- the request was taken, its line written, and its packets sent, or a write failed
   pub asks_said : (r : Result (Unit {0}) RunFault) (old middle new : Client A) (request : Request A) (writer out : Flow)
       → Asks old request middle → WrittenAs false out (asked_line (command_asked (asked_of request))) → Says (is_broken r) middle new writer
       → IfErr r (λ fault. fault ≡ WriteFault) → AsksTo r old new request writer out
@@ -213,7 +213,7 @@ module _ {A : Type 0} where
       says.not_ready
   asks_said (Err fault) old middle new request writer out asks told says named = absurd (cc)
 
-  -- the same where all of it was sent: just what was given was sent
+  -- the same if no write failed: exactly the bytes of the request were sent
   pub asks_whole : (old middle new : Client A) (request : Request A) (writer out : Flow) → Asks old request middle
       → WrittenAs false out (asked_line (command_asked (asked_of request))) → (says : Says false middle new writer)
       → (step : AsksNext false old new request writer out) × (step.given ≡ says.given)

@@ -1,4 +1,4 @@
--- One packet more of a message of sections.
+-- One more packet of a message that has sections.
 use Rattle.std.proofs.Common.{◌≡◌, ℕ, Bool, true, false, List, [], ◌∷◌, Option, Some, None, ap, cond, refl, sym, ◌∙◌}
 use Rattle.std.specs.Str.{bytes_eq}
 use Rattle.std.proofs.Math.Bool.{and-false}
@@ -29,14 +29,14 @@ header_named text section named =
     (λ named. first_or_later text ShallowInfo section _ named
     (λ named. first_or_later text WantedRefs section _ named (λ named. first_or_later text Packfile section None named (λ none. absurd (cc)))))
 
--- a line inside a section stays in it
+-- after a line inside a section the message is still in it
 pub inside_more : (section : Section) (message : List Pkt) (line : List ℕ) → IsInside section message → IsInside section (payload line ∷ message)
 inside_more section message line h = record {
   inside = refl;
   begun = ap (λ (b : Bool). cond b (section_named (text_of line)) (section_of message)) h.inside ∙ h.begun;
 }
 
--- no packet inside a section changes which sections may begin
+-- a packet inside a section does not change which sections may begin
 pub allowed_stays : (done : Bool) (p : Pkt) (message : List Pkt) → is_header_due message ≡ false
     → allowed_after done (p ∷ message) ≡ allowed_after done message
 allowed_stays done p [] inside = absurd (cc)
@@ -50,7 +50,7 @@ allowed_more done message line ShallowInfo due text = rw (due, text, and-false) 
 allowed_more done message line WantedRefs due text = rw (due, text, and-false) refl
 allowed_more done message line Packfile due text = rw (due, text, and-false) refl
 
--- the acknowledgments come first
+-- no section comes before the acknowledgments
 none_before : (done : Bool) (message : List Pkt) → allows (allowed_after done message) Acknowledgments ≡ true
     → next_allowed (allowed_after done message) Acknowledgments ≡ after_acknowledgments
 none_before done [] may = refl
@@ -80,7 +80,7 @@ header_more done message line (Some section) named due may = go section named ma
   go WantedRefs named may = (inside WantedRefs named, more WantedRefs named)
   go Packfile named may = inside Packfile named
 
--- after the header of a section, the section is due
+-- after a section's header its lines are expected
 pub header_due : (done : Bool) (message : List Pkt) (allowed : Allowed) (line : List ℕ) → IsDueIn (sections done) message (Header allowed)
     → may_begin allowed (section_named (text_of line)) ≡ true
     → IsDueIn (sections done) (payload line ∷ message) (due_after_header allowed (section_named (text_of line)))

@@ -1,4 +1,4 @@
--- One packet more, after those before it, and requests that come later.
+-- One more packet after those before it, and requests that are asked later.
 use Rattle.std.proofs.Common.{arith, ◌≡◌, ◌⊎◌, inl, inr, ℕ, zero, suc, ◌+◌, Bool, true, false, List, [], ◌∷◌, ◌++◌}
 use Rattle.std.proofs.Common.{Option, Some, None, refl, sym, ap, ◌∙◌, subst, append_assoc, cond, slice_get}
 use Rattle.std.proofs.lemmas.List.{append-nil}
@@ -50,7 +50,7 @@ pub advertisement_more : (p : Pkt) (before : List Pkt) → flushes before ≡ 0 
 advertisement_more p before none =
     ap (λ (n : ℕ). cond (is_zero n) (p ∷ advertisement_of before) (advertisement_of before)) none
 
--- what is in a list stays when more comes after it
+-- an item of a list stays in its place when more is appended
 slice_get_more : {X : Type 0} (xs more : List X) (k : ℕ) → (slice_get xs k ≡ None) ⊎ (slice_get (xs ++ more) k ≡ slice_get xs k)
 slice_get_more [] more k = inl refl
 slice_get_more (x ∷ xs) more zero = inr refl
@@ -97,7 +97,7 @@ turns-append (offered ∷ events) later = omega (arith, turns-append events late
 turns-append (ended ∷ events) later = omega (arith, turns-append events later)
 turns-append (event ∷ events) later = turns-append events later
 
--- packets add a turn for each flush but that of a response after which an end is due
+-- packets add one turn for each flush, except for a flush after which a response end is expected
 turns_after : (t : Terms) (asked : List Asked) (before : List Pkt) (gs : List Given) (events : List EventValue) → GiveAll t asked before gs events
     → turns_of events + one_if (is_end_due t.ending (nearest gs before)) + flushes before
     ≡ flushes (nearest gs before) + one_if (is_end_due t.ending before)
@@ -111,7 +111,7 @@ turns_after t asked before (g ∷ gs) events (now, later, e, at, rest) =
       turns_after t asked (g.packet ∷ before) gs later rest,
     )
 
--- the client reached a point where it can ask once for each flush, but for that of a response after which an end is due
+-- the client could ask once for each flush so far, except for a flush after which a response end is expected
 pub turns_are_messages : (t : Terms) (asked : List Asked) (clean : List Given) (events : List EventValue) → GiveAll t asked [] clean events
     → turns_of events + one_if (is_end_due t.ending (nearest clean [])) ≡ flushes (nearest clean [])
 turns_are_messages t asked clean events h =

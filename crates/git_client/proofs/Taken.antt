@@ -1,4 +1,4 @@
--- What the client has done once a packet is settled.
+-- What the client has done when a packet is settled.
 use Rattle.std.proofs.Common.{arith, ◌≡◌, ◌≢◌, ◌⊎◌, inl, inr, ℕ, ◌<◌, ◌≤◌, true, false, List, [], ◌∷◌, length, take, drop, map}
 use Rattle.std.proofs.Common.{Some, None, Result, Ok, Err, refl, ap, sym, ◌∙◌, subst}
 use Rattle.std.proofs.lemmas.List.{length-take-le}
@@ -48,7 +48,7 @@ use Rattle.git_client.proofs.Refusals.{TellsFault, is_own, why_refused}
 use Rattle.git_client.proofs.Reached.{Reaches, reach_bands, reach_lines}
 use Rattle.git_client.proofs.Carries.{goes_on, HearsPacket, HearsBytes, hears_packet, hears_parts, hears_refused, hears_failed}
 
--- after a packet without a fault the client receives more, or can ask
+-- after a packet without an error the client receives more or can ask
 pub goes_after : (ending : Ending) (due : Due) (p : Pkt) → goes_on (phase_after ending due p) ≡ true
 goes_after ending due (payload bytes) = refl
 goes_after ending due delim = refl
@@ -57,7 +57,7 @@ goes_after FlushOnly _ flush = refl
 goes_after WithResponseEnd _ flush = refl
 goes_after ending due resp_end = refl
 
--- the packet is a turn just where it can be asked after it
+-- the packet is a turn exactly if the client can ask after it
 abbrev pub IsTurnTo : Phase → List EventValue → Type 0
 IsTurnTo next events = turns_of events ≡ one_if (is_ready next)
 
@@ -107,7 +107,7 @@ can_be_asked : (next : Phase) → one_if (is_ready next) ≡ 1 → is_ready next
 can_be_asked Ready one = refl
 can_be_asked _ one = absurd (cc)
 
--- whether the client can ask or receives more, after a packet that contained this
+-- whether the client can ask or receives more, after a packet with these contents
 abbrev StandsOn : Said → Phase → Type 0
 StandsOn Offered next = is_ready next ≡ true
 StandsOn Ended next = is_ready next ≡ true
@@ -118,7 +118,7 @@ stands_after Offered bytes next goes turn = can_be_asked next (sym turn)
 stands_after Ended bytes next goes turn = can_be_asked next (sym turn)
 stands_after said bytes next goes turn = hears_on next goes (sym turn)
 
--- a fault of a packet is none that the reader reports
+-- an error of a packet is never one that the reader reports
 shown_by_packet : (p : Pkt) (f : Fault) (used : ℕ) (piece : List ℕ) → TellsFault p f.kind ⊎ (is_own f.kind ≡ true) → ShownByFeed f used piece
 shown_by_packet p f used piece (inl told) = record {
   not_the_end = λ e. subst (λ (k : Kind). IsMessage k told.line told.message) e told.says;
@@ -133,7 +133,7 @@ some_taken : (piece : List ℕ) (used : ℕ) → 0 < used → used ≤ length pi
 some_taken piece used some within = omega (arith, some, length-take-le used piece within)
 
 module _ {A : Type 0} where
-  -- the events of what a packet contained come, with its bytes in the hold
+  -- the events of a packet's contents are returned, with its bytes in the hold
   comes : (said : Said) (body : List ℕ) (used : ℕ) (piece : List ℕ) (new : Client A) → said_last new ≡ said → drop 4 (held_of (reader_of new)) ≡ body
       → Fits said body → Comes (outcome_said said) (events_at said body) used piece new
   comes Nothing body used piece new is held fits = refl
@@ -183,7 +183,7 @@ module _ {A : Type 0} where
         fits = omega arith;
       }
 
-  -- bytes that `feed` used, with what it gave of them
+  -- the bytes that `feed` used, with what it returned for them
   pub fed_bytes : (old read : Client A) (due : Due) (piece : List ℕ) (fed : Fed) (got : Got) → phase_of old ≡ Hearing due → due ≢ Packfile
       → format_of read ≡ format_of old → ending_of read ≡ ending_of old → Feeds (reader_of old) piece fed (reader_of read) → fed.got ≡ got
       → HearsBytes old read due (take fed.used piece) (given_by got) []
@@ -195,7 +195,7 @@ module _ {A : Type 0} where
     ending = ending;
   }
 
-  -- and that `feed_band` used
+  -- and those that `feed_band` used
   pub fed_bands : (old read : Client A) (piece : List ℕ) (fed : BandFed) (got : BandGot) → phase_of old ≡ Hearing Packfile
       → format_of read ≡ format_of old → ending_of read ≡ ending_of old → FeedsBand (reader_of old) piece fed (reader_of read) → fed.got ≡ got
       → HearsBytes old read Packfile (take fed.used piece) (told_by got) (events_on (part_of got))
@@ -207,7 +207,7 @@ module _ {A : Type 0} where
     ending = ending;
   }
 
-  -- a packet has come whole, which lies in the hold
+  -- a packet was read whole, and is in the hold
   pub record ReadsPacket (old read : Client A) (due : Due) (u : List ℕ) (g : Given) : Type 0 where
     pub hearing : phase_of old ≡ Hearing due
     pub reaches : Reaches old due u (g ∷ []) [] (reader_of read)
@@ -216,7 +216,7 @@ module _ {A : Type 0} where
     pub shut : is_open (reader_of read) ≡ false
     pub held : Spells g.packet (held_of (reader_of read))
 
-  -- what was done after it left the reader alone
+  -- the steps after it do not change the reader
   packet_read : (old read new : Client A) (due : Due) (u : List ℕ) (g : Given) → ReadsPacket old read due u g
       → reader_of new ≡ reader_of read → format_of new ≡ format_of old → ending_of new ≡ ending_of old → HearsPacket old new due u g
   packet_read old read new due u g r same format ending = record {
@@ -278,7 +278,7 @@ module _ {A : Type 0} where
   taken old new due piece used g said (Ok turn) b some judged now is = taken_well old new due piece used g said turn b some judged now is
   taken old new due piece used g said (Err kind) b some (refused, same) now is = taken_badly old new due piece used g kind b refused now same
 
-  -- a packet came whole, and was judged and settled
+  -- a packet was read whole, judged and settled
   pub settled : (old read new : Client A) (due : Due) (piece : List ℕ) (used : ℕ) (g : Given) (judged : Result Turn Kind)
       (outcome : Outcome) → ReadsPacket old read due (take used piece) g → used ≤ length piece
       → Judges (format_of old) (ending_of old) due (caps_of old) g.packet (said_last read) (caps_of read) judged
@@ -292,7 +292,7 @@ module _ {A : Type 0} where
       (taken old new due piece used g (said_last read) judged hears (omega (arith, r.some, length-take-le used piece within)) judges settles.phase
       settles.said)
 
-  -- bytes that the reader refuses
+  -- bytes that the packet reader refuses
   pub taken_failed : (old new : Client A) (due : Due) (piece : List ℕ) (used : ℕ) (f : Fault) → HearsBytes old new due (take used piece) [] []
       → reader_fault_of (reader_of new) ≡ Some f → ShownByFeed f used piece → phase_of new ≡ Failed f → caps_of new ≡ caps_of old
       → Takes old piece (record { used = used; outcome = FailedNow f }) new
@@ -316,7 +316,7 @@ module _ {A : Type 0} where
     fits = omega arith;
   }
 
-  -- bytes passed
+  -- bytes that passed
   pub taken_part : (old new : Client A) (piece : List ℕ) (used : ℕ) (band : Band) (bytes : List ℕ) (count : ℕ)
       → HearsBytes old new Packfile (take used piece) [] (events_on (map (on band) bytes)) → band ≢ Fatal → IsPart bytes used piece (reader_of new)
       → length bytes ≡ count → phase_of new ≡ Hearing Packfile → caps_of new ≡ caps_of old

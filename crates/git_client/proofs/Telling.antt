@@ -19,12 +19,12 @@ use Rattle.git_pkt.proofs.EngineLemmas.{written_nothing, written_whole}
 
 -- ---- what a call wrote
 
--- a stream that was left alone, whether another failed or not
+-- a stream with nothing to write stays as it is, even if another one fails
 pub left_alone : (broken : Bool) (held : Option (List ℕ)) (bytes : List ℕ) → bytes ≡ [] → WrittenAs broken (flow held held) bytes
 left_alone broken held bytes none =
     written_whole broken (flow held held) bytes (subst (WrittenAs false (flow held held)) (sym none) (written_nothing held))
 
--- a call that fails by a failing write alone, and has written all of the bytes or a front of them
+-- a call that only a failing write can make fail; it has written all of the bytes, or a prefix of them
 pub written_by : {T : Type 0} (result : Result T RunFault) (before after : Option (List ℕ)) (bytes : List ℕ) → OnOk result (Appends before after bytes)
     → OnErr result (AppendsFront before after bytes) → IfErr result (λ fault. fault ≡ WriteFault) → WrittenAs (is_broken result) (flow before after) bytes
 written_by (Ok done) before after bytes whole front failed = whole

@@ -1,4 +1,4 @@
--- A client fails with `Truncated` where its input was closed, and nowhere else.
+-- A client fails with `Truncated` only if its input was closed.
 use Rattle.std.proofs.Common.{◌≡◌, ◌⊎◌, ◌↔◌, inl, inr, arith, ℕ, suc, Bool, true, false, List, [], ◌∷◌, ◌++◌, length, Option, Some, None}
 use Rattle.std.proofs.Common.{refl, sym, ap, ◌∙◌, subst, append-nil, cond, length-append, slice_get}
 use Rattle.git_pkt.specs.Packets.{Pkt, flush, flushes, payload}
@@ -33,7 +33,7 @@ use Rattle.git_client.proofs.Sequences.{gives_more, place_more}
 
 -- ---- a client that has failed does nothing more
 
--- no response is due after those to all requests
+-- after the responses to all requests no response is expected
 past_all : (asked : List Asked) → slice_get asked (length asked) ≡ None
 past_all [] = refl
 past_all (q ∷ asked) = past_all asked
@@ -46,7 +46,7 @@ none_due t asked (p ∷ before) whole =
     ∙ ap (λ (n : ℕ). place_of t.format (part_after asked n) message) whole.all_flushes
     ∙ ap (λ (o : Option Asked). place_of t.format (answer_to o) message) (past_all asked)
 
--- a fault is of packets within what was asked, of which not all came well
+-- after an error, or while something is expected, not all responses to these requests are whole
 module _ (t : Terms) (asked more : List Asked) (used : List ℕ) (given again : List Given) (rest other : List ℕ)
     (one : Splits 0 used given rest) (two : Splits 0 used again other) where
   same_packets : given ≡ again
@@ -81,7 +81,7 @@ module _ (t : Terms) (asked more : List Asked) (used : List ℕ) (given again : 
   failed_or_whole clean events whole end f reader sound (inr (inl h)) gives all = due_or_whole clean h.cut h.due all
   failed_or_whole clean events whole end f reader sound (inr (inr h)) gives all = due_or_whole clean h.cut h.due all
 
--- what a phase with a fault is not
+-- the properties of a phase with an error
 failed_phase : (phase : Phase) (f : Fault) → fault_in phase ≡ Some f → phase ≡ Failed f
 failed_phase (Hearing due) f e = absurd (cc)
 failed_phase Ready f e = absurd (cc)
@@ -104,7 +104,7 @@ module _ {A : Type 0} where
       let is : left_in (Failed f) client.request ≡ p ∷ ps =
       subst (λ (phase : Phase). left_in phase client.request ≡ p ∷ ps) (failed_phase client.phase f failed) owes in cc
 
--- where a client asks or has left all before was whole
+-- if a client asks or has left, all before was whole
 module _ (t : Terms) (asked : List Asked) (clean given : List Given) (rest : List ℕ) (end : ℕ) (question : Option Asked) (reader : PacketReader) where
   pub asks_in : {A : Type 0} (phase : Phase) (request : Option (Request A)) (line : List ℕ) (ps : List Pkt) → left_in phase request ≡ payload line ∷ ps
       → StandsIn phase t asked clean given rest end question reader → (given ≡ clean) × IsAsked t asked (nearest clean []) question
@@ -130,7 +130,7 @@ module _ {A : Type 0} (t : Terms) (h : History) (old : Client A) (f : Fault) (c 
       subst (λ (phase : Phase). StandsIn phase t h.asked c.clean c.given c.rest (length h.used) (question_in (request_of old)) (reader_of old))
       (failed_phase (phase_of old) f failed) c.stands
 
-  -- so a client that has failed is asked nothing more
+  -- so a client that has failed cannot ask
   failed_or_asks : (request : Request A) (new : Client A) → Asks old request new → ⊥
   failed_or_asks request new asks =
       let question = asked_of request in
@@ -152,7 +152,7 @@ module _ {A : Type 0} (t : Terms) (h : History) (old : Client A) (f : Fault) (c 
         no_message = whole.no_message;
       })
 
-  -- and does not leave
+  -- and cannot leave
   failed_or_leaves : (new : Client A) → Leaves old new → ⊥
   failed_or_leaves new leaves =
       let d = leaves.leaves t h c in
@@ -167,13 +167,13 @@ module _ {A : Type 0} (t : Terms) (h : History) (old : Client A) (f : Fault) (c 
 -- ---- each call
 
 module _ {A : Type 0} where
-  -- after an event a client has no fault
+  -- after an event a client has no error
   event_or_failed : (event : Event) (client : Client A) (f : Fault) → LeavesAfter event client → fault_of client ≡ Some f → ⊥
   event_or_failed Offered client f leaves failed = ready_or_failed client f leaves failed
   event_or_failed Ended client f leaves failed = ready_or_failed client f leaves failed
   event_or_failed event client f leaves failed = wants_or_failed client f leaves failed
 
-  -- a client stays truncated
+  -- a truncated client stays truncated
   stays_truncated : (t : Terms) (call : Call A) (h : History) (before : ℕ) (old : Client A) (after : ℕ) (new : Client A) → Makes call before old after new
       → Converses t h old → IsTruncated old → IsTruncated new
   stays_truncated t (ask request) h before old after new made c (f, failed, kind) = absurd (failed_or_asks t h old f c failed request new made.0)
@@ -189,7 +189,7 @@ module _ {A : Type 0} where
       subst IsTruncated (sym (made.0.stays f failed).2) (f, failed, kind)
   stays_truncated t (close fault) h before old after new made c (f, failed, kind) = absurd (wants_or_failed old f made.0.waits failed)
 
-  -- by an answer of `feed` no client becomes truncated
+  -- `feed` makes no client truncated
   fed_truncated : (piece : List ℕ) (old new : Client A) (answer : Heard) (so_far : Option Fault) (wants : Bool) (got : HeardGot)
       → Feeds old piece answer new → fault_of old ≡ so_far → wants_input old ≡ wants → answer.got ≡ got → IsTruncated new → IsTruncated old
   fed_truncated piece old new answer (Some fault) wants got feeds is wanted heard cut =
@@ -207,7 +207,7 @@ module _ {A : Type 0} where
       let same : f ≡ fault = let both = sym failed ∙ tells in cc in
       absurd ((feeds.news fault is heard).not_the_end (ap (λ (x : Fault). x.kind) (sym same) ∙ kind))
 
-  -- nor by any other call but `close`
+  -- nor does any other call but `close`
   was_truncated : (call : Call A) (calls : List (Call A)) (before : ℕ) (old : Client A) (after : ℕ) (new : Client A) → Makes call before old after new
       → IsTruncated new → IsTruncated old ⊎ (closes (call ∷ calls) ≡ true)
   was_truncated (ask request) calls before old after new made (f, failed, kind) = absurd (owes_or_failed new f _ _ made.0.owes failed)
@@ -223,7 +223,7 @@ module _ {A : Type 0} where
       inl (fed_truncated piece old new answer (fault_of old) (wants_input old) answer.got made.0 refl refl refl cut)
   was_truncated (close fault) calls before old after new made cut = inr refl
 
-  -- what is closed by a later call is closed by all
+  -- if the later calls have a `close`, so have all
   closes_more : (call : Call A) (calls : List (Call A)) → closes calls ≡ true → closes (call ∷ calls) ≡ true
   closes_more (ask request) calls e = e
   closes_more (ask_refused request handed_back fault) calls e = e
@@ -254,7 +254,7 @@ module _ {A : Type 0} where
   closed_now : (fault : Fault) (before : ℕ) (old : Client A) (after : ℕ) (new : Client A) → Makes (close fault) before old after new → IsTruncated new
   closed_now fault before old after new made = (fault, made.0.refused, made.0.kind)
 
-  -- where one of them is, the client is truncated
+  -- if one of them is, the client is truncated
   where_closed : (t : Terms) (calls : List (Call A)) (h : History) (before : ℕ) (old : Client A) (after : ℕ) (new : Client A)
       → MakesAll Makes calls before old after new → Converses t h old → closes calls ≡ true → IsTruncated new
   where_closed t [] h before old after new made c e = absurd (cc)
@@ -266,7 +266,7 @@ module _ {A : Type 0} where
         | inr later ↦ where_closed t calls (after_call h call) next between after new more d later
       ]
 
-  -- and nowhere else
+  -- and only then
   closed_or_was : (calls : List (Call A)) (before : ℕ) (old : Client A) (after : ℕ) (new : Client A) → MakesAll Makes calls before old after new
       → IsTruncated new → IsTruncated old ⊎ (closes calls ≡ true)
   closed_or_was [] before old after new (counter, same) cut = inl (subst IsTruncated same cut)

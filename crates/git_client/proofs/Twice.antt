@@ -1,4 +1,4 @@
--- A step over a part of a piece, after what was used of it.
+-- A step over the rest of a chunk, after the step that used the first part.
 use Rattle.std.proofs.Common.{arith, ◌≡◌, ◌≢◌, inl, inr, ℕ, ◌+◌, ◌-◌, ◌≤◌, List, [], ◌++◌, length, take, drop, ap, sym, ◌∙◌, subst, refl, append_assoc}
 use Rattle.std.proofs.lemmas.Grind.{common_steps}
 use Rattle.git_pkt.proofs.Pieces.{take_joined}

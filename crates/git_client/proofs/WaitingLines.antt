@@ -1,4 +1,4 @@
--- Lines that wait for their writer while a piece is received.
+-- Lines that are buffered for their writer while a chunk is received.
 use Rattle.std.proofs.Common.{◌≡◌, ℕ, Bool, true, false, List, [], ◌++◌, take, Option, Some, None, Result, Ok, Err, OnOk, IfErr, IsErrAnd}
 use Rattle.std.proofs.Common.{refl, sym, ap, ◌∙◌, subst, append_assoc, append-nil}
 use Rattle.git_pkt.specs.Machine.Sends.{Puts, Sends}
@@ -18,7 +18,7 @@ use Rattle.git_client.specs.declared.hearing.Counts.{Counts}
 use Rattle.git_client.proofs.HeardBytes.{nothing_heard}
 use Rattle.git_client.proofs.Telling.{written_by}
 
--- ---- bytes that are put after those that wait
+-- ---- bytes that are appended to the waiting ones
 
 put_whole : {T P : Type 0} (result : Result T RunFault) → IfErr result (λ fault. fault ≡ WriteFault) → OnOk result P → is_broken result ≡ false → P
 put_whole (Ok done) named p whole = p
@@ -35,7 +35,7 @@ put_by {contents = contents} {a = a} {c = c} result puts = record {
   waits = put_whole result puts.sends.fault puts.waits;
 }
 
--- all that waits was sent
+-- all waiting bytes were sent
 pub put_drained : {W : Type 0} {contents : W → Option (List ℕ)} {a c : Told W} {s t : List ℕ} (broken : Bool) → Sends {T = Unit {0}} contents a s (Ok tt) c
     → t ≡ [] → PutAs broken (flow (contents (inner_of a)) (contents (inner_of c))) s [] t
 put_drained {contents = contents} {a = a} {c = c} {s = s} broken sends none = record {
@@ -46,13 +46,13 @@ put_drained {contents = contents} {a = a} {c = c} {s = s} broken sends none = re
   waits = λ whole. none;
 }
 
--- a call that answers the fault of a failing write has failed by it
+-- a call that returns the error of a failing write is one in which a write failed
 broken_answer : {T : Type 0} (result : Result T RunFault) {met : RunFault} → met ≡ WriteFault → IsErrAnd result (λ e. e ≡ met) → is_broken result ≡ true
 broken_answer (Ok x) named answered = absurd answered
 broken_answer (Err WriteFault) named answered = refl
 broken_answer (Err fault) named answered = absurd (cc)
 
--- a front of what waits was sent
+-- a prefix of the waiting bytes was sent
 pub put_undrained : {S T W : Type 0} {contents : W → Option (List ℕ)} {a c : Told W} {s t : List ℕ} {met : RunFault} (result : Result T RunFault)
     → Sends {T = S} contents a s (Err met) c → IsErrAnd result (λ e. e ≡ met)
     → PutAs (is_broken result) (flow (contents (inner_of a)) (contents (inner_of c))) s [] t
@@ -89,7 +89,7 @@ put_then {broken = broken} {before = before} {held = held} {after = after} {s = 
   waits = two.waits;
 }
 
--- all that waits was written, or a front of it
+-- all waiting bytes were written, or a prefix of them
 pub put_out : (broken : Bool) {before held : Option (List ℕ)} {lines waiting : List ℕ} (after : Option (List ℕ)) → PutAs false (flow before held) []
     lines waiting
     → WrittenAs broken (flow held after) waiting → WrittenAs broken (flow before after) lines
@@ -97,7 +97,7 @@ put_out broken {before = before} {held = held} after put written =
     subst (WrittenAs broken (flow before after)) (sym put.all)
     (written_then broken before held after put.sent put.rest put.written (subst (WrittenAs broken (flow held after)) (put.waits refl) written))
 
--- all that waits was written, and the writer was flushed
+-- all waiting bytes were written, and the writer was flushed
 pub flushed_out : {before held : Option (List ℕ)} {lines waiting : List ℕ} (middle after : Option (List ℕ)) → PutAs false (flow before held) [] lines
     waiting
     → WrittenAs false (flow held middle) waiting → WrittenAs false (flow middle after) [] → WrittenAs false (flow before after) lines
@@ -105,25 +105,25 @@ flushed_out {held = held} {waiting = waiting} middle after put written flushed =
     put_out false after put
     (subst (WrittenAs false (flow held after)) (append-nil waiting) (written_then false held middle after waiting [] written flushed))
 
--- what waits stays unwritten
+-- the waiting bytes stay unwritten
 pub put_front : {stream : Flow} {lines waiting : List ℕ} → PutAs true stream [] lines waiting → WrittenAs true stream lines
 put_front {stream = stream} put =
     subst (WrittenAs true stream) (sym put.all) (AppendsFront-longer stream.before stream.after put.sent put.rest put.written)
 
--- a failing write is what failed
+-- the failure was that of a write
 pub broken_by : {T : Type 0} {result : Result T RunFault} {fault : RunFault} {stream : Flow} {before bytes after : List ℕ} → result ≡ Err fault
     → fault ≡ WriteFault → PutAs (is_broken result) stream before bytes after → PutAs true stream before bytes after
 broken_by {T = T} {stream = stream} {before = before} {bytes = bytes} {after = after} failed named put =
     subst (λ (broken : Bool). PutAs broken stream before bytes after) (ap (is_broken {T = T}) (failed ∙ ap Err named)) put
 
--- ---- a piece, whose lines were put
+-- ---- the lines of a chunk
 
--- a writer that held nothing, and holds these lines
+-- a writer that was empty, and now has these lines
 abbrev pub held : List ℕ → Flow
 held lines = flow (Some []) (Some lines)
 
 module _ {A : Type 0} where
-  -- bytes of a piece were received: the lines of the transcript for them were put, and of these some wait
+  -- bytes of a chunk were received, and their lines of the transcript were written or wait
   pub record HeardLines (old new : Client A) (counts after : Counts) (used : List ℕ) (out : Flow) (waiting : List ℕ) (packs progress : Flow) : Type 0 where
     pub lines : List ℕ
     pub bytes : HearsBytes false old new counts after used (held lines) packs progress
@@ -152,7 +152,7 @@ module _ {A : Type 0} where
       reported = written_whole broken progress (progress_bytes bytes.events) bytes.reported;
     }
 
-    -- a front of them was
+    -- a prefix of them was written
     front_written : {used : List ℕ} → HearsBytes true old new counts after used (held lines) packs progress → WrittenAs true out lines
         → HearsBytes true old new counts after used out packs progress
     front_written bytes written = record {

@@ -1,4 +1,4 @@
--- A line that is written part after part.
+-- A line that is written part by part.
 use Rattle.std.proofs.Common.{Bool, true, false, ◌||◌, ◌≡◌, ℕ, ◌+◌, ◌-◌, ◌<◌, ◌≤◌, List, [], ◌∷◌, ◌++◌, take, drop, length, codes, slice_index_or, Option}
 use Rattle.std.proofs.Common.{Result, Ok, Err, IsErrAnd, refl, ap, ap₂, sym, ◌∙◌, subst, append_assoc, append-nil}
 use Rattle.std.proofs.Common.{arith, take-add, take-take, take_at, drop_at}
@@ -16,7 +16,7 @@ use Rattle.git_pkt.proofs.Sends.{puts_then, puts_front, sends_all, sends_stopped
 use Rattle.git_client.specs.Machine.LineParts.{part_shown, line_shown}
 use Rattle.git_client.specs.declared.line.Part.{Part}
 
--- the parts before a place were put, and those of the line from there on are left
+-- the parts before an index were put, and the line's parts from there on are left
 pub record PutsSome {W : Type 0} (contents : W → Option (List ℕ)) (old : Told W) (before : List ℕ) (parts : List Part) (at : ℕ) (new : Told W)
     (waiting : List ℕ) : Type 0 where
   pub put : List ℕ
@@ -51,7 +51,7 @@ module _ {W : Type 0} {contents : W → Option (List ℕ)} where
   all_put {parts = parts} some end =
       sym (some.left ∙ ap (λ (l : List Part). some.put ++ line_shown l) (drop_all _ parts end))
 
-  -- nothing waited before, and at last all that waits is sent
+  -- nothing waited before, and at the end all waiting bytes are sent
   pub sends_lines : {S T : Type 0} {a b c : Told W} {s u t : List ℕ} {x : S} {result : Result T RunFault} → s ≡ [] → Puts contents a s u (Ok x) b t
       → Sends contents b t result c → Sends contents a u result c
   sends_lines {a = a} {b = b} {u = u} {t = t} {x = x} none puts sends =
@@ -62,7 +62,7 @@ module _ {W : Type 0} {contents : W → Option (List ℕ)} where
   lines_stopped {S = S} {a = a} {c = c} {u = u} {t = t} {met = met} none puts answered =
       sends_stopped (subst (λ (l : List ℕ). Puts {T = S} contents a l u (Err met) c t) none puts) answered
 
--- bytes one after another, from the first and from the last
+-- bytes joined one after another, from the first on and from the last on
 abbrev pub after_all : List ℕ → List (List ℕ) → List ℕ
 after_all so_far [] = so_far
 after_all so_far (part ∷ parts) = after_all (so_far ++ part) parts
@@ -75,7 +75,7 @@ pub one_line : (so_far : List ℕ) (parts : List (List ℕ)) → so_far ++ joine
 one_line so_far [] = append-nil so_far
 one_line so_far (part ∷ parts) = sym (append_assoc so_far part (joined parts)) ∙ one_line (so_far ++ part) parts
 
--- a line of parts with these bytes
+-- the line of parts with these bytes
 abbrev pub line_by : List (List ℕ) → List ℕ
 line_by [] = codes "\n"
 line_by (bytes ∷ more) = bytes ++ line_by more
@@ -107,7 +107,7 @@ next_escaped bytes done count =
     sym (escaped-append (take done bytes) (take (done + count - done) (drop done bytes))) ∙ ap escaped_of (sym (take-next done count bytes))
 
 module _ {W : Type 0} {contents : W → Option (List ℕ)} (bytes : List ℕ) (done count : ℕ) {a b c : Told W} {s t x : List ℕ} where
-  -- a block more
+  -- one more block
   pub block_put : {T : Type 0} {result : Result T RunFault} → Puts {T = Unit {0}} contents a s (escaped_of (take done bytes)) (Ok tt) b t
       → Puts contents b t (escaped_of (take (done + count - done) (drop done bytes))) result c x
       → Puts contents a s (escaped_of (take (done + count) bytes)) result c x
@@ -123,7 +123,7 @@ module _ {W : Type 0} {contents : W → Option (List ℕ)} (bytes : List ℕ) (d
       subst (λ (l : List ℕ). Puts contents a s l result c x) (escaped-parts bytes (done + count))
       (puts_front (escaped_of (drop (done + count) bytes)) (block_put one two) answered)
 
--- bytes were written over a place, and the first of them count
+-- bytes were copied over a place, and only the first of them count
 pub take_placed : (bytes new placed : List ℕ) (at k n : ℕ) → take (at + k) placed ≡ take at bytes ++ new → length (take at bytes) ≡ at → n ≤ k
     → take (at + n) placed ≡ take at bytes ++ take n new
 take_placed bytes new placed at k n is front few =

@@ -123,7 +123,7 @@ pub record GivesLine (place : Place) (format : Format) (text : List ℕ) (events
   pub no_error : ¬ IsErrorText text
   pub says : SaysLine place format text events
 
--- a text line at this place is refused by this name: an error packet may come wherever a text line may
+-- a text line at this place is refused with this error: an error packet may come wherever a text line may
 abbrev pub RefusesLine : Place → Format → List ℕ → Kind → Type 0
 RefusesLine place format text kind =
     (IsErrorText text × (kind ≡ RemoteError)) ⊎ ((¬ IsErrorText text) × IsLineFault place format text kind)
@@ -137,7 +137,7 @@ Gives format ending place flush events = flush_says ending place ≡ Ok events
 Gives format ending place delim events = delimiter_says place ≡ Ok events
 Gives format ending place resp_end events = response_end_says place ≡ Ok events
 
--- a packet at this place is refused by this name
+-- a packet at this place is refused with this error
 abbrev pub Refuses : Format → Ending → Place → Pkt → Kind → Type 0
 Refuses format ending packfile (payload bytes) kind = band_says bytes ≡ Err kind
 Refuses format ending response_end (payload bytes) kind = kind ≡ UnexpectedPacket

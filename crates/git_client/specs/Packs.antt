@@ -38,6 +38,6 @@ pub record HasPack (t : Terms) (asked : List Asked) (bytes pack : List ℕ) : Ty
   pub splits : Splits 0 bytes (clean ++ more) rest
   pub gives : GiveAll t asked [] clean events
   pub stops : IsStop t asked (nearest clean []) more
-  -- nothing, where a packet was refused
+  -- nothing, if a packet was refused
   pub of_rest : IsOfRest rest (unless_refused more (open_pack_in (place_after t asked (nearest clean [])) rest)) opened
   pub pack_is : pack ≡ pack_of t asked [] clean ++ opened

@@ -1,4 +1,4 @@
-//! The packets that a client sends: those of the requests that it receives, and the flush when it leaves.
+//! The packets that a client sends: those of the requests that it asks, and the flush when it leaves.
 
 ghost use Rattle.std.specs.Prelude.{◌≡◌, ◌≤◌, length, true, MatchResult};
 ghost use Rattle.std.specs.Borrow.{sem};

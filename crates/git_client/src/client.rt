@@ -105,9 +105,9 @@ impl Passed {
     }
 }
 
-/// The fetching side of a conversation, as in gitprotocol-v2(5). It returns the packets of the requests that it is given, reads
-/// what the server sends from chunks of any size, and returns events. Its only buffer is that of its packet reader, and it
-/// takes no other memory: it keeps a request that it is given until the last packet of it was pulled.
+/// The fetching side of a conversation, as in gitprotocol-v2(5). It returns the packets of the requests that it asks, reads what the server
+/// sends from chunks of any size, and returns events. Its only buffer is that of its packet reader, and it takes no other memory: it keeps
+/// a request until the last packet of it was pulled.
 ///
 /// A program follows [`Client::pull`]: it sends the packets, reads if input is needed, and asks or leaves if it can.
 #[derive(Drop)]

@@ -40,7 +40,7 @@ pub fn one_gift()
         → GivesAt t asked before p events → GivesAt t asked before p others → events ≡ others }
 {}
 
-/// A packet is refused with one name.
+/// A packet is refused with one error.
 pub fn one_refusal()
     ensures { (t : Terms) (asked : List Asked) (before : List Pkt) (p : Pkt) (kind other : Kind)
         → RefusesAt t asked before p kind → RefusesAt t asked before p other → kind ≡ other }

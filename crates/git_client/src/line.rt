@@ -77,8 +77,8 @@ impl Lines {
         self.put(out, b"\n")
     }
 
-    /// Appends the line of a reference that is neither symbolic nor a tag, as most are: in one step, if there is room for it and no byte of
-    /// the name needs escaping.
+    /// Appends the line of a reference that is neither symbolic nor a tag, as most are: in one step, if it fits and no byte of the name
+    /// needs escaping.
     pub(crate) fn put_reference<W: Write>(
         &mut self,
         out: &mut Told<W>,
@@ -108,7 +108,7 @@ impl Lines {
         Ok(())
     }
 
-    /// Appends bytes to those that wait, or sends both if there is no room.
+    /// Appends bytes to those that wait, or sends both if they do not fit.
     fn put<W: Write>(&mut self, out: &mut Told<W>, bytes: &[u8]) -> Result<(), RunFault>
         ensures { Puts W.contents out.old self.old bytes.now result out.new self.new }
     {
@@ -120,7 +120,7 @@ impl Lines {
         send(out, bytes)
     }
 
-    /// Appends bytes to those that wait. There must be room for them.
+    /// Appends bytes to those that wait. They must fit.
     fn append(&mut self, bytes: &[u8])
         requires { length self.old + length bytes.now ≤ ROOM }
         ensures { self.new ≡ self.old ++ bytes.now }
@@ -130,7 +130,7 @@ impl Lines {
         self.count = end;
     }
 
-    /// Appends the digits of an object name to the bytes that wait. There must be room for 64. The bytes after the last digit mean nothing.
+    /// Appends the digits of an object name to the bytes that wait. There must be space for 64. The bytes after the last digit mean nothing.
     fn append_name(&mut self, id: &Oid)
         requires { length self.old + 64 ≤ ROOM }
         ensures name { self.new ≡ self.old ++ hex_of id.now }

@@ -1,7 +1,8 @@
 -- The answer to the request at hand, from one report to the next.
 use denote.Ref.{Bor}
-use Rattle.std.proofs.Common.{arith, ◌<◌, length, ◌≡◌, ℕ, Bool, true, false, List, [], ◌∷◌, ◌++◌, map, Option, Some, None, Result, Ok, refl, sym, ap, ◌∙◌}
+use Rattle.std.proofs.Common.{arith, ◌<◌, length, ◌≡◌, ℕ, Bool, true, false, List, [], ◌∷◌, ◌++◌, map, Option, Some, None, Result, Ok, Err, refl, sym, ap, ◌∙◌}
 use Rattle.std.proofs.Common.{subst, append-nil}
+use Rattle.std.specs.Prelude.{OnErr}
 use Rattle.std.proofs.lemmas.List.{length-take}
 use Rattle.std.proofs.lemmas.Grind.{common_steps}
 use Rattle.std.proofs.lemmas.List.{length-take}
@@ -62,6 +63,10 @@ use Rattle.git_host.specs.declared.report.HostReported.TheVariants.{Taken}
 use Rattle.git_host.specs.declared.report.Report.{Report}
 use Rattle.git_host.specs.declared.report.Report.TheVariants.{Want, WantRef, Boundary as LineOf, BoundaryEnd as EndsIt, Progress as ProgressOf, Reference}
 use Rattle.git_host.specs.declared.report.Report.TheVariants.{Unborn}
+
+pub on_err : {X E : Type 0} (r : Result X E) (e : E) (P : Type 0) → r ≡ Err e → OnErr r P → P
+on_err (Ok x) e P is h = absurd (cc)
+on_err (Err f) e P is h = h
 
 found_more : (found : List (Option ObjectName)) (id : ObjectName) → found_ids (found ++ Some id ∷ []) ≡ found_ids found ++ id ∷ []
 found_more [] id = refl

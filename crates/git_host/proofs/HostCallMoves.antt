@@ -1,5 +1,5 @@
 -- A host's server after any calls.
-use Rattle.std.proofs.Common.{arith, ◌≡◌, ◌≤◌, ℕ, Bool, true, false, List, [], ◌∷◌, ◌++◌, length, take, Some, refl, sym, ap, ◌∙◌, subst}
+use Rattle.std.proofs.Common.{arith, ◌≡◌, ◌≤◌, ◌+◌, ◌*◌, ℕ, Bool, true, false, List, [], ◌∷◌, ◌++◌, length, take, Some, refl, sym, ap, ◌∙◌, subst}
 use Rattle.std.proofs.Common.{append_assoc, append-nil}
 use Rattle.std.proofs.lemmas.List.{length-take-le}
 use Rattle.git_pkt.specs.Machine.Credit.{ArePaid, MakesAll}
@@ -14,12 +14,15 @@ use Rattle.git_msg.specs.Machine.RequestStreams.{IsLeftIn, limit_of, offer_of}
 use Rattle.git_msg.specs.Machine.StreamStages.{AreBegun, takes_bytes}
 use Rattle.git_server.specs.declared.outcome.Outcome.{Outcome}
 use Rattle.git_msg.specs.Asked.{Asked}
+use Rattle.git_msg.specs.Memory.{FaultNeedsRefusal}
 use Rattle.git_msg.specs.Machine.HeldRequest.{holding_of}
 use Rattle.git_host.specs.HostAnswers.{IsAnswering}
 use Rattle.git_host.specs.HostLookups.{at_hand}
 use Rattle.git_host.specs.HostSessions.{AtLast, Facts, HostSetting, IsSoFar, IsUnderWay, IsWaiting, nothing_for}
-use Rattle.git_host.specs.HostServer.{AreHandedOut, Hosts, HostsIn, IsReading, IsUntouched, bytes_of, credit_of, outcome_in, terms_of}
-use Rattle.git_host.specs.HostCalls.{AllHandOut, HandsOut, HostCall, HostHeadline, Makes, accept, close, feed, given_by, given_in, feeds_by, next}
+use Rattle.git_host.specs.HostServer.{AreHandedOut, Hosts, HostsIn, IsReading, IsUntouched, bytes_of, credit_of, fault_of, outcome_in}
+use Rattle.git_host.specs.HostServer.{terms_of}
+use Rattle.git_host.specs.HostMemory.{objects_by}
+use Rattle.git_host.specs.HostCalls.{Each, HandsOut, HostCall, HostHeadline, LacksMemory, Makes, accept, close, feed, given_by, given_in, feeds_by, next}
 use Rattle.git_host.specs.HostCalls.{over_after, over_with}
 use Rattle.git_host.specs.HostCalls.{nothing, refuse, report, reported_after, reported_with, used_by, used_in}
 use Rattle.git_host.specs.declared.host_server.HostServer.{HostServer}
@@ -29,28 +32,30 @@ use Rattle.git_host.specs.declared.report.HostStep.TheVariants.{Packet, NeedInpu
 use Rattle.git_host.specs.declared.report.HostReported.TheVariants.{Packet as WasGiven, Taken, Hidden, NotAsked, MixedFormats, Unsorted, HeadTwice}
 use Rattle.git_host.specs.declared.report.HostReported.TheVariants.{NotShallow, OutOfMemory}
 use Rattle.git_host.proofs.AnswerFronts.{answering_so_far, start_so_far}
+use Rattle.git_host.proofs.HostFaults.{memory_after, memory_at_first, memory_closed}
 use Rattle.git_host.proofs.HostMemoryMoves.{host_bounded, host_holds}
 use Rattle.git_host.proofs.HostMoves.{as_asked, is_reading_now}
 use Rattle.git_host.proofs.LentStreams.{last_goes, same_last}
 
 module _ {A : Type 0} where
   -- nothing more used, or nothing more given
-  more_used : (s : HostSetting) (used : List ℕ) (over : Bool) (facts : List Facts) (given : List ℕ) (server : HostServer A)
+  pub more_used : (s : HostSetting) (used : List ℕ) (over : Bool) (facts : List Facts) (given : List ℕ) (server : HostServer A)
       → Hosts s used over facts given server → Hosts s (used ++ []) over facts given server
   more_used s used over facts given server h = subst (λ (u : List ℕ). Hosts s u over facts given server) (sym (append-nil used)) h
 
-  more_given : (s : HostSetting) (used : List ℕ) (over : Bool) (facts : List Facts) (given bytes : List ℕ) (server : HostServer A) → bytes ≡ []
+  pub more_given : (s : HostSetting) (used : List ℕ) (over : Bool) (facts : List Facts) (given bytes : List ℕ) (server : HostServer A) → bytes ≡ []
       → Hosts s used over facts given server → Hosts s used over facts (given ++ bytes) server
   more_given s used over facts given bytes server none h =
       subst (λ (g : List ℕ). Hosts s used over facts g server) (sym (append-nil given) ∙ ap (λ (l : List ℕ). given ++ l) (sym none)) h
 
-  same_given : (s : HostSetting) (used : List ℕ) (over : Bool) (facts : List Facts) (given bytes other : List ℕ) (server : HostServer A) → bytes ≡ other
+  pub same_given : (s : HostSetting) (used : List ℕ) (over : Bool) (facts : List Facts) (given bytes other : List ℕ) (server : HostServer A) → bytes ≡ other
       → Hosts s used over facts (given ++ other) server → Hosts s used over facts (given ++ bytes) server
   same_given s used over facts given bytes other server same h =
       subst (λ (l : List ℕ). Hosts s used over facts (given ++ l) server) (sym same) h
 
+module _ {A : Type 0} (refuses : ℕ → Type 0) where
   -- after one call
-  one_call : (s : HostSetting) (call : HostCall) (before : ℕ) (old : HostServer A) (after : ℕ) (new : HostServer A) → Makes call before old after new
+  one_call : (s : HostSetting) (call : HostCall) (before : ℕ) (old : HostServer A) (after : ℕ) (new : HostServer A) → Makes refuses call before old after new
       → (used : List ℕ) (over : Bool) (facts : List Facts) (given : List ℕ) → Hosts s used over facts given old
       → Hosts s (used ++ used_by call) (over_with call over) (reported_with call facts) (given ++ given_by call) new
   one_call s (feed piece count begun) before old after new made used over facts given h =
@@ -79,7 +84,7 @@ module _ {A : Type 0} where
       more_used s used over facts (given ++ []) new (more_given s used over facts given [] new refl (made.0 s used over facts given h))
 
   -- a packet that is given has bytes
-  one_packet : (s : HostSetting) (call : HostCall) (before : ℕ) (old : HostServer A) (after : ℕ) (new : HostServer A) → Makes call before old after new
+  one_packet : (s : HostSetting) (call : HostCall) (before : ℕ) (old : HostServer A) (after : ℕ) (new : HostServer A) → Makes refuses call before old after new
       → (used : List ℕ) (over : Bool) (facts : List Facts) (given : List ℕ) → Hosts s used over facts given old → HandsOut call
   one_packet s (feed piece count begun) before old after new made used over facts given h = tt
   one_packet s close before old after new made used over facts given h = tt
@@ -104,8 +109,8 @@ module _ {A : Type 0} where
   one_packet s (refuse text bytes) before old after new made used over facts given h = subst AreHandedOut (sym made.1) made.0.2
 
   all_packets : (s : HostSetting) (calls : List HostCall) (before : ℕ) (old : HostServer A) (after : ℕ) (new : HostServer A)
-      → MakesAll Makes calls before old after new → (used : List ℕ) (over : Bool) (facts : List Facts) (given : List ℕ) → Hosts s used over facts given old
-      → AllHandOut calls
+      → MakesAll (Makes refuses) calls before old after new → (used : List ℕ) (over : Bool) (facts : List Facts) (given : List ℕ)
+      → Hosts s used over facts given old → Each HandsOut calls
   all_packets s [] before old after new made used over facts given h = tt
   all_packets s (call ∷ calls) before old after new (middle, between, made, more) used over facts given h = (
     one_packet s call before old middle between made used over facts given h,
@@ -115,8 +120,8 @@ module _ {A : Type 0} where
 
   -- after any calls
   any_calls : (s : HostSetting) (calls : List HostCall) (before : ℕ) (old : HostServer A) (after : ℕ) (new : HostServer A)
-      → MakesAll Makes calls before old after new → (used : List ℕ) (over : Bool) (facts : List Facts) (given : List ℕ) → Hosts s used over facts given old
-      → Hosts s (used ++ used_in calls) (over_after over calls) (reported_after facts calls) (given ++ given_in calls) new
+      → MakesAll (Makes refuses) calls before old after new → (used : List ℕ) (over : Bool) (facts : List Facts) (given : List ℕ)
+      → Hosts s used over facts given old → Hosts s (used ++ used_in calls) (over_after over calls) (reported_after facts calls) (given ++ given_in calls) new
   any_calls s [] before old after new (counter, same) used over facts given h =
       subst (λ (x : HostServer A). Hosts s (used ++ []) over facts (given ++ []) x) (sym same)
       (more_used s used over facts (given ++ []) old (more_given s used over facts given [] old refl h))
@@ -130,8 +135,53 @@ module _ {A : Type 0} where
       (subst (λ (g : List ℕ). Hosts s ((used ++ used_by call) ++ used_in calls) over_now facts_now g new)
       (append_assoc given (given_by call) (given_in calls)) later)
 
+  -- a session that ends for want of memory was refused a list
+  one_memory : (s : HostSetting) (call : HostCall) (before : ℕ) (old : HostServer A) (after : ℕ) (new : HostServer A)
+      → Makes refuses call before old after new → (used : List ℕ) (over : Bool) (facts : List Facts) (given : List ℕ) → Hosts s used over facts given old
+      → FaultNeedsRefusal refuses s.limit (fault_of old) → FaultNeedsRefusal refuses s.limit (fault_of new)
+  one_memory s (feed piece count begun) before old after new made used over facts given h needs = made.memory s used over facts given h needs
+  one_memory s close before old after new made used over facts given h needs =
+      memory_closed refuses s used facts given new.stream new.flush new.phase (made.0.2 s used over facts given h).stands
+  one_memory s (next step bytes) before old after new made used over facts given h needs =
+      memory_after refuses s.limit (fault_of old) (fault_of new) (made.3 s used over facts given h) needs
+  one_memory s (report fact what bytes) before old after new made used over facts given h needs =
+      memory_after refuses s.limit (fault_of old) (fault_of new) (made.3 s used over facts given h) needs
+  one_memory s accept before old after new made used over facts given h needs =
+      memory_after refuses s.limit (fault_of old) (fault_of new) (made.2 s used over facts given h) needs
+  one_memory s (refuse text bytes) before old after new made used over facts given h needs =
+      memory_after refuses s.limit (fault_of old) (fault_of new) (made.3 s used over facts given h) needs
+  one_memory s nothing before old after new made used over facts given h needs =
+      memory_after refuses s.limit (fault_of old) (fault_of new) (made.2 s used over facts given h) needs
+
+  any_memory : (s : HostSetting) (calls : List HostCall) (before : ℕ) (old : HostServer A) (after : ℕ) (new : HostServer A)
+      → MakesAll (Makes refuses) calls before old after new → (used : List ℕ) (over : Bool) (facts : List Facts) (given : List ℕ)
+      → Hosts s used over facts given old → FaultNeedsRefusal refuses s.limit (fault_of old) → FaultNeedsRefusal refuses s.limit (fault_of new)
+  any_memory s [] before old after new (counter, same) used over facts given h needs =
+      subst (λ (x : HostServer A). FaultNeedsRefusal refuses s.limit (fault_of x)) (sym same) needs
+  any_memory s (call ∷ calls) before old after new (middle, between, made, more) used over facts given h needs =
+      any_memory s calls middle between after new more (used ++ used_by call) (over_with call over) (reported_with call facts) (given ++ given_by call)
+      (one_call s call before old middle between made used over facts given h)
+      (one_memory s call before old middle between made used over facts given h needs)
+
+  -- and so was a report at which memory ran out
+  one_report : (call : HostCall) (before : ℕ) (old : HostServer A) (after : ℕ) (new : HostServer A) → Makes refuses call before old after new
+      → LacksMemory refuses call
+  one_report (report fact what bytes) before old after new made = λ is. (33 * (objects_by old + 1), made.4 is)
+  one_report (feed piece count begun) before old after new made = tt
+  one_report close before old after new made = tt
+  one_report (next step bytes) before old after new made = tt
+  one_report accept before old after new made = tt
+  one_report (refuse text bytes) before old after new made = tt
+  one_report nothing before old after new made = tt
+
+  all_reports : (calls : List HostCall) (before : ℕ) (old : HostServer A) (after : ℕ) (new : HostServer A)
+      → MakesAll (Makes refuses) calls before old after new → Each (LacksMemory refuses) calls
+  all_reports [] before old after new made = tt
+  all_reports (call ∷ calls) before old after new (middle, between, made, more) =
+      (one_report call before old middle between made, all_reports calls middle between after new more)
+
   -- each call is paid for by the bytes that it used
-  paid_by : (call : HostCall) (before : ℕ) (old : HostServer A) (after : ℕ) (new : HostServer A) → Makes call before old after new
+  paid_by : (call : HostCall) (before : ℕ) (old : HostServer A) (after : ℕ) (new : HostServer A) → Makes refuses call before old after new
       → ArePaid (length (used_by call)) (feeds_by call) before after (credit_of old) (credit_of new)
   paid_by (feed piece count begun) before old after new made =
       record { rises = made.pays.rises; within = omega (arith, made.pays.within, length-take-le count piece made.within) }
@@ -144,7 +194,7 @@ module _ {A : Type 0} where
       record { rises = omega (arith, made.2.steps); within = omega (arith, made.2.steps, made.2.credit) }
   paid_by nothing before old after new made = record { rises = omega (arith, made.1.steps); within = omega (arith, made.1.steps, made.1.credit) }
 
-ended_is : {A : Type 0} (phase : Phase A) (outcome : Outcome) → outcome_in phase ≡ Some outcome → phase ≡ Ended outcome
+pub ended_is : {A : Type 0} (phase : Phase A) (outcome : Outcome) → outcome_in phase ≡ Some outcome → phase ≡ Ended outcome
 ended_is Advertising outcome is = absurd (cc)
 ended_is Reading outcome is = absurd (cc)
 ended_is (Whole request) outcome is = absurd (cc)
@@ -159,7 +209,7 @@ begun_by offer limit left rest end Within on is = is.1
 begun_by offer limit left rest end Stopped on is = absurd (cc)
 begun_by offer limit left rest end (Failed fault) on is = absurd (cc)
 
-waits_so : {A : Type 0} (s : HostSetting) (used : List ℕ) (over : Bool) (facts : List Facts) (given : List ℕ) (stream : RequestStream A)
+pub waits_so : {A : Type 0} (s : HostSetting) (used : List ℕ) (over : Bool) (facts : List Facts) (given : List ℕ) (stream : RequestStream A)
     → IsReading s used over facts given stream → IsWaiting s used over facts given
 waits_so s used over facts given stream h =
     let reads = h.reads.reads in
@@ -201,12 +251,13 @@ under_way s used over facts given Reading stream flush asked is h = absurd (cc)
 under_way s used over facts given (Refusing fault) stream flush asked is h = absurd (cc)
 under_way s used over facts given (Ended outcome) stream flush asked is h = absurd (cc)
 
-pub after_calls : {A : Type 0} (s : HostSetting) (calls : List HostCall) (before after : ℕ) (first last : HostServer A) → Hosts s [] false [] [] first
-    → credit_of first ≡ 0 → MakesAll Makes calls before first after last → length (bytes_of last) ≤ 65520 → HostHeadline s calls before after last
-after_calls s calls before after first last fresh no_credit made fits =
-    let h = any_calls s calls before first after last made [] false [] [] fresh in
+pub after_calls : {A : Type 0} (refuses : ℕ → Type 0) (s : HostSetting) (calls : List HostCall) (before after : ℕ) (first last : HostServer A)
+    → Hosts s [] false [] [] first → credit_of first ≡ 0 → MakesAll (Makes refuses) calls before first after last → length (bytes_of last) ≤ 65520
+    → HostHeadline refuses s calls before after last
+after_calls refuses s calls before after first last fresh no_credit made fits =
+    let h = any_calls refuses s calls before first after last made [] false [] [] fresh in
     let (stored, kept, objects) = host_bounded s (used_in calls) (over_after false calls) (reported_after [] calls) (given_in calls) last h in
-    let paid = all_paid Makes credit_of used_by feeds_by paid_by calls before first after last made in
+    let paid = all_paid (Makes refuses) credit_of used_by feeds_by (paid_by refuses) calls before first after last made in
     record {
       rises = paid.rises;
       steps = omega (arith, paid.within, no_credit);
@@ -215,7 +266,10 @@ after_calls s calls before after first last fresh no_credit made fits =
       kept = kept;
       objects = objects;
       held = host_holds s (used_in calls) (over_after false calls) (reported_after [] calls) (given_in calls) last h fits;
-      gives = all_packets s calls before first after last made [] false [] [] fresh;
+      gives = all_packets refuses s calls before first after last made [] false [] [] fresh;
+      memory = any_memory refuses s calls before first after last made [] false [] [] fresh
+          (memory_at_first refuses s [] [] first.stream first.flush first.phase fresh.stands);
+      reports = all_reports refuses calls before first after last made;
       ends = λ outcome is. subst (λ (p : Phase _). HostsIn p s (used_in calls) (over_after false calls) (reported_after [] calls) (given_in calls)
           last.stream last.flush) (ended_is last.phase outcome is) h.stands;
       answers = λ asked is. under_way s (used_in calls) (over_after false calls) (reported_after [] calls) (given_in calls) last.phase last.stream

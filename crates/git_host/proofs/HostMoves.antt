@@ -97,12 +97,12 @@ no_fault Stopped is = absurd (cc)
 no_fault (Failed fault) is = absurd (cc)
 
 -- a packet has four bytes at least
-four_bytes : (p : ℕ) (bytes : List ℕ) (gs : List Given) (rest : List ℕ) → gs ≢ [] → SpellsAll p bytes gs rest → 4 ≤ length bytes
+pub four_bytes : (p : ℕ) (bytes : List ℕ) (gs : List Given) (rest : List ℕ) → gs ≢ [] → SpellsAll p bytes gs rest → 4 ≤ length bytes
 four_bytes p bytes [] rest some h = absurd (some refl)
 four_bytes p bytes (g ∷ gs) rest some (s, more, cut, at, spells, others) =
     omega (arith, spells.digits.four, ap length cut, length-append s more)
 
-not_none : {X : Type 0} (before front : List X) (x : X) → before ++ (front ++ x ∷ []) ≢ []
+pub not_none : {X : Type 0} (before front : List X) (x : X) → before ++ (front ++ x ∷ []) ≢ []
 not_none [] [] x is = cc
 not_none [] (y ∷ front) x is = cc
 not_none (y ∷ before) front x is = cc
@@ -535,7 +535,7 @@ refused_quiet : (A : Type 0) (kind : Kind) (fault : Fault) → is_reading {A = A
 refused_quiet A RemoteError fault = refl
 refused_quiet A kind fault = refl
 
-asked_is : {A : Type 0} (phase : Phase A) → is_asked phase ≡ true → (request : Request A) × (phase ≡ Whole request)
+pub asked_is : {A : Type 0} (phase : Phase A) → is_asked phase ≡ true → (request : Request A) × (phase ≡ Whole request)
 asked_is Advertising is = absurd (cc)
 asked_is Reading is = absurd (cc)
 asked_is (Whole request) is = (request, refl)
@@ -582,8 +582,9 @@ cut_off s used over reported given old new fault h closes =
     closes.1 closes.0
 
 -- a request that is accepted
-accepted_by : {A : Type 0} (phase new : Phase A) (format : Format) → is_asked phase ≡ true → IsAccepted format phase new → is_asked new ≡ false
-accepted_by (Whole request) (Answering answer) format is begins = refl
+accepted_by : {A : Type 0} (phase new : Phase A) (format : Format) → is_asked phase ≡ true → IsAccepted format phase new
+    → (answer : HostAnswer A) × (new ≡ Answering answer)
+accepted_by (Whole request) (Answering answer) format is begins = (answer, refl)
 accepted_by (Whole request) Advertising format is begins = absurd begins
 accepted_by (Whole request) Reading format is begins = absurd begins
 accepted_by (Whole request) (Whole other) format is begins = absurd begins
@@ -614,8 +615,8 @@ accepted_in (Ended outcome) new s used over facts given stream flush is begins h
 
 pub accepted_hosts : {A : Type 0} (old : HostServer A) (replaced new : Phase A) → replaced ≡ old.phase → is_asked old.phase ≡ true
     → IsAccepted old.offer.format replaced new
-    → (is_asked new ≡ false) × ((s : HostSetting) (used : List ℕ) (over : Bool) (facts : List Facts) (given : List ℕ) → Hosts s used over facts given old
-    → HostsIn new s used over facts given old.stream old.flush)
+    → ((answer : HostAnswer A) × (new ≡ Answering answer)) × ((s : HostSetting) (used : List ℕ) (over : Bool) (facts : List Facts) (given : List ℕ)
+    → Hosts s used over facts given old → HostsIn new s used over facts given old.stream old.flush)
 accepted_hosts old replaced new same is begins =
     let from = subst (λ (p : Phase _). IsAccepted old.offer.format p new) same begins in (
       accepted_by old.phase new old.offer.format is from,

@@ -9,7 +9,14 @@ pub mod FetchFronts
 pub mod AnswerFronts
 pub mod LentStreams
 pub mod HostMoves
+pub mod HostFaults
 pub mod FeedMoves
 pub mod HostMemoryMoves
 pub mod HostCallMoves
 pub mod HostedAnswers
+pub mod HostedRefusals
+pub mod HostedWants
+pub mod StoreSteps
+pub mod StoreReaches
+pub mod StoreWaits
+pub mod StoreRunLemmas

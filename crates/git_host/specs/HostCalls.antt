@@ -3,15 +3,16 @@ use Rattle.std.specs.Prelude.{◌≡◌, ℕ, ◌+◌, ◌*◌, ◌≤◌, Bool,
 use Rattle.git_pkt.specs.Machine.Credit.{Pays}
 use Rattle.git_server.specs.declared.outcome.Outcome.{Outcome}
 use Rattle.git_msg.specs.Asked.{Asked}
+use Rattle.git_msg.specs.Memory.{FaultNeedsRefusal, HasRefused}
 use Rattle.git_host.specs.HostLookups.{request_of}
-use Rattle.git_host.specs.HostMemory.{bytes_held, kept_by, last_by, objects_by, stored_by, wanted_by}
+use Rattle.git_host.specs.HostMemory.{ReportNeedsRefusal, bytes_held, kept_by, last_by, objects_by, stored_by, wanted_by}
 use Rattle.git_host.specs.HostSessions.{Facts, HostSetting, IsHosted, IsUnderWay, IsWaiting}
 use Rattle.git_host.specs.HostAnswers.{with_reported}
-use Rattle.git_host.specs.HostServer.{AcceptsHost, AreHandedOut, ClosesHost, FeedsHost, RefusesHost, ReportsHost, Stays, StepsHost}
-use Rattle.git_host.specs.HostServer.{begun_in, bytes_of, credit_of, given_with, outcome_of, reads_on, with_last}
+use Rattle.git_host.specs.HostServer.{AcceptsHost, AreHandedOut, ClosesHost, FeedsHost, KeepsFault, KeepsHostToMemory, RefusesHost, ReportsHost, Stays}
+use Rattle.git_host.specs.HostServer.{StepsHost, begun_in, bytes_of, credit_of, fault_of, given_with, outcome_of, reads_on, with_last}
 use Rattle.git_host.specs.declared.host_server.HostServer.{HostServer}
 use Rattle.git_host.specs.declared.report.HostReported.{HostReported}
-use Rattle.git_host.specs.declared.report.HostReported.TheVariants.{Packet as WasGiven}
+use Rattle.git_host.specs.declared.report.HostReported.TheVariants.{OutOfMemory, Packet as WasGiven}
 use Rattle.git_host.specs.declared.report.HostStep.{HostStep}
 use Rattle.git_host.specs.declared.report.HostStep.TheVariants.{Packet}
 use Rattle.git_host.specs.declared.report.Report.{Report}
@@ -47,9 +48,15 @@ HandsOut (report fact WasGiven bytes) = AreHandedOut bytes
 HandsOut (refuse text bytes) = AreHandedOut bytes
 HandsOut call = Unit {0}
 
-abbrev pub AllHandOut : List HostCall → Type 0
-AllHandOut [] = Unit {0}
-AllHandOut (call ∷ calls) = HandsOut call × AllHandOut calls
+-- each of the calls does so
+abbrev pub Each : (HostCall → Type 0) → List HostCall → Type 0
+Each Does [] = Unit {0}
+Each Does (call ∷ calls) = Does call × Each Does calls
+
+-- if memory ran out at a report, it refused a list
+abbrev pub LacksMemory : (ℕ → Type 0) → HostCall → Type 0
+LacksMemory refuses (report fact what bytes) = what ≡ OutOfMemory → (most : ℕ) × HasRefused refuses most
+LacksMemory refuses call = Unit {0}
 
 -- what was reported for each request, with what the call reported
 abbrev pub reported_with : HostCall → List Facts → List Facts
@@ -93,27 +100,33 @@ module _ {A : Type 0} where
     pub steps : after ≡ before
     pub credit : credit_of new ≤ credit_of old
 
+  -- the bytes that `next` gave
+  abbrev pub given_at : HostStep → HostServer A → List ℕ
+  given_at Packet new = bytes_of new
+  given_at step new = []
+
+module _ {A : Type 0} (refuses : ℕ → Type 0) where
   -- what `feed` ensures of this piece, of which it used so many bytes: the counter of steps rose from `before` to `after`
   pub record Feeds (piece : List ℕ) (used : ℕ) (begun : List Facts) (before : ℕ) (old : HostServer A) (after : ℕ) (new : HostServer A) : Type 0 where
     pub within : used ≤ length piece
     pub begun_is : begun ≡ begun_in old.phase new.phase
     pub feeds : FeedsHost (take used piece) old new
     pub pays : Pays used before after (credit_of old) (credit_of new)
-
-  -- the bytes that `next` gave
-  abbrev pub given_at : HostStep → HostServer A → List ℕ
-  given_at Packet new = bytes_of new
-  given_at step new = []
+    pub memory : KeepsHostToMemory refuses old new
 
   -- what the contract of the call states of the counter and the server, before it and after it
   abbrev pub Makes : HostCall → ℕ → HostServer A → ℕ → HostServer A → Type 0
   Makes (feed piece used begun) before old after new = Feeds piece used begun before old after new
   Makes close before old after new = ClosesHost old true new × IsFree before old after new
-  Makes (next step bytes) before old after new = StepsHost old step new × (bytes ≡ given_at step new) × IsFree before old after new
-  Makes (report fact what bytes) before old after new = ReportsHost fact old what new × (bytes ≡ given_with what new.stream) × IsFree before old after new
-  Makes accept before old after new = AcceptsHost old true new × IsFree before old after new
-  Makes (refuse text bytes) before old after new = RefusesHost text old true new × (bytes ≡ bytes_of new) × IsFree before old after new
-  Makes nothing before old after new = Stays old new × IsFree before old after new
+  Makes (next step bytes) before old after new =
+      StepsHost old step new × (bytes ≡ given_at step new) × IsFree before old after new × KeepsFault old new
+  Makes (report fact what bytes) before old after new =
+      ReportsHost fact old what new × (bytes ≡ given_with what new.stream) × IsFree before old after new × KeepsFault old new
+      × ReportNeedsRefusal refuses old what
+  Makes accept before old after new = AcceptsHost old true new × IsFree before old after new × KeepsFault old new
+  Makes (refuse text bytes) before old after new =
+      RefusesHost text old true new × (bytes ≡ bytes_of new) × IsFree before old after new × KeepsFault old new
+  Makes nothing before old after new = Stays old new × IsFree before old after new × KeepsFault old new
 
   -- what holds of a server that was new before these calls, while they raised the counter from `before` to `after`
   pub record HostHeadline (s : HostSetting) (calls : List HostCall) (before after : ℕ) (server : HostServer A) : Type 0 where
@@ -131,7 +144,11 @@ module _ {A : Type 0} where
     -- reference that was reported last
     pub held : bytes_held server ≤ 65520 + 2 * s.limit + 33 * wanted_by server + last_by server
     -- each packet has bytes, and no more than the longest
-    pub gives : AllHandOut calls
+    pub gives : Each HandsOut calls
+    -- it ends for want of memory only where memory refused a list, which was to have no more bytes than the limit; and memory ran out at a report
+    -- only where it refused one
+    pub memory : FaultNeedsRefusal refuses s.limit (fault_of server)
+    pub reports : Each (LacksMemory refuses) calls
     -- if the session has ended, what was given is what the input calls for by what was reported of each request, and it ended so
     pub ends : (outcome : Outcome) → outcome_of server ≡ Some outcome
         → IsHosted s (used_in calls) (over_after false calls) (reported_after [] calls) (given_in calls) outcome

@@ -1,6 +1,7 @@
 -- How many bytes a host's server holds, and what bounds them.
-use Rattle.std.specs.Prelude.{ℕ, ◌+◌, ◌*◌, List, length, Option, Some, None}
+use Rattle.std.specs.Prelude.{◌≡◌, ℕ, ◌+◌, ◌*◌, List, length, Option, Some, None}
 use Rattle.git_msg.specs.Machine.HeldRequest.{kept_of, stored_of}
+use Rattle.git_msg.specs.Memory.{HasRefused}
 use Rattle.git_msg.specs.Machine.RequestStreams.{bytes_held as stream_held}
 use Rattle.git_server.specs.Repository.{Entry}
 use Rattle.git_host.specs.declared.admission.Admission.{Admission as AdmissionMachine}
@@ -12,6 +13,8 @@ use Rattle.git_host.specs.declared.host_answer.HostAnswer.TheVariants.{Admission
 use Rattle.git_host.specs.declared.host_server.Phase.{Phase}
 use Rattle.git_host.specs.declared.host_server.Phase.TheVariants.{Asked as WholeRequest, Answering}
 use Rattle.git_host.specs.declared.host_server.HostServer.{HostServer}
+use Rattle.git_host.specs.declared.report.HostReported.{HostReported}
+use Rattle.git_host.specs.declared.report.HostReported.TheVariants.{OutOfMemory}
 
 -- of the name that a symbolic reference points to
 abbrev pub target_bytes : Option (List ℕ) → ℕ
@@ -67,6 +70,13 @@ module _ {A : Type 0} where
 
   abbrev pub objects_by : HostServer A → ℕ
   objects_by server = objects_in server.phase
+
+  -- memory ran out at a report only if a list was refused of no more bytes than the objects that are kept and one more have
+  abbrev pub AnswerNeedsRefusal : (ℕ → Type 0) → HostAnswer A → HostReported → Type 0
+  AnswerNeedsRefusal refuses old reported = reported ≡ OutOfMemory → HasRefused refuses (33 * (objects_for old + 1))
+
+  abbrev pub ReportNeedsRefusal : (ℕ → Type 0) → HostServer A → HostReported → Type 0
+  ReportNeedsRefusal refuses old reported = reported ≡ OutOfMemory → HasRefused refuses (33 * (objects_by old + 1))
 
   abbrev pub wanted_for : HostAnswer A → ℕ
   wanted_for (Admission answer) = length answer.request.asked.want_refs

@@ -4,7 +4,7 @@ use Rattle.git_names.specs.declared.object_format.Format.{Format}
 use Rattle.git_pkt.specs.Packets.{Pkt, spelling_of}
 use Rattle.git_pkt.specs.declared.fault.Fault.{Fault}
 use Rattle.git_pkt.specs.declared.fault.Kind.{Kind}
-use Rattle.git_pkt.specs.declared.fault.Kind.TheVariants.{NotOurs, PackSource, RemoteError}
+use Rattle.git_pkt.specs.declared.fault.Kind.TheVariants.{NotOurs, PackSource, RemoteError, UnknownRef}
 use Rattle.git_msg.specs.declared.offers.Offer.{Offer}
 use Rattle.git_msg.specs.declared.streams.RequestStream.{RequestStream}
 use Rattle.git_msg.specs.Asked.{Asked}
@@ -51,6 +51,19 @@ with_last with (f ∷ g ∷ fs) = f ∷ with_last with (g ∷ fs)
 pub record AreHandedOut (bytes : List ℕ) : Type 0 where
   pub some : 4 ≤ length bytes
   pub fits : length bytes ≤ 65520
+
+-- by this name a host refuses a request
+abbrev pub is_of_host : Kind → Bool
+is_of_host NotOurs = true
+is_of_host UnknownRef = true
+is_of_host PackSource = true
+is_of_host kind = false
+
+-- what a call that uses no bytes does to the fault that ends a session: it stays, and a new one is by a name of a host's
+abbrev pub IsFaultAfter : Option Fault → Option Fault → Type 0
+IsFaultAfter (Some fault) now = now ≡ Some fault
+IsFaultAfter None None = Unit {0}
+IsFaultAfter None (Some fault) = is_of_host fault.kind ≡ true
 
 -- what its answers rest on
 abbrev pub terms_of : HostSetting → Terms
@@ -190,6 +203,11 @@ module _ {A : Type 0} where
   KeepsHostToMemory refuses old new =
       (s : HostSetting) (so_far : List ℕ) (over : Bool) (reported : List Facts) (given : List ℕ) → Hosts s so_far over reported given old
       → FaultNeedsRefusal refuses s.limit (fault_of old) → FaultNeedsRefusal refuses s.limit (fault_of new)
+
+  -- the call uses no bytes: a fault that ends the session stays, and a new one is by a name of a host's
+  abbrev pub KeepsFault : HostServer A → HostServer A → Type 0
+  KeepsFault old new = (s : HostSetting) (used : List ℕ) (over : Bool) (reported : List Facts) (given : List ℕ) → Hosts s used over reported given old
+      → IsFaultAfter (fault_of old) (fault_of new)
 
   -- the phase in which a fault of the input is reported to the client, but for an error packet of the client's
   abbrev pub refused_by : Kind → Fault → Phase A

@@ -7,11 +7,11 @@
 //!    +------------+--> Refused
 //! ```
 
-ghost use Rattle.std.specs.Prelude.{◌≡◌, ◌+◌, ◌<◌, length};
+ghost use Rattle.std.specs.Prelude.{◌≡◌, ◌+◌, ◌*◌, ◌<◌, OnErr, length};
 ghost use Rattle.git_host.specs.Admissions.{reference_step, want_step};
 
 use crate::fetch_answer::FetchAnswer;
-use git_msg::Fetch;
+use git_msg::{Fetch, Memory};
 use git_names::{Format, Oid};
 use git_pkt::Kind;
 use std::alloc::{AllocError, Allocator};
@@ -51,7 +51,7 @@ pub struct Admission<A: Allocator + Copy> {
 }
 
 impl<A: Allocator + Copy> Admission<A> {
-    ghost use Rattle.git_host.specs.Admissions.{IsAdmitted, ReportsWant, ReportsWantRef, RepresentsAdmission};
+    ghost use Rattle.git_host.specs.Admissions.{IsAdmitted, ReportsWant, RepresentsAdmission};
     ghost use Rattle.git_host.specs.Admissions.{asked_of, format_of, nothing_reported, request_of, step_of, wanted_by, AdmissionFacts};
     ghost use Rattle.git_host.specs.AdmittedAnswers.{Becomes};
 
@@ -100,29 +100,6 @@ impl<A: Allocator + Copy> Admission<A> {
         true
     }
 
-    /// The object of the wanted reference that is asked for, or that there is no such reference. Where memory runs out nothing changed.
-    pub fn want_ref(&mut self, id: Option<Oid>) -> Result<WantRefReported, AllocError>
-        ensures { ReportsWantRef id self.old result self.new }
-    {
-        let AdmissionStep::AskWantRef(at) = self.step else {
-            return Ok(WantRefReported::NotAsked);
-        };
-        let Some(id) = id else {
-            self.step = AdmissionStep::Refused(Kind::UnknownRef);
-            return Ok(WantRefReported::Taken);
-        };
-        if id.format() != self.format {
-            return Ok(WantRefReported::MixedFormats);
-        }
-        match self.wanted.push(id) {
-            Ok(()) => {
-                self.step = after_want_ref(&self.request, at);
-                Ok(WantRefReported::Taken)
-            }
-            Err(_) => Err(AllocError),
-        }
-    }
-
     /// The answer to the request, if the store has all that it asks for: its wanted references point to the objects that were reported.
     /// Else the admission goes on as it was.
     pub fn into_answer(self) -> Result<FetchAnswer<A>, Admission<A>>
@@ -136,6 +113,34 @@ impl<A: Allocator + Copy> Admission<A> {
             )),
             _ => Err(self),
         }
+    }
+}
+
+impl<A: Memory + Copy> Admission<A> {
+    ghost use Rattle.git_msg.specs.Memory.{HasRefused};
+    ghost use Rattle.git_host.specs.Admissions.{ReportsWantRef, wanted_by};
+
+    /// The object of the wanted reference that is asked for, or that there is no such reference. Where memory runs out nothing changed.
+    pub fn want_ref(&mut self, id: Option<Oid>) -> Result<WantRefReported, AllocError>
+        ensures reports { ReportsWantRef id self.old result self.new }
+
+        // Memory refused a list that was to have the objects kept so far and this one.
+        ensures memory { OnErr result (HasRefused A.refuses (33 * (length (wanted_by self.old) + 1))) }
+    {
+        let AdmissionStep::AskWantRef(at) = self.step else {
+            return Ok(WantRefReported::NotAsked);
+        };
+        let Some(id) = id else {
+            self.step = AdmissionStep::Refused(Kind::UnknownRef);
+            return Ok(WantRefReported::Taken);
+        };
+        if id.format() != self.format {
+            return Ok(WantRefReported::MixedFormats);
+        }
+        A::reserve(&mut self.wanted, 1)?;
+        self.wanted.push_reserved(id);
+        self.step = after_want_ref(&self.request, at);
+        Ok(WantRefReported::Taken)
     }
 }
 

@@ -9,7 +9,7 @@ use crate::fetch_answer::{BoundaryEnd, BoundaryReported, FetchAnswer, ProgressRe
 use crate::references_answer::{ReferencesAnswer, Reported};
 use crate::report::{HostReported, LONGEST_PART, Need, Report, packet_where, taken_where};
 use crate::sizes_answer::{SizesAnswer, SizesStep};
-use git_msg::{Boundary, Request};
+use git_msg::{Boundary, Memory, Request};
 use git_names::{Format, Oid, RefName};
 use git_pkt::{Hold, Kind};
 use git_server::RefEntry;
@@ -52,7 +52,7 @@ pub(crate) enum Failing {
 }
 
 impl<A: Allocator + Copy> HostAnswer<A> {
-    ghost use Rattle.git_host.specs.HostAnswers.{FailsBy, IsBegun, ReportsBy, StepsAnswer, is_failure};
+    ghost use Rattle.git_host.specs.HostAnswers.{FailsBy, IsBegun, ReportsBy, StepsAnswer};
 
     /// The answer to this request, of which nothing was reported or given.
     pub(crate) fn new(alloc: A, request: Request<A>, format: Format) -> HostAnswer<A>
@@ -111,29 +111,6 @@ impl<A: Allocator + Copy> HostAnswer<A> {
         *self = settled(answer);
     }
 
-    /// Takes what the host reports, but for a failure, and gives its packet, if it has one.
-    pub(crate) fn report(&mut self, report: Report<'_>, hold: &mut Hold) -> HostReported
-        requires { is_failure report ≡ false }
-        ensures { ReportsBy report.entry self.old result hold.new.items self.new }
-    {
-        match report {
-            Report::Want(has) => self.want(has, hold),
-            Report::WantRef(id) => self.want_ref(id, hold),
-            Report::Have(has) => self.have(has, hold),
-            Report::Ready(ready) => self.ready(ready, hold),
-            Report::Boundary(line) => self.boundary(line, hold),
-            Report::BoundaryEnd => self.boundary_end(hold),
-            Report::Pack(bytes) => self.pack(bytes, hold),
-            Report::Progress(bytes) => self.progress(bytes, hold),
-            Report::PackEnd => self.pack_end(hold),
-            Report::Failed => unreachable!(),
-            Report::Reference(entry) => self.reference(entry, hold),
-            Report::Unborn(target) => self.unborn(target, hold),
-            Report::ReferencesEnd => self.references_end(hold),
-            Report::Size(size) => self.size(size, hold),
-        }
-    }
-
     fn want(&mut self, has: bool, hold: &mut Hold) -> HostReported
         ensures { ReportsBy (Report.Want has) self.old result hold.new.items self.new }
     {
@@ -141,20 +118,6 @@ impl<A: Allocator + Copy> HostAnswer<A> {
             return HostReported::NotAsked;
         };
         taken_where(admission.want(has))
-    }
-
-    fn want_ref(&mut self, id: Option<Oid>, hold: &mut Hold) -> HostReported
-        ensures { ReportsBy (Report.WantRef id) self.old result hold.new.items self.new }
-    {
-        let HostAnswer::Admission(admission) = self else {
-            return HostReported::NotAsked;
-        };
-        match admission.want_ref(id) {
-            Ok(WantRefReported::Taken) => HostReported::Taken,
-            Ok(WantRefReported::MixedFormats) => HostReported::MixedFormats,
-            Ok(WantRefReported::NotAsked) => HostReported::NotAsked,
-            Err(_) => HostReported::OutOfMemory,
-        }
     }
 
     fn have(&mut self, has: bool, hold: &mut Hold) -> HostReported
@@ -283,6 +246,50 @@ impl<A: Allocator + Copy> HostAnswer<A> {
             return HostReported::NotAsked;
         };
         packet_where(answer.size(size, hold))
+    }
+}
+
+impl<A: Memory + Copy> HostAnswer<A> {
+    ghost use Rattle.git_host.specs.HostAnswers.{ReportsBy, is_failure};
+    ghost use Rattle.git_host.specs.HostMemory.{AnswerNeedsRefusal};
+
+    /// Takes what the host reports, but for a failure, and gives its packet, if it has one.
+    pub(crate) fn report(&mut self, report: Report<'_>, hold: &mut Hold) -> HostReported
+        requires { is_failure report ≡ false }
+        ensures reports { ReportsBy report.entry self.old result hold.new.items self.new }
+        ensures memory { AnswerNeedsRefusal A.refuses self.old result }
+    {
+        match report {
+            Report::Want(has) => self.want(has, hold),
+            Report::WantRef(id) => self.want_ref(id, hold),
+            Report::Have(has) => self.have(has, hold),
+            Report::Ready(ready) => self.ready(ready, hold),
+            Report::Boundary(line) => self.boundary(line, hold),
+            Report::BoundaryEnd => self.boundary_end(hold),
+            Report::Pack(bytes) => self.pack(bytes, hold),
+            Report::Progress(bytes) => self.progress(bytes, hold),
+            Report::PackEnd => self.pack_end(hold),
+            Report::Failed => unreachable!(),
+            Report::Reference(entry) => self.reference(entry, hold),
+            Report::Unborn(target) => self.unborn(target, hold),
+            Report::ReferencesEnd => self.references_end(hold),
+            Report::Size(size) => self.size(size, hold),
+        }
+    }
+
+    fn want_ref(&mut self, id: Option<Oid>, hold: &mut Hold) -> HostReported
+        ensures reports { ReportsBy (Report.WantRef id) self.old result hold.new.items self.new }
+        ensures memory { AnswerNeedsRefusal A.refuses self.old result }
+    {
+        let HostAnswer::Admission(admission) = self else {
+            return HostReported::NotAsked;
+        };
+        match admission.want_ref(id) {
+            Ok(WantRefReported::Taken) => HostReported::Taken,
+            Ok(WantRefReported::MixedFormats) => HostReported::MixedFormats,
+            Ok(WantRefReported::NotAsked) => HostReported::NotAsked,
+            Err(_) => HostReported::OutOfMemory,
+        }
     }
 }
 

@@ -9,7 +9,7 @@
 //!                     +--> Ended: the client leaves
 //! ```
 
-ghost use Rattle.std.specs.Prelude.{◌≡◌, ◌≤◌, [], true, false, length, take};
+ghost use Rattle.std.specs.Prelude.{◌≡◌, ◌≢◌, ◌≤◌, [], true, false, length, take};
 ghost use Rattle.git_pkt.specs.Packets.{spelling_of};
 ghost use Rattle.git_server.specs.Answers.{error_packet};
 ghost use Rattle.git_host.specs.HostServer.{IsAccepted, ended_by, first_phase, is_answering, is_asked, refused_by};
@@ -56,8 +56,9 @@ pub struct HostServer<A: Allocator + Copy> {
 }
 
 impl<A: Allocator + Copy> HostServer<A> {
-    ghost use Rattle.git_host.specs.HostServer.{AcceptsHost, ClosesHost, Hosts, RefusesHost, ReportsHost, StepsHost, StopsHost};
+    ghost use Rattle.git_host.specs.HostServer.{AcceptsHost, ClosesHost, Hosts, KeepsFault, RefusesHost, ReportsHost, StepsHost, StopsHost};
     ghost use Rattle.git_host.specs.HostServer.{credit_of, outcome_of, reads_on, setting_of};
+    ghost use Rattle.git_host.specs.HostStates.{is_over};
 
     /// A server at the beginning of a session. Of each request it keeps argument lines whose texts have at most `limits.args` bytes together,
     /// in memory from `alloc`, and it gives the advertisement of the offer first where `advertise` is set.
@@ -126,7 +127,9 @@ impl<A: Allocator + Copy> HostServer<A> {
     /// Gives the next packet, or what is to be done in its place. Called again before that is done, it returns the same.
     pub fn next(&mut self) -> HostStep
         ensures steps { StepsHost self.old result self.new }
+        ensures over { is_over self.old ≡ true → is_over self.new ≡ true }
         ensures credit { credit_of self.new ≤ credit_of self.old }
+        ensures fault { KeepsFault self.old self.new }
     {
         match &self.phase {
             Phase::Reading => HostStep::NeedInput,
@@ -146,6 +149,7 @@ impl<A: Allocator + Copy> HostServer<A> {
         requires { self.old.phase ≡ Phase.Advertising }
         ensures steps { StepsHost self.old result self.new }
         ensures credit { credit_of self.new ≤ credit_of self.old }
+        ensures fault { KeepsFault self.old self.new }
     {
         let Some(hold) = self.stream.lend() else {
             return HostStep::NeedInput;
@@ -161,6 +165,7 @@ impl<A: Allocator + Copy> HostServer<A> {
         requires { is_answering self.old.phase ≡ true }
         ensures steps { StepsHost self.old result self.new }
         ensures credit { credit_of self.new ≤ credit_of self.old }
+        ensures fault { KeepsFault self.old self.new }
     {
         let flush = self.flush;
         let Phase::Answering(answer) = &mut self.phase else {
@@ -202,7 +207,9 @@ impl<A: Allocator + Copy> HostServer<A> {
     fn report_fault(&mut self, fault: Fault) -> HostStep
         requires { self.old.phase ≡ Phase.Refusing fault }
         ensures steps { StepsHost self.old result self.new }
+        ensures over { is_over self.new ≡ true }
         ensures credit { credit_of self.new ≤ credit_of self.old }
+        ensures fault { KeepsFault self.old self.new }
     {
         let Some(hold) = self.stream.lend() else {
             return HostStep::NeedInput;
@@ -213,29 +220,12 @@ impl<A: Allocator + Copy> HostServer<A> {
         HostStep::Packet
     }
 
-    /// Takes what the host reports of its store, and gives its packet, if it has one. A report that is not asked for changes nothing.
-    pub fn report(&mut self, report: Report<'_>) -> HostReported
-        ensures reports { ReportsHost report.entry self.old result self.new }
-        ensures credit { credit_of self.new ≤ credit_of self.old }
-    {
-        if let Report::Failed = report {
-            return self.fail();
-        }
-        let Phase::Answering(answer) = &mut self.phase else {
-            return HostReported::NotAsked;
-        };
-        let Some(hold) = self.stream.lend() else {
-            return HostReported::NotAsked;
-        };
-        let reported = answer.report(report, hold);
-        let _ = hold.len();
-        reported
-    }
-
     // What is asked cannot be had: a packet of the pack's failure is given, or the error packet, which ends the session.
     fn fail(&mut self) -> HostReported
         ensures reports { ReportsHost Report.Failed self.old result self.new }
+        ensures memory { result ≢ HostReported.OutOfMemory }
         ensures credit { credit_of self.new ≤ credit_of self.old }
+        ensures fault { KeepsFault self.old self.new }
     {
         let flush = self.flush;
         let Phase::Answering(answer) = &mut self.phase else {
@@ -268,6 +258,7 @@ impl<A: Allocator + Copy> HostServer<A> {
     pub fn accept(&mut self) -> bool
         ensures accepts { AcceptsHost self.old result self.new }
         ensures credit { credit_of self.new ≤ credit_of self.old }
+        ensures fault { KeepsFault self.old self.new }
     {
         if !self.is_asked() {
             return false;
@@ -282,6 +273,7 @@ impl<A: Allocator + Copy> HostServer<A> {
     pub fn refuse(&mut self, text: &[u8]) -> bool
         ensures refuses { RefusesHost text.now self.old result self.new }
         ensures credit { credit_of self.new ≤ credit_of self.old }
+        ensures fault { KeepsFault self.old self.new }
     {
         if text.len() > LONGEST_REFUSAL {
             return false;
@@ -307,7 +299,8 @@ impl<A: Allocator + Copy> HostServer<A> {
 
 impl<A: Memory + Copy> HostServer<A> {
     ghost use Rattle.git_pkt.specs.Machine.Credit.{Pays};
-    ghost use Rattle.git_host.specs.HostServer.{FeedsHost, KeepsHostToMemory, MovesHost, credit_of};
+    ghost use Rattle.git_host.specs.HostServer.{FeedsHost, KeepsFault, KeepsHostToMemory, MovesHost, ReportsHost, credit_of};
+    ghost use Rattle.git_host.specs.HostMemory.{ReportNeedsRefusal};
 
     /// Takes bytes of the input, and returns how many were used: all of them, or those up to the end of a request, a flush instead of one,
     /// or a fault. None is used while a request is answered, nor after the end.
@@ -342,6 +335,29 @@ impl<A: Memory + Copy> HostServer<A> {
                 used
             }
         }
+    }
+
+    /// Takes what the host reports of its store, and gives its packet, if it has one. A report that is not asked for changes nothing.
+    pub fn report(&mut self, report: Report<'_>) -> HostReported
+        ensures reports { ReportsHost report.entry self.old result self.new }
+        ensures credit { credit_of self.new ≤ credit_of self.old }
+        ensures fault { KeepsFault self.old self.new }
+
+        // Memory refused a list that was to have the objects of wanted references that were kept so far, and one more.
+        ensures memory { ReportNeedsRefusal A.refuses self.old result }
+    {
+        if let Report::Failed = report {
+            return self.fail();
+        }
+        let Phase::Answering(answer) = &mut self.phase else {
+            return HostReported::NotAsked;
+        };
+        let Some(hold) = self.stream.lend() else {
+            return HostReported::NotAsked;
+        };
+        let reported = answer.report(report, hold);
+        let _ = hold.len();
+        reported
     }
 }
 

@@ -1,6 +1,6 @@
 //! What follows from the definitions of what a store reports.
 
-ghost use Rattle.std.specs.Prelude.{◌≡◌, ◌≤◌, ℕ, Bool, List, [], ◌∷◌, true, false, Option, length, map, take};
+ghost use Rattle.std.specs.Prelude.{◌≡◌, ◌⊎◌, ◌≤◌, ℕ, Bool, List, [], ◌∷◌, true, false, Option, length, map, take};
 ghost use Rattle.git_names.specs.declared.object_format.Format.{Format};
 ghost use Rattle.git_pkt.specs.Packets.{Pkt};
 ghost use Rattle.git_pkt.specs.Bands.{AreBands};
@@ -14,19 +14,24 @@ ghost use Rattle.git_host.specs.RepositoryFacts.{AreOfRepository};
 ghost use Rattle.git_host.specs.ReferencesPlaces.{IsReferencesAnswerOf, ReferencesFacts};
 ghost use Rattle.git_host.specs.SizesPlaces.{IsSizesAnswerOf};
 ghost use Rattle.git_pkt.specs.Machine.Credit.{MakesAll, Pays};
-ghost use Rattle.git_host.specs.HostSessions.{AreAnswersBy, Facts, HostSetting, IsHosted};
-ghost use Rattle.git_host.specs.HostedRepository.{AllOfRepository, EndsWell, IsReportedBy, over_repository};
+ghost use Rattle.git_host.specs.HostSessions.{AreAnswersBy, EndsByHost, Facts, HostSetting, IsHosted};
+ghost use Rattle.git_host.specs.HostedRepository.{AllOfRepository, EndsWell, HasWhatIsBegun, IsCutBeforePack, IsLackedByRepository};
+ghost use Rattle.git_host.specs.HostedRepository.{IsLostOfRepository, IsReportedBy, IsReportedUpTo, RefusesAtItsLine, over_repository};
 ghost use Rattle.git_server.specs.Sessions.{AreAnswers, IsSession};
 ghost use Rattle.git_server.specs.declared.outcome.Outcome.{Outcome};
-ghost use Rattle.git_host.specs.HostServer.{AcceptsHost, ClosesHost, FeedsHost, Hosts, RefusesHost, ReportsHost, StepsHost};
-ghost use Rattle.git_host.specs.HostServer.{begun_in, bytes_of, credit_of, given_with};
-ghost use Rattle.git_host.specs.HostMemory.{bytes_held, bytes_held_by_fields};
+ghost use Rattle.git_server.specs.declared.outcome.Outcome.TheVariants.{Refused};
+ghost use Rattle.git_pkt.specs.declared.fault.Fault.{Fault};
+ghost use Rattle.git_pkt.specs.declared.fault.Kind.TheVariants.{PackSource};
+ghost use Rattle.git_host.specs.HostServer.{AcceptsHost, ClosesHost, FeedsHost, Hosts, KeepsFault, KeepsHostToMemory, RefusesHost, ReportsHost, StepsHost};
+ghost use Rattle.git_host.specs.HostServer.{begun_in, bytes_of, credit_of, given_with, is_of_host};
+ghost use Rattle.git_host.specs.HostMemory.{ReportNeedsRefusal, bytes_held, bytes_held_by_fields};
 ghost use Rattle.git_host.specs.HostCalls.{HostCall, HostHeadline, Makes, accept, close, feed, given_at, next, nothing, refuse, report};
 ghost use Rattle.git_host.specs.declared.report.HostReported.{HostReported};
 ghost use Rattle.git_host.specs.declared.report.HostStep.{HostStep};
 ghost use Rattle.git_host.specs.declared.report.Report.{Report};
 
 use crate::host_server::HostServer;
+use git_msg::Memory;
 use std::alloc::Allocator;
 
 /// If what was reported for a fetch is what a repository answers, what is given is an answer of the repository, whole or broken off.
@@ -57,10 +62,12 @@ pub fn no_progress_is_given()
 /// of kept arguments, 33 bytes for each reference that the request at hand wants, and the names of the reference that was reported last; and it
 /// has taken at most 64 steps for each byte used and each call of `feed`. If the session has ended, its output is the session that its whole
 /// input calls for by what was reported of each request, and the first malformed packet was refused at its offset by name. It waits for
-/// input only where each request was answered, and while one is answered it has given the front of an answer.
-pub fn host_headline<A: Allocator + Copy>(server: &HostServer<A>)
+/// input only where each request was answered, and while one is answered it has given the front of an answer. It lacks memory only where
+/// memory refused a list.
+pub fn host_headline<A: Memory + Copy>(server: &HostServer<A>)
     ensures { (s : HostSetting) (calls : List HostCall) (before after : ℕ) (first : HostServer A) → Hosts s [] false [] [] first
-        → credit_of first ≡ 0 → MakesAll Makes calls before first after server.now → HostHeadline s calls before after server.now }
+        → credit_of first ≡ 0 → MakesAll (Makes A.refuses) calls before first after server.now
+        → HostHeadline A.refuses s calls before after server.now }
 {
     let _ = server.packet();
 }
@@ -72,25 +79,29 @@ pub fn all_fields_are_counted<A: Allocator + Copy>()
 
 /// What the contract of each method ensures is a call of the headline, also where it returns false; and calls follow one another: so the
 /// headline is about any that a program makes.
-pub fn methods_make_calls<A: Allocator + Copy>()
+pub fn methods_make_calls<A: Memory + Copy>()
     ensures fed { (old new : HostServer A) (piece : List ℕ) (used before after : ℕ) → used ≤ length piece → FeedsHost (take used piece) old new
-        → Pays used before after (credit_of old) (credit_of new) → Makes (feed piece used (begun_in old.phase new.phase)) before old after new }
-    ensures closed { (old new : HostServer A) (steps : ℕ) → ClosesHost old true new → credit_of new ≤ credit_of old → Makes close steps old steps new }
-    ensures unclosed { (old new : HostServer A) (steps : ℕ) → ClosesHost old false new → Makes nothing steps old steps new }
-    ensures stepped { (old new : HostServer A) (step : HostStep) (steps : ℕ) → StepsHost old step new → credit_of new ≤ credit_of old
-        → Makes (next step (given_at step new)) steps old steps new }
+        → Pays used before after (credit_of old) (credit_of new) → KeepsHostToMemory A.refuses old new
+        → Makes A.refuses (feed piece used (begun_in old.phase new.phase)) before old after new }
+    ensures closed { (old new : HostServer A) (steps : ℕ) → ClosesHost old true new → credit_of new ≤ credit_of old
+        → Makes A.refuses close steps old steps new }
+    ensures unclosed { (old new : HostServer A) (steps : ℕ) → ClosesHost old false new → Makes A.refuses nothing steps old steps new }
+    ensures stepped { (old new : HostServer A) (step : HostStep) (steps : ℕ) → StepsHost old step new → credit_of new ≤ credit_of old → KeepsFault old new
+        → Makes A.refuses (next step (given_at step new)) steps old steps new }
     ensures reported { (old new : HostServer A) (fact : Report) (what : HostReported) (steps : ℕ) → ReportsHost fact old what new
-        → credit_of new ≤ credit_of old → Makes (report fact what (given_with what new.stream)) steps old steps new }
-    ensures accepted { (old new : HostServer A) (steps : ℕ) → AcceptsHost old true new → credit_of new ≤ credit_of old
-        → Makes accept steps old steps new }
-    ensures unaccepted { (old new : HostServer A) (steps : ℕ) → AcceptsHost old false new → Makes nothing steps old steps new }
+        → credit_of new ≤ credit_of old → KeepsFault old new → ReportNeedsRefusal A.refuses old what
+        → Makes A.refuses (report fact what (given_with what new.stream)) steps old steps new }
+    ensures accepted { (old new : HostServer A) (steps : ℕ) → AcceptsHost old true new → credit_of new ≤ credit_of old → KeepsFault old new
+        → Makes A.refuses accept steps old steps new }
+    ensures unaccepted { (old new : HostServer A) (steps : ℕ) → AcceptsHost old false new → Makes A.refuses nothing steps old steps new }
     ensures refused { (old new : HostServer A) (text : List ℕ) (steps : ℕ) → RefusesHost text old true new → credit_of new ≤ credit_of old
-        → Makes (refuse text (bytes_of new)) steps old steps new }
+        → KeepsFault old new → Makes A.refuses (refuse text (bytes_of new)) steps old steps new }
     ensures unrefused { (old new : HostServer A) (text : List ℕ) (steps : ℕ) → RefusesHost text old false new → credit_of new ≤ credit_of old
-        → Makes nothing steps old steps new }
-    ensures none { (server : HostServer A) (steps : ℕ) → MakesAll Makes [] steps server steps server }
+        → KeepsFault old new → Makes A.refuses nothing steps old steps new }
+    ensures none { (server : HostServer A) (steps : ℕ) → MakesAll (Makes A.refuses) [] steps server steps server }
     ensures more { (call : HostCall) (calls : List HostCall) (before between after : ℕ) (first next last : HostServer A)
-        → Makes call before first between next → MakesAll Makes calls between next after last → MakesAll Makes (call ∷ calls) before first after last }
+        → Makes A.refuses call before first between next → MakesAll (Makes A.refuses) calls between next after last
+        → MakesAll (Makes A.refuses) (call ∷ calls) before first after last }
 {}
 
 /// If what was reported for each request of a session is what one repository answers, what was given for them are answers of that repository,
@@ -106,4 +117,29 @@ pub fn session_is_a_repositorys()
     ensures { (s : HostSetting) (repo : Repository) (failures : ℕ) (used : List ℕ) (over : Bool) (reported : List Facts) (given : List ℕ)
         (outcome : Outcome) → IsReportedBy s repo used reported → EndsWell outcome → IsHosted s used over reported given outcome
         → IsSession (over_repository s repo failures) used over given outcome }
+{}
+
+/// A session whose input was refused is one of a server over that repository too, for the same bytes with the same output and outcome, if the
+/// repository has whatever the request at which the input broke off wants. Where it lacks some of that, such a server refuses it at its line.
+pub fn refused_session_is_a_repositorys()
+    ensures { (s : HostSetting) (repo : Repository) (failures : ℕ) (used : List ℕ) (over : Bool) (reported : List Facts) (given : List ℕ)
+        (fault : Fault) → IsReportedBy s repo used reported → HasWhatIsBegun s repo used → is_of_host fault.kind ≡ false
+        → IsHosted s used over reported given (Refused fault) → IsSession (over_repository s repo failures) used over given (Refused fault) }
+{}
+
+/// And so is one that ended since a pack could not be had, unless the last answer was cut short before its pack began, which no such server does.
+pub fn lost_pack_is_a_repositorys()
+    ensures { (s : HostSetting) (repo : Repository) (failures : ℕ) (used : List ℕ) (over : Bool) (reported : List Facts) (given : List ℕ)
+        (fault : Fault) → IsReportedUpTo (IsLostOfRepository repo) s repo used reported → fault.kind ≡ PackSource
+        → IsHosted s used over reported given (Refused fault)
+        → IsSession (over_repository s repo failures) used over given (Refused fault) ⊎ IsCutBeforePack s used reported given fault }
+{}
+
+/// And where the store lacks what the last request wants, such a server refuses a line of it: up to there its session is the same, and the error
+/// packet names that line and what it wants. A host refuses the request at its flush, by the first object that it lacks, or else the first
+/// reference.
+pub fn lacking_request_is_refused_at_its_line()
+    ensures { (s : HostSetting) (repo : Repository) (failures : ℕ) (used : List ℕ) (reported : List Facts) (given : List ℕ) (fault : Fault)
+        → IsReportedUpTo (IsLackedByRepository repo fault.kind) s repo used reported → EndsByHost s used false reported given (Refused fault)
+        → RefusesAtItsLine (over_repository s repo failures) used given fault }
 {}

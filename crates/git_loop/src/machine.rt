@@ -54,12 +54,12 @@ pub trait Machine {
     /// A new machine reaches this state by using and giving some bytes.
     ghost reachable: { Self → Type 0 };
 
-    /// Goes on to the next packet, if there is one; otherwise changes nothing.
+    /// Goes on to the next packet, if there is one; otherwise it uses and gives nothing.
     fn next(&mut self) -> Next
         ensures packet { result ≡ Next.Packet → GivesPacket reaches lends self.old self.new }
         ensures fewer { result ≡ Next.Packet → packets_left self.new < packets_left self.old }
-        ensures needs_input { result ≡ Next.NeedInput → needs_input self.new × (self.new ≡ self.old) }
-        ensures finished { result ≡ Next.Finished → finished self.new × (self.new ≡ self.old) }
+        ensures needs_input { result ≡ Next.NeedInput → needs_input self.new × reaches self.old [] [] self.new }
+        ensures finished { result ≡ Next.Finished → finished self.new × reaches self.old [] [] self.new }
         ensures done { done_with_input self.old → done_with_input self.new }
         ensures short { stopped_short self.new → stopped_short self.old };
 

@@ -1,4 +1,4 @@
--- Arguments that are added one after the other.
+-- Arguments that are added to a request one after the other.
 use Rattle.std.proofs.Common.{arith, ◌≡◌, ℕ, ◌+◌, List, [], ◌∷◌, ap, ◌∙◌, fold, length, rules}
 use Rattle.std.specs.Prelude.{sum_by}
 use Rattle.std.proofs.lemmas.List.Sums.{sum_by-cons}
@@ -24,17 +24,17 @@ module _ {A : Type 0} where
   all_stored [] old new same = omega (arith, ap stored_of same)
   all_stored (arg ∷ args) old new (next, keeps, rest) = omega (arith, keeps.stored, all_stored args next new rest, sum_by-cons stored_in arg args)
 
-  -- what is asked for by a request to which the arguments were added
+  -- what a request asks for after these arguments were added to an empty one
   pub added_asked : (command : Command) (format : Format) (limit : ℕ) (args : List Arg) (empty request : Request A) → IsEmpty command format limit empty
       → AddsAll empty args request → asked_of request ≡ asked_by command args
   added_asked command format limit args empty request h adds = search (rules, all_asked, asked_in_turn)
 
-  -- and how many bytes it counts
+  -- how many bytes it counts
   pub added_kept : (command : Command) (format : Format) (limit : ℕ) (args : List Arg) (empty request : Request A) → IsEmpty command format limit empty
       → AddsAll empty args request → kept_of request ≡ sum_by (λ arg. length (written_text arg)) args
   added_kept command format limit args empty request h adds = omega (arith, h.kept, all_kept args empty request adds)
 
-  -- and how many it stores
+  -- how many bytes it stores
   pub added_stored : (command : Command) (format : Format) (limit : ℕ) (args : List Arg) (empty request : Request A) → IsEmpty command format limit empty
       → AddsAll empty args request → stored_of request ≡ sum_by stored_in args
   added_stored command format limit args empty request h adds = omega (arith, h.stored, all_stored args empty request adds)

@@ -1,4 +1,4 @@
--- What follows of packets of which the last, an argument, is refused though it is well formed, or is not.
+-- Packets whose last one, an argument, is refused although it is well formed, and packets without such an argument.
 use Rattle.std.proofs.Common.{◌≡◌, ◌≢◌, ℕ, Bool, true, All, IfSome, Option, Some, None, option_to_list, List, [], ◌∷◌, ◌++◌}
 use Rattle.std.proofs.Common.{refl, sym, ap, ◌∙◌, subst, inl, inr}
 use Rattle.std.proofs.lemmas.List.Elements.{All-nil, All-cons, All-append, All-pop}
@@ -17,14 +17,14 @@ use Rattle.git_msg.proofs.LineLaws.{argument_payload, fronts_same, one_argument_
 use Rattle.git_msg.proofs.LineLists.{arguments_snoc, last_line}
 use Rattle.git_msg.proofs.WholeRequests.{last_same}
 
--- where nothing refuses an argument, a fault is what a reader of requests reports
+-- if nothing refuses arguments, an error is one that a reader of requests reports
 pub told_by_none : (offer : Offer) (limit : ℕ) (packets : List Given) (fault : Fault) → IsToldFor offer limit nothing_barred packets fault
     → IsTold offer limit packets fault
 told_by_none offer limit packets fault (inl b) = absurd (let none : None ≡ Some fault.kind = b.is_barred.refuses in cc)
 told_by_none offer limit packets fault (inr (unbarred, told)) = told
 
 module _ (offer : Offer) (limit : ℕ) (barred : Arg → Option Kind) where
-  -- what is barred is the argument of its line
+  -- a barred packet is the line of an argument
   barred_argument : (before : List Line) (packet : Pkt) (line : Line) (kind : Kind) → IsLine offer limit before packet line
       → IsBarred offer barred before packet kind → (arg : Arg) × (argument_in line ≡ Some arg) × (barred arg ≡ Some kind)
   barred_argument before packet line kind is b =
@@ -34,7 +34,7 @@ module _ (offer : Offer) (limit : ℕ) (barred : Arg → Option Kind) where
       let same = one_argument_text offer before (text_of b.bytes) b.arg arg b.is_text is_text in
       (arg, there, subst (λ (a : Arg). barred a ≡ Some kind) same b.refuses)
 
-  -- and is refused for the limit alone
+  -- its only other error can be the limit
   barred_for_limit : (before : List Line) (packet : Pkt) (kind other : Kind) → HasFault offer limit before packet kind
       → IsBarred offer barred before packet other → kind ≡ TooMuchKept
   barred_for_limit before packet kind other fault b =
@@ -42,7 +42,7 @@ module _ (offer : Offer) (limit : ℕ) (barred : Arg → Option Kind) where
       refused_for_limit offer limit before (text_of b.bytes) b.arg kind b.is_text
       (subst (λ (p : Pkt). HasFaultIn true offer limit before p kind) b.data_packet behind)
 
-  -- a packet with this payload that is barred is barred for the argument that its text is
+  -- a packet with this payload is barred only for the argument in its text
   pub barred_text : (before : List Line) (packet : Pkt) (bytes : List ℕ) (arg : Arg) (kind : Kind) → packet ≡ payload bytes
       → IsArgumentText offer before (text_of bytes) arg → IsBarred offer barred before packet kind → barred arg ≡ Some kind
   barred_text before packet bytes arg kind data_packet is_text b =
@@ -51,7 +51,7 @@ module _ (offer : Offer) (limit : ℕ) (barred : Arg → Option Kind) where
       let its_text = subst (λ (bs : List ℕ). IsArgumentText offer before (text_of bs) b.arg) same b.is_text in
       subst (λ (a : Arg). barred a ≡ Some kind) (one_argument_text offer before (text_of bytes) b.arg arg its_text is_text) b.refuses
 
-  -- where the packets before the last are these lines, the last is barred after them
+  -- the last packet is barred after the lines of the packets before it
   pub record BarredAfter (lines : List Line) (last : Given) (kind : Kind) (offset : ℕ) : Type 0 where
     pub is_barred : IsBarred offer barred lines last.packet kind
     pub at : offset ≡ last.offset
@@ -85,7 +85,7 @@ module _ (offer : Offer) (limit : ℕ) (barred : Arg → Option Kind) where
       let both : payload b.is_barred.bytes ≡ flush = sym b.is_barred.data_packet ∙ ap (λ (g : Given). g.packet) lasts ∙ ends in
       cc
 
-  -- nor is a line that is no argument
+  -- nor is a line that is not an argument
   pub plain_unbarred : (packets : List Given) (g : Given) → IsPlainLine offer limit packets g.packet → IsUnbarred offer limit barred (packets ++ g ∷ [])
   plain_unbarred packets g plain kind offset b =
       let there = barred_after (packets ++ g ∷ []) packets g plain.lines kind offset refl plain.taken b in
@@ -93,7 +93,7 @@ module _ (offer : Offer) (limit : ℕ) (barred : Arg → Option Kind) where
       let both : Some arg ≡ None = sym is ∙ plain.no_argument in
       cc
 
-  -- nor is a packet that is refused for something else than the limit
+  -- nor is a packet with an error other than that of the limit
   pub fault_unbarred : (packets : List Given) (kind : Kind) (offset : ℕ) → FirstFault offer limit packets kind offset → kind ≢ TooMuchKept
       → IsUnbarred offer limit barred packets
   fault_unbarred packets kind offset first other name place b =
@@ -101,7 +101,7 @@ module _ (offer : Offer) (limit : ℕ) (barred : Arg → Option Kind) where
       (subst (λ (gs : List Given). FirstFault offer limit gs kind offset) b.whole first) in
       other (barred_for_limit b.lines b.last.packet kind name fault b.is_barred)
 
-  -- with one argument more, which is not barred
+  -- one more argument, which is not barred
   last_admitted : (before : List Line) (packet : Pkt) (line : Line) → IsLine offer limit before packet line
       → ((kind : Kind) → IsBarred offer barred before packet kind → ⊥) → All (IsAdmitted barred) (option_to_list (argument_in line))
   last_admitted before packet line is unbarred = by (argument_in line) refl
@@ -141,7 +141,7 @@ module _ (offer : Offer) (limit : ℕ) (barred : Arg → Option Kind) where
       let both = All-append (IsAdmitted barred) (arguments_of h.front) (option_to_list (argument_in h.last)) before_last last in
       subst (AreAdmitted barred) (sym h.whole) (subst (All (IsAdmitted barred)) (sym (arguments_snoc h.front h.last)) both)
 
-  -- of admitted lines the last is not barred
+  -- if all arguments are admitted, the last packet is not barred
   pub admitted_unbarred : (left : List Given) (lines : List Line) → AreLines offer limit [] left lines → AreAdmitted barred lines
       → IsUnbarred offer limit barred left
   admitted_unbarred left lines are admitted kind offset b =

@@ -1,4 +1,4 @@
--- The arguments of a request in their order ask for just what the request asks, and what arguments ask for is what each adds in turn.
+-- The arguments of a request, in their order, ask for exactly what it asks for; and what arguments ask for together is what each adds in turn.
 use Rattle.std.proofs.Common.{◌≡◌, Bool, true, false, Option, Some, None, option_to_list, List, [], ◌∷◌, ◌++◌, ℕ, map, fold, refl, sym, ap, ◌∙◌, rules}
 use Rattle.std.proofs.Common.{append_assoc, append-nil}
 use Rattle.std.specs.List.{filter_map}
@@ -19,7 +19,7 @@ pub same_command : (asked : Asked) (arg : Arg) → command_asked (with_argument 
 same_command (ls_refs q) arg = refl
 same_command asked arg = refl
 
--- what one argument more adds to a list, and to its last
+-- appending an argument to a list, and replacing the last value
 put_behind : {X : Type 0} (xs : List X) (found : Option X) → xs ++ option_to_list found ≡ and_then xs found
 put_behind xs None = append-nil xs
 put_behind xs (Some x) = refl
@@ -48,18 +48,18 @@ turn_by_turn c before (arg ∷ args) =
     ∙ turn_by_turn c (before ++ arg ∷ []) args
     ∙ ap (asked_by c) (append_assoc before (arg ∷ []) args)
 
--- what arguments ask for is what each adds in turn
+-- what arguments ask for together is what each adds in turn
 pub asked_in_turn : (c : Command) (args : List Arg) → fold with_argument (nothing_asked c) args ≡ asked_by c args
 asked_in_turn c args = turn_by_turn c [] args
 
--- a flag, which its argument sets, and then others
+-- a flag, which is set by its argument, and then other arguments
 flag_then : (with_flag : Bool → Asked) (flag : Flag) (set : Bool) (others : List Arg) (asked : Asked)
     → with_argument (with_flag false) (alone (of_flag flag)) ≡ with_flag true → fold with_argument (with_flag set) others ≡ asked
     → fold with_argument (with_flag false) (where_asked set flag ++ others) ≡ asked
 flag_then with_flag flag true others asked sets rest = ap (λ (a : Asked). fold with_argument a others) sets ∙ rest
 flag_then with_flag flag false others asked sets rest = rest
 
--- these flags, of which none is set, and their arguments
+-- these flags with none of them set
 abbrev none_of : (flags : List Flag) → Flags flags
 none_of flags = flags_where flags (λ flag. false)
 
@@ -67,14 +67,14 @@ abbrev arguments_of : (flags : List Flag) → Flags flags → List (List Arg)
 arguments_of [] set = []
 arguments_of (flag ∷ flags) set = where_asked set.0 flag ∷ arguments_of flags set.1
 
--- each of them is set by its argument, whichever of those before it are set
+-- each of them is set by its argument, whether or not those before it are set
 abbrev AreSet : (flags : List Flag) → (Flags flags → Asked) → Type 0
 AreSet [] with_flags = Unit {0}
 AreSet (flag ∷ flags) with_flags =
     (with_argument (with_flags (false, none_of flags)) (alone (of_flag flag)) ≡ with_flags (true, none_of flags))
     × ((b : Bool) → AreSet flags (λ set. with_flags (b, set)))
 
--- flags, which their arguments set, and then others
+-- flags, which are set by their arguments, and then other arguments
 flags_then : (flags : List Flag) (with_flags : Flags flags → Asked) (set : Flags flags) (others : List Arg) (asked : Asked)
     → AreSet flags with_flags → fold with_argument (with_flags set) others ≡ asked
     → fold with_argument (with_flags (none_of flags)) (joined (arguments_of flags set) others) ≡ asked
@@ -83,14 +83,14 @@ flags_then (flag ∷ flags) with_flags set others asked sets rest =
     flag_then (λ b. with_flags (b, none_of flags)) flag set.0 (joined (arguments_of flags set.1) others) asked sets.0
     (flags_then flags (λ later. with_flags (set.0, later)) set.1 others asked (sets.1 set.0) rest)
 
--- a value, which its argument gives, and then others
+-- a value, which comes from its argument, and then other arguments
 value_then : (with_value : Option ℕ → Asked) (word : Word) (value : Option ℕ) (others : List Arg) (asked : Asked)
     → ((x : ℕ) → with_argument (with_value None) (with_number word x) ≡ with_value (Some x)) → fold with_argument (with_value value) others ≡ asked
     → fold with_argument (with_value None) (where_given word value ++ others) ≡ asked
 value_then with_value word (Some x) others asked gives rest = ap (λ (a : Asked). fold with_argument a others) (gives x) ∙ rest
 value_then with_value word None others asked gives rest = rest
 
--- a list, which its arguments make longer
+-- a list, to which each argument appends
 list_added : {X : Type 0} (with_list : List X → Asked) (make : X → Arg) (before values : List X)
     → ((xs : List X) (x : X) → with_argument (with_list xs) (make x) ≡ with_list (xs ++ x ∷ []))
     → fold with_argument (with_list before) (map make values) ≡ with_list (before ++ values)
@@ -100,7 +100,7 @@ list_added with_list make before (x ∷ xs) adds =
     ∙ list_added with_list make (before ++ x ∷ []) xs adds
     ∙ ap with_list (append_assoc before (x ∷ []) xs)
 
--- and then others
+-- a list, and then other arguments
 list_then : {X : Type 0} (with_list : List X → Asked) (make : X → Arg) (values : List X) (others : List Arg) (asked : Asked)
     → ((xs : List X) (x : X) → with_argument (with_list xs) (make x) ≡ with_list (xs ++ x ∷ []))
     → fold with_argument (with_list values) others ≡ asked → fold with_argument (with_list []) (map make values ++ others) ≡ asked

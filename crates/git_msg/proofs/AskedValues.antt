@@ -1,4 +1,4 @@
--- What texts contain is allowed in a request, and so is all that they ask for together.
+-- The values that texts contain are allowed in a request, and so are those that they ask for together.
 use Rattle.std.proofs.Common.{arith, ◌≡◌, ℕ, List, [], ◌∷◌, refl, sym, subst, length}
 use Rattle.std.specs.Prelude.{All, fold}
 use Rattle.std.proofs.lemmas.List.Elements.{All-head, All-nil, All-tail}
@@ -13,7 +13,7 @@ use Rattle.git_msg.proofs.ArgumentsInOrder.{asked_in_turn, same_command}
 use Rattle.git_msg.proofs.KeptBytes.{counted_more}
 use Rattle.git_msg.proofs.WrittenNames.{named_in}
 
--- the value that a text contains is in its range
+-- the value in a text is in its range
 value_follows : (shape : Shape) (word : List ℕ) (format : Format) (line : List ℕ) (value : Value) → SaysValue shape word format line value
     → MayFollow shape format value
 value_follows flag_word word format line no_value h = tt
@@ -31,7 +31,7 @@ says_in_range format text arg h = value_follows (row arg.word).shape (row arg.wo
 pub says_value : (c : Command) (format : Format) (text : List ℕ) (arg : Arg) → IsArgument c format text arg → IsValue c format arg
 says_value c format text arg h = (h.0, says_in_range format text arg h.1)
 
--- with each argument more a request has values that are allowed in it
+-- a request whose values are allowed keeps that with each further argument
 values_in_turn : (format : Format) (asked : Asked) (args : List Arg) → HasValues format asked → All (IsValue (command_asked asked) format) args
     → HasValues format (fold with_argument asked args)
 values_in_turn format asked [] h all = h
@@ -52,7 +52,7 @@ command_of_nothing : (c : Command) → command_asked (nothing_asked c) ≡ c
 command_of_nothing LsRefs = refl
 command_of_nothing c = refl
 
--- so what arguments ask for together has such values
+-- so the values that arguments ask for together are allowed
 pub asked_has_values : (c : Command) (format : Format) (args : List Arg) → All (IsValue c format) args → HasValues format (asked_by c args)
 asked_has_values c format args all =
     subst (HasValues format) (asked_in_turn c args)

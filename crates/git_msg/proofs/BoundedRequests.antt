@@ -1,4 +1,4 @@
--- A request is bounded in one way.
+-- The bound of a request is unique.
 use Rattle.std.proofs.Common.{◌≡◌, ap, ◌∙◌}
 use Rattle.std.specs.Coded.{le_prop}
 use Rattle.git_msg.specs.Machine.HeldRequest.{IsBounded}

@@ -1,9 +1,9 @@
--- What checks in order mean: what passes them is not refused, and they refuse by one name.
+-- Checks in order: what passes them is not refused, and they refuse with one error.
 use Rattle.std.proofs.Common.{◌≡◌, List, [], ◌∷◌, sym, ◌∙◌, inl, inr}
 use Rattle.git_pkt.specs.declared.fault.Kind.{Kind}
 use Rattle.git_msg.specs.Checks.{Check, check, Refuses, Passes}
 
--- in each check, what passes and what refuses exclude each other, and it refuses by one name
+-- for each check, passing and refusing exclude each other, and it refuses with one error
 pub record IsFair (c : Check) : Type 0 where
   pub apart : (kind : Kind) → c.passes → c.refuses kind → ⊥
   pub single : (kind other : Kind) → c.refuses kind → c.refuses other → kind ≡ other
@@ -26,6 +26,6 @@ one_name (c ∷ cs) fair kind other (inl r) (inr s) = absurd (fair.0.apart kind 
 one_name (c ∷ cs) fair kind other (inr r) (inl s) = absurd (fair.0.apart other r.0 s)
 one_name (c ∷ cs) fair kind other (inr r) (inr s) = one_name cs fair.1 kind other r.1 s.1
 
--- a check with one name
+-- a check with a single error
 pub fair_check : (P Q : Type 0) (name : Kind) → (P → Q → ⊥) → IsFair (check P Q name)
 fair_check P Q name h = record { apart = λ kind p r. h p r.0; single = λ kind other r s. r.1 ∙ sym s.1 }

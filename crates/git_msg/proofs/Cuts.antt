@@ -1,4 +1,4 @@
--- Two cuts of one list of packets are at one place, or one comes before the other.
+-- Two cuts of one list of packets are at the same place, or one comes before the other.
 use Rattle.std.proofs.Common.{◌≡◌, ◌⊎◌, List, [], ◌∷◌, ◌++◌, inl, inr, refl, rules}
 use Rattle.git_pkt.specs.Splits.{Given}
 
@@ -24,6 +24,6 @@ pub not_empty : (xs : List Given) (x : Given) (more : List Given) → [] ≡ xs 
 not_empty [] x more e = cc
 not_empty (a ∷ xs) x more e = cc
 
--- lists that end with one packet are the same before it
+-- equal lists have the same last packet, and the same packets before it
 pub same_ends : (xs ys : List Given) (x y : Given) → xs ++ x ∷ [] ≡ ys ++ y ∷ [] → (xs ≡ ys) × (x ≡ y)
 same_ends xs ys x y e = search (rules, two_cuts, not_empty)

@@ -8,12 +8,12 @@ use Rattle.git_msg.proofs.TextParts.{drop_cons}
 use Rattle.git_msg.specs.Numbers.{IsDigit, IsNumber, decimal_value}
 use native.Mathlib.Nat.{add-mul, mul_assoc, mul-one, zero-mul, pow-succ'}
 
--- the value of digits, after digits of this value
+-- the value of digits that follow others with this value
 abbrev pub value_behind : ℕ → List ℕ → ℕ
 value_behind front [] = front
 value_behind front (digit ∷ digits) = value_behind (front * 10 + (digit - 48)) digits
 
--- the digits before count by how many come after them
+-- the digits before are multiplied by a power of ten for those after them
 behind_is : (front : ℕ) (digits : List ℕ) → value_behind front digits ≡ front * 10 ^ length digits + decimal_value digits
 behind_is front [] = omega (arith, mul-one front)
 behind_is front (d ∷ ds) =
@@ -34,7 +34,7 @@ pub value_step : (text : List ℕ) (at front : ℕ) → at < length text
     → value_behind front (drop at text) ≡ value_behind (front * 10 + (get_or text at 0 - 48)) (drop (at + 1) text)
 value_step text at front h = ap (value_behind front) (drop_cons text at h)
 
--- more digits make no number smaller
+-- more digits never make a number smaller
 value_grows : (digits : List ℕ) (front : ℕ) → front ≤ value_behind front digits
 value_grows [] front = omega arith
 value_grows (d ∷ ds) front = let h = value_grows ds (front * 10 + (d - 48)) in omega (arith, h)
@@ -57,11 +57,11 @@ all_read text number some digits same = record {
   value = sym (ap (value_behind number) (drop_all text)) ∙ same ∙ from_nothing text;
 }
 
--- a text is one number
+-- a text has one number
 pub one_number : (text : List ℕ) (a b : ℕ) → IsNumber text a → IsNumber text b → a ≡ b
 one_number text a b h k = h.value ∙ sym k.value
 
--- what std's lemmas take of the words of numbers
+-- the premises of the standard library's lemmas on digits
 tells_digits : IsDigitsTest (All IsDigit)
 tells_digits = record {
   empty = All-nil IsDigit;
@@ -82,10 +82,10 @@ has_bytes : (text : List ℕ) → text ≢ [] → 0 < length text
 has_bytes [] some = absurd (some refl)
 has_bytes (c ∷ cs) some = omega arith
 
--- what is written of a number is that number
+-- the written form of a number reads back as that number
 pub decimal_reads_back : (n : ℕ) → n < 2 ^ 64 → IsNumber (decimal n) n
 decimal_reads_back n small = search (rules, not_empty, decimal_nonempty, digits_decimal, is_numeral, digits_value-decimal)
 
--- and no text of the number is shorter
+-- and is the shortest text of the number
 pub decimal_is_shortest : (n : ℕ) (text : List ℕ) → n < 2 ^ 64 → IsNumber text n → length (decimal n) ≤ length text
 decimal_is_shortest n text small is = search (rules, digits_value_short, is_numeral, length-decimal-le, has_bytes)

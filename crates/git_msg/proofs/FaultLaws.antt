@@ -1,4 +1,4 @@
--- A list of packets is a request, or has one first fault, and not both.
+-- A list of packets is a request or has one first error, never both.
 use Rattle.std.proofs.Common.{◌≡◌, ℕ, List, [], ◌∷◌, ◌++◌, ap, sym, ◌∙◌, append_assoc, inl, inr, rules}
 use Rattle.std.proofs.lemmas.List.{append-nil}
 use Rattle.git_pkt.specs.Splits.{Given}
@@ -24,18 +24,18 @@ line_inside offer limit before [] g back (l ∷ ls) (m ∷ ms) are those = absur
 line_inside offer limit before (x ∷ xs) g back [] its are those = absurd are
 line_inside offer limit before (x ∷ xs) g back (l ∷ ls) [] are those = absurd those
 
--- lines have no fault
+-- lines have no error
 pub no_fault_in_lines : (offer : Offer) (limit : ℕ) (packets : List Given) (lines : List Line) (kind : Kind) (offset : ℕ)
     → AreLines offer limit [] packets lines
     → FirstFault offer limit packets kind offset → ⊥
 no_fault_in_lines offer limit packets lines kind offset are k = search (rules, line_inside, line_or_fault)
 
--- the first fault of packets is that of those up to it and some after it
+-- the first error of packets is that of any of their prefixes that reaches it
 first_of_fewer : (offer : Offer) (limit : ℕ) (packets fewer mid : List Given) (kind : Kind) (offset : ℕ) → (k : FirstFault offer limit packets kind offset)
     → fewer ≡ k.front ++ k.bad ∷ mid → FirstFault offer limit fewer kind offset
 first_of_fewer offer limit packets fewer mid kind offset k whole = search rules
 
--- the first fault of packets of which those before the last are lines is that of the last
+-- if all packets before the last are lines, the first error is in the last one
 pub fault_at_last : (offer : Offer) (limit : ℕ) (front : List Given) (last : Given) (lines : List Line) (kind : Kind) (offset : ℕ)
     → AreLines offer limit [] front lines → FirstFault offer limit (front ++ last ∷ []) kind offset → HasFault offer limit lines last.packet kind
 fault_at_last offer limit front last lines kind offset are k = elim (two_cuts front k.front last k.bad [] k.back k.whole) [
@@ -47,14 +47,14 @@ fault_at_last offer limit front last lines kind offset are k = elim (two_cuts fr
   | inr (inr (mid, is, left)) ↦ absurd (not_empty mid k.bad k.back left)
 ]
 
--- a whole request has no fault
+-- a whole request has no error
 pub no_fault_in_request : (offer : Offer) (limit : ℕ) (packets : List Given) (asked : Asked) (kept : ℕ) (kind : Kind) (offset : ℕ)
     → Asks offer limit packets asked kept → FirstFault offer limit packets kind offset → ⊥
 no_fault_in_request offer limit packets asked kept kind offset h k =
     let fault = fault_at_last offer limit h.front h.last h.lines kind offset h.taken (rw h.whole at k) in
     flush_or_fault_in (has_delimiter h.lines) offer limit h.lines kind h.checks (rw h.ends at fault)
 
--- packets have one first fault
+-- packets have only one first error
 pub one_first_fault : (offer : Offer) (limit : ℕ) (packets : List Given) (kind other : Kind) (offset place : ℕ)
     → FirstFault offer limit packets kind offset → FirstFault offer limit packets other place → (kind ≡ other) × (offset ≡ place)
 one_first_fault offer limit packets kind other offset place h k = elim (two_cuts h.front k.front h.bad k.bad h.back k.back (sym h.whole ∙ k.whole)) [

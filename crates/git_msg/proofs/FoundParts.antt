@@ -1,4 +1,4 @@
--- What holds of each part that is found in an element of a list holds of all of them.
+-- If a property holds of every part that an element of a list may have, it holds of all parts found in the list.
 use Rattle.std.proofs.Common.{All, List, [], ◌∷◌, Option, Some, None, IfSome}
 use Rattle.std.specs.List.{filter_map, cons_option}
 use Rattle.std.proofs.lemmas.List.Elements.{All-cons, All-head, All-nil, All-tail}

@@ -1,4 +1,4 @@
--- Flags of a command, and as they are kept.
+-- The flags of a command, and the set that is kept of them.
 use Rattle.std.proofs.Common.{◌≡◌, ◌≢◌, ℕ, ◌+◌, ◌<◌, ◌≤◌, Bool, true, false, ◌||◌, ◌==◌, List, ◌∷◌, get_or, length, drop, refl, add-one, drop-cons, arith}
 use Rattle.std.proofs.lemmas.Grind.{common_steps}
 use Rattle.std.proofs.lemmas.Slice.Eq.{bytes_eq-Decides}
@@ -31,7 +31,7 @@ second : (a b : Bool) → (a ≡ true → ⊥) → (a || b) ≡ true → b ≡ t
 second true b other h = absurd (other refl)
 second false b other h = h
 
--- a flag that is in the rest of a list, and not the first there, is in what comes after that
+-- if a flag is in the rest of a list and is not the first there, it comes after that one
 pub among_later : (flags : List Flag) (i : ℕ) (d flag : Flag) (text : List ℕ) → i < length flags → text ≢ (flag_row (get_or flags i d)).text
     → text ≡ (flag_row flag).text → is_among (drop i flags) flag ≡ true → is_among (drop (i + 1) flags) flag ≡ true
 among_later flags i d flag text within other is h = grind (arith, common_steps, add-one, drop-cons, second, bytes_eq-Decides)
@@ -39,7 +39,7 @@ among_later flags i d flag text within other is h = grind (arith, common_steps, 
 nothing_left : (flags : List Flag) (i : ℕ) → length flags ≤ i → drop i flags ≡ []
 nothing_left flags i past = grind (arith, common_steps)
 
--- and it is not in what comes after all of them
+-- and no flag comes after all of them
 pub among_none : (flags : List Flag) (i : ℕ) (flag : Flag) → length flags ≤ i → is_among (drop i flags) flag ≡ true → ⊥
 among_none flags i flag past h = search (rules, nothing_left)
 
@@ -48,7 +48,7 @@ abbrev pub IsAdded : Flag → FlagSet → FlagSet → Type 0
 IsAdded flag old new = (place : ℕ) → get_or new.set place false ≡ ((place == place_of flag) || get_or old.set place false)
 
 module _ {A : Type 0} where
-  -- what is kept of a request, from what keeps it
+  -- a request as it is kept, from the fields of each command
   abbrev pub fetch_kept : FetchInside A → Kept Asked
   fetch_kept q = record { format = q.format; asked = fetch (fetch_inside q); kept = q.budget.kept; limit = q.budget.limit; stored = fetch_stored q }
 

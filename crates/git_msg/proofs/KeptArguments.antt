@@ -1,4 +1,4 @@
--- A reader of requests that keeps an argument, or does not.
+-- A reader of requests that keeps an argument or refuses it.
 use Rattle.std.proofs.Common.{arith, ◌≡◌, ℕ, ◌+◌, ◌^◌, ◌<◌, ◌≤◌, Bool, true, Ok, Err, List, [], ◌∷◌, ◌++◌, ◌-◌, false, cond, take, rules}
 use Rattle.std.proofs.Common.{refl, ap, sym, ◌∙◌, subst, length, max, inl, inr, decimal, length-append}
 use Rattle.std.proofs.lemmas.List.{append-nil, length-take}
@@ -36,13 +36,13 @@ waited_line : {A : Type 0} (packets : List Given) (offset long : ℕ) (arg : Arg
     → IsLine r.offer (limit_in r) w.lines w.last.packet (argument arg long)
 waited_line packets offset long arg r w fits = search (rules, argument_is_line)
 
--- the argument part with one argument more
+-- one more argument in the argument part
 one_more : {A : Type 0} (lines : List Line) (arg : Arg) (long : ℕ) (r : RequestReader A) (q : Request A) (bounded : IsBounded q)
     → InArguments lines r → Keeps r.request arg long q
     → InArguments (lines ++ argument arg long ∷ []) (record r { part = Arguments; request = q; bounded = bounded })
 one_more lines arg long r q bounded h k = search (rules, delimiter_snoc, commands_snoc, append-nil, asked_snoc, arguments_snoc, kept_snoc)
 
--- a line of a word and an object name, or of a word and a number, is not shorter than what is written of it
+-- a line with an object name or a number after the word is no shorter than its written form
 name_line : (word : List ℕ) (format : Format) (text : List ℕ) (id : ObjectName) → Follows word (λ name. IsObjectName format name id) text
     → length (word ++ hex_of id) ≤ length text
 name_line word format text id h = search (rules, length-hex_of, named_in, length-append)
@@ -54,7 +54,7 @@ number_line word InRange text number small h = search (rules, decimal_is_shortes
 text_line : (word line text : List ℕ) → line ≡ word ++ text → length (word ++ text) ≤ length line
 text_line word line text h = let e = ap length h in omega arith
 
--- an argument's text is not shorter than the argument's written form
+-- an argument's text is no shorter than its written form
 value_as_written : (shape : Shape) (word : List ℕ) (format : Format) (line : List ℕ) (value : Value) → SaysValue shape word format line value
     → length (word ++ written_value value) ≤ length line
 value_as_written flag_word word format line no_value h = let e = ap length (h ∙ sym (append-nil word)) in omega arith
@@ -108,7 +108,7 @@ keeps_ok {A} r offset long arg q bounded part k passes = record {
   within = λ _. omega (arith, k.kept, k.limit, passes.1.0);
 }
 
--- an argument that the limit refuses
+-- an argument above the limit
 too_much : {A : Type 0} (packets : List Given) (offset long : ℕ) (arg : Arg) (r : RequestReader A)
     → WaitsBehind packets offset long arg r → limit_of r.request < kept_of r.request + long → FirstFault r.offer (limit_in r) packets TooMuchKept offset
 too_much packets offset long arg r w over = search rules
@@ -178,7 +178,7 @@ keeps_err {A} r offset long arg q kind bounded part same refused =
       within = λ h. h;
     }) bounded
 
--- a request stays bounded with an argument that is counted by no less than is written of it, and for which the limit has room
+-- a request stays bounded with an argument that fits within the limit and is counted with at least its written form
 pub still_bounded : {A : Type 0} (old new : Request A) (arg : Arg) (long : ℕ) → IsBounded old
     → Passes (keep_checks old arg (max long (length (written_text arg)))) → Keeps old arg (max long (length (written_text arg))) new → IsBounded new
 still_bounded old new arg long h passes k = search (rules, stored_fits)

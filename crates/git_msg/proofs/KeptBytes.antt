@@ -1,4 +1,4 @@
--- What is kept of a request stays counted with each argument more, and what follows for its arguments in their order.
+-- The bytes stored of a request are counted with each further argument, and what follows for its arguments in their order.
 use Rattle.std.proofs.Common.{arith, ◌≡◌, ℕ, ◌+◌, ◌<◌, ◌≤◌, ◌^◌, Bool, true, Bor, Option, Some, None, List, [], ◌∷◌, ◌++◌, refl, ap, sym, ◌∙◌, subst, rules}
 use Rattle.std.proofs.Common.{length, map, take, option_map, append_assoc, append-nil, length-append}
 use Rattle.std.specs.Prelude.{All, IfSome, OnSome, slice_get}
@@ -29,7 +29,7 @@ use Rattle.git_msg.proofs.ArgumentsInOrder.{same_command}
 use Rattle.git_msg.proofs.WrittenNames.{hex_of-at_least, hex_of-at_most}
 use Rattle.std.proofs.lemmas.Grind.{common_steps}
 
--- a list with an argument more, which may take the place of others
+-- a list with one more argument, which may replace others
 record Adds (old : List Arg) (arg : Arg) (new : List Arg) : Type 0 where
   front : List Arg
   gone : List Arg
@@ -77,12 +77,12 @@ adds_to_list : {X : Type 0} (make : X → Arg) (values : List X) (value : X) (ba
     → Adds (map make values ++ back) (make value) (map make (values ++ value ∷ []) ++ back)
 adds_to_list make values value back = adds_before back _ (make value) _ (adds_last make values value)
 
--- an argument more after all of these
+-- one more argument after all of these lists
 behind : (lists : List (List Arg)) (old : List Arg) (arg : Arg) (new : List Arg) → Adds old arg new → Adds (joined lists old) arg (joined lists new)
 behind [] old arg new h = h
 behind (args ∷ lists) old arg new h = adds_after args _ arg _ (behind lists old arg new h)
 
--- so is the list of what is asked for with one more: a row for each word
+-- so the list of arguments gets one more: a row for each word
 adds_ls_refs : (q : LsRefsAsked) (format : Format) (word : Word) (value : Value) → (row word).command ≡ LsRefs → MayFollow (row word).shape format value
     → Adds (arguments_in (ls_refs q)) (record { word = word; value = value }) (arguments_in (ls_refs (with_ls_refs q (record { word = word; value = value }))))
 adds_ls_refs q format (of_flag Flag.Peel) no_value of fits = adds_flag q.peel Flag.Peel _
@@ -130,7 +130,7 @@ adds (ls_refs q) format arg value = adds_ls_refs q format arg.word arg.value val
 adds (fetch q) format arg value = adds_fetch q format arg.word arg.value value.0 value.1
 adds (object_info q) format arg value = adds_object_info q format arg.word arg.value value.0 value.1
 
--- then no more is written than its text
+-- then the list's written form grows by no more than the argument's text
 added_bytes : (old : List Arg) (arg : Arg) (new : List Arg) → Adds old arg new → bytes_of new ≤ bytes_of old + length (written_text arg)
 added_bytes old arg new h = grind (arith, common_steps, sum_by-append, sum_by-cons)
 
@@ -150,7 +150,7 @@ added_values P old arg new h p all =
     let back : All P h.back = all_back P h.gone h.back (all_back P h.front (h.gone ++ h.back) parts) in
     subst (All P) (sym h.is) (All-append P h.front (arg ∷ h.back) (all_front P h.front (h.gone ++ h.back) parts) (All-cons P arg h.back p back))
 
--- a request with an argument more is counted where its text is counted too
+-- a request with one more argument is counted if the length of its text is added
 pub counted_more : (format : Format) (asked : Asked) (arg : Arg) (kept long : ℕ) → IsCounted format asked kept
     → IsValue (command_asked asked) format arg → length (written_text arg) ≤ long → IsCounted format (with_argument asked arg) (kept + long)
 counted_more format asked arg kept long h value counted =
@@ -161,7 +161,7 @@ counted_more format asked arg kept long h value counted =
       written = omega (arith, h.written, counted, added_bytes (arguments_in asked) arg (arguments_in (with_argument asked arg)) more);
     }
 
--- how long a keyword is at least, beside such a value
+-- the minimum length of a keyword before such a value
 abbrev least_keyword : Shape → ℕ
 least_keyword prefix_text = 6
 least_keyword kept_text = 6
@@ -177,7 +177,7 @@ is_keyword : (word : Word) → IsKeyword (row word)
 is_keyword (of_flag Flag.Size) = record { long_enough = omega arith; some_text = omega arith; short = omega arith }
 is_keyword word = record { long_enough = omega arith; some_text = omega arith; short = omega arith }
 
--- no more is stored of a value than is written of it and of its keyword, and it fits into a packet beside any
+-- no more bytes are stored of a value than its written form and its keyword have, and it fits into a packet with any keyword
 record IsMeasured (shape : Shape) (value : Value) : Type 0 where
   stored : stored_value value ≤ least_keyword shape + length (written_value value)
   short : length (written_value value) + 16 < longest_payload
@@ -193,7 +193,7 @@ measured kept_text format (text_value kept) fits = record { stored = omega arith
 measured reference_name format (text_value name) fits = record { stored = omega arith; short = omega (arith, fits.at_most) }
 measured shape format value fits = absurd fits
 
--- no more is stored of an argument than its text has
+-- no more bytes are stored of an argument than its text has
 pub stored_fits : (format : Format) (arg : Arg) → IsInRange format arg → stored_in arg ≤ length (written_text arg)
 stored_fits format arg value = search (rules, measured, is_keyword, length-append)
 
@@ -205,7 +205,7 @@ count_at_most : (args : List Arg) → length args ≤ bytes_of args
 count_at_most [] = omega arith
 count_at_most (arg ∷ args) = omega (arith, has_text arg, count_at_most args, sum_by-cons (λ a. length (written_text a)) arg args)
 
--- what is kept stays covered with an argument more that is allowed there, for which no less is counted than is written of it
+-- the count still covers the stored bytes after an allowed argument that is counted with at least its written form
 pub stays_covered : (old new : Kept Asked) (arg : Arg) (long : ℕ) → IsCovered old.format old.asked old.kept old.stored
     → IsValue (command_asked old.asked) old.format arg → length (written_text arg) ≤ long → KeepsArgument old arg long new
     → IsCovered new.format new.asked new.kept new.stored
@@ -218,7 +218,7 @@ stays_covered old new arg long h value counted keeps = record {
 pub value_fits : (format : Format) (arg : Arg) → IsInRange format arg → length (written_text arg) < longest_payload
 value_fits format arg value = search (rules, measured, is_keyword, length-append)
 
--- so what is kept has few arguments, and each of them fits
+-- so a request has few arguments, and each of them fits
 pub place_bound : (q : Kept Asked) (i : ℕ) (result : Option Argument) → IsWithin q → option_map shown result ≡ slice_get (arguments_in q.asked) i
     → OnSome result (i + 1 < 2 ^ 64)
 place_bound q i None h same = tt
@@ -245,7 +245,7 @@ prefix_fits format q kept i (Some prefix) h same =
     let value = all_at P (map make q.ref_prefixes) i (make prefix.now) values (slice_get-map make q.ref_prefixes i ∙ ap (option_map make) (sym same)) in
     value.1
 
--- the references that are wanted have names
+-- the wanted references have valid names
 pub name_fits : (format : Format) (q : FetchAsked) (kept i : ℕ) (found : Option (Bor (List ℕ))) → IsCounted format (fetch q) kept
     → option_copied found ≡ slice_get q.want_refs i → IfSome found (λ name. IsRefName name.now)
 name_fits format q kept i None h same = tt

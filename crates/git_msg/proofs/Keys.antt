@@ -15,7 +15,7 @@ use Rattle.git_msg.proofs.TextParts.{cut_place, one_cut}
 key_lacks : (key : List ℕ) → is_key key ≡ true → Lacks key 61
 key_lacks key h k within same = search (rules, AllPass-from_list_all, and_parts, eqb)
 
--- so the key and the value are what comes before the first `=` and after it
+-- so the key ends before the first `=`, and the value begins after it
 cut_at_equals : (text key : List ℕ) (value : Option (List ℕ)) → IsCapability text key value → IsCutAt 61 text key value
 cut_at_equals text key None (k, e) = (sym e, subst (λ (t : List ℕ). Lacks t 61) (sym e) (key_lacks key k))
 cut_at_equals text key (Some value) (k, e, v) = record { spelled = e; first = key_lacks key k }
@@ -29,7 +29,7 @@ pub is_capability : (text key : List ℕ) (value : Option (List ℕ)) → IsCutA
 is_capability text key None cut k v = (k, sym cut.0)
 is_capability text key (Some value) cut k v = (k, cut.spelled, v)
 
--- what comes before the first `=` is no key
+-- the bytes before the first `=` are no key
 pub no_key : (text key : List ℕ) (value : Option (List ℕ)) → IsCutAt 61 text key value → is_key key ≡ false → IsNoCapability text
 no_key text key value cut none other more h =
     let same = one_cut 61 text key other value more cut (cut_at_equals text other more h) in
@@ -39,7 +39,7 @@ no_key text key value cut none other more h =
       allowed None h = h.0
       allowed (Some more) h = h.0
 
--- what comes after it is no value
+-- the bytes after it are no value
 pub no_value : (text key : List ℕ) (value : Option (List ℕ)) → IsCutAt 61 text key value → is_value (unwrap_or value []) ≡ false → IsNoCapability text
 no_value text key value cut none other more h =
     let same = one_cut 61 text key other value more cut (cut_at_equals text other more h) in
@@ -62,7 +62,7 @@ value_is text key None h = rw (cut_place 61 text key None (cut_at_equals text ke
 value_is text key (Some value) h =
     rw (cut_place 61 text key (Some value) (cut_at_equals text key (Some value) h), h.1) (after_key key value)
 
--- a value that is borrowed, or nothing
+-- a borrowed value, or an empty one
 pub value_there : (value : Option (Bor (List ℕ))) (empty : Bor (List ℕ)) → empty.now ≡ [] → (unwrap_or value empty).now ≡ unwrap_or (option_copied value) []
 value_there None empty e = e
 value_there (Some v) empty e = refl

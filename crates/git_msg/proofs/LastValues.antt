@@ -30,6 +30,6 @@ module _ (format : Format) (key : List ℕ) (P : List ℕ → Type 0)
   all_meet [] h = tt
   all_meet (w ∷ ws) h = one_more w (value_behind key w) (values_of key ws) refl h.0 (all_meet ws h.1)
 
-  -- the last value of a key is what an attribute of this key has to be
+  -- the last value of a key has the property that an attribute of this key must have
   pub last_value : (words : List (List ℕ)) (x : List ℕ) → Passes (attribute_checks format words) → last_of (values_of key words) ≡ Some x → P x
   last_value words x h e = last_meets P (values_of key words) x (all_meet words h) e

@@ -1,4 +1,4 @@
--- A packet is one line, or has one fault, and not both.
+-- A packet is one line or has one error, never both.
 use Rattle.std.proofs.Common.{arith, ◌≡◌, ℕ, ◌+◌, ◌<◌, ◌≤◌, Bool, true, false, Option, Some, List, [], ◌∷◌, ◌++◌, refl, ap, sym, ◌∙◌, subst, length, inl, inr}
 use Rattle.git_names.specs.declared.object_format.Format.{Format}
 use Rattle.git_names.specs.declared.object_format.Format.TheVariants.{Sha1, Sha256}
@@ -27,7 +27,7 @@ use Rattle.git_msg.proofs.Keys.{one_capability}
 use Rattle.git_msg.proofs.Rows.{one_key, one_argument, argument_or_fault, one_argument_fault}
 use Rattle.std.proofs.Common.{rules}
 
--- the keys of a text
+-- a text has one key
 same_key : (text : List ℕ) (a b : Key) (v w : Option (List ℕ)) → HasKey text a v → HasKey text b w → (a ≡ b) × (v ≡ w)
 same_key text a b v w h k = search (rules, one_capability, one_key)
 
@@ -122,7 +122,7 @@ capability_line_or_fault : (offer : Offer) (first : Bool) (text : List ℕ) (lin
 capability_line_or_fault offer first text line kind h r =
     passes_or_refuses (capability_checks offer first text) (fair_capability offer first text) kind (line_passes offer first text line h) r
 
--- in either part
+-- the same in either part
 line_or_fault_in : (part : Bool) (offer : Offer) (limit : ℕ) (before : List Line) (packet : Pkt) (line : Line) (kind : Kind)
     → IsLineIn part offer limit before packet line → HasFaultIn part offer limit before packet kind → ⊥
 line_or_fault_in false offer limit before (payload bytes) line kind h r = search (rules, capability_line_or_fault)
@@ -144,7 +144,7 @@ one_command c d h = absurd (let long = ap length h in omega arith)
 named : (value : Option (List ℕ)) (c d : Command) → value ≡ Some (name_of c) → value ≡ Some (name_of d) → c ≡ d
 named value c d h k = one_command c d (let same = sym h ∙ k in cc)
 
--- so where that one is in the offer, no other is asked for
+-- so if that command is in the offer, the value names no other
 pub names_taken : (offer : Offer) (value : Option (List ℕ)) (c : Command)
     → value ≡ Some (name_of c) → takes_command offer c ≡ true → NamesTaken offer value
 names_taken offer value c is taken d other = subst (λ (x : Command). takes_command offer x ≡ true) (named value c d is other) taken
@@ -161,7 +161,7 @@ one_capability_line : (offer : Offer) (first : Bool) (text : List ℕ) (line oth
     → IsCapabilityLine offer first text line → IsCapabilityLine offer first text other → line ≡ other
 one_capability_line offer first text line other h k = search (rules, same_key, one_line_of)
 
--- what an argument's line is: a payload after the delimiter
+-- the line of an argument is a payload after the delimiter
 pub record IsArgumentPayload (offer : Offer) (part : Bool) (before : List Line) (packet : Pkt) (arg : Arg) : Type 0 where
   pub behind : part ≡ true
   pub bytes : List ℕ
@@ -185,7 +185,7 @@ pub argument_payload : (offer : Offer) (limit : ℕ) (before : List Line) (packe
     → IsLine offer limit before packet line → argument_in line ≡ Some arg → IsArgumentPayload offer (has_delimiter before) before packet arg
 argument_payload offer limit before packet line arg h is = argument_payload_in (has_delimiter before) offer limit before packet line arg h is
 
--- and each payload there is an argument's line
+-- and each payload there is the line of an argument
 pub payload_argument : (offer : Offer) (limit : ℕ) (before : List Line) (bytes : List ℕ) (line : Line) → IsLineIn true offer limit before (payload bytes) line
     → (arg : Arg) × (argument_in line ≡ Some arg) × IsArgumentText offer before (text_of bytes) arg
 payload_argument offer limit before bytes (argument arg long) h = (arg, refl, h.is_text)
@@ -196,7 +196,7 @@ pub one_argument_text : (offer : Offer) (before : List Line) (text : List ℕ) (
     → IsArgumentText offer before text a → IsArgumentText offer before text b → a ≡ b
 one_argument_text offer before text a b h k = search (rules, same_command, one_argument)
 
--- an argument's text is refused for the limit alone
+-- the text of an argument is refused only for the limit
 pub refused_for_limit : (offer : Offer) (limit : ℕ) (before : List Line) (text : List ℕ) (arg : Arg) (kind : Kind)
     → IsArgumentText offer before text arg → IsArgumentRefused offer limit before text kind → kind ≡ TooMuchKept
 refused_for_limit offer limit before text arg kind h r = by r.refuses
@@ -230,7 +230,7 @@ pub one_line : (offer : Offer) (limit : ℕ) (before : List Line) (packet : Pkt)
     → IsLine offer limit before packet line → IsLine offer limit before packet other → line ≡ other
 one_line offer limit before packet line other h k = one_line_in (has_delimiter before) offer limit before packet line other h k
 
--- a packet has one fault
+-- a packet has one error
 one_fault_in : (part : Bool) (offer : Offer) (limit : ℕ) (before : List Line) (packet : Pkt) (kind other : Kind)
     → HasFaultIn part offer limit before packet kind → HasFaultIn part offer limit before packet other → kind ≡ other
 one_fault_in false offer limit before (payload bytes) kind other h k =
@@ -264,7 +264,7 @@ one_list_of_lines offer limit before (g ∷ gs) (l ∷ ls) (m ∷ ms) h k =
     let rest = one_list_of_lines offer limit (before ++ m ∷ []) gs ls ms (subst (λ (x : Line). AreLines offer limit (before ++ x ∷ []) gs ls) same h.1) k.1 in
     cc
 
--- packets before the last are the same
+-- equal lists have the same packets before the last one
 pub fronts_same : (xs ys : List Given) (x y : Given) → xs ++ x ∷ [] ≡ ys ++ y ∷ [] → xs ≡ ys
 fronts_same xs ys x y e = (same_ends xs ys x y e).0
 
@@ -273,7 +273,7 @@ pub one_request : (offer : Offer) (limit : ℕ) (packets : List Given) (asked ot
     → Asks offer limit packets asked kept → Asks offer limit packets other other_kept → (asked ≡ other) × (kept ≡ other_kept)
 one_request offer limit packets asked other kept other_kept h k = search (rules, fronts_same, one_list_of_lines, same_command)
 
--- a flush that passes has no fault
+-- a flush that passes has no error
 pub flush_or_fault_in : (part : Bool) (offer : Offer) (limit : ℕ) (before : List Line) (kind : Kind)
     → Passes (flush_checks_in part offer before) → HasFaultIn part offer limit before flush kind → ⊥
 flush_or_fault_in false offer limit before kind p r = passes_or_refuses (flush_checks_in false offer before) (fair_flush false offer before) kind p r.1

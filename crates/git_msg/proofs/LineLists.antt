@@ -1,4 +1,4 @@
--- Lines, one more after the others.
+-- Lists of lines, with one more line at the end.
 use Rattle.std.proofs.Common.{arith, ◌≡◌, ℕ, ◌+◌, Bool, true, false, ◌||◌, Option, Some, None, option_to_list, List, [], ◌∷◌, ◌++◌, refl, ap, sym, rules}
 use Rattle.std.proofs.Common.{◌∙◌, subst, append_assoc}
 use Rattle.std.specs.List.{list_any, filter_map}
@@ -43,7 +43,7 @@ delimiter_snoc lines line = list_any_snoc is_delimiter lines line
 pub kept_snoc : (lines : List Line) (line : Line) → kept_in (lines ++ line ∷ []) ≡ kept_in lines + long_of line
 kept_snoc lines line = omega (arith, sum_by-append long_of lines (line ∷ []))
 
--- one more packet, which is a line
+-- one more packet that is a line
 pub lines_snoc : (offer : Offer) (limit : ℕ) (before : List Line) (gs : List Given) (lines : List Line) (g : Given) (line : Line)
     → AreLines offer limit before gs lines → IsLine offer limit (before ++ lines) g.packet line
     → AreLines offer limit before (gs ++ g ∷ []) (lines ++ line ∷ [])
@@ -55,7 +55,7 @@ lines_snoc offer limit before (h ∷ hs) (l ∷ ls) g line are is =
     subst (λ (xs : List Line). IsLine offer limit xs g.packet line) (sym (append_assoc before (l ∷ []) ls)) is in
     (are.0, lines_snoc offer limit (before ++ l ∷ []) hs ls g line are.1 behind)
 
--- the last packet, and the line that it is
+-- the last packet, and its line
 pub record LastLine (offer : Offer) (limit : ℕ) (before : List Line) (gs : List Given) (g : Given) (lines : List Line) : Type 0 where
   pub front : List Line
   pub last : Line

@@ -1,4 +1,4 @@
--- What is left of a request after the line of an argument.
+-- The packets left of a request after the line of an argument.
 use Rattle.std.proofs.Common.{arith, ◌≡◌, ℕ, ◌+◌, Some, None, List, [], ◌∷◌, ap, drop}
 use Rattle.std.specs.Prelude.{slice_get}
 use Rattle.std.proofs.lemmas.Grind.{common_steps}
@@ -13,11 +13,11 @@ drop_from args i arg h = grind (arith, common_steps, gets)
 drop_past : (args : List Arg) (i : ℕ) → slice_get args i ≡ None → drop i args ≡ []
 drop_past args i h = grind (arith, common_steps, gets)
 
--- an argument is written, and those after it are left
+-- after an argument is written, those after it are left
 pub argument_step : (args : List Arg) (i : ℕ) (arg : Arg) → slice_get args i ≡ Some arg
     → argument_lines (drop i args) ≡ text_line (written_text arg) ∷ argument_lines (drop (i + 1) args)
 argument_step args i arg h = ap argument_lines (drop_from args i arg h)
 
--- after the last argument the flush is left
+-- after the last argument only the flush is left
 pub flush_left : (args : List Arg) (i : ℕ) → slice_get args i ≡ None → argument_lines (drop i args) ≡ flush ∷ []
 flush_left args i h = ap argument_lines (drop_past args i h)

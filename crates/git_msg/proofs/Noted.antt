@@ -1,4 +1,4 @@
--- What is noted when one more line comes, or one more word of its value.
+-- The capabilities noted after one more line, or one more word of its value.
 use Rattle.std.proofs.Common.{◌≡◌, ℕ, Bool, true, false, ◌||◌, List, [], ◌∷◌, refl}
 use Rattle.git_pkt.specs.Packets.{Pkt, payload, text_of}
 use Rattle.git_msg.specs.Advertisement.{key_of, value_of, noted_after, noted_of, noted_with}

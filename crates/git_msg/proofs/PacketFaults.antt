@@ -1,4 +1,4 @@
--- By which names no packet of a request is refused.
+-- The errors with which no packet of a request is refused.
 use Rattle.std.proofs.Common.{◌≡◌, ◌≢◌, ℕ, ◌∙◌, Bool, true, false, Option, List, [], ◌∷◌, subst, sym, inl, inr, rules}
 use Rattle.git_names.specs.declared.object_format.Format.{Format}
 use Rattle.git_pkt.specs.Packets.{Pkt, flush, delim, resp_end, payload}
@@ -17,7 +17,7 @@ use Rattle.git_msg.specs.Lines.{Line, argument_checks, capability_checks, comman
 use Rattle.git_msg.specs.Lines.{key_checks, part_checks, text_checks, HasFaultIn}
 use Rattle.git_msg.specs.Requests.{IsTold}
 
--- what refuses no packet by itself, but the limit on what is kept, memory, the stream, a repository or the source of a pack
+-- errors that no packet has by itself: those of the limit, of memory, of the stream, of a repository or of the source of a pack
 abbrev pub NotByItself : Kind → Type 0
 NotByItself TooMuchKept = Unit {0}
 NotByItself OutOfMemory = Unit {0}
@@ -27,7 +27,7 @@ NotByItself NotOurs = Unit {0}
 NotByItself PackSource = Unit {0}
 NotByItself _ = ⊥
 
--- what refuses no packet by the limit either, nor by want of memory
+-- errors that no packet has for the limit or for lack of memory either
 abbrev pub NotOfPackets : Kind → Type 0
 NotOfPackets TooMuchKept = ⊥
 NotOfPackets OutOfMemory = ⊥
@@ -38,12 +38,12 @@ not_by_itself TooMuchKept strange = tt
 not_by_itself OutOfMemory strange = tt
 not_by_itself kind strange = strange
 
--- the names by which a value is refused are those of packets
+-- a refused value has an error of packets
 by_itself : (shape : Shape) → NotByItself (refusal_of shape) → ⊥
 by_itself flag_word h = h
 by_itself shape h = h
 
--- none of the checks refuses by this name
+-- none of the checks refuses with this error
 AllQuiet : Kind → List Check → Type 0
 AllQuiet kind [] = Unit {0}
 AllQuiet kind (c ∷ cs) = (c.refuses kind → ⊥) × AllQuiet kind cs
@@ -95,7 +95,7 @@ module _ (kind : Kind) (strange : NotByItself kind) where
 otherwise : (name : Kind) (cs : List Check) → AllQuiet name cs → (kind : Kind) → Refuses cs kind → kind ≢ name
 otherwise name cs all kind refuses is = quiet name cs all (subst (λ (k : Kind). Refuses cs k) is refuses)
 
--- what judges a packet by itself does not refuse it for the limit
+-- a packet that is judged by itself is not refused for the limit
 pub not_for_limit_by_capability : (offer : Offer) (first : Bool) (text : List ℕ) (kind : Kind)
     → Refuses (capability_checks offer first text) kind → kind ≢ TooMuchKept
 not_for_limit_by_capability offer first text = otherwise TooMuchKept (capability_checks offer first text) (quiet_capability TooMuchKept tt offer first text)
@@ -106,7 +106,7 @@ not_for_limit_by_text c offer text = otherwise TooMuchKept (text_checks c offer 
 pub not_for_limit_by_end : (asked : Asked) (kind : Kind) → Refuses (end_checks asked) kind → kind ≢ TooMuchKept
 not_for_limit_by_end asked = otherwise TooMuchKept (end_checks asked) (quiet_end TooMuchKept tt asked)
 
--- nor for want of memory
+-- nor for lack of memory
 pub not_for_memory_by_capability : (offer : Offer) (first : Bool) (text : List ℕ) (kind : Kind)
     → Refuses (capability_checks offer first text) kind → kind ≢ OutOfMemory
 not_for_memory_by_capability offer first text = otherwise OutOfMemory (capability_checks offer first text) (quiet_capability OutOfMemory tt offer first text)
@@ -135,7 +135,7 @@ module _ (kind : Kind) (strange : NotOfPackets kind) where
   no_such_fault true offer limit before delim r = subst NotOfPackets r strange
   no_such_fault true offer limit before resp_end r = subst NotOfPackets r strange
 
-  -- a fault of packets has another name
+  -- packets have no error of this kind
   pub told_of_packets : (offer : Offer) (limit : ℕ) (packets : List Given) (fault : Fault) → IsTold offer limit packets fault → fault.kind ≡ kind → ⊥
   told_of_packets offer limit packets fault (inl h) is = search (rules, no_such_fault)
   told_of_packets offer limit packets fault (inr w) is = subst NotOfPackets (sym is ∙ w.name) strange

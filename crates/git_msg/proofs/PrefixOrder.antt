@@ -1,4 +1,4 @@
--- Lists of texts that are put in order, and what they show.
+-- Sorted lists of texts, and the names that they show.
 use Rattle.std.proofs.Common.{◌≡◌, ℕ, zero, suc, ◌-◌, ◌==◌, ◌<◌, ◌≤◌, Bool, true, false, ◌||◌, if◌then◌else◌, inl, inr, List, [], ◌∷◌, All, length, rules}
 use Rattle.std.proofs.Common.{map, nat_eq, slice_index_or, refl, sym, ap, ◌∙◌, subst, arith}
 use Rattle.std.specs.List.{list_any, starts_with, AllPairs, dedup, dedup_from}
@@ -15,7 +15,7 @@ use Rattle.std.proofs.lemmas.List.Sorted.{IsPermutation-map, length_permutation,
 use Rattle.git_msg.specs.Prefixes.{Precedes, Prunes, IsOrdered, ShowAlike, SplitsAt, goes_before, begins, is_empty, is_shown, text_cmp}
 use Rattle.git_msg.proofs.TextOrder.{between, begins_trans, le_trans, le_from_no_lt, le_from_begins}
 
--- lists that are as long are empty alike
+-- lists of the same length are both empty or both not
 empty_alike : (xs ys : List (List ℕ)) → length ys ≡ length xs → is_empty xs ≡ is_empty ys
 empty_alike [] [] e = refl
 empty_alike [] (y ∷ ys) e = absurd (omega (arith, e))
@@ -27,7 +27,7 @@ module _ {X : Type 0} (f : X → List ℕ) where
   pub alike_moved : (xs ys : List X) → IsPermutation xs ys → ShowAlike (map f xs) (map f ys)
   alike_moved xs ys h name = search (rules, IsPermutation-map, empty_alike, length_permutation, list_any-IsPermutation)
 
-  -- a text that begins with another shows no more names than that one
+  -- a text that begins with another shows only names that the other one shows too
   abbrev pub same : X → X → Bool
   same a b = begins (f a) (f b)
 
@@ -64,7 +64,7 @@ module _ {X : Type 0} (f : X → List ℕ) where
   alike_pruned [] name = refl
   alike_pruned (x ∷ xs) name = rw (not_empty x xs) (sym (kept_from name x xs))
 
-  -- sorted texts, each with those after it
+  -- each of the sorted texts comes before those after it
   pub sorted_pairs : (xs : List X) → IsSortedBy (λ a b. is_lt (text_cmp (f a) (f b))) xs → AllPairs (λ a b. goes_before (f a) (f b) ≡ true) xs
   sorted_pairs xs h i j d low below =
       le_from_no_lt (f (slice_index_or xs i d)) (f (slice_index_or xs j d)) (sorted_far _ (ranks_by nat_list_cmp_total f) xs h i j d (omega (arith, low)) below)
@@ -122,11 +122,11 @@ module _ {X : Type 0} (f : X → List ℕ) where
       let inside : j < length xs = omega (arith, below, long) in
       rw (get_or-map f xs i e d (omega (arith, low, inside)), get_or-map f xs j e d inside) (h i j e low inside)
 
-  -- sorted texts of which those that begin with another are dropped
+  -- sorted texts, without those that begin with another one
   pub ordered : (xs : List X) (e : X) → IsSortedBy (λ a b. is_lt (text_cmp (f a) (f b))) xs → IsOrdered (map f (dedup same xs))
   ordered xs e h = pairs_of_texts (dedup same xs) e (pruned_pairs xs (sorted_pairs xs h))
 
-  -- those that do not come after a name come first
+  -- those that do not come after a name are at the front
   pub parted : (xs : List X) (name : List ℕ) → IsOrdered (map f xs) → IsPartitionedBy (λ x. goes_before (f x) name) xs
   parted xs name h i j d low below passes = elim (cases_lt i j) [
     | inl before ↦
@@ -150,7 +150,7 @@ module _ {X : Type 0} (f : X → List ℕ) where
         after = λ k d high below. let inside : k < length xs = omega (arith, below, long) in rw (get_or-map f xs k e d inside) (parts.1 k e high inside);
       }
 
--- what comes after the name does not begin it
+-- a text after the name does not begin it
 pub no_begin : (p name : List ℕ) → goes_before p name ≡ false → begins name p ≡ false
 no_begin p name after = by_test (begins name p) refl
   where
@@ -158,7 +158,7 @@ no_begin p name after = by_test (begins name p) refl
     by_test true e = absurd (both_ways (goes_before p name) after (le_from_begins p name e))
     by_test false e = refl
 
--- no text begins a name that comes before all
+-- no text begins a name that comes before all of them
 pub none_shown : (ps : List (List ℕ)) (name : List ℕ) → SplitsAt ps name 0 → is_empty ps ≡ is_shown ps name
 none_shown [] name h = refl
 none_shown (p ∷ ps) name h =
@@ -168,7 +168,7 @@ not_empty_ps : (ps : List (List ℕ)) (i : ℕ) → i < length ps → is_empty p
 not_empty_ps [] i h = absurd (omega (arith, h))
 not_empty_ps (p ∷ ps) i h = refl
 
--- a text before one that does not begin the name does not begin it, and neither does one after it
+-- a text before one that does not begin the name does not begin it either, and neither does one after it
 others_no_begin : (p q name : List ℕ) → Precedes p q → goes_before q name ≡ true → begins name p ≡ false
 others_no_begin p q name h low = by_test (begins name p) refl
   where
@@ -176,7 +176,7 @@ others_no_begin p q name h low = by_test (begins name p) refl
     by_test true e = absurd (both_ways (begins q p) h.1 (between p q name h.0 low e))
     by_test false e = refl
 
--- the last that does not come after the name is the only one that can begin it
+-- only the last text that does not come after the name can begin it
 pub last_decides : (ps : List (List ℕ)) (name : List ℕ) (i : ℕ) (d : List ℕ) → IsOrdered ps → SplitsAt ps name (suc i)
     → begins name (slice_index_or ps i d) ≡ is_shown ps name
 last_decides ps name i d ordered split = by_test (begins name (slice_index_or ps i d)) refl
@@ -199,7 +199,7 @@ last_decides ps name i d ordered split = by_test (begins name (slice_index_or ps
     by_test true e = rw (not_empty_ps ps i inside) (sym (list_any_at (starts_with nat_eq name) ps i d inside e))
     by_test false e = rw (not_empty_ps ps i inside) (sym (list_any_none (starts_with nat_eq name) ps (only e)))
 
--- the same of texts that are found by their ends
+-- the same for texts that are found by their ends
 pub last_held : {X : Type 0} (f : X → List ℕ) (xs : List X) (name : List ℕ) (at : ℕ) (x : X) → 0 < at → x ≡ slice_index_or xs (at - 1) x
     → IsOrdered (map f xs) → SplitsAt (map f xs) name at → begins name (f x) ≡ is_shown (map f xs) name
 last_held {X} f xs name at x some here ordered split =
@@ -208,12 +208,12 @@ last_held {X} f xs name at x some here ordered split =
     let found : slice_index_or (map f xs) (at - 1) (f x) ≡ f x = get_or-map f xs (at - 1) x (f x) inside ∙ ap f (sym here) in
     rw (← found) (last_decides (map f xs) name (at - 1) (f x) ordered (subst (SplitsAt (map f xs) name) next split))
 
--- there are no texts where their number is 0
+-- the texts are none if their number is 0
 pub none_counted : (ps : List (List ℕ)) → (length ps == 0) ≡ is_empty ps
 none_counted [] = refl
 none_counted (p ∷ ps) = grind (arith, common_steps)
 
--- the texts of the ends that are kept, as texts that are kept
+-- pruning the ends is pruning their texts
 dedup_step : {X : Type 0} (f : X → List ℕ) (k x : X) (xs : List X) (b : Bool)
     → map f (dedup_from (same f) k xs) ≡ dedup_from begins (f k) (map f xs) → map f (dedup_from (same f) x xs) ≡ dedup_from begins (f x) (map f xs)
     → map f (if b then dedup_from (same f) k xs else k ∷ dedup_from (same f) x xs)
@@ -229,6 +229,6 @@ pub pruned_texts : {X : Type 0} (f : X → List ℕ) (xs : List X) → map f (de
 pruned_texts f [] = refl
 pruned_texts f (x ∷ xs) = dedup_texts f x xs
 
--- so are those of which the ends are moved and dropped
+-- the ends are moved and some are dropped, and so are the texts
 pub prunes_texts : {X : Type 0} (f : X → List ℕ) (xs ys : List X) → IsPermutation xs ys → Prunes (map f xs) (map f (dedup (same f) ys))
 prunes_texts f xs ys h = record { moved = map f ys; same = IsPermutation-map f xs ys h; kept = pruned_texts f ys }

@@ -1,4 +1,4 @@
--- A request some of whose prefixes are dropped, and the others moved: it is counted as before.
+-- A request whose prefixes are sorted, and some of them dropped: its bytes are counted as before.
 use Rattle.std.proofs.Common.{◌≡◌, ℕ, ◌+◌, ◌≤◌, ◌<◌, Bool, true, false, if◌then◌else◌, List, ◌∷◌, ◌++◌, All, length, map, ap, sym, subst, arith, append_assoc}
 use Rattle.std.specs.List.{dedup, dedup_from, sum_by}
 use Rattle.std.specs.List.Sorted.{IsPermutation}
@@ -16,7 +16,7 @@ use Rattle.git_msg.specs.Prefixes.{Prunes, begins}
 use Rattle.git_msg.proofs.KeptBytes.{all_front, all_back}
 use Rattle.std.proofs.Common.{[], rules}
 
--- fewer prefixes have fewer bytes, and what holds of each argument holds of fewer
+-- fewer prefixes have no more bytes, and a property of all arguments still holds
 module _ (P : Arg → Type 0) (make : List ℕ → Arg) where
   abbrev weight : Arg → ℕ
   weight arg = length (written_text arg)

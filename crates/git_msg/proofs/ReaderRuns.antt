@@ -1,4 +1,4 @@
--- A packet reader without a fault has read some stream, so that a fault which it comes to is one of bytes.
+-- A packet reader without an error has read some stream, so an error that it reports later is one of bytes.
 use Rattle.std.proofs.Common.{arith, ◌≡◌, ◌≢◌, ℕ, ◌+◌, ◌-◌, ◌≤◌, false, List, [], ◌++◌, length, take, Option, None, Some, refl, subst, sym}
 use Rattle.std.proofs.lemmas.List.{length-take-le}
 use Rattle.git_pkt.specs.Faults.{IsOpen, StopsBy}
@@ -16,7 +16,7 @@ use Rattle.git_pkt.proofs.Kept.{Keeps, kept}
 use Rattle.git_pkt.proofs.KnownRest.{held_rest}
 use Rattle.git_pkt.proofs.Spelling.{none_begins_nothing}
 
--- what the hold has of the open packet, by the reader's state
+-- the bytes in the hold of the open packet, for each state of the reader
 record IsRest (held rest : List ℕ) (position : ℕ) : Type 0 where
   behind : length rest ≤ position
   may_go_on : IsOpen rest
@@ -53,7 +53,7 @@ some_run r sound gathers fits =
           (held_rest r (rest_of r) gathers refl, is.may_go_on);
     }
 
--- a fault of bytes is no want of memory
+-- an error of bytes is not lack of memory
 of_bytes : (p : ℕ) (rest : List ℕ) (end : ℕ) (kind : Kind) (offset : ℕ) → StopsBy p rest end kind offset → kind ≢ OutOfMemory
 of_bytes p rest end kind offset stops is =
     let refused = subst (λ (k : Kind). StopsBy p rest end k offset) is stops in absurd refused.0

@@ -1,4 +1,4 @@
--- A reference line is taken or refused, not both, and refused by one name.
+-- A reference line is accepted or refused, never both, and it has one error.
 use Rattle.std.proofs.Common.{arith, ◌≡◌, ℕ, Option, Some, None, List, [], ◌∷◌, ◌++◌, refl, ap, sym, ◌∙◌, slice_index, codes, rules}
 use Rattle.git_names.specs.ObjectName.{ObjectName}
 use Rattle.git_names.specs.declared.object_format.Format.{Format}

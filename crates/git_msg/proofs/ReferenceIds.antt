@@ -32,7 +32,7 @@ begins_with_id format text id end within space named =
       is_id = named;
     }
 
--- the first word is not `unborn`, nor as long as an object's name, or it is none
+-- the first word is not `unborn`, and is no object name because of its length or its digits
 no_id_text : (format : Format) (text : List ℕ) (at end : ℕ) → end ≡ digits_of format → at < length text → slice_index text 0 ≢ 117
     → IsNoObjectName format (take end text) → IsNoIdText format (take at text)
 no_id_text format text at end is_end within other none =
@@ -46,7 +46,7 @@ no_id_text format text at end is_end within other none =
           none id (subst (λ (n : ℕ). IsObjectName format (take n text) id) whole named),
     )
 
--- a line that has a space where an object's name ends, and begins with no such name and not with `u`
+-- a line with a space where an object's name ends that begins neither with such a name nor with `u`
 pub refused_at_its_id : (format : Format) (text : List ℕ) (end : ℕ) → end ≡ digits_of format → end < length text → slice_index text end ≡ 32
     → slice_index text 0 ≢ 117 → IsNoObjectName format (take end text) → IsReferenceFault format text BadObjectName
 refused_at_its_id format text end is_end within space other none = go (position (λ c. c == 32) text) refl where

@@ -13,7 +13,7 @@ same_maybe : (format : Format) (text : Option (List ℕ)) (a b : Option ObjectNa
 same_maybe format None a b h k = h ∙ sym k
 same_maybe format (Some text) a b h k = h.2 ∙ ap Some (one_object_name format text h.0 k.0 h.1 k.1) ∙ sym k.2
 
--- the first words and the others of one list
+-- equal lists have the same first words and the same others
 pub same_heads : (a b : List ℕ) (more others : List (List ℕ)) → a ∷ more ≡ b ∷ others → (a ≡ b) × (more ≡ others)
 same_heads a b more others e = (cc, cc)
 
@@ -25,7 +25,7 @@ pub unborn_is_no_name : (format : Format) (id : ObjectName) → IsObjectName for
 unborn_is_no_name Sha1 id h = let count = h.count in omega arith
 unborn_is_no_name Sha256 id h = let count = h.count in omega arith
 
--- a word is that of one object, or of none
+-- a word names one object, or none
 one_id : (format : Format) (word : List ℕ) (a b : Option ObjectName) → IsIdText format word a → IsIdText format word b → a ≡ b
 one_id format word None None h k = refl
 one_id format word (Some a) (Some b) h k = ap Some (one_object_name format word a b h k)
@@ -43,7 +43,7 @@ one_reference format text a b h k =
     (h.attributes_are.target_is ∙ ap (λ (ws : List (List ℕ)). last_of (values_of (codes "symref-target:") ws)) second.1 ∙ sym k.attributes_are.target_is)
     (same_maybe format (last_of (values_of (codes "peeled:") k.attributes)) a.peeled b.peeled peeled k.attributes_are.peeled_is)
 
--- what is written of a reference is that reference
+-- the written form of a reference reads back as that reference
 pub reference_reads_back : (format : Format) (ref : Ref) → ((id : ObjectName) → ref.id ≡ Some id → IsNameIn format id)
     → ((peeled : ObjectName) → ref.peeled ≡ Some peeled → IsNameIn format peeled) → IsWritable ref → IsReferenceLine format (reference_text ref) ref
 reference_reads_back format ref ids oids w =

@@ -140,7 +140,7 @@ peeled_last format (Some t) None names = refl
 peeled_last format None (Some p) names = (p, names p refl, refl)
 peeled_last format (Some t) (Some p) names = (p, names p refl, refl)
 
--- what is written of a reference reads back
+-- the written form of a reference reads back
 pub reads_back : (format : Format) (id : Option ObjectName) (name : List ℕ) (target : Option (List ℕ)) (peeled : Option ObjectName)
     → IsWritable (reference_of id name target peeled) → HasFormat format (reference_of id name target peeled)
     → ((named : ObjectName) → id ≡ Some named → IsObjectName named.format (hex_of named) named)
@@ -171,7 +171,7 @@ peeled_fits : (peeled : Option ObjectName) → peeled_count peeled ≤ 72
 peeled_fits None = lit≤ tt
 peeled_fits (Some p) = omega (arith, digits_at_most p.format)
 
--- there is room for the line's end
+-- the line's end still fits
 pub room : (id : Option ObjectName) (name : List ℕ) (target : Option (List ℕ)) (peeled : Option ObjectName) (a b c d e f head : List ℕ)
     → IsWritable (reference_of id name target peeled) → length head ≡ 4 → length (id_text id) ≡ id_length id
     → length (peeled_text peeled) ≡ peeled_count peeled → a ≡ head → b ≡ a ++ id_text id → c ≡ b ++ 32 ∷ [] → d ≡ c ++ name → e ≡ d ++ target_text target

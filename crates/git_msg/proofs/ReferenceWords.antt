@@ -22,7 +22,7 @@ use Rattle.git_msg.specs.References.{IsIdText, IsNoIdText, IsReferenceFault, IsR
 use Rattle.git_msg.specs.ReferenceParts.{AreLocated, BeginsWithName, IsFound, IsPeeledWith, ReadSoFar, target_with}
 use Rattle.git_msg.proofs.LineLists.{filter_map_snoc}
 
--- a text that does not begin with the word has nothing after it
+-- a text that does not begin with the word has no value after it
 pub nothing_behind : (word text : List ℕ) → BeginsOtherThan word text → value_behind word text ≡ None
 nothing_behind word text h = go (bytes_eq (take (length word) text) word) refl where
   go : (b : Bool) → bytes_eq (take (length word) text) word ≡ b → (if b then Some (drop (length word) text) else None) ≡ None
@@ -31,7 +31,7 @@ nothing_behind word text h = go (bytes_eq (take (length word) text) word) refl w
       let same : take (length word) text ≡ word = (bytes_eq-Decides (take (length word) text) word).0 e in
       absurd (h (drop (length word) text) (sym (take-append-drop (length word) text) ∙ ap (λ (xs : List ℕ). xs ++ drop (length word) text) same))
 
--- what comes after a word
+-- the value after a word
 pub value_spelled : (word text value : List ℕ) → value_behind word text ≡ Some value → text ≡ word ++ value
 value_spelled word text value = go (bytes_eq (take (length word) text) word) refl where
   go : (b : Bool) → bytes_eq (take (length word) text) word ≡ b → (if b then Some (drop (length word) text) else None) ≡ Some value → text ≡ word ++ value
@@ -41,7 +41,7 @@ value_spelled word text value = go (bytes_eq (take (length word) text) word) ref
       let rest : drop (length word) text ≡ value = cc in
       sym (take-append-drop (length word) text) ∙ ap (λ (xs : List ℕ). xs ++ drop (length word) text) same ∙ ap (λ (xs : List ℕ). word ++ xs) rest
 
--- no attribute that is known
+-- an unknown attribute
 pub other_found : (format : Format) (word : List ℕ) (end : ℕ) (found : ReferencePlaces) → BeginsOtherThan (codes "symref-target:") word
     → BeginsOtherThan (codes "peeled:") word → IsFound format word end found found
 other_found format word end found no_target no_peeled = record {
@@ -80,14 +80,14 @@ values_more : (key : List ℕ) (words : List (List ℕ)) (word : List ℕ) (valu
     → last_of (values_of key (words ++ word ∷ [])) ≡ later value (last_of (values_of key words))
 values_more key words word value e = search (rules, filter_map_snoc, last_more)
 
--- the object name that holds, where one more may have come
+-- the last object name, if another one may follow
 maybe_later : (format : Format) (value last : Option (List ℕ)) (old new : Option ObjectName) → IsPeeledWith format value old new
     → IsMaybeObjectName format last old → IsMaybeObjectName format (later value last) new
 unfolding later
 maybe_later format None last old new h k = subst (λ (o : Option ObjectName). IsMaybeObjectName format last o) (sym h) k
 maybe_later format (Some value) last old new h k = h
 
--- what ends a word that comes after some bytes of the text
+-- the end of a word that follows some bytes of the text
 part_at_end : (text front rest word more value : List ℕ) (end : ℕ) → text ≡ front ++ rest → rest ≡ word ++ more
     → end ≡ length text - length rest + length word → (key : List ℕ) → word ≡ key ++ value
     → value ≡ take (length value) (drop (end - length value) text)
@@ -100,7 +100,7 @@ part_at_end text front rest word more value end h k at key spelled =
     ∙ drop-append_seam key (value ++ more) in
     sym (ap (λ (xs : List ℕ). take (length value) xs) there ∙ take-append_seam value more)
 
--- what is left after a word, and the word before it
+-- a word, and the text after it
 word_first : (rest word : List ℕ) (next : Option (List ℕ)) → IsCutAt 32 rest word next → (more : List ℕ) × (rest ≡ word ++ more)
 word_first rest word None h = ([], sym h.0 ∙ sym (append-nil word))
 word_first rest word (Some after) h = (32 ∷ after, h.spelled)
@@ -117,7 +117,7 @@ pub word_within : (text rest word : List ℕ) (next : Option (List ℕ)) → IsL
     → (length rest ≤ length text) × (length word ≤ length rest)
 word_within text rest word next h cut = search (rules, word_first, length-append)
 
--- the target that holds, where a word may have one more, which ends with it
+-- the last target, if the word may have another one, which ends with it
 target_later : (text front rest word more : List ℕ) (value : Option (List ℕ)) (end : ℕ) (target : Option Part) → text ≡ front ++ rest → rest ≡ word ++ more
     → end ≡ length text - length rest + length word → value_behind (codes "symref-target:") word ≡ value
     → later value (option_map (part_of text) target) ≡ option_map (part_of text) (target_with value end target)
@@ -177,7 +177,7 @@ some_word (x ∷ xs) = go (x == 32) where
   go true = ([], spaced_words xs, refl)
   go false = onto_some x (spaced_words xs)
 
--- the first word is that of no object, and is not `unborn`
+-- the first word is neither an object name nor `unborn`
 pub id_refused : (format : Format) (text id rest : List ℕ) → spaced_words text ≡ id ∷ spaced_words rest → IsNoIdText format id
     → IsReferenceFault format text BadObjectName
 id_refused format text id rest words h =
@@ -197,7 +197,7 @@ pub located : (format : Format) (text spelled rest name : List ℕ) (left : Opti
 located format text spelled rest name left places words parted named begins long found =
     search (rules, word_first, id_counted, drop-append-add, take-append_seam, length-append)
 
--- what is left after the object's name and the reference's
+-- the text left after the object's name and the reference's
 pub left_after_names : (text spelled rest name : List ℕ) (left : Option (List ℕ)) → IsPartedAt 32 text spelled rest → BeginsWithName rest name left
     → IsLeftOf text left
 left_after_names text spelled rest name left parted begins =

@@ -1,4 +1,4 @@
--- A list that is refused while an argument is kept was to have no more bytes than the limit.
+-- A list for which memory is refused while an argument is kept was to have no more bytes than the limit.
 use Rattle.std.proofs.Common.{arith, ℕ, ◌+◌, ◌≤◌, length}
 use Rattle.std.proofs.Math.Logic.{∥∥₁_elim, ∥∥₁_prop}
 use Rattle.git_msg.specs.Arguments.{Arg, IsInRange, stored_in, written_text}

@@ -1,4 +1,4 @@
--- A line of a response section, or of the response to object-info, is taken or refused, not both, and refused by one name.
+-- A line of a response section, or of the response to object-info, is accepted or refused, never both, and it has one error.
 use Rattle.std.proofs.Common.{◌≡◌, ℕ, Option, Some, None, List, [], ◌∷◌, refl, sym, ◌∙◌, subst, codes, inl, inr, rules}
 use Rattle.std.proofs.lemmas.List.{append_cancel_left}
 use Rattle.git_names.specs.ObjectName.{ObjectName, IsObjectName, IsNoObjectName}
@@ -18,7 +18,7 @@ use Rattle.git_msg.proofs.ReferenceLines.{digits_lack_space}
 use Rattle.git_msg.proofs.ResponseLines.{BeginsWith, info_begins, not_both, wanted_begins}
 use Rattle.git_msg.proofs.TextParts.{one_parting, parted_has_byte}
 
--- after one word comes one text
+-- the text after a word is unique
 same_value : (word text : List ℕ) (P Q : List ℕ → Type 0) → (h : Follows word P text) → (k : Follows word Q text) → h.value ≡ k.value
 same_value word text P Q h k = append_cancel_left word h.value k.value (sym h.spelled ∙ k.spelled)
 
@@ -61,7 +61,7 @@ boundary_or_fault format text (Unshallow id) BadObjectName h (inr k) = named_or_
 boundary_or_fault format text line kind h (inl k) = k
 boundary_or_fault format text line kind h (inr k) = k
 
--- only two names refuse a line of the boundary
+-- a line of the boundary has only two errors
 begins_or_not : (format : Format) (text : List ℕ) → IsBoundaryFault format text BadLine → IsBoundaryFault format text BadObjectName → ⊥
 begins_or_not format text h (inl k) = h.0 k.value k.spelled
 begins_or_not format text h (inr k) = h.1 k.value k.spelled
@@ -79,7 +79,7 @@ one_boundary_fault format text BadObjectName other h (inr k) = absurd k
 one_boundary_fault format text kind other (inl h) k = absurd h
 one_boundary_fault format text kind other (inr h) k = absurd h
 
--- the checks of a line that is to be an object name, a space, and a value, where a value that meets P is refused by this name
+-- the checks of a line that has to be an object name, a space and a value; a value with P has this error
 abbrev line_checks : Format → (List ℕ → Type 0) → Kind → List ℕ → List Check
 line_checks format P by_value text =
     unless (Lacks text 32) BadLine ∷ unless (BeginsWithNoName format text) BadObjectName ∷ unless (BeginsWithName format P text) by_value ∷ []
@@ -91,7 +91,7 @@ fair_line : (format : Format) (P : List ℕ → Type 0) (by_value : Kind) (text 
 unfolding AllFair
 fair_line format P by_value text = search (rules, fair_unless)
 
--- what begins with a name has a space, and no other name before it
+-- a text that begins with a name has a space, and this is its only name
 has_space : (format : Format) (P : List ℕ → Type 0) (text : List ℕ) → BeginsWithName format P text → ¬ Lacks text 32
 has_space format P text h lacks = parted_has_byte 32 text h.0 h.1 h.2 lacks
 
@@ -131,7 +131,7 @@ by_its_value : (format : Format) (P : List ℕ → Type 0) (by_value : Kind) (te
     → Refuses (line_checks format P by_value text) by_value
 by_its_value format P by_value text h = inr (has_space format P text h, inr (named_or_none format P text h, inl (h, refl)))
 
--- a reference that was asked for, after its object
+-- the checks of a wanted reference after its object
 abbrev wanted_checks : Format → List ℕ → List Check
 wanted_checks format text = line_checks format (λ name. ¬ IsRefName name) BadRefName text
 
@@ -149,7 +149,7 @@ pub one_wanted_fault : (format : Format) (text : List ℕ) (kind other : Kind) �
     → kind ≡ other
 one_wanted_fault format text kind other h k = search (rules, one_line_fault, wanted_refusal)
 
--- a size, or nothing, after its object
+-- the checks of a size, or of nothing, after its object
 abbrev info_checks : Format → List ℕ → List Check
 info_checks format text = line_checks format IsNoSizeText BadNumber text
 

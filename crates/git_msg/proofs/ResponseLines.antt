@@ -1,5 +1,4 @@
--- The lines of fetch's response sections and of the response to object-info: a text is one of them at most, and what is
--- written reads back.
+-- The lines of fetch's response sections and of the response to object-info: a text is at most one of them, and the written forms read back.
 use Rattle.std.proofs.Common.{arith, ◌≡◌, ℕ, Option, Some, None, List, ◌∷◌, ◌++◌, refl, ap, ◌∙◌, subst, slice_index, codes, rules}
 use Rattle.std.proofs.lemmas.List.{append_cancel_left}
 use Rattle.git_names.specs.ObjectName.{ObjectName, IsObjectName, hex_of}
@@ -16,11 +15,11 @@ use Rattle.git_msg.specs.ResponseLines.{IsInfoLine, IsSize, IsSizeText, info_tex
 use Rattle.git_msg.proofs.DigitValues.{decimal_reads_back, one_number}
 use Rattle.git_msg.proofs.WrittenNames.{hex_of-reads_back}
 
--- after a word comes one object name
+-- the object name after a word is unique
 one_named : (word : List ℕ) (format : Format) (text : List ℕ) (a b : ObjectName) → IsNamed word format text a → IsNamed word format text b → a ≡ b
 one_named word format text a b h k = search (rules, append_cancel_left, one_object_name)
 
--- what is written of an object after a word
+-- the written form of an object after a word reads back
 named_reads_back : (word : List ℕ) (format : Format) (id : ObjectName) → IsNameIn format id → IsNamed word format (word ++ hex_of id) id
 named_reads_back word format id h = record { value = hex_of id; spelled = refl; holds = hex_of-reads_back format id h }
 
@@ -33,7 +32,7 @@ ack_reads_back format id h = named_reads_back (codes "ACK ") format id h
 apart : (c : ℕ) → c ≡ 115 → c ≡ 117 → ⊥
 apart c h k = omega arith
 
--- one text does not begin with both words
+-- a text does not begin with both words
 pub not_both : (text s t : List ℕ) → text ≡ codes "shallow " ++ s → text ≡ codes "unshallow " ++ t → ⊥
 not_both text s t h k = apart (slice_index text 0) (ap (λ (xs : List ℕ). slice_index xs 0) h) (ap (λ (xs : List ℕ). slice_index xs 0) k)
 
@@ -53,12 +52,12 @@ pub record BeginsWith (format : Format) (text : List ℕ) (named : ObjectName) (
   pub spelled : text ≡ digits ++ 32 ∷ value
   pub named_is : IsObjectName format digits named
 
--- in one way
+-- in one way only
 one_beginning : (format : Format) (text : List ℕ) (a b : ObjectName) (value other : List ℕ) → BeginsWith format text a value
     → BeginsWith format text b other → (a ≡ b) × (value ≡ other)
 one_beginning format text a b value other h k = search (rules, append_cancel_length, one_object_name)
 
--- what is written of an object, a space, and any value
+-- the written form of an object name, a space and any value reads back
 beginning_reads_back : (format : Format) (id : ObjectName) (value : List ℕ) → IsNameIn format id → BeginsWith format (hex_of id ++ 32 ∷ value) id value
 beginning_reads_back format id value h = record { digits = hex_of id; spelled = refl; named_is = hex_of-reads_back format id h }
 
@@ -77,14 +76,14 @@ wanted_reads_back format wanted h name =
     let begins = beginning_reads_back format wanted.id wanted.name h in
     record { id = begins.digits; spelled = begins.spelled; id_is = begins.named_is; name_is = name }
 
--- a text is one size, or nothing
+-- a text is one size, or none
 one_size : (text : List ℕ) (a b : Option ℕ) → IsSizeText text a → IsSizeText text b → a ≡ b
 one_size text None None h k = refl
 one_size text None (Some b) h k = absurd (k.is_number.some h)
 one_size text (Some a) None h k = absurd (h.is_number.some k)
 one_size text (Some a) (Some b) h k = ap Some (one_number text a b h.is_number k.is_number)
 
--- what is written of it is that size
+-- the written form of a size reads back
 size_reads_back : (size : Option ℕ) → ((bytes : ℕ) → size ≡ Some bytes → IsSize bytes) → IsSizeText (size_text size) size
 size_reads_back None fits = refl
 size_reads_back (Some bytes) fits = record { is_number = decimal_reads_back bytes (fits bytes refl); in_range = fits bytes refl }

@@ -1,4 +1,4 @@
--- What is written of a request is read again.
+-- The written form of a request reads back.
 use Rattle.std.proofs.Common.{arith, ◌≡◌, ◌≢◌, ℕ, ◌+◌, ◌<◌, ◌≤◌, Bool, true, false, Some, None, List, [], ◌∷◌, ◌++◌, refl, ap, sym, rules}
 use Rattle.std.proofs.Common.{◌∙◌, ◌^◌, subst, length, slice_index, codes, decimal}
 use Rattle.std.specs.Prelude.{All, IsTrue, map}
@@ -48,7 +48,7 @@ record Finishes (offer : Offer) (limit : ℕ) (before : List Line) (gs : List Gi
 abbrev packets_of : List Given → List Pkt
 packets_of gs = map (λ g. g.packet) gs
 
--- a packet more in front
+-- one more packet at the front
 cons_line : (offer : Offer) (limit : ℕ) (before : List Line) (gs : List Given) (p : Pkt) (ps : List Pkt) (line : Line) (lines : List Line)
     → packets_of gs ≡ p ∷ ps → IsLine offer limit before p line
     → ((others : List Given) → packets_of others ≡ ps → Finishes offer limit (before ++ line ∷ []) others lines)
@@ -73,7 +73,7 @@ only_flush offer limit before gs h = absurd (cc)
 not_error : (text : List ℕ) → slice_index text 0 ≢ 69 → ¬ IsErrorText text
 not_error text h e = h (ap (λ (xs : List ℕ). slice_index xs 0) e.spelled)
 
--- what is written of an argument is no error
+-- the written form of an argument is not an error packet
 no_error_word : (word : Word) (rest : List ℕ) → ¬ IsErrorText ((row word).keyword ++ rest)
 no_error_word (of_flag Flag.Size) rest = not_error (codes "size" ++ rest) (λ e. omega arith)
 no_error_word word rest = not_error ((row word).keyword ++ rest) (λ e. omega arith)
@@ -108,7 +108,7 @@ argument_reads : (c : Command) (offer : Offer) (arg : Arg) → IsValue c offer.f
     → IsText c offer (written_text arg) arg
 argument_reads c offer arg value offered = search (rules, written_clean, written_says)
 
--- the line of an argument, as it is written
+-- the line of an argument's written form
 abbrev written_line : Arg → Line
 written_line arg = argument arg (length (written_text arg))
 
@@ -134,7 +134,7 @@ argument_line_is offer limit c before arg part text fits =
       fits = fits;
     }))
 
--- what is written of these arguments is read again, one by one
+-- the written forms of these arguments read back one by one
 abbrev AreTexts : Command → Offer → List Arg → Type 0
 AreTexts c offer args = All (λ arg. IsText c offer (written_text arg) arg) args
 
@@ -156,7 +156,7 @@ record InFront (c : Command) (before : List Line) : Type 0 where
   once : commands_of before ≡ c ∷ []
   none_kept : kept_in before ≡ 0
 
--- the delimiter and what follows
+-- the delimiter, and what follows
 delimiter_finish : (offer : Offer) (limit : ℕ) (c : Command) (before : List Line) (args : List Arg) (gs : List Given) → InFront c before
     → IsFormatMeant offer.format (has_format before) → AreTexts c offer args → bytes_of args ≤ limit → packets_of gs ≡ delim ∷ argument_lines args
     → Finishes offer limit before gs (delimiter ∷ map written_line args)
@@ -203,7 +203,7 @@ pub meant_when_said : (format : Format) → IsFormatMeant format true
 meant_when_said Sha1 = tt
 meant_when_said Sha256 = refl
 
--- a line that comes before the others where it was written
+-- a line before the others, if it is written
 where_said : Bool → Line → List Line → List Line
 where_said true line lines = line ∷ lines
 where_said false line lines = lines
@@ -213,7 +213,7 @@ lines_read : Bool → Bool → Command → List Arg → List Line
 lines_read says_agent says_format c args =
     command c ∷ where_said says_agent agent (where_said says_format object_format (delimiter ∷ map written_line args))
 
--- the object format, where it is written, and what follows
+-- the object format, if it is written, and what follows
 format_finish : (offer : Offer) (limit : ℕ) (c : Command) (before : List Line) (says_format : Bool) (args : List Arg) (gs : List Given)
     → InFront c before → has_format before ≡ false → IsFormatMeant offer.format says_format → AreTexts c offer args → bytes_of args ≤ limit
     → packets_of gs ≡ where_set says_format (format_line offer.format) (delim ∷ argument_lines args)
@@ -234,7 +234,7 @@ format_finish offer limit c before true args gs part unsaid meant texts fits h =
 format_finish offer limit c before false args gs part unsaid meant texts fits h =
     delimiter_finish offer limit c before args gs part (subst (IsFormatMeant offer.format) (sym unsaid) meant) texts fits h
 
--- the agent, where it is written, and what follows
+-- the agent, if it is written, and what follows
 agent_finish : (offer : Offer) (limit : ℕ) (c : Command) (says_agent says_format : Bool) (args : List Arg) (gs : List Given)
     → IsFormatMeant offer.format says_format → AreTexts c offer args → bytes_of args ≤ limit
     → packets_of gs ≡ where_set says_agent agent_line (where_set says_format (format_line offer.format) (delim ∷ argument_lines args))
@@ -257,7 +257,7 @@ unfolding lines_read
 lines_finish offer limit c says_agent says_format args gs meant taken texts fits h =
     search (rules, cons_line, capability_written, command_written, agent_finish)
 
--- what lines contain
+-- the contents of lines
 record Says (commands : List Command) (args : List Arg) (kept : ℕ) (delimited : Bool) (lines : List Line) : Type 0 where
   says_commands : commands_of lines ≡ commands
   says_arguments : arguments_of lines ≡ args
@@ -277,7 +277,7 @@ arguments_say (arg ∷ args) =
       is_delimited = h.is_delimited;
     }
 
--- a line that is neither a command nor an argument contains nothing of them
+-- a line that is neither a command nor an argument adds nothing to the contents
 line_says : (line : Line) → command_in line ≡ None → argument_in line ≡ None → long_of line ≡ 0 → is_delimiter line ≡ false
     → (said : Bool) (cs : List Command) (args : List Arg) (kept : ℕ) (lines : List Line) → Says cs args kept true lines
     → Says cs args kept true (where_said said line lines)
@@ -328,7 +328,7 @@ pub record ReadsLines (offer : Offer) (limit : ℕ) (asked : Asked) (gs : List G
   pub kept_is : written_bytes asked ≡ kept_in lines
   pub delimited : has_delimiter lines ≡ true
 
--- what is written of a request are lines that ask for the same, whatever is judged at its end
+-- the written form of a request has lines that ask for the same, whatever is checked at its end
 pub lines_read_back : (offer : Offer) (limit : ℕ) (says_agent says_format : Bool) (asked : Asked) (gs : List Given)
     → IsFormatMeant offer.format says_format → takes_command offer (command_asked asked) ≡ true → HasValues offer.format asked → AreOffered offer asked
     → written_bytes asked ≤ limit → packets_of gs ≡ lines_written says_agent says_format offer.format asked → ReadsLines offer limit asked gs
@@ -353,7 +353,7 @@ lines_read_back offer limit says_agent says_format asked gs meant taken values o
       delimited = says.is_delimited;
     }
 
--- what is written of a request is a request for the same
+-- the written form of a request is a request for the same
 pub reads_back : (offer : Offer) (limit : ℕ) (says_agent says_format : Bool) (asked : Asked) (gs : List Given) → IsFormatMeant offer.format says_format
     → takes_command offer (command_asked asked) ≡ true → HasValues offer.format asked → AreOffered offer asked
     → written_bytes asked ≤ limit → Passes (end_checks asked)

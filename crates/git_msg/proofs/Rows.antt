@@ -1,4 +1,4 @@
--- The tables of keys and of arguments by their first words: a text is in one row.
+-- The tables of keys and of arguments by their first words: a text belongs to one row.
 use Rattle.std.proofs.Common.{arith, ◌≡◌, ◌≢◌, ℕ, ◌≤◌, false, List, ◌++◌, refl, ap, sym, ◌∙◌, subst, length, drop, inl, inr, rules}
 use Rattle.std.proofs.Math.Seq.{drop-append_seam}
 use Rattle.std.proofs.lemmas.Bool.{false_from_ne_true}
@@ -25,7 +25,7 @@ use Rattle.git_msg.specs.Texts.{Follows}
 use Rattle.git_msg.specs.Lines.{IsWordOf, key_by}
 use Rattle.git_msg.proofs.DigitValues.{one_number}
 
--- what a text contains has the name that it is to have
+-- a value in a text that has to be a reference name is one
 value_has_name : (shape : Shape) (word : List ℕ) (format : Format) (line : List ℕ) (value : Value) → SaysValue shape word format line value
     → IsNamed shape value
 value_has_name reference_name word format line (text_value name) h = h.1
@@ -34,7 +34,7 @@ value_has_name shape word format line value h = tt
 pub argument_has_name : (format : Format) (text : List ℕ) (arg : Arg) → SaysArgument format text arg → HasName arg
 argument_has_name format text arg h = value_has_name (row arg.word).shape (row arg.word).keyword format text arg.value h
 
--- a text that is not the word
+-- a text other than the word
 other_word : (text word : List ℕ) → text ≢ word → bytes_eq text word ≡ false
 other_word text word differ = false_from_ne_true (bytes_eq text word) (λ e. differ ((bytes_eq-Decides text word).0 e))
 
@@ -47,7 +47,7 @@ in_key text key h = ap key_by h
 pub one_key : (text : List ℕ) (a b : Key) → IsWordOf text a → IsWordOf text b → a ≡ b
 one_key text a b h k = sym (in_key text a h) ∙ in_key text b k
 
--- the row of the first word of a text
+-- the first word of a text, and its row
 abbrev first_word : List ℕ → List ℕ
 first_word text = before_first (λ c. c == 32) text
 
@@ -58,7 +58,7 @@ word_among (word ∷ others) first = if bytes_eq first (first_word (row word).ke
 abbrev word_of : List ℕ → Option Word
 word_of text = word_among words (first_word text)
 
--- a line that has such a word at its head, and this after it
+-- a line with such a word at its head, and this text after it
 abbrev line_of : Shape → List ℕ → List ℕ → List ℕ
 line_of flag_word word rest = word
 line_of shape word rest = word ++ rest
@@ -71,7 +71,7 @@ word_heads : (word : Word) (rest : List ℕ) → word_of (line_of (row word).sha
 word_heads (of_flag Flag.Size) rest = refl
 word_heads word rest = refl
 
--- it is one word
+-- the word at its head is unique
 pub one_word : (line : List ℕ) (word other : Word) → IsHeaded (row word) line → IsHeaded (row other) line → word ≡ other
 one_word line word other h k = search (rules, word_heads)
 
@@ -91,7 +91,7 @@ pub headed : (format : Format) (text : List ℕ) (arg : Arg) → SaysArgument fo
 headed format text arg h =
     let found = value_headed (row arg.word).shape (row arg.word).keyword format text arg.value h in record { rest = found.0; is = found.1 }
 
--- so has one that is refused for its value
+-- so does one that is refused for its value
 fault_headed : (shape : Shape) (word : List ℕ) (format : Format) (line : List ℕ) → Follows word (IsNoValue shape format) line
     → (rest : List ℕ) × (line ≡ line_of shape word rest)
 fault_headed flag_word word format line h = absurd h.holds
@@ -102,12 +102,12 @@ refused_headed : (c : Command) (format : Format) (word : Word) (text : List ℕ)
 refused_headed c format word text kind h =
     let found = fault_headed (row word).shape (row word).keyword format text h.follows in record { rest = found.0; is = found.1 }
 
--- after one word comes one value
+-- the value after a word is unique
 pub one_value : (word text a b : List ℕ) → text ≡ word ++ a → text ≡ word ++ b → a ≡ b
 one_value word text a b h k =
     sym (drop-append_seam word a) ∙ ap (λ (l : List ℕ). drop (length word) l) (sym h ∙ k) ∙ drop-append_seam word b
 
--- so what holds of a value after the word holds of any
+-- so a property of some value after the word holds of any
 value_holds : (word text : List ℕ) (P Q : List ℕ → Type 0) → Follows word P text → (k : Follows word Q text) → P k.value
 value_holds word text P Q h k = subst P (one_value word text h.value k.value h.spelled k.spelled) h.holds
 
@@ -177,7 +177,7 @@ by_row : (c : Command) (format : Format) (text : List ℕ) (a : Arg) (kind : Kin
     → IsRowFault c format word text kind → ⊥
 by_row c format text a kind word h k = search (rules, one_word, headed, refused_headed, value_or_fault)
 
--- nor is it none
+-- nor is it no argument
 none_headed : (c : Command) (word : Word) (text : List ℕ) → IsNoArgument c text → (row word).command ≡ c → IsHeaded (row word) text → ⊥
 none_headed c (of_flag flag) text (f, k) of h = f flag of h.is
 none_headed Fetch want text (f, k) of h = k.0 h.rest h.is
@@ -187,22 +187,22 @@ none_headed c word text (f, (k, _)) of h = first_of (cc, search (h.is))
 none_or_argument : (c : Command) (format : Format) (text : List ℕ) (a : Arg) → IsNoArgument c text → command_with a ≡ c → SaysArgument format text a → ⊥
 none_or_argument c format text a u of h = none_headed c a.word text u of (headed format text a h)
 
--- what is refused for its value is no other text
+-- a text that is refused for its value is an argument
 none_or_row : (c : Command) (format : Format) (word : Word) (text : List ℕ) (kind : Kind) → IsNoArgument c text → IsRowFault c format word text kind → ⊥
 none_or_row c format word text kind u h = none_headed c word text u h.of (refused_headed c format word text kind h)
 
--- a text is refused for its value by one name
+-- a text that is refused for its value has one error
 rows_agree : (c : Command) (format : Format) (word next : Word) (text : List ℕ) (kind other : Kind) → IsRowFault c format word text kind
     → IsRowFault c format next text other → kind ≡ other
 rows_agree c format word next text kind other h k =
     let same = one_word text word next (refused_headed c format word text kind h) (refused_headed c format next text other k) in
     h.named ∙ ap (λ (w : Word). refusal_of (row w).shape) same ∙ sym k.named
 
--- an argument whose feature is offered is not one whose feature is not
+-- an argument with a feature in the offer is not one without it
 offered_or_not : (c : Command) (offer : Offer) (text : List ℕ) (a : Arg) → ReadsAs c offer text a → IsUnoffered c offer text → ⊥
 offered_or_not c offer text a h k = search (rules, one_argument)
 
--- an argument, or its fault
+-- a text is an argument or has an error, never both
 pub argument_or_fault : (c : Command) (offer : Offer) (text : List ℕ) (a : Arg) (kind : Kind) → ReadsAs c offer text a
     → IsArgumentFault c offer text kind → ⊥
 argument_or_fault c offer text a kind h (inl k) = none_or_argument c offer.format text a k.0 h.is_argument.0 h.is_argument.1
@@ -216,7 +216,7 @@ row_or_unoffered : (c : Command) (offer : Offer) (word : Word) (text : List ℕ)
     → IsUnoffered c offer text → ⊥
 row_or_unoffered c offer word text kind h k = by_row c offer.format text k.arg kind word k.is_argument.1 h
 
--- and one fault
+-- and has one error
 pub one_argument_fault : (c : Command) (offer : Offer) (text : List ℕ) (kind other : Kind) → IsArgumentFault c offer text kind
     → IsArgumentFault c offer text other → kind ≡ other
 one_argument_fault c offer text kind other (inl h) (inl k) = h.1 ∙ sym k.1

@@ -1,4 +1,4 @@
--- What single packets do, from what the parts of the reader promise.
+-- The effect of single packets, from the contracts of the reader's parts.
 use Rattle.std.proofs.Common.{◌≡◌, ℕ, Bool, true, false, not, Option, Some, None, Ok, Err, option_to_list, List, [], ◌∷◌, ◌++◌, refl, ap, sym, rules}
 use Rattle.std.proofs.Common.{◌∙◌, subst, inl, inr}
 use Rattle.std.specs.Prelude.{is_some}
@@ -28,7 +28,7 @@ use Rattle.git_msg.specs.Machine.RequestReaderSteps.{InLines, IsSame, Advances, 
 use Rattle.git_msg.proofs.PacketFaults.{not_for_limit_by_capability, not_for_limit_by_end, not_for_limit_by_text}
 use Rattle.git_msg.proofs.LineLists.{commands_snoc, arguments_snoc, format_snoc, delimiter_snoc, kept_snoc, capability_is_line}
 
--- readers are equal that are the same field by field
+-- readers whose fields are equal are equal
 pub same_reader : {A : Type 0} (r other : RequestReader A) → IsSame r other → r ≡ other
 same_reader {A} r other h =
     ap (λ (x : A). record r { alloc = x }) h.alloc
@@ -41,7 +41,7 @@ same_reader {A} r other h =
     → record other { request = r.request; bounded = r.bounded } ≡ record other { request = q; bounded = p }) h.request
     (λ p. ap (λ (x : IsBounded r.request). record other { request = r.request; bounded = x }) (one_bound r.request r.bounded p)) other.bounded
 
--- no command came, by both words
+-- no command was read, in both ways to state it
 pub first_by : (o : Option Command) (b : Bool) → is_some o ≡ not b → b ≡ is_none (option_to_list o)
 first_by None true h = refl
 first_by None false h = cc
@@ -81,7 +81,7 @@ text_refused c offer limit kept text kind (inl h) = inl h
 text_refused c offer limit kept text kind (inr (no_error, inl h)) = inr (no_error, inl h)
 text_refused c offer limit kept text kind (inr (no_error, inr h)) = absurd h.1
 
--- what a list of lines says with one line more
+-- the contents of a list with one more line
 ruleset line_more = (delimiter_snoc, snoc_is_some, commands_snoc, append-nil, format_snoc, arguments_snoc, kept_snoc)
 
 module _ {A : Type 0} where
@@ -105,7 +105,7 @@ module _ {A : Type 0} where
   in_arguments : (lines : List Line) (r : RequestReader A) → r.part ≡ Arguments → InLines r.part lines r → InArguments lines r
   in_arguments lines r part h = subst (λ (x : Part). InLines x lines r) part h
 
-  -- a line that is noted
+  -- a line was noted
   advance : (r : RequestReader A) (bytes : List ℕ) (line : Line) (lines : List Line)
       → r.part ≡ Capabilities → IsCapabilityLine r.offer (is_first r) (text_of bytes) line
       → InCapabilities lines r → Advances lines r (payload bytes) (with_line line r)
@@ -137,7 +137,7 @@ module _ {A : Type 0} where
       → StepsOn r (payload bytes) offset (Err kind) new
   refused r new bytes offset kind part same h = rw same (search (rules, in_capabilities, capability_refused, not_for_limit_by_capability))
 
-  -- what is judged at the end of the capability part, by the lines
+  -- the checks at the end of the capability part, by the lines
   judged : (lines : List Line) (r : RequestReader A) (c : Command)
       → InCapabilities lines r → IsDue r c → Passes (part_checks r.offer (commands_of lines) (has_format lines))
   judged lines r c h due = search rules
@@ -160,7 +160,7 @@ module _ {A : Type 0} where
       → asked_of q ≡ asked_by c (arguments_of lines)
   nothing_but lines r c q h empty = empty.asked ∙ ap (λ args. asked_by c args) (sym h.no_argument)
 
-  -- that flush, refused for what the request asks for
+  -- the flush of a request without delimiter, refused for what the request asks for
   pub flush_refused : (r : RequestReader A) (offset : ℕ) (c : Command) (q : Request A) (kind : Kind) → r.part ≡ Capabilities → r.begun ≡ true → IsDue r c
       → IsEmpty c r.offer.format (limit_in r) q → Refuses (end_checks (asked_of q)) kind → StepsOn r flush offset (Err kind) r
   flush_refused r offset c q kind part begun due empty refuses = search (rules, in_capabilities, commands_due, judged, nothing_but, not_for_limit_by_end)
@@ -181,7 +181,7 @@ module _ {A : Type 0} where
       → StepsOn r flush offset (Err kind) r
   end_refused r offset kind part refuses = search (rules, in_arguments, not_for_limit_by_end)
 
-  -- and an argument's text that is refused
+  -- the text of an argument that is refused
   argument_refused : (lines : List Line) (r : RequestReader A) (text : List ℕ) (kind : Kind) → InArguments lines r
       → Refuses (text_checks (command_of r.request) r.offer text) kind → IsArgumentRefused r.offer (limit_in r) lines text kind
   argument_refused lines r text kind h refuses = search (rules, text_refused)

@@ -1,4 +1,4 @@
--- A reader of requests from bytes whose input ends.
+-- A reader of requests from bytes, at the end of its input.
 use Rattle.std.proofs.Common.{[], arith, ◌≡◌, ◌≢◌, ◌⊎◌, ℕ, ◌+◌, ◌≤◌, true, false, List, ◌++◌, length, None, refl, sym, ap, ◌∙◌, subst, append-nil, rules}
 use Rattle.std.proofs.Props.{props}
 use Rattle.git_pkt.specs.Splits.{Given}
@@ -21,7 +21,7 @@ use Rattle.std.proofs.lemmas.Grind.{common_steps}
 module _ {A : Type 0} (s : RequestStream A)
     (open_ended : takes_bytes s.stage ≡ true → reader_fault s.requests ≡ None) (ready : takes_bytes s.stage ≡ true → is_waiting s.requests ≡ false)
     (taken : takes_bytes s.stage ≡ true → ∥ HasTaken s.requests ∥₁) (within : kept_so_far s.requests ≤ limit_in s.requests) where
-  -- a reader whose packet reader is what it was
+  -- the reader with another packet reader
   abbrev pub with_packets : (p : PacketReader) → (takes_bytes s.stage ≡ true → packet_fault p ≡ None) → passes_of p ≡ false → RequestStream A
   with_packets p sound gathers = record {
     packets = p;
@@ -54,14 +54,14 @@ module _ {A : Type 0} (s : RequestStream A)
       ∙ ap (λ (x : takes_bytes s.stage ≡ true → ∥ HasTaken s.requests ∥₁). record s { taken = x; within = within }) (taken_prop taken s.taken)
       ∙ ap (λ (x : kept_so_far s.requests ≤ limit_in s.requests). record s { within = x }) (within_prop within s.within)
 
-  -- is the reader that it was
+  -- it is the same if the packet reader is the same
   pub same_reader : (p : PacketReader) (sound : takes_bytes s.stage ≡ true → packet_fault p ≡ None) (gathers : passes_of p ≡ false)
       → p ≡ s.packets → with_packets p sound gathers ≡ s
   same_reader p sound gathers same =
       subst (λ (x : PacketReader). (h : takes_bytes s.stage ≡ true → packet_fault x ≡ None) (k : passes_of x ≡ false) → with_packets x h k ≡ s)
       (sym same) same_facts sound gathers
 
--- inside a request something is left
+-- inside a request some packets are left
 some_begun : (offer : Offer) (limit : ℕ) (left : List Given) (rest : List ℕ) (end : ℕ) (stage : Stage) → takes_bytes stage ≡ true → (stage ≡ Between → ⊥)
     → IsLeftIn stage offer limit left rest end → left ≢ []
 some_begun offer limit left rest end Between on inside h = absurd (inside refl)
@@ -85,12 +85,12 @@ module _ {A : Type 0} (old new : RequestStream A) (fault : Fault) (wants : wants
       → (used : List ℕ) (asked : List Asked) → HasRead used asked old → HasRead used asked new
   closed_open opened at used asked h = grind (arith, common_steps, sound_rest, closed_read, rest_length, some_inside)
 
-  -- or between two
+  -- or between two packets
   pub closed_within : is_open old.packets ≡ false → (old.stage ≡ Between → ⊥) → fault.offset ≡ position_of old.packets
       → (used : List ℕ) (asked : List Asked) → HasRead used asked old → HasRead used asked new
   closed_within shut within at used asked h = search (rules, rest_behind, closed_read, some_begun)
 
--- between two requests, with no packet open, nothing is left
+-- between two requests, if no packet is open, nothing is left
 pub nothing_left : {A : Type 0} (s : RequestStream A) → s.stage ≡ Between → packet_fault s.packets ≡ None → is_open s.packets ≡ false
     → {used : List ℕ} {asked : List Asked} (h : HasRead used asked s) → (h.left ≡ []) × (h.rest ≡ [])
 nothing_left s is sound shut {used = used} h = (
@@ -98,7 +98,7 @@ nothing_left s is sound shut {used = used} h = (
   rest_behind s.packets used h.packets h.rest sound shut h.reads,
 )
 
--- and all that was read is whole requests
+-- and all bytes read are whole requests
 pub all_whole : {A : Type 0} (s : RequestStream A) → s.stage ≡ Between → packet_fault s.packets ≡ None → is_open s.packets ≡ false
     → (used : List ℕ) (asked : List Asked) → HasRead used asked s → AreAsked (offer_of s) (limit_of s) used asked [] []
 all_whole s is sound shut used asked h = grind (arith, common_steps, nothing_left)

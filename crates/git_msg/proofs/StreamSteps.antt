@@ -1,4 +1,4 @@
--- A reader of requests from bytes, a packet at a time.
+-- A reader of requests from bytes, one packet at a time.
 use Rattle.std.proofs.Common.{◌≡◌, ◌≢◌, ℕ, ◌+◌, ◌-◌, ◌<◌, ◌≤◌, true, false, List, [], ◌∷◌, ◌++◌, length, take, drop, length-drop, Some, None, rules}
 use Rattle.std.proofs.Common.{refl, sym, ap, ◌⊎◌, ◌∙◌, subst, append-nil, append_assoc, zero-add, inl, inr, arith}
 use Rattle.std.proofs.Props.{props}
@@ -40,7 +40,7 @@ use Rattle.git_msg.proofs.WholeRequests.{left_at_the_end, one_more_request, requ
 
 -- ---- the reader of packets
 
--- what ended the reading of a stream from offset 0
+-- why the reading of a stream from offset 0 ended
 pub stopped_by : (r : PacketReader) (bytes : List ℕ) (given : List Given) (rest : List ℕ) (f : Fault) → packet_fault r ≡ Some f → Reads r 0 bytes given rest
     → StopsBy (length bytes - length rest) rest (length bytes) f.kind f.offset
 stopped_by r bytes given rest f is h = search (rules, zero-add, stopped)
@@ -50,7 +50,7 @@ pub rest_behind : (r : PacketReader) (bytes : List ℕ) (packets : List Given) (
     → packet_fault r ≡ None → is_open r ≡ false → Reads r 0 bytes packets rest → rest ≡ []
 rest_behind r bytes packets rest sound shut stream = none_between r rest (sound_rest r 0 bytes packets rest sound stream).0 shut
 
--- what a call of `feed` did, by its answer
+-- the effect of a call of `feed`, by its result
 pub record FeedsWith (old : PacketReader) (piece : List ℕ) (used : ℕ) (got : Got) (new : PacketReader) : Type 0 where
   pub reads : ReadsOn old (take used piece) (given_by got) new
   pub tells : Tells got used piece new
@@ -71,12 +71,12 @@ reading P between within Within on = within
 reading P between within Stopped on = absurd (cc)
 reading P between within (FailedStage fault) on = absurd (cc)
 
--- what is left then is lines that begin a request, if any
+-- then the packets left, if any, are lines that begin a request
 pub left_begins : (offer : Offer) (limit : ℕ) (left : List Given) (rest : List ℕ) (end : ℕ) (stage : Stage)
     → takes_bytes stage ≡ true → IsLeftIn stage offer limit left rest end → AreBegun offer limit left
 left_begins offer limit left rest end = search (rules, reading)
 
--- and the bytes after it have no part in it
+-- they do not depend on the bytes after them
 pub left_stays : (offer : Offer) (limit : ℕ) (left : List Given) (rest later : List ℕ) (end further : ℕ) (stage : Stage)
     → takes_bytes stage ≡ true → IsLeftIn stage offer limit left rest end → IsLeftIn stage offer limit left later further
 left_stays offer limit left rest later end further = search (rules, reading)
@@ -85,17 +85,17 @@ some_left : (left : List Given) (g : Given) → left ++ g ∷ [] ≢ []
 some_left [] g e = cc
 some_left (x ∷ left) g e = cc
 
--- ---- what a packet brings
+-- ---- the result of a packet
 
 module _ {A : Type 0} where
-  -- a reader of bytes that reads on goes on after what was brought
+  -- if the reader of bytes reads on after this result, so does the reader of requests
   brought_goes_on : (got : ReadGot A) → takes_bytes (stage_brought got) ≡ true → goes_on got ≡ true
   brought_goes_on More on = refl
   brought_goes_on (Request request) on = refl
   brought_goes_on Stop on = absurd (cc)
   brought_goes_on (Failed fault) on = absurd (cc)
 
-  -- a fault of what was brought needs the refusal that it needed there
+  -- the error of the stage comes with a refusal of memory if the error of the result does
   pub needed_behind : (refuses : ℕ → Type 0) (most : ℕ) (got : ReadGot A) (stage : Stage) → stage ≡ stage_brought got → GotNeedsRefusal refuses most got
       → FaultNeedsRefusal refuses most (fault_in stage)
   needed_behind refuses most More stage is h = subst (λ (s : Stage). FaultNeedsRefusal refuses most (fault_in s)) (sym is) tt
@@ -119,7 +119,7 @@ module _ {A : Type 0} where
     goes_in : takes_bytes stage ≡ true → goes_on got ≡ true
     goes_in on = brought_goes_on got (sym (ap takes_bytes stage_is) ∙ on)
 
-    -- what holds of the readers in a reader of bytes, after a packet
+    -- the state of the inner readers after a packet
     pub sound_behind : takes_bytes stage ≡ true → reader_fault new ≡ None
     sound_behind on = brings.sound (goes_in on)
 
@@ -132,7 +132,7 @@ module _ {A : Type 0} where
     pub within_behind : kept_so_far new ≤ limit_in new
     within_behind = within_limit got new (brings.within old.within)
 
-    -- a fault of a packet is none that the bytes show
+    -- an error of a packet is never one that the bytes show
     pub packet_news : (fault : Fault) (used : ℕ) (piece : List ℕ) → got ≡ Failed fault → ShownByFeed fault used piece
     packet_news fault used piece is =
         let told : HasTaken old.requests → (left : List Given) × IsTold (offer_in new) (limit_in new) (left ++ g ∷ []) fault =
@@ -148,7 +148,7 @@ module _ {A : Type 0} where
 
 module _ {A : Type 0} (old new : RequestStream A) (g : Given) (used : ℕ) (piece : List ℕ) (wants : wants_input old ≡ true) (some : 0 < used)
     (shut : is_open new.packets ≡ false) where
-  -- how a reader of bytes is left after a packet
+  -- the state that a packet leaves the reader in
   pub packet_leaves : (got : ReadGot A) → Brings nothing_barred old.requests g got new.requests → new.stage ≡ stage_brought got
       → StepLeaves got used piece old new
   packet_leaves More brings is = (some, ap takes_bytes is)
@@ -163,22 +163,22 @@ module _ {A : Type 0} (old new : RequestStream A) (g : Given) (used : ℕ) (piec
   packet_leaves Stop brings is = (some, ap takes_bytes is, ap fault_in is)
   packet_leaves (Failed fault) brings is = ap fault_in is
 
--- ---- how what was read goes on
+-- ---- how what was read continues
 
 module _ {A : Type 0} (old new : RequestStream A) (u : List ℕ) (wants : wants_input old ≡ true)
     (offer : offer_of new ≡ offer_of old) (limit : limit_of new ≡ limit_of old) (used : List ℕ) (asked : List Asked) (h : HasRead used asked old) where
-  -- the requests so far are requests by the new reader's offer and limit
+  -- the requests so far are requests for the new reader's offer and limit
   earlier_requests : AreRequests (IsOne (offer_of new) (limit_of new)) h.packets asked h.left
   earlier_requests = search rules
 
-  -- and what is left of the packets is what it was
+  -- the packets left are the same as before
   left_before : IsLeftIn old.stage (offer_of new) (limit_of new) h.left h.rest (length used)
   left_before = search rules
 
   begun_before : AreBegun (offer_of new) (limit_of new) h.left
   begun_before = left_begins (offer_of new) (limit_of new) h.left h.rest (length used) old.stage wants left_before
 
-  -- all that was read, in the stage that was reached
+  -- everything read so far, in the stage reached
   has_read : (packets left : List Given) (rest : List ℕ) (now : List Asked) (stage : Stage) → new.stage ≡ stage
       → Reads new.packets 0 (used ++ u) packets rest → AreRequests (IsOne (offer_of new) (limit_of new)) packets now left
       → IsLeftIn stage (offer_of new) (limit_of new) left rest (length (used ++ u)) → (takes_bytes stage ≡ true → Takes left new.requests)
@@ -199,22 +199,22 @@ module _ {A : Type 0} (old new : RequestStream A) (u : List ℕ) (wants : wants_
     within = new.within;
   }
 
-  -- with no packet more
+  -- no further packet
   bytes_read : (rest : List ℕ) (stage : Stage) → new.stage ≡ stage → Reads new.packets 0 (used ++ u) (h.packets ++ []) rest
       → IsLeftIn stage (offer_of new) (limit_of new) h.left rest (length (used ++ u)) → (takes_bytes stage ≡ true → Takes h.left new.requests)
       → HasRead (used ++ u) (asked ++ []) new
   bytes_read rest stage is stream left_is takes = search (rules, has_read, append-nil, earlier_requests)
 
-  -- the bytes end no packet
+  -- the bytes complete no packet
   pub open_read : new.requests ≡ old.requests → new.stage ≡ old.stage → ReadsOn old.packets u [] new.packets → HasRead (used ++ u) (asked ++ []) new
   open_read same is reads = search (rules, bytes_read, left_stays, left_before)
 
-  -- they are refused
+  -- the bytes are refused
   pub refused_read : (fault : Fault) → new.stage ≡ FailedStage fault → packet_fault new.packets ≡ Some fault → fault.kind ≢ Truncated
       → ReadsOn old.packets u [] new.packets → HasRead (used ++ u) (asked ++ []) new
   refused_read fault is told other reads = search (rules, bytes_read, begun_before, stopped_by)
 
-  -- there are none, and the input ends
+  -- there are no more bytes, and the input ends
   pub cut_read : (fault : Fault) → new.stage ≡ FailedStage fault → fault.kind ≡ Truncated → packet_fault old.packets ≡ None
       → fault.offset + length h.rest ≡ position_of old.packets → (h.left ≢ []) ⊎ (h.rest ≢ []) → u ≡ [] → ReadsOn old.packets u [] new.packets
       → HasRead (used ++ u) (asked ++ []) new
@@ -234,7 +234,7 @@ module _ {A : Type 0} (old new : RequestStream A) (u : List ℕ) (wants : wants_
       })))
       (λ on. absurd (cc))
 
-  -- they end a packet
+  -- the bytes complete a packet
   pub packet_read : (g : Given) (got : ReadGot A) → Brings nothing_barred old.requests g got new.requests → new.stage ≡ stage_brought got
       → packet_fault new.packets ≡ None → is_open new.packets ≡ false → ReadsOn old.packets u (g ∷ []) new.packets
       → HasRead (used ++ u) (asked ++ asked_by got) new
@@ -261,7 +261,7 @@ module _ {A : Type 0} (old new : RequestStream A) (u : List ℕ) (wants : wants_
           has_read (h.packets ++ g ∷ []) (h.left ++ g ∷ []) rest (asked ++ []) (FailedStage fault) is stream none_more
           (inl (record { front = h.left; last = g; whole = refl; begun = begun_before; told = told; no_rest = none })) (λ on. absurd (cc))
 
-  -- a request that they end is the last in the bytes
+  -- a request that they complete is the last in the bytes
   pub packet_counts : (g : Given) (got : ReadGot A) → Brings nothing_barred old.requests g got new.requests → packet_fault new.packets ≡ None
       → is_open new.packets ≡ false → ReadsOn old.packets u (g ∷ []) new.packets → EndsWith got (used ++ u) new
   packet_counts g More brings sound shut reads = tt
@@ -281,9 +281,9 @@ module _ {A : Type 0} (old new : RequestStream A) (u : List ℕ) (wants : wants_
         asks = (brings.brings h.left (h.onward wants).takes).1;
       }
 
--- ---- a step over what is left of a piece
+-- ---- a step over the rest of a chunk
 
--- what a step did, by its answer
+-- the effect of a step, by its result
 pub steps_with : {A : Type 0} (old new : RequestStream A) (piece : List ℕ) (read : ReadRequest A) (got : ReadGot A) → read.got ≡ got
     → Steps old piece read new → Steps old piece (record { used = read.used; got = got }) new
 steps_with {A = A} old new piece read got is steps = subst (λ (o : ReadGot A). Steps old piece (record { used = read.used; got = o }) new) is steps
@@ -294,18 +294,18 @@ module _ {A : Type 0} (old mid new : RequestStream A) (piece : List ℕ) (done :
       → (used : List ℕ) (asked : List Asked) → HasRead used asked old → HasRead (used ++ take (done + more) piece) (asked ++ asked_by got) new
   reads_further before used asked h = search (rules, joined)
 
-  -- a request that is handed out then is the last in the bytes
+  -- a request that is handed out is the last in the bytes
   pub counts_further : ((used : List ℕ) (asked : List Asked) → HasRead used asked old → HasRead (used ++ take done piece) asked mid)
       → (used : List ℕ) (asked : List Asked) → HasRead used asked old → EndsWith got (used ++ take (done + more) piece) new
   counts_further before used asked h =
       subst (λ (bytes : List ℕ). EndsWith got bytes new) (joined used piece done more within)
       (steps.counts (used ++ take done piece) asked (before used asked h))
 
-  -- a fault that what is left of the piece shows, the piece shows
+  -- an error that the rest of a chunk shows is one that the chunk shows
   pub shows_further : wants_input mid ≡ true → (fault : Fault) → got ≡ Failed fault → ShownByFeed fault (done + more) piece
   shows_further wants fault is = search (rules, reading, left_of, length-drop)
 
--- how a reader is left after a step that is the last of a call
+-- the state after the last step of a call
 pub leaves_further : {A : Type 0} (old mid new : RequestStream A) (piece rest : List ℕ) (done more : ℕ) (got : ReadGot A) → got ≢ More
     → StepLeaves got more rest mid new → Leaves got (done + more) piece old new
 leaves_further old mid new piece rest done more More other leaves = absurd (other refl)

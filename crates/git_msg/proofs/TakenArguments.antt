@@ -1,4 +1,4 @@
--- What a packet brings, by what may refuse its argument.
+-- The result of a packet, depending on what may refuse its argument.
 use Rattle.std.proofs.Common.{◌≡◌, ℕ, false, Option, Some, None, Ok, Err, List, [], ◌∷◌, ◌++◌, sym, ap, ◌∙◌, subst, inl, inr}
 use Rattle.git_pkt.specs.Splits.{Given}
 use Rattle.git_pkt.specs.declared.fault.Fault.{Fault}
@@ -17,7 +17,7 @@ use Rattle.git_msg.specs.Machine.StreamStages.{AreBegun, Brings}
 use Rattle.git_msg.proofs.Admission.{barred_after, barred_text, fault_unbarred, plain_unbarred}
 use Rattle.git_msg.proofs.WholeRequests.{last_same}
 
--- what a reader has taken that goes on are lines that begin a request
+-- the packets that a reader has taken and that continue are lines that begin a request
 begun_by : {A : Type 0} (part : Part) (packets : List Given) (r : RequestReader A) → (fault_in part ≡ None) × (waits_in part ≡ false)
     → TakesIn part packets r → AreBegun (offer_of r) (limit_in r) packets
 begun_by Capabilities packets r onward stands = (stands.lines, stands.taken)
@@ -31,7 +31,7 @@ module _ {A : Type 0} (barred : Arg → Option Kind) where
   waiting P (Waiting offset long) packets arg r by h = by offset long h
   waiting P part packets arg r by h = absurd h
 
-  -- an argument that waits is barred where it is refused so
+  -- a waiting argument is barred if it is refused in this way
   barred_waiting : (packets : List Given) (g : Given) (arg : Arg) (r : RequestReader A) (kind : Kind) → WaitsFor (packets ++ g ∷ []) arg r
       → barred arg ≡ Some kind → IsBarredAtLast r.offer (limit_in r) barred (packets ++ g ∷ []) kind g.offset
   barred_waiting packets g arg r kind waits refuses = waiting _ r.part (packets ++ g ∷ []) arg r (λ offset long w. record {
@@ -51,7 +51,7 @@ module _ {A : Type 0} (barred : Arg → Option Kind) where
     at = ap (λ (x : Given). x.offset) (last_same packets w.front g w.last w.whole);
   }) waits.waits
 
-  -- and not barred where it does not
+  -- and not barred if it is not
   unbarred_waiting : (packets : List Given) (arg : Arg) (r : RequestReader A) → WaitsFor packets arg r → IsAdmitted barred arg
       → IsUnbarred r.offer (limit_in r) barred packets
   unbarred_waiting packets arg r waits admitted = waiting _ r.part packets arg r (λ offset long w kind place b.
@@ -64,7 +64,7 @@ module _ {A : Type 0} (barred : Arg → Option Kind) where
   unbarred_on packets old new offer limit h =
       subst (λ (o : Offer). IsUnbarred o (limit_in new) barred packets) (sym offer) (subst (λ (n : ℕ). IsUnbarred old.offer n barred packets) (sym limit) h)
 
-  -- a line that is no argument
+  -- a line that is not an argument
   pub brings_line : (old new : RequestReader A) (g : Given) → fault_of old ≡ None → TakesOn old g (Ok More) new → Brings barred old g ReadMore new
   brings_line old new g sound t = record {
     brings = λ packets takes.
@@ -78,7 +78,7 @@ module _ {A : Type 0} (barred : Arg → Option Kind) where
     within = t.within;
   }
 
-  -- a packet that is refused for itself
+  -- a packet that is refused by itself
   pub brings_fault : (old new : RequestReader A) (g : Given) (fault : Fault) → fault_of old ≡ None → TakesOn old g (Err fault) new
       → Brings barred old g (Failed fault) new
   brings_fault old new g fault sound t = record {
@@ -95,7 +95,7 @@ module _ {A : Type 0} (barred : Arg → Option Kind) where
 
   module _ (old mid : RequestReader A) (g : Given) (argument : Argument) (sound : fault_of old ≡ None)
       (t : TakesOn old g (Ok (TakenArgument argument)) mid) where
-    -- an argument that is refused so
+    -- an argument that is refused in this way
     pub brings_barred : (kind : Kind) → barred (shown argument) ≡ Some kind → Brings barred old g (Failed (record { kind = kind; offset = g.offset })) mid
     brings_barred kind refuses = record {
       brings = λ packets takes. inl (barred_waiting packets g (shown argument) mid kind (t.brings packets sound takes).1 refuses);
@@ -112,7 +112,7 @@ module _ {A : Type 0} (barred : Arg → Option Kind) where
           → IsUnbarred (offer_of new) (limit_in new) barred packets
       unbarred packets waits offer limit = unbarred_on packets mid new offer limit (unbarred_waiting packets (shown argument) mid waits admitted)
 
-      -- one that is kept
+      -- an argument that is kept
       pub brings_kept : (done : Unit {0}) → KeepsOn mid (shown argument) (Ok done) new → Brings barred old g ReadMore new
       brings_kept done k = record {
         brings = λ packets takes.
@@ -127,7 +127,7 @@ module _ {A : Type 0} (barred : Arg → Option Kind) where
         within = λ before. k.within (t.within before);
       }
 
-      -- one that is not: for the limit, or since memory ran out
+      -- an argument that is not kept, because of the limit or of memory
       pub brings_unkept : (fault : Fault) → KeepsOn mid (shown argument) (Err fault) new → Brings barred old g (Failed fault) new
       brings_unkept fault k = record {
         brings = λ packets takes.

@@ -1,4 +1,4 @@
--- What a step brings, from the lines to the packets.
+-- The result of a step, from the lines to the packets.
 use Rattle.std.proofs.Common.{◌≡◌, ℕ, false, Option, Some, None, Ok, Err, List, [], ◌∷◌, ◌++◌, refl, sym, subst, length, inl, rules}
 use Rattle.git_pkt.specs.Packets.{Pkt, text_of}
 use Rattle.git_pkt.specs.Splits.{Given}
@@ -123,7 +123,7 @@ leaves_taken : {A : Type 0} (taken : Taken A) (new : RequestReader A) → Leaves
 leaves_taken More new h = h
 leaves_taken taken new h = h
 
--- a step that brings something
+-- a step with a result
 pub takes_ok : {A : Type 0} (old new : RequestReader A) (p : Pkt) (offset : ℕ) (taken : Taken A)
     → fault_of old ≡ None → is_waiting old ≡ false → StepsOn old p offset (Ok taken) new
     → TakesOn old (record { packet = p; offset = offset }) (Ok taken) new

@@ -8,7 +8,7 @@ use Rattle.std.proofs.lemmas.Cmp.{ranked, nat_cmp_total, nat_list_cmp_total, upt
 use Rattle.std.proofs.lemmas.Bool.{both_ways, and_parts, and_from, eqb-true, eq-eqb}
 use Rattle.git_msg.specs.Prefixes.{goes_before, begins, text_cmp}
 
--- the three answers of an order, as tests
+-- the three results of an order, as tests
 no_gt : (o : Ordering) → is_le o ≡ true → is_gt o ≡ false
 no_gt Less h = refl
 no_gt Equal h = refl
@@ -45,7 +45,7 @@ le_itself a = ap is_le (tied_itself nat_list_cmp_total a)
 pub le_trans : (a b c : List ℕ) → goes_before a b ≡ true → goes_before b c ≡ true → goes_before a c ≡ true
 le_trans a b c h g = from_no_gt (text_cmp a c) (upto nat_list_cmp_total a b c (no_gt (text_cmp a b) h) (no_gt (text_cmp b c) g))
 
--- what does not come before, comes after or is the same
+-- a text that does not come before another one comes after it or equals it
 pub le_from_no_lt : (a b : List ℕ) → is_lt (text_cmp b a) ≡ false → goes_before a b ≡ true
 le_from_no_lt a b h = subst (λ (o : Ordering). is_le o ≡ true) (sym (nat_list_cmp_total.antisymm a b)) (turned_le (text_cmp b a) h)
 
@@ -55,14 +55,14 @@ le_from_lt a b h = lt_le (text_cmp a b) h
 pub no_le_from_lt : (a b : List ℕ) → is_lt (text_cmp a b) ≡ true → goes_before b a ≡ false
 no_le_from_lt a b h = subst (λ (o : Ordering). is_le o ≡ false) (sym (nat_list_cmp_total.antisymm b a)) (turned_no_le (text_cmp a b) h)
 
--- one text goes before another: its first byte is less, or the same and the rest goes before
+-- a text comes before another one if its first byte is less, or if that is equal and the rest comes before
 heads : (x y : ℕ) (xs ys : List ℕ) (o : Ordering) → o ≡ nat_cmp x y → is_le (ordering_then o (slice_cmp nat_cmp xs ys)) ≡ true
     → (x < y) ⊎ ((x ≡ y) × (goes_before xs ys ≡ true))
 heads x y xs ys Less e h = inl (ranked x y Less e)
 heads x y xs ys Equal e h = inr (ranked x y Equal e, h)
 heads x y xs ys Greater e h = absurd (cc)
 
--- a text between another and one that begins with that one, begins with it too
+-- a text between another one and a text that begins with that begins with it too
 pub between : (p q n : List ℕ) → goes_before p q ≡ true → goes_before q n ≡ true → begins n p ≡ true → begins q p ≡ true
 between [] q n h g b = refl
 between (x ∷ p) [] n h g b = absurd (cc)
@@ -91,7 +91,7 @@ begins_trans (z ∷ n) (y ∷ q) (x ∷ p) b a =
     let same : x ≡ z = eqb-true x y second.0 ∙ eqb-true y z first.0 in
     and_from (nat_eq x z) (begins n p) (eq-eqb x z same) (begins_trans n q p first.1 second.1)
 
--- what begins a text goes before it
+-- a prefix comes before the text
 pub le_from_begins : (p n : List ℕ) → begins n p ≡ true → goes_before p n ≡ true
 le_from_begins [] [] b = refl
 le_from_begins [] (z ∷ n) b = refl
@@ -102,7 +102,7 @@ le_from_begins (x ∷ p) (z ∷ n) b =
     let tied : nat_cmp x z ≡ Equal = subst (λ (k : ℕ). nat_cmp x k ≡ Equal) same (tied_itself nat_cmp_total x) in
     subst (λ (o : Ordering). is_le (ordering_then o (slice_cmp nat_cmp p n)) ≡ true) (sym tied) (le_from_begins p n parts.1)
 
--- a text that does not come after one that comes before a third, comes before that
+-- a text that is not after one that comes before a third comes before the third
 pub lt_from_le_lt : (a b c : List ℕ) → goes_before a b ≡ true → is_lt (text_cmp b c) ≡ true → is_lt (text_cmp a c) ≡ true
 lt_from_le_lt a b c low less = by_test (is_lt (text_cmp a c)) refl
   where
@@ -110,7 +110,7 @@ lt_from_le_lt a b c low less = by_test (is_lt (text_cmp a c)) refl
     by_test true e = refl
     by_test false e = absurd (both_ways (goes_before c b) (no_le_from_lt b c less) (le_trans c a b (le_from_no_lt c a e) low))
 
--- and what comes before is not after
+-- and a text that comes before another does not come after it
 pub no_lt_back : (a b : List ℕ) → is_lt (text_cmp a b) ≡ true → is_lt (text_cmp b a) ≡ false
 no_lt_back a b less = by_test (is_lt (text_cmp b a)) refl
   where

@@ -56,7 +56,7 @@ other_byte c byte e same = grind (arith, nat_tests)
 same_byte : (c byte : ℕ) → (c == byte) ≡ true → c ≡ byte
 same_byte c byte e = grind (arith, nat_tests)
 
--- the text at the first such byte
+-- the text cut at the first such byte
 pub parted_at : (byte : ℕ) (text : List ℕ) (at : ℕ) → position (λ c. c == byte) text ≡ Some at
     → IsPartedAt byte text (take at text) (take (length text - (at + 1)) (drop (at + 1) text))
 parted_at byte text at e =
@@ -72,7 +72,7 @@ parted_at byte text at e =
 pub no_such_byte : (byte : ℕ) (text : List ℕ) → position (λ c. c == byte) text ≡ None → Lacks text byte
 no_such_byte byte text e k within same = other_byte (get_or text k 0) byte (position_in (λ c. c == byte) text e k within) same
 
--- the byte that parts a text is in it
+-- the byte that cuts a text is in it
 pub parted_has_byte : (byte : ℕ) (text before after : List ℕ) → IsPartedAt byte text before after → Lacks text byte → ⊥
 parted_has_byte byte text before after h lacks =
     let long = ap length h.spelled ∙ length-append before (byte ∷ after) in
@@ -81,7 +81,7 @@ parted_has_byte byte text before after h lacks =
 lacks_rest : (c byte : ℕ) (text : List ℕ) → Lacks (c ∷ text) byte → Lacks text byte
 lacks_rest c byte text h k within = h (suc k) (omega arith)
 
--- two bytes of this value, each the first, are at one place
+-- two cuts at the first such byte are at the same place
 same_parting : (byte : ℕ) (before other after rest : List ℕ) → Lacks before byte → Lacks other byte → before ++ byte ∷ after ≡ other ++ byte ∷ rest
     → (before ≡ other) × (after ≡ rest)
 same_parting byte [] [] after rest h k e = (refl, cc)
@@ -111,7 +111,7 @@ one_cut byte text before other (Some after) (Some rest) h k =
 pub another_byte : (c byte : ℕ) → c ≢ byte → (c == byte) ≡ false
 another_byte c byte h = grind (arith, nat_tests)
 
--- that place is the first that has the byte
+-- that place is the first with the byte
 pub cut_place : (byte : ℕ) (text before : List ℕ) (after : Option (List ℕ)) → IsCutAt byte text before after
     → position_or_len (λ c. c == byte) text ≡ length before
 cut_place byte text before None (whole, lacks) =

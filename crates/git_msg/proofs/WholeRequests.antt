@@ -1,4 +1,4 @@
--- Whole requests, one more or one less at a time; and packets are whole requests in one way.
+-- Whole requests, with one more or one less; and packets are whole requests in one way.
 use Rattle.std.proofs.Common.{◌≡◌, ◌≢◌, ℕ, Bool, true, false, List, [], ◌∷◌, ◌++◌, refl, sym, ap, ◌∙◌, append_assoc, append-nil, subst, rules, arith, inl, inr}
 use Rattle.git_pkt.specs.Packets.{Pkt, flush}
 use Rattle.git_pkt.specs.Splits.{Given}
@@ -15,14 +15,14 @@ pub last_same : (xs ys : List Given) (x y : Given) → xs ++ x ∷ [] ≡ ys ++ 
 last_same xs ys x y e = (same_ends xs ys x y e).1
 
 module _ (IsOne : List Given → Asked → Type 0) where
-  -- further packets after what is left
+  -- more packets after those left
   pub requests_more : (packets more : List Given) (asked : List Asked) (left : List Given) → AreRequests IsOne packets asked left
       → AreRequests IsOne (packets ++ more) asked (left ++ more)
   requests_more packets more [] left same = ap (λ (l : List Given). l ++ more) same
   requests_more packets more (q ∷ qs) left (front, back, whole, first, rest) =
       (front, back ++ more, ap (λ (l : List Given). l ++ more) whole ∙ append_assoc front back more, first, requests_more back more qs left rest)
 
-  -- what is left is the end of the packets
+  -- the packets left are the last ones
   pub left_at_the_end : (packets : List Given) (asked : List Asked) (left : List Given) → AreRequests IsOne packets asked left
       → (before : List Given) × (packets ≡ before ++ left)
   left_at_the_end packets [] left same = ([], same)
@@ -30,13 +30,13 @@ module _ (IsOne : List Given → Asked → Type 0) where
       let (before, parts) = left_at_the_end more qs left rest in
       (front ++ before, whole ∙ ap (λ (gs : List Given). front ++ gs) parts ∙ sym (append_assoc front before left))
 
-  -- what is left is one more request
+  -- the packets left are one more request
   pub one_more_request : (packets : List Given) (asked : List Asked) (left : List Given) (q : Asked) → AreRequests IsOne packets asked left → IsOne left q
       → AreRequests IsOne packets (asked ++ q ∷ []) []
   one_more_request packets [] left q same is = (left, [], same ∙ sym (append-nil left), is, refl)
   one_more_request packets (p ∷ ps) left q (front, back, whole, first, rest) is = (front, back, whole, first, one_more_request back ps left q rest is)
 
-  -- the last of the requests, taken back
+  -- the last request, taken back
   pub record TakenBack (packets : List Given) (qs : List Asked) (q : Asked) : Type 0 where
     pub left : List Given
     pub earlier : AreRequests IsOne packets qs left
@@ -58,7 +58,7 @@ module _ (IsOne : List Given → Asked → Type 0) where
         behind = whole ∙ ap (λ (l : List Given). front ++ l) later.behind ∙ sym (append_assoc front later.before later.left);
       }
 
-  -- and its last packet is the last of all
+  -- its last packet is the last of all
   pub last_packet : (packets : List Given) (qs : List Asked) (q : Asked) (t : TakenBack packets qs q) (front own_front : List Given) (last own : Given)
       → packets ≡ front ++ last ∷ [] → t.left ≡ own_front ++ own ∷ [] → own ≡ last
   last_packet packets qs q t front own_front last own e own_is =
@@ -95,7 +95,7 @@ flush_inside (x ∷ xs) more [] last none ends e = cc
 flush_inside [] more (g ∷ gs) last none ends e = let same : g ≡ last = cc in none.0 (ap (λ (p : Given). p.packet) same ∙ ends)
 flush_inside (x ∷ xs) more (g ∷ gs) last none ends e = let same : gs ≡ xs ++ last ∷ more = cc in flush_inside xs more gs last none.1 ends same
 
--- what comes up to the first flush
+-- the packets up to the first flush
 record SameFront (xs ys more others : List Given) (l m : Given) : Type 0 where
   pub front : xs ++ l ∷ [] ≡ ys ++ m ∷ []
   pub back : more ≡ others
@@ -118,7 +118,7 @@ module _ (offer : Offer) (limit : ℕ) (IsOne : List Given → Asked → Type 0)
   pub none_without_flush : (left : List Given) → NoFlush left → NoRequest IsOne left
   none_without_flush left none front more q e is = grind (arith, common_steps, flush_inside, whole_then)
 
-  -- packets are one list of requests, and one thing is left after them
+  -- packets are one list of requests, with the same packets left after them
   pub one_list_of_requests : (packets : List Given) (asked others : List Asked) (left rest : List Given) → NoRequest IsOne left → NoRequest IsOne rest
       → AreRequests IsOne packets asked left → AreRequests IsOne packets others rest → (asked ≡ others) × (left ≡ rest)
   one_list_of_requests packets [] [] left rest none clear h k = (refl, sym h ∙ k)

@@ -1,4 +1,4 @@
--- How long the written forms of object names are, and what they mean.
+-- The length of the written forms of object names, and their meaning.
 use Rattle.std.proofs.Common.{arith, ◌≡◌, ℕ, ◌≤◌, List, length, subst}
 use Rattle.git_names.specs.ObjectFormat.{digits_of}
 use Rattle.git_names.specs.ObjectName.{ObjectName, IsObjectName, hex_of}
@@ -11,11 +11,11 @@ pub digits_at_most : (format : Format) → digits_of format ≤ 64
 digits_at_most Sha1 = omega arith
 digits_at_most Sha256 = omega arith
 
--- what is written of a name of the format reads back as that name
+-- the written form of a name of the format reads back as that name
 pub hex_of-reads_back : (format : Format) (id : ObjectName) → IsNameIn format id → IsObjectName format (hex_of id) id
 hex_of-reads_back format id h = subst (λ (f : Format). IsObjectName f (hex_of id) id) h.of_format (reads_back-hex_of id h.is_oid)
 
--- a text that names it has the format of the name
+-- a text of an object name has the format of the name
 pub named_in : (format : Format) (text : List ℕ) (id : ObjectName) → IsObjectName format text id → IsNameIn format id
 named_in format text id h = record { of_format = h.of_format; is_oid = IsOid-of_text format text id h }
 

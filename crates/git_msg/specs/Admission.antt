@@ -21,7 +21,7 @@ IsAdmitted barred arg = barred arg ≡ None
 abbrev pub AreAdmitted : (Arg → Option Kind) → List Line → Type 0
 AreAdmitted barred lines = All (IsAdmitted barred) (arguments_of lines)
 
--- after these lines, the packet is an argument that is refused by this name
+-- after these lines, the packet is an argument that is refused with this error
 pub record IsBarred (offer : Offer) (barred : Arg → Option Kind) (before : List Line) (packet : Pkt) (kind : Kind) : Type 0 where
   pub bytes : List ℕ
   pub arg : Arg

@@ -214,7 +214,7 @@ MayNotFollow kept_text format (text_value kept) = IsNoKeptText kept
 MayNotFollow reference_name format (text_value name) = ¬ IsRefName name
 MayNotFollow _ format _ = ⊥
 
--- the name by which a value is refused
+-- the error for a value that is not allowed
 abbrev pub refusal_of : Shape → Kind
 refusal_of flag_word = UnknownArgument
 refusal_of object_name = BadObjectName
@@ -228,7 +228,7 @@ refusal_of kept_text = BadLine
 abbrev pub IsInRange : Format → Arg → Type 0
 IsInRange format arg = MayFollow (row arg.word).shape format arg.value
 
--- the argument's value is not allowed there, and is refused by this name
+-- the argument's value is not allowed there, and is refused with this error
 abbrev pub IsOutOfRange : Format → Arg → Kind → Type 0
 IsOutOfRange format arg kind = MayNotFollow (row arg.word).shape format arg.value × (kind ≡ refusal_of (row arg.word).shape)
 
@@ -245,7 +245,7 @@ HasName arg = IsNamed (row arg.word).shape arg.value
 abbrev pub IsValue : Command → Format → Arg → Type 0
 IsValue command format arg = (command_with arg ≡ command) × IsInRange format arg
 
--- the name by which the argument is refused there: an argument of another command is refused before its value is judged
+-- the argument is refused there with this error: if it belongs to another command, its value is not judged
 abbrev pub IsValueFault : Command → Format → Arg → Kind → Type 0
 IsValueFault command format arg kind =
     ((command_with arg ≢ command) × (kind ≡ UnknownArgument)) ⊎ ((command_with arg ≡ command) × IsOutOfRange format arg kind)
@@ -285,7 +285,7 @@ IsNoValue prefix_text format prefix = most_text < length prefix
 IsNoValue kept_text format kept = IsNoKeptText kept
 IsNoValue reference_name format name = ¬ IsRefName name
 
--- the name by which a text that begins with this word of the command is refused for its value
+-- a text that begins with this word of the command is refused for its value, with this error
 pub record IsRowFault (command : Command) (format : Format) (word : Word) (text : List ℕ) (kind : Kind) : Type 0 where
   pub of : (row word).command ≡ command
   pub follows : Follows (row word).keyword (IsNoValue (row word).shape format) text

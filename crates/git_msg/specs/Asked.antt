@@ -132,7 +132,7 @@ abbrev pub and_then : {X : Type 0} → List X → Option X → List X
 and_then xs None = xs
 and_then xs (Some x) = xs ++ x ∷ []
 
--- of two values, the later one if it is given
+-- of two values, the later one if there is one
 abbrev pub later : {X : Type 0} → Option X → Option X → Option X
 later first None = first
 later first (Some x) = Some x

@@ -2,12 +2,12 @@
 use Rattle.std.specs.Prelude.{◌≡◌, ◌⊎◌, List, [], ◌∷◌}
 use Rattle.git_pkt.specs.declared.fault.Kind.{Kind}
 
--- a check: what it refuses, by which name, and what passes it
+-- a check: what it refuses, with which error, and what passes it
 pub record Check : Type 1 where
   pub refuses : Kind → Type 0
   pub passes : Type 0
 
--- passes if P holds, and refuses by one name if Q holds
+-- passes if P holds, and refuses with this error if Q holds
 abbrev pub check : Type 0 → Type 0 → Kind → Check
 check P Q name = record { refuses = λ kind. Q × (kind ≡ name); passes = P }
 
@@ -15,7 +15,7 @@ check P Q name = record { refuses = λ kind. Q × (kind ≡ name); passes = P }
 abbrev pub unless : Type 0 → Kind → Check
 unless Q name = check (¬ Q) Q name
 
--- some check refuses by this name, and those before it pass
+-- some check refuses with this error, and those before it pass
 abbrev pub Refuses : List Check → Kind → Type 0
 Refuses [] kind = ⊥
 Refuses (c ∷ cs) kind = c.refuses kind ⊎ (c.passes × Refuses cs kind)

@@ -54,7 +54,7 @@ pub record KeepsArgument (old : Kept Asked) (arg : Arg) (long : ℕ) (new : Kept
   pub format : new.format ≡ old.format
   pub limit : new.limit ≡ old.limit
 
--- the argument was not added to the others, because of a fault of this name
+-- the argument was not added to the others, because of this error
 abbrev pub IsUnkept : Kept Asked → Arg → ℕ → Kind → Type 0
 IsUnkept old arg long kind =
     ((old.limit < old.kept + long) × (kind ≡ TooMuchKept))

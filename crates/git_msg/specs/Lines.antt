@@ -241,6 +241,6 @@ HasFaultIn true offer limit before (payload bytes) kind = IsArgumentRefused offe
 HasFaultIn true offer limit before flush kind = Refuses (flush_checks_in true offer before) kind
 HasFaultIn _ offer limit before _ kind = kind ≡ UnexpectedPacket
 
--- the packet is refused by this name, after the lines before it
+-- the packet is refused with this error, after the lines before it
 abbrev pub HasFault : Offer → ℕ → List Line → Pkt → Kind → Type 0
 HasFault offer limit before packet kind = HasFaultIn (has_delimiter before) offer limit before packet kind

@@ -15,7 +15,7 @@ bytes_each R = size (lone R.mir)
 abbrev pub HasRefused : (ℕ → Type 0) → ℕ → Type 0
 HasRefused refuses most = ∥ ((bytes : ℕ) × refuses bytes × (bytes ≤ most)) ∥₁
 
--- a fault of this name is no lack of memory, unless memory for a list of at most so many bytes was refused
+-- an error of this kind is not lack of memory, unless memory for a list of at most so many bytes was refused
 abbrev pub NeedsRefusal : (ℕ → Type 0) → ℕ → Kind → Type 0
 NeedsRefusal refuses most kind = kind ≡ OutOfMemory → HasRefused refuses most
 

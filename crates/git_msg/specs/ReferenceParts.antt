@@ -47,7 +47,7 @@ pub record IsFound (format : Format) (word : List ℕ) (end : ℕ) (old new : Re
   pub target : new.target ≡ target_with (value_behind (codes "symref-target:") word) end old.target
   pub peeled : IsPeeledWith format (value_behind (codes "peeled:") word) old.peeled new.peeled
 
--- the attributes pass, and these are their last values; a target is given by its place in the text
+-- the attributes pass, and these are their last values; a target is represented by its place in the text
 pub record AreLocated (format : Format) (text : List ℕ) (words : List (List ℕ)) (target : Option Part) (peeled : Option ObjectName) : Type 0 where
   pub attributes : AreAttributes format words (option_map (part_of text) target) peeled
   pub fits : PartFits (length text) target

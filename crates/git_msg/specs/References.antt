@@ -83,7 +83,7 @@ pub record IsAttribute (format : Format) (word : List ℕ) : Type 0 where
   pub target : (value : List ℕ) → word ≡ codes "symref-target:" ++ value → IsRefName value
   pub peeled : (value : List ℕ) → word ≡ codes "peeled:" ++ value → (id : ObjectName) × IsObjectName format value id
 
--- the name by which it is refused
+-- the attribute is refused with this error
 abbrev pub IsAttributeFault : Format → List ℕ → Kind → Type 0
 IsAttributeFault format word BadRefName = Follows (codes "symref-target:") (λ value. ¬ IsRefName value) word
 IsAttributeFault format word BadObjectName = Follows (codes "peeled:") (IsNoObjectName format) word
@@ -122,7 +122,7 @@ pub record IsReferenceLine (format : Format) (text : List ℕ) (ref : Ref) : Typ
   pub name_is : IsRefName ref.name
   pub attributes_are : AreAttributes format attributes ref.target ref.peeled
 
--- the name by which the line is refused
+-- the line is refused with this error
 abbrev pub IsReferenceFault : Format → List ℕ → Kind → Type 0
 IsReferenceFault format text kind = Refuses (reference_checks format (spaced_words text)) kind
 

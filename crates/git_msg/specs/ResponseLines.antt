@@ -33,7 +33,7 @@ object_of (Unshallow id) = id
 abbrev pub IsNamed : List ℕ → Format → List ℕ → ObjectName → Type 0
 IsNamed word format text id = Follows word (λ name. IsObjectName format name id) text
 
--- the name by which a text is refused that has to be the word and then an object's name: the beginning is judged first
+-- a text that has to be the word and then an object's name is refused with this error: its beginning is judged first
 abbrev pub IsNamedFault : List ℕ → Format → List ℕ → Kind → Type 0
 IsNamedFault word format text BadLine = BeginsOtherThan word text
 IsNamedFault word format text BadObjectName = Follows word (IsNoObjectName format) text
@@ -43,7 +43,7 @@ IsNamedFault word format text _ = ⊥
 abbrev pub IsAckLine : Format → List ℕ → ObjectName → Type 0
 IsAckLine format text id = IsNamed (codes "ACK ") format text id
 
--- the name by which it is refused
+-- the line is refused with this error
 abbrev pub IsAckFault : Format → List ℕ → Kind → Type 0
 IsAckFault format text kind = IsNamedFault (codes "ACK ") format text kind
 
@@ -52,7 +52,7 @@ abbrev pub IsBoundaryLine : Format → List ℕ → Boundary → Type 0
 IsBoundaryLine format text (Shallow id) = IsNamed (codes "shallow ") format text id
 IsBoundaryLine format text (Unshallow id) = IsNamed (codes "unshallow ") format text id
 
--- the name by which it is refused: it has to begin with one of the two words
+-- the line is refused with this error: it has to begin with one of the two words
 abbrev pub IsBoundaryFault : Format → List ℕ → Kind → Type 0
 IsBoundaryFault format text BadLine =
     IsNamedFault (codes "shallow ") format text BadLine × IsNamedFault (codes "unshallow ") format text BadLine
@@ -75,7 +75,7 @@ abbrev pub BeginsWithName : Format → (List ℕ → Type 0) → List ℕ → Ty
 BeginsWithName format P text =
     (id : List ℕ) × (rest : List ℕ) × IsPartedAt 32 text id rest × ((named : ObjectName) × IsObjectName format id named) × P rest
 
--- the name by which it is refused: if there is no space, and then from left to right
+-- the line is refused with this error: first if it has no space, and then from left to right
 abbrev pub IsWantedFault : Format → List ℕ → Kind → Type 0
 IsWantedFault format text BadLine = Lacks text 32
 IsWantedFault format text BadObjectName = BeginsWithNoName format text
@@ -104,7 +104,7 @@ pub record IsInfoLine (format : Format) (text : List ℕ) (info : Info) : Type 0
   pub id_is : IsObjectName format id info.id
   pub size_is : IsSizeText size info.size
 
--- the name by which it is refused: if there is no space, and then from left to right
+-- the line is refused with this error: first if it has no space, and then from left to right
 abbrev pub IsInfoFault : Format → List ℕ → Kind → Type 0
 IsInfoFault format text BadLine = Lacks text 32
 IsInfoFault format text BadObjectName = BeginsWithNoName format text

@@ -10,10 +10,10 @@ use git_pkt::Kind;
 
 /// What may refuse a well-formed argument of a request: a server's repository, or nothing.
 pub trait Admits {
-    /// The name by which an argument is refused, if it is.
+    /// The error if the argument is refused.
     ghost refused_as: { Self → Arg → Option Kind };
 
-    /// The name by which it refuses the argument, if it does.
+    /// The error, if it refuses the argument.
     fn refusal_of(&self, argument: &Argument<'_>) -> Option<Kind>
         ensures value { result ≡ refused_as self.now (shown argument.now) }
 

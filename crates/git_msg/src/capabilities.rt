@@ -18,7 +18,7 @@ pub struct Capability<'a> {
     pub value: Option<&'a [u8]>,
 }
 
-/// The line by which each end names itself.
+/// The capability line with which each side names itself.
 pub const AGENT_LINE: &[u8] = b"agent=git2/1\n";
 
 /// Reads the text of a capability line, `key` or `key=value`. Any other text is `BadCapability`.

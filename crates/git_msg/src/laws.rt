@@ -63,7 +63,7 @@ pub fn one_reference()
     ensures { (format : Format) (text : List ℕ) (a b : Ref) → IsReferenceLine format text a → IsReferenceLine format text b → a ≡ b }
 {}
 
-/// A text is a reference line or is refused, never both, and it is refused by at most one name.
+/// A text is a reference line or is refused, never both, and it has at most one error.
 pub fn reference_or_fault()
     ensures never_both { (format : Format) (text : List ℕ) (ref : Ref) (kind : Kind)
         → IsReferenceLine format text ref → IsReferenceFault format text kind → ⊥ }
@@ -77,7 +77,7 @@ pub fn one_argument()
         → ReadsAs command offer text a → ReadsAs command offer text b → a ≡ b }
 {}
 
-/// A text is an argument of a command or is refused, never both, and it is refused by at most one name.
+/// A text is an argument of a command or is refused, never both, and it has at most one error.
 pub fn argument_or_fault()
     ensures never_both { (command : Command) (offer : Offer) (text : List ℕ) (arg : Arg) (kind : Kind)
         → ReadsAs command offer text arg → IsArgumentFault command offer text kind → ⊥ }
@@ -106,7 +106,7 @@ pub fn one_info()
     ensures { (format : Format) (text : List ℕ) (a b : Info) → IsInfoLine format text a → IsInfoLine format text b → a ≡ b }
 {}
 
-/// A text acknowledges an object or is refused, never both, and it is refused by at most one name.
+/// A text acknowledges an object or is refused, never both, and it has at most one error.
 #[tactic(auto, using(crate::proofs::ResponseFaults::ack_or_fault, crate::proofs::ResponseFaults::one_ack_fault))]
 pub fn ack_or_fault()
     ensures never_both { (format : Format) (text : List ℕ) (id : ObjectName) (kind : Kind)
@@ -115,7 +115,7 @@ pub fn ack_or_fault()
         → IsAckFault format text kind → IsAckFault format text other → kind ≡ other }
 {}
 
-/// A text is a line of the shallow boundary or is refused, never both, and it is refused by at most one name.
+/// A text is a line of the shallow boundary or is refused, never both, and it has at most one error.
 #[tactic(auto, using(crate::proofs::ResponseFaults::boundary_or_fault, crate::proofs::ResponseFaults::one_boundary_fault))]
 pub fn boundary_or_fault()
     ensures never_both { (format : Format) (text : List ℕ) (line : Boundary) (kind : Kind)
@@ -124,7 +124,7 @@ pub fn boundary_or_fault()
         → IsBoundaryFault format text kind → IsBoundaryFault format text other → kind ≡ other }
 {}
 
-/// A text is a wanted reference or is refused, never both, and it is refused by at most one name.
+/// A text is a wanted reference or is refused, never both, and it has at most one error.
 pub fn wanted_or_fault()
     ensures never_both { (format : Format) (text : List ℕ) (wanted : Wanted) (kind : Kind)
         → IsWantedLine format text wanted → IsWantedFault format text kind → ⊥ }
@@ -132,7 +132,7 @@ pub fn wanted_or_fault()
         → IsWantedFault format text kind → IsWantedFault format text other → kind ≡ other }
 {}
 
-/// A text is a line of the response to object-info or is refused, never both, and it is refused by at most one name.
+/// A text is a line of the response to object-info or is refused, never both, and it has at most one error.
 pub fn info_or_fault()
     ensures never_both { (format : Format) (text : List ℕ) (info : Info) (kind : Kind)
         → IsInfoLine format text info → IsInfoFault format text kind → ⊥ }
@@ -189,7 +189,7 @@ pub fn one_line()
         → IsLine offer limit before packet line → IsLine offer limit before packet other → line ≡ other }
 {}
 
-/// A packet of a request is refused by at most one name.
+/// A packet of a request has at most one error.
 #[tactic(auto, using(crate::proofs::LineLaws::one_fault))]
 pub fn one_fault()
     ensures { (offer : Offer) (limit : ℕ) (before : List Line) (packet : Pkt) (kind other : Kind)
@@ -232,8 +232,8 @@ pub fn written_request_reads_back()
 
 // Requests that a program builds.
 
-/// An argument that a program adds passes the checks or is refused, never both, and it is refused by at most one name. Lack
-/// of memory is reported only for an argument that passes.
+/// An argument that a program adds passes the checks or is refused, never both, and it has at most one error. Lack of memory is reported
+/// only for an argument that passes.
 #[tactic(auto, using(crate::proofs::Values::added_or_refused, crate::proofs::Values::one_refusal))]
 pub fn add_passes_or_is_refused<A: Memory + Copy>()
     ensures never_both { (request : Request A) (arg : Arg) (kind : Kind)

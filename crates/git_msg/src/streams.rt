@@ -226,8 +226,8 @@ impl<A: Memory + Copy> RequestStream<A> {
     }
 }
 
-/// Takes a packet of a request, and keeps its argument, if it is one and nothing refuses it. A fault is at the packet's
-/// offset: that of the packet, or the one by which its argument is refused. After a fault the reader takes no more packets.
+/// Takes a packet of a request, and keeps its argument, if it is one and nothing refuses it. An error has the packet's offset, also if its
+/// argument is refused. After an error the reader takes no more packets.
 pub fn take_packet<A: Memory + Copy, B: Admits>(
     requests: &mut RequestReader<A>,
     admits: &B,

@@ -11,7 +11,7 @@ is_head_or_not : (text : List ℕ) (test : Bool) → bytes_eq text (codes "HEAD"
 is_head_or_not text true h = inl ((bytes_eq-Decides text (codes "HEAD")).0 h)
 is_head_or_not text false h = inr (λ is. let other = (bytes_eq-Decides text (codes "HEAD")).1 is in cc (h, other))
 
--- a text with a part at its front is the part and the rest
+-- a text that begins with a part is that part and the rest
 after_part : (text part : List ℕ) → BeginsWith text part → text ≡ part ++ drop (length part) text
 after_part text part h =
     let fits = h.fits in
@@ -28,11 +28,11 @@ only_slash : (j : ℕ) → j < 1 → slice_index (codes "refs/") (4 + j) ≡ sli
 only_slash zero lt = refl
 only_slash (suc j) lt = absurd (omega arith)
 
--- `refs/` alone ends with a slash
+-- `refs/` ends with a slash
 refs_ends_with_slash : EndsWith (codes "refs/") (codes "/")
 refs_ends_with_slash = (omega arith, record { fits = omega arith; reads = only_slash })
 
--- after `refs/` there is more
+-- a name below `refs/` has more bytes after it
 more_behind : (text rest : List ℕ) → IsRefName text → text ≡ codes "refs/" ++ rest → 0 < length rest
 more_behind text [] h is = absurd (h.no_slash_at_end (rw is refs_ends_with_slash))
 more_behind text (b ∷ rest) h is = omega arith

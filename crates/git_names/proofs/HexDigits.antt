@@ -1,11 +1,11 @@
--- What holds of hexadecimal digits.
+-- Properties of hexadecimal digits.
 use Rattle.std.proofs.Common.{◌≡◌, ℕ, ◌+◌, ◌<◌, ◌==◌, Bool, true, not, ◌||◌, false, Option, Some, None, unwrap_or, refl, arith}
 use Rattle.std.proofs.lemmas.Bool.{eqb-true}
 use Rattle.hex.specs.Hex.{hex_digit_value, is_hex_digit}
 use Rattle.git_names.specs.Digits.{IsHexDigit, digit_value, is_lower_digit, lower_digit}
 use Rattle.git_names.proofs.Tables.{all_pass, all_pass-at}
 
--- a value below 16 is that of a digit, and other bytes have none
+-- a value below 16 belongs to a digit, and other bytes have no value
 some_below : (value : Option ℕ) → unwrap_or value 16 < 16 → value ≡ Some (unwrap_or value 16)
 some_below (Some v) h = refl
 some_below None h = absurd (omega arith)

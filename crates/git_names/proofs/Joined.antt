@@ -1,4 +1,4 @@
--- Object names that are made of pairs of digits' values.
+-- Object names made of the values of pairs of digits.
 use Rattle.std.proofs.Common.{◌≡◌, ℕ, ◌+◌, ◌-◌, ◌*◌, ◌%◌, ◌<◌, ◌≤◌, List, ◌++◌, drop, length, nat_le, if◌then◌else◌}
 use Rattle.std.proofs.Common.{map, replicate, slice_index, take, append_assoc, arith, refl, sym, ◌∙◌}
 use Rattle.std.proofs.Common.{Bool, true, false, ◌||◌, ◌⊎◌, inl, inr}
@@ -14,7 +14,7 @@ use Rattle.git_names.specs.ObjectName.{IsNoObjectName, IsObjectName}
 use Rattle.git_names.proofs.Pairs.{decode_of-pairs, pairs_from}
 use Rattle.git_names.proofs.WrittenForms.{digits-object_name}
 
--- the byte of the pair of lanes at this place, as lanes are multiplied and added
+-- the byte of the pair of lanes at this index, with lanes that are multiplied and added
 abbrev pub lane_at : List ℕ → ℕ → ℕ
 lane_at lanes at = (slice_index lanes at * 16 % 256 + slice_index lanes (at + 1)) % 256
 
@@ -30,7 +30,7 @@ joined_at place values k long small lt within =
     let low = small (place k + 1) within in
     at ∙ rw (first, second) (omega arith)
 
--- where the pair of a byte of SHA-1 is laid out, and after the twentieth a pair of zeros
+-- the index of the pair for a byte of SHA-1 in the layout, and after the twentieth byte that of a pair of zeros
 abbrev pub place_20 : ℕ → ℕ
 place_20 k = if nat_le k 15 then 2 * k else if nat_le k 19 then 2 * k + 8 else 48
 
@@ -48,7 +48,7 @@ place_20-after k le = grind arith
 abbrev pub laid_out : List ℕ → List ℕ
 laid_out text = (take 32 text ++ drop 24 text) ++ replicate 16 48
 
--- as they are written, part after part
+-- the layout, as it is written part by part
 pub laid_out_by_parts : (text front back : List ℕ) → length front ≡ 32 → front ≡ take 32 text → back ≡ take (length text - 24) (drop 24 text)
     → take 32 (front ++ replicate 32 48) ++ (back ++ drop 16 (drop 32 (front ++ replicate 32 48))) ≡ laid_out text
 laid_out_by_parts text front back long first second =
@@ -93,7 +93,7 @@ digit_zero : digit_value 48 ≡ 0
 unfolding digit_value
 digit_zero = refl
 
--- each is a digit where those of the text are
+-- if the text's bytes are digits, so are those of the layout
 digits_laid_out : (text : List ℕ) → length text ≡ 40 → AreDigits text → AreDigits (laid_out text)
 digits_laid_out text long digits k lt =
     let whole = length-laid_out text long in
@@ -110,7 +110,7 @@ digits_laid_out text long digits k lt =
 
 -- ---- the names
 
--- a SHA-1 name of the values of its digits as they are laid out
+-- the SHA-1 name of the values of its digits in the layout
 pub name_20 : (text values bytes : List ℕ) → length text ≡ 40 → length bytes ≡ 32 → HaveValues (laid_out text) values
     → ((k : ℕ) → k < 16 → slice_index bytes k ≡ slice_index values (2 * k) * 16 + slice_index values (2 * k + 1))
     → ((k : ℕ) → k < 20 → 16 ≤ k → slice_index bytes k ≡ slice_index values (2 * k + 8) * 16 + slice_index values (2 * k + 8 + 1))
@@ -148,12 +148,12 @@ name_20 text values bytes long size have front back after =
           rw (get_or-drop 20 bytes k 0, zero) (after (20 + k) (omega arith) (omega arith) ∙ none));
     }
 
--- where some byte as they are laid out is no digit the text is no SHA-1 name
+-- if a byte of the layout is not a digit, the text is no SHA-1 name
 pub no_name_20 : (text : List ℕ) → length text ≡ 40 → ¬ AreDigits (laid_out text) → IsNoObjectName Sha1 text
 no_name_20 text long other id h =
     other (digits_laid_out text long (digits-object_name Sha1 text id h))
 
--- a SHA-256 name of the values of its digits
+-- the SHA-256 name of the values of its digits
 pub name_32 : (text values bytes : List ℕ) → length text ≡ 64 → length bytes ≡ 32 → HaveValues text values
     → ((k : ℕ) → k < 32 → slice_index bytes k ≡ slice_index values (2 * k) * 16 + slice_index values (2 * k + 1))
     → IsObjectName Sha256 text (record { format = Sha256; bytes = bytes })
@@ -175,7 +175,7 @@ name_32 text values bytes long size have made =
 pub no_name_32 : (text : List ℕ) → ¬ AreDigits text → IsNoObjectName Sha256 text
 no_name_32 text other id h = other (digits-object_name Sha256 text id h)
 
--- ---- whether there was another byte
+-- ---- whether a byte was not a digit
 
 pub neither : (a b : Bool) → (a || b) ≡ false → (a ≡ false) × (b ≡ false)
 neither true b e = absurd (cc e)

@@ -1,4 +1,4 @@
--- What holds of object names and of their texts.
+-- Properties of object names and of their texts.
 use Rattle.std.proofs.Common.{◌≡◌, ◌≢◌, ℕ, zero, suc, ◌-◌, ◌*◌, ◌/◌, ◌%◌, ◌<◌, ◌≤◌, List, [], ◌∷◌, ◌++◌, length, slice_index, take, drop, replicate, refl}
 use Rattle.std.proofs.Common.{Option, Some, None, MatchOption, Result, Ok, Err, MatchResult, sym, ap, subst, ◌∙◌, inl, inr, arith}
 use Rattle.std.specs.Result.{IsErr}
@@ -25,7 +25,7 @@ width_of-within : (format : Format) → width_of format ≤ 32
 width_of-within Sha1 = omega arith
 width_of-within Sha256 = omega arith
 
--- the bytes of an object name are as many as its format has
+-- an object name has as many bytes as its format
 length-name_bytes : (format : Format) (text : List ℕ) (id : ObjectName) → IsObjectName format text id → length (name_bytes id) ≡ width_of format
 length-name_bytes format text id h =
     let twice = (decode_of-ok text (name_bytes id) h.decodes).2 in
@@ -55,7 +55,7 @@ one_object_name format text a b p q =
 
 -- ---- the written form
 
--- a part of bytes is bytes
+-- the first bytes of a list of bytes are bytes
 pub bytes_of_part : (n : ℕ) (bytes : List ℕ) → ((i : ℕ) → slice_index bytes i < 256) → (i : ℕ) → slice_index (take n bytes) i < 256
 bytes_of_part n bytes fits i =
     elim (cases_lt i n) [
@@ -65,7 +65,7 @@ bytes_of_part n bytes fits i =
           rw (get_or_past (take n bytes) i 0 short) (omega arith)
     ]
 
--- what is written of an object name reads back
+-- the written form of an object name reads back
 pub reads_back-hex_of : (id : ObjectName) → IsOid id → IsObjectName id.format (hex_of id) id
 reads_back-hex_of id h =
     let size = h.size in
@@ -87,11 +87,11 @@ take-encode_lower (suc w) (byte ∷ bytes) =
     let more : 2 * suc w ≡ suc (suc (2 * w)) = omega arith in
     rw more (ap (λ (s : List ℕ). slice_index lower_digits (byte / 16) ∷ slice_index lower_digits (byte % 16) ∷ s) (take-encode_lower w bytes))
 
--- the digits of a name are the first of all
+-- the digits of a name are the first digits of all its bytes
 pub hex_of-front : (id : ObjectName) → take (digits_of id.format) (encode_lower id.bytes) ≡ hex_of id
 hex_of-front id = rw (digits_of-width id.format) (take-encode_lower (width_of id.format) id.bytes)
 
--- it has no more digits than its format's names
+-- it has at most as many digits as the names of its format
 pub hex_of-fits : (id : ObjectName) → length (hex_of id) ≤ digits_of id.format
 hex_of-fits id =
     let twice = length-encode_with lower_digits (name_bytes id) in
@@ -101,7 +101,7 @@ hex_of-fits id =
 
 -- ---- the values
 
--- bytes with zeros after them
+-- bytes followed by zeros are bytes
 in_range-padded : (front : List ℕ) (n : ℕ) → ((i : ℕ) → slice_index front i < 256) → (i : ℕ) → slice_index (front ++ replicate n 0) i < 256
 in_range-padded [] n h i =
     elim (cases_lt i n) [
@@ -113,7 +113,7 @@ in_range-padded [] n h i =
 in_range-padded (b ∷ front) n h zero = h 0
 in_range-padded (b ∷ front) n h (suc i) = in_range-padded front n (λ k. h (suc k)) i
 
--- what a text names is a value of object names
+-- the name that a text spells is a value of object names
 pub IsOid-of_text : (format : Format) (text : List ℕ) (id : ObjectName) → IsObjectName format text id → IsOid id
 IsOid-of_text format text id h =
     let front = length-name_bytes format text id h in
@@ -130,13 +130,13 @@ IsOid-of_text format text id h =
       padded = h.padded;
     }
 
--- ---- decoding into room for the bytes
+-- ---- decoding into a buffer
 
--- a text of as many digits as the format has decodes into the room of its bytes
+-- a text with as many digits as the format's names decodes into a buffer of the format's width
 decode_sized-counted : (format : Format) (text : List ℕ) → length text ≡ digits_of format → decode_sized text (width_of format) ≡ decode_of text
 decode_sized-counted format text count = decode_sized-twice text (width_of format) (count ∙ digits_of-width format)
 
--- what decodes is an object name
+-- decoded bytes are an object name
 decoded_name : (format : Format) (text bytes : List ℕ) → decode_sized text (width_of format) ≡ Ok bytes
     → IsObjectName format text (record { format = format; bytes = bytes ++ replicate (32 - width_of format) 0 })
 decoded_name format text bytes is =
@@ -155,7 +155,7 @@ Decodes-name format text bytes h =
     let ok = decode_sized-counted format text h.count ∙ h.decodes in
     rw ok (ap Some (sym (ap (λ (s : List ℕ). take (width_of format) bytes ++ s) (sym h.padded) ∙ take-append-drop (width_of format) bytes)))
 
--- a text that is no object name does not decode
+-- a text that is not an object name does not decode
 no_name_by : (format : Format) (text : List ℕ) (decoded : Result (List ℕ) FromHexError) → decode_sized text (width_of format) ≡ decoded
     → IsNoObjectName format text → IsErr decoded
 no_name_by format text (Ok bytes) is none = absurd (none _ (decoded_name format text bytes is))
@@ -164,11 +164,11 @@ no_name_by format text (Err fault) is none = refl
 pub no_name_decodes : (format : Format) (text : List ℕ) → IsNoObjectName format text → IsErr (decode_sized text (width_of format))
 no_name_decodes format text none = no_name_by format text (decode_sized text (width_of format)) refl none
 
--- a text of another length is no object name
+-- a text of another length is not an object name
 pub no_name_of_length : (format : Format) (text : List ℕ) → length text ≢ digits_of format → IsNoObjectName format text
 no_name_of_length format text other id named = other named.count
 
--- a call that answers as decoding into the front of 32 bytes does refuses a text that is no object name
+-- a call that returns what decoding into the front of 32 bytes does refuses a text that is not an object name
 refused_by : {A B : Type 0} (P : A → Type 0) (decoded : Result A FromHexError) (result : Result B FromHexError) → IsErr decoded
     → MatchResult decoded P (λ fault. result ≡ Err fault) → IsErr result
 refused_by P (Ok bytes) result bad h = cc bad
@@ -186,7 +186,7 @@ pub Decodes-no_name : (format : Format) (text : List ℕ) → IsNoObjectName for
 Decodes-no_name format text none =
     MatchResult-from_err (decode_sized text (width_of format)) _ _ (no_name_decodes format text none) (λ _. refl)
 
--- what was decoded is an object name, and where nothing was the text is none
+-- if bytes were decoded, they are an object name; if not, the text is none
 names_by : (format : Format) (text : List ℕ) (decoded : Result (List ℕ) FromHexError) (result : Option (List ℕ))
     → decode_sized text (width_of format) ≡ decoded
     → MatchResult decoded (λ bytes. result ≡ Some (bytes ++ replicate (32 - width_of format) 0)) (λ _. result ≡ None)
@@ -203,7 +203,7 @@ pub named : (format : Format) (text bytes : List ℕ) (result : Option (List ℕ
     → IsObjectName format text (record { format = format; bytes = bytes })
 named format text bytes result h is = names_decoded format text (Some bytes) (subst (λ (r : Option (List ℕ)). Decodes format text r) is h)
 
--- ---- what `hex` reads with no format given
+-- ---- what `hex` reads without a format
 
 format_of_count-digits : (format : Format) → format_of_count (digits_of format) ≡ format
 format_of_count-digits Sha1 = refl
@@ -212,14 +212,14 @@ format_of_count-digits Sha256 = refl
 format_of_text : (format : Format) (text : List ℕ) (id : ObjectName) → IsObjectName format text id → format_of_count (length text) ≡ format
 format_of_text format text id named = ap format_of_count named.count ∙ format_of_count-digits format
 
--- what is refused is no object name of either format
+-- a refused text is an object name of neither format
 pub no_name_where_refused : (format : Format) (text : List ℕ) (fault : FromHexError)
     → decode_sized text (width_of (format_of_count (length text))) ≡ Err fault → IsNoObjectName format text
 no_name_where_refused format text fault refused id named =
     let same = ap (λ (f : Format). decode_sized text (width_of f)) (format_of_text format text id named) in
     cc (sym refused ∙ same ∙ decode_sized-counted format text named.count ∙ named.decodes)
 
--- an object name of one format is none of another
+-- an object name of one format is not one of the other
 pub no_name_of_another : (format other : Format) (text : List ℕ) (id : ObjectName) → IsObjectName format text id → format ≢ other
     → IsNoObjectName other text
 no_name_of_another format other text id named differ found foreign =

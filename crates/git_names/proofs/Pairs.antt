@@ -40,7 +40,7 @@ length-pairs (high ∷ low ∷ text) (byte ∷ bytes) h =
     let more = length-pairs text bytes h.1 in
     omega arith
 
--- a text with a pair for each byte
+-- a text that has a pair for each byte
 pub pairs_from : (text bytes : List ℕ) → length text ≡ 2 * length bytes
     → ((k : ℕ) → k < length bytes → IsPair (slice_index text (2 * k)) (slice_index text (2 * k + 1)) (slice_index bytes k))
     → ArePairs text bytes
@@ -82,7 +82,7 @@ decode_of-pairs text bytes h =
 abbrev digit_holds : ℕ → Type 0
 digit_holds c = is_hex_digit c ≡ true
 
--- an even number of digits are pairs
+-- an even number of digits form pairs
 pairs_of_digits : (text : List ℕ) → length text % 2 ≡ 0 → AllPass is_hex_digit text → (bytes : List ℕ) × ArePairs text bytes
 unfolding ArePairs
 pairs_of_digits [] even digits = ([], tt)
@@ -97,11 +97,11 @@ pairs_of_digits (high ∷ low ∷ text) even digits =
     } in
     ((digit_value high * 16 + digit_value low) ∷ rest.0, (pair, rest.1))
 
--- what decodes once decodes to one list of bytes
+-- a text decodes to one list of bytes
 pub same_bytes : (text x y : List ℕ) → decode_of text ≡ Ok x → decode_of text ≡ Ok y → x ≡ y
 same_bytes text x y p q = ap (λ (r : Result (List ℕ) FromHexError). result_unwrap_or r []) (sym p ∙ q)
 
--- what decodes is pairs
+-- a text that decodes consists of pairs
 pub pairs-decode_of : (text bytes : List ℕ) → decode_of text ≡ Ok bytes → ArePairs text bytes
 pairs-decode_of text bytes h =
     let ok = decode_of-ok text bytes h in
@@ -142,7 +142,7 @@ IsAscii-lower_digits i =
 pub IsUtf8-encode_lower : (bytes : List ℕ) → IsUtf8 (encode_lower bytes)
 IsUtf8-encode_lower bytes = IsUtf8-from_ascii (encode_lower bytes) (IsAscii-encode_with lower_digits bytes IsAscii-lower_digits)
 
--- what is refused only where it is no text is not refused where it is
+-- a call that refuses only what is not text accepts a text
 pub read_as_text : {A B Text : Type 0} (P : A → Type 0) (Q : B → Type 0) (r : Result A B) → MatchResult r P (λ fault. (¬ Text) × Q fault)
     → Text → IsOk r
 read_as_text P Q (Ok text) h is = refl

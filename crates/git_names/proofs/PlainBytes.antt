@@ -1,8 +1,8 @@
--- Bytes of which no rule of reference names speaks.
+-- Bytes that no rule of reference names mentions.
 use Rattle.std.proofs.Common.{◌≡◌, ℕ, ◌==◌, Bool, true, not, ◌&&◌, nat_le, arith}
 use Rattle.git_names.specs.NextByte.{IsPlain}
 
--- the test that no rule is about the byte
+-- the test that no rule mentions the byte
 abbrev pub is_plain : ℕ → Bool
 is_plain b =
     nat_le 33 b && not (b == 42) && not (b == 46) && not (b == 47) && not (b == 58) && not (b == 63) && not (b == 91)

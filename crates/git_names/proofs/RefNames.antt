@@ -1,4 +1,4 @@
--- The rules of reference names, as which byte may follow which bytes.
+-- The rules of reference names, stated as which byte may follow which bytes.
 use Rattle.std.proofs.Common.{◌≡◌, ℕ, ◌+◌, ◌-◌, ◌<◌, ◌≤◌, List, [], ◌∷◌, ◌++◌, ◌≢◌, length, slice_index, take, refl, sym, ap, ◌∙◌, inl, inr, arith, codes}
 use Rattle.std.proofs.lemmas.Bool.{cases_lt}
 use Rattle.std.proofs.lemmas.List.{get_or_append_left, get_or-take, length-append, length-take-le}
@@ -7,7 +7,7 @@ use Rattle.bstr.specs.Find.{OccursAt}
 use Rattle.git_names.specs.NextByte.{MayFollow}
 use Rattle.git_names.specs.RefName.{BeginsWith, EndsWith, IsRefName}
 
--- a byte after a part that ends there
+-- a byte after a part that ends before it
 occurs_longer : (text part : List ℕ) (c k : ℕ) → k < length text → slice_index text k ≡ c → EndsWith (take k text) part
     → OccursAt text (part ++ c ∷ []) (k - length part)
 occurs_longer text part c k lt is h =
@@ -31,7 +31,7 @@ occurs_longer text part c k lt is h =
       ];
     }
 
--- where a part with a byte after it occurs, the byte is there in the text and what is before it ends with the part
+-- if a part with a byte after it occurs, the byte is in the text, and the text before it ends with the part
 ends_before : (text part : List ℕ) (c j : ℕ) → OccursAt text (part ++ c ∷ []) j
     → (j + length part < length text) × (slice_index text (j + length part) ≡ c) × EndsWith (take (j + length part) text) part
 ends_before text part c j h =
@@ -55,7 +55,7 @@ ends_before text part c j h =
       ),
     )
 
--- what may follow in a reference name
+-- each byte of a reference name may follow those before it
 pub follows_in_name : (text : List ℕ) → IsRefName text → (k : ℕ) → k < length text → MayFollow (take k text) (slice_index text k)
 follows_in_name text h k lt = record {
   allowed = record {
@@ -99,7 +99,7 @@ slash_follows front no_slash no_lock = record {
   no_at_brace = λ is. absurd (omega arith);
 }
 
--- so it may after a reference name
+-- so it may follow a reference name
 pub slash_follows_name : (text : List ℕ) → IsRefName text → MayFollow text 47
 slash_follows_name text h = slash_follows text h.no_slash_at_end h.no_lock_at_end
 
@@ -107,7 +107,7 @@ slash_follows_name text h = slash_follows text h.no_slash_at_end h.no_lock_at_en
 abbrev pub AllFollow : List ℕ → Type 0
 AllFollow text = (k : ℕ) → k < length text → MayFollow (take k text) (slice_index text k)
 
--- a part with a byte after it does not occur where the byte may not follow the part
+-- a part with a byte after it does not occur if the byte may not follow the part
 lacks_part : (text part : List ℕ) (c : ℕ) → AllFollow text
     → ((front : List ℕ) (byte : ℕ) → MayFollow front byte → byte ≡ c → ¬ EndsWith front part)
     → (j : ℕ) → ¬ OccursAt text (part ++ c ∷ []) j

@@ -1,4 +1,4 @@
--- A test of each number below a bound, which computes.
+-- A test of each number below a bound, by computing.
 use Rattle.std.proofs.Common.{◌≡◌, ℕ, zero, suc, ◌<◌, Bool, true, ◌&&◌, inl, inr, arith}
 use Rattle.std.proofs.lemmas.Bool.{and_parts, cases_lt}
 

@@ -16,7 +16,7 @@ use Rattle.git_names.proofs.Pairs.{ArePairs, pairs-decode_of}
 abbrev lower_holds : ℕ → Type 0
 lower_holds c = is_lower_digit c ≡ true
 
--- what is written is in lower case
+-- the written form is in lower case
 lower-encoded : (bytes : List ℕ) → ((i : ℕ) → slice_index bytes i < 256) → AllPass is_lower_digit (encode_lower bytes)
 unfolding encode_with lower_digit
 lower-encoded [] fits = All-nil lower_holds
@@ -30,7 +30,7 @@ lower-encoded (byte ∷ bytes) fits =
 pub lower-hex_of : (id : ObjectName) → IsOid id → AllPass is_lower_digit (hex_of id)
 lower-hex_of id h = lower-encoded (name_bytes id) (bytes_of_part _ id.bytes h.in_range)
 
--- pairs in lower case are what is written
+-- pairs in lower case are the written form
 encoded-lower : (text bytes : List ℕ) → ArePairs text bytes → AllPass is_lower_digit text → text ≡ encode_lower bytes
 unfolding ArePairs encode_with lower_digit
 encoded-lower [] [] h lower = refl

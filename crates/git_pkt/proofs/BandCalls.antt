@@ -1,4 +1,4 @@
--- Calls of `feed_band`, one after another, join.
+-- Calls of `feed_band`, one after another, are joined.
 use Rattle.std.proofs.Common.{◌≡◌, Bool, true, false, cond, ℕ, List, [], ◌∷◌, ◌++◌, take, ap, sym, ◌∙◌, refl, subst, append_assoc}
 use Rattle.std.proofs.lemmas.List.{append-nil}
 use Rattle.git_pkt.specs.Packets.{Pkt, flush, delim, resp_end, payload, seen}
@@ -22,7 +22,7 @@ one_is_none : (g : Given) (b : Bool) → cond b [] (g ∷ []) ≡ g ∷ [] → b
 one_is_none g false e = refl
 one_is_none g true e = absurd (cc)
 
--- of packets that are returned nothing passes
+-- no bytes pass of packets that are returned
 told_passes : (got : BandGot) → others (told_by got) ≡ told_by got → passed_by_all (told_by got) ≡ []
 told_passes More e = refl
 told_passes (Part band bytes) e = refl

@@ -1,4 +1,4 @@
--- A step of the reader in a section of side bands carries what it represents.
+-- A step of the reader in a section of side bands keeps its relation to the stream.
 use Rattle.std.proofs.Common.{arith, ◌≡◌, ◌≢◌, ℕ, ◌+◌, ◌<◌, ◌≤◌, ◌==◌, Bool, true, false, cond, List, [], ◌∷◌, ◌++◌, length, take, drop, map}
 use Rattle.std.proofs.Common.{Option, Some, None, is_some, ap, sym, ◌∙◌, refl, subst, append_assoc}
 use Rattle.std.proofs.lemmas.List.{append-nil, length-take-le, take-append-drop}
@@ -19,7 +19,7 @@ use Rattle.git_pkt.proofs.Streams.{spells_all_front}
 use Rattle.git_pkt.proofs.ReaderMoves.{rest_of_shut}
 use Rattle.git_pkt.proofs.Carries.{reads_failed, reads_open, reads_whole, was_held}
 
--- of at most five bytes nothing passes, nor of those on no band
+-- at most five bytes of a packet pass nothing, nor do packets on no band
 one_on : (o : Option Band) → bytes_on o [] ≡ []
 one_on None = refl
 one_on (Some band) = refl
@@ -62,7 +62,7 @@ unbanded_short (a ∷ b ∷ c ∷ []) h = refl
 unbanded_short (a ∷ b ∷ c ∷ d ∷ []) h = refl
 unbanded_short (a ∷ b ∷ c ∷ d ∷ e ∷ l) h = absurd (omega arith)
 
--- the band is that of the first five bytes
+-- the band follows from the first five bytes
 pub band_longer : (l more : List ℕ) → 5 ≤ length l → band_in (drop 4 (l ++ more)) ≡ band_in (drop 4 l)
 band_longer [] more h = absurd (omega arith)
 band_longer (a ∷ []) more h = absurd (omega arith)
@@ -75,7 +75,7 @@ pub band_of_take : (n : ℕ) (l : List ℕ) → 5 ≤ n → n ≤ length l → b
 band_of_take n l five within =
     sym (band_longer (take n l) (drop n l) (omega (arith, length-take-le n l within))) ∙ ap (λ (x : List ℕ). band_in (drop 4 x)) (take-append-drop n l)
 
--- what passes after the first five bytes
+-- the bytes that pass after the first five
 pub passed_after_five : (held more : List ℕ) (band : Band) → length held ≡ 5 → band_in (drop 4 held) ≡ Some band
     → passed_by_rest (held ++ more) ≡ map (on band) more
 passed_after_five [] more band five e = absurd (omega arith)
@@ -107,7 +107,7 @@ regrouped given front back told =
     ∙ ap (λ (l : List Given). given ++ (l ++ (back ++ told))) (append-nil front)
     ∙ ap (λ (l : List Given). given ++ l) (sym (append_assoc front back told))
 
--- one step after another
+-- two steps, one after the other
 pub bands_on : (a b c : PacketReader) (u v : List ℕ) (told : List Given) (p q : List OnBand)
     → ReadsBandsOn a u [] p b → ReadsBandsOn b v told q c → ReadsBandsOn a (u ++ v) told (p ++ q) c
 bands_on a b c u v told p q h k start bytes given rest r =
@@ -131,7 +131,7 @@ bands_on a b c u v told p q h k start bytes given rest r =
       held = λ g is. let h = next.held g is in (h.0, sym (append_assoc bytes u v) ∙ h.1);
     }
 
--- nothing at all
+-- no step
 pub bands_stay : (r : PacketReader) → ReadsBandsOn r [] [] [] r
 bands_stay reader start bytes given rest r = record {
   passed = [];
@@ -145,7 +145,7 @@ bands_stay reader start bytes given rest r = record {
   held = λ g is. absurd (cc);
 }
 
--- what the hold has of a rest, of which nothing passes
+-- no bytes pass of the rest that the hold has
 none_passed_yet : (old : PacketReader) (start : ℕ) (bytes : List ℕ) (given : List Given) (rest : List ℕ) → fault_of old ≡ None → passes_of old ≡ false
     → passed_by_rest (rest_of old) ≡ [] → Reads old start bytes given rest → passed_by_rest rest ≡ []
 none_passed_yet old start bytes given rest sound gathers none r =
@@ -154,7 +154,7 @@ none_passed_yet old start bytes given rest sound gathers none r =
 joined_to_nothing : (front back : List OnBand) → front ≡ [] → back ≡ [] → front ≡ back ++ []
 joined_to_nothing front back e f = e ∙ sym (ap (λ (l : List OnBand). l ++ []) f)
 
--- gathered bytes, of which nothing passes
+-- more bytes were gathered, and none of them passes
 pub bands_open : (old new : PacketReader) (u : List ℕ) → bytes_held new ≤ 65520 → fault_of old ≡ None → passes_of old ≡ false
     → passed_by_rest (rest_of old) ≡ []
     → passed_by_rest (rest_of old ++ u) ≡ [] → Moves old u Open new → ReadsBandsOn old u [] [] new
@@ -193,7 +193,7 @@ told_unbanded g e = ap (λ (b : Bool). cond b [] (g ∷ [])) e
 pub not_told_banded : (g : Given) → is_on_band g.packet ≡ true → others (g ∷ []) ≡ []
 not_told_banded g e = ap (λ (b : Bool). cond b [] (g ∷ [])) e
 
--- a packet that lies in the hold: it is returned, where nothing passes of any of its kind
+-- a packet that is whole in the hold: it is returned if no bytes of its kind pass
 pub bands_whole : (old new : PacketReader) (u : List ℕ) (g : Given) → bytes_held new ≤ 65520 → fault_of old ≡ None → passes_of old ≡ false
     → passed_by_rest (rest_of old) ≡ [] → Moves old u Whole new → Spells g.packet (held_of new)
     → g.offset + length (held_of new) ≡ position_of new → is_on_band g.packet ≡ false → ReadsBandsOn old u (g ∷ []) [] new
@@ -215,7 +215,7 @@ bands_whole old new u g fits sound gathers none m spells at free start bytes giv
           );
     }
 
--- or passed over, where it has no byte that does
+-- or skipped if it has no byte that could pass
 pub bands_empty : (old new : PacketReader) (u : List ℕ) (g : Given) → bytes_held new ≤ 65520 → fault_of old ≡ None → passes_of old ≡ false
     → passed_by_rest (rest_of old) ≡ [] → Moves old u Whole new → Spells g.packet (held_of new)
     → g.offset + length (held_of new) ≡ position_of new → is_on_band g.packet ≡ true → passed_by g.packet ≡ [] → ReadsBandsOn old u [] [] new
@@ -232,7 +232,7 @@ bands_empty old new u g fits sound gathers none m spells at banded none_by start
       held = λ _ is. absurd (cc);
     }
 
--- a packet in the hold is on a band exactly where its payload begins as that of a band
+-- a packet in the hold is on a band exactly if its payload begins with a band's byte
 pub banded_body : (p : Pkt) (s : List ℕ) → Spells p s → is_on_band p ≡ begins_band (drop 4 s)
 banded_body flush s h = sym (ap begins_band h.body)
 banded_body delim s h = sym (ap begins_band h.body)
@@ -245,7 +245,7 @@ passed_body delim s h = sym (ap passed_in h.body)
 passed_body resp_end s h = sym (ap passed_in h.body)
 passed_body (payload bytes) s h = sym (ap passed_in h.body)
 
--- which readers may pass bytes
+-- the readers that may pass bytes
 pub may_pass_shut : (r : PacketReader) → is_open r ≡ false → MayPass r
 may_pass_shut r shut gathers = ap (λ (l : List ℕ). begins_band (drop 4 l)) (rest_of_shut r shut)
 

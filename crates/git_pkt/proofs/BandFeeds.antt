@@ -1,4 +1,4 @@
--- What a call of `feed_band` does, from what its steps do.
+-- The effect of a call of `feed_band`, from the effects of its steps.
 use Rattle.std.proofs.Common.{arith, ◌≡◌, ◌≢◌, ℕ, ◌+◌, ◌-◌, ◌≤◌, Bool, true, false, List, [], ◌++◌, length, take, drop, map, Bor}
 use Rattle.std.proofs.Common.{Some, None, ap, sym, ◌∙◌, refl, subst, append_assoc, length-append}
 use Rattle.std.proofs.lemmas.List.{length-take-le, take-append-drop}
@@ -31,7 +31,7 @@ few_by r false e may rest holds banded =
 pub holds_few : (r : PacketReader) → MayPass r → HoldsFew r
 holds_few r may = few_by r (passes_of r) refl may
 
--- the last bytes of those used, as a slice shows them
+-- the last of the bytes used, as a slice shows them
 front_and_back : (piece front bytes : List ℕ) (used : ℕ) → take used piece ≡ front ++ bytes → piece ≡ front ++ (bytes ++ drop used piece)
 front_and_back piece front bytes used e =
     sym (take-append-drop used piece) ∙ ap (λ (l : List ℕ). l ++ drop used piece) e ∙ append_assoc front bytes (drop used piece)
@@ -125,7 +125,7 @@ module _ (old new : PacketReader) (piece : List ℕ) (used : ℕ) (sound : fault
     few = holds_few new m.passes;
   }
 
-  -- all but a packet that lies in the hold
+  -- every result other than a packet in the hold
   hands_out : (progress : BandProgress) (got : BandGot) → BandMoves old piece used progress new → used ≤ length piece → (progress ≡ Whole → ⊥)
       → (progress ≡ Empty → ⊥) → HandsOut progress used piece got → FeedsBand old piece (record { used = used; got = got }) new
   hands_out (Part part) (PartGot band bytes) m within whole empty h = feeds_part part band bytes m within h
@@ -141,7 +141,7 @@ module _ (old new : PacketReader) (piece : List ℕ) (used : ℕ) (sound : fault
   feeds_step progress fed m within whole empty same h =
       subst (λ (n : ℕ). FeedsBand old piece (record { used = n; got = fed.got }) new) (sym same) (hands_out progress fed.got m within whole empty h)
 
--- a reader with a fault
+-- a reader with an error
 pub feeds_again : (old : PacketReader) (piece : List ℕ) (f : Fault) → fault_of old ≡ Some f → MayPass old
     → FeedsBand old piece (record { used = 0; got = Failed f }) old
 feeds_again old piece f told may = record {

@@ -1,4 +1,4 @@
--- Bytes that pass carry what the reader represents.
+-- Bytes that pass keep the reader's relation to the stream.
 use Rattle.std.proofs.Common.{arith, ◌≡◌, ℕ, ◌+◌, ◌-◌, ◌<◌, ◌≤◌, true, false, List, [], ◌∷◌, ◌++◌, length, take, drop, map}
 use Rattle.std.proofs.Common.{Option, Some, None, is_some, ap, sym, ◌∙◌, refl, subst, append_assoc, length-append, length-drop}
 use Rattle.std.proofs.lemmas.List.{append-nil, length-take-le, map-append, take-append-drop, take_all}
@@ -41,12 +41,12 @@ kind_in_progress Open = None
 kind_in_progress Whole = None
 kind_in_progress (Failed f) = Some f.kind
 
--- the hold of a packet whose bytes pass is its first five
+-- the hold of a packet whose bytes pass has its first five bytes
 rest_of_passing : (r : PacketReader) (left : ℕ) → r.state ≡ Passing left → rest_of r ≡ held_of r
 rest_of_passing r left e =
     ap (λ (s : State). take (held_in s) (held_of r)) e ∙ take_all 5 (held_of r) (omega (arith, (kept_in r (Passing left) e).five))
 
--- the rest is what the hold has, and what passed
+-- the rest is what the hold has, followed by the bytes that passed
 record PassingRest (old : PacketReader) (left : ℕ) (rest : List ℕ) : Type 0 where
   pub passed : List ℕ
   pub all : held_of old ++ passed ≡ rest
@@ -65,7 +65,7 @@ passing_rest old left start bytes given rest e r =
       still_open = state.1;
     }
 
--- bytes of the open packet passed; the hold stays
+-- bytes of the open packet passed, and the hold is unchanged
 pub record PassedOn (old : PacketReader) (left : ℕ) (u : List ℕ) (band : Band) (new : PacketReader) : Type 0 where
   pub was : old.state ≡ Passing left
   pub hold : held_of new ≡ held_of old
@@ -73,7 +73,7 @@ pub record PassedOn (old : PacketReader) (left : ℕ) (u : List ℕ) (band : Ban
   pub position : position_of new ≡ position_of old + length u
   pub band_is : band_in (drop 4 (held_of old)) ≡ Some band
 
--- what passed of the rest, and what passes of it with more bytes
+-- the bytes of the rest that passed, and those that pass with more bytes
 passes_more : (held passed u rest : List ℕ) (band : Band) → length held ≡ 5 → band_in (drop 4 held) ≡ Some band → held ++ passed ≡ rest
     → passed_by_rest (rest ++ u) ≡ passed_by_rest rest ++ map (on band) u
 passes_more held passed u rest band five e all =
@@ -83,7 +83,7 @@ passes_more held passed u rest band five e all =
     ∙ map-append (on band) passed u
     ∙ ap (λ (l : List OnBand). l ++ map (on band) u) (sym (passed_after_five held passed band five e) ∙ ap passed_by_rest all)
 
--- more are still to come
+-- more bytes are still to come
 pub bands_pass_open : (old new : PacketReader) (left n : ℕ) (u : List ℕ) (band : Band) → PassedOn old left u band new → new.state ≡ Passing n
     → 0 < n → n + length u ≡ left → ReadsBandsOn old u [] (map (on band) u) new
 bands_pass_open old new left n u band b now some sum start bytes given rest r =
@@ -120,7 +120,7 @@ bands_pass_open old new left n u band b now some sum start bytes given rest r =
       joins = passes_more (held_of old) p.passed u rest band kept.five b.band_is p.all;
     }
 
--- the four digits of a payload, and as many bytes in all as their number, spell it
+-- the four digits of a payload, with as many bytes in all as their number, spell it
 pub payload_spells : (s : List ℕ) (field : ℕ) → IsWhole s field → 4 ≤ field → Spells (payload (drop 4 s)) s
 payload_spells s field h four = record {
   digits = h.digits;
@@ -129,7 +129,7 @@ payload_spells s field h four = record {
   fits = omega (arith, h.allowed.fits, h.long, length-drop 4 s);
 }
 
--- the last of them came
+-- the last of the bytes came
 pub bands_pass_whole : (old new : PacketReader) (left : ℕ) (u : List ℕ) (band : Band) → PassedOn old left u band new → new.state ≡ Between
     → length u ≡ left → ReadsBandsOn old u [] (map (on band) u) new
 bands_pass_whole old new left u band b now all start bytes given rest r =
@@ -170,14 +170,14 @@ bands_pass_whole old new left u band b now all start bytes given rest r =
           ∙ passes_more (held_of old) p.passed u rest band kept.five b.band_is p.all;
     }
 
--- nothing of the stream is used
+-- no byte of the stream is used
 unchanged : (new : PacketReader) (start : ℕ) (bytes : List ℕ) (given : List Given) (rest : List ℕ) → Reads new start bytes given rest
     → Reads new start (bytes ++ []) (given ++ []) rest
 unchanged new start bytes given rest r =
     subst (λ (l : List ℕ). Reads new start l (given ++ []) rest) (sym (append-nil bytes))
     (subst (λ (gs : List Given). Reads new start bytes gs rest) (sym (append-nil given)) r)
 
--- the five bytes in the hold are all that it will have
+-- the hold gets only the five bytes that it has
 pub bands_begin : (old new : PacketReader) (left : ℕ) → fault_of old ≡ None → passes_of old ≡ false → held_in old.state ≡ 5
     → held_of new ≡ take 5 (held_of old) → new.field ≡ old.field → position_of new ≡ position_of old → new.state ≡ Passing left
     → left ≡ old.field - 5 → ReadsBandsOn old [] [] [] new
@@ -209,7 +209,7 @@ bands_begin old new left sound gathers five hold field position now is start byt
       joins = sym (append-nil (passed_by_rest rest));
     }
 
--- the stream ends at its last position
+-- the stream is at its last position
 pub bands_stop : (old new : PacketReader) (left : ℕ) (progress : Progress) → old.state ≡ Passing left
     → IsStopped old StreamTooLong last_position progress new → held_of new ≡ held_of old → position_of old ≡ last_position
     → ReadsBandsOn old [] [] [] new
@@ -231,7 +231,7 @@ bands_stop old new left progress was s same last start bytes given rest r = reco
   joins = sym (append-nil (passed_by_rest rest));
 }
 
--- the fault that it ended with
+-- the error that it ended with
 pub stopped_fault : (old new : PacketReader) (kind : Kind) (offset : ℕ) (f : Fault) → IsStopped old kind offset (Failed f) new
     → fault_of new ≡ Some f
 stopped_fault old new kind offset f s = s.told ∙ ap fault_in_progress (sym s.progress_is)
@@ -242,7 +242,7 @@ shown_at_last old new offset f used piece s more =
     let is : Some StreamTooLong ≡ Some f.kind = ap kind_in_progress (sym s.progress_is) in
     record { not_the_end = λ e. absurd (cc); one_more = λ _. more }
 
--- a packet came whole in the piece, between two packets
+-- a packet came whole in the chunk, between two packets
 pub bands_at_once : (old new : PacketReader) (u : List ℕ) (field : ℕ) (band : Band) → fault_of old ≡ None → is_open old ≡ false
     → IsWhole u field → 5 ≤ field → band_in (drop 4 u) ≡ Some band → new.state ≡ old.state → position_of new ≡ position_of old + length u
     → length (held_of new) ≤ 5 → ReadsBandsOn old u [] (map (on band) (drop 5 u)) new

@@ -1,4 +1,4 @@
--- What comes of a step in a section of side bands, from what its parts do.
+-- The result of a step in a section of side bands, from the results of its parts.
 use Rattle.std.proofs.Common.{arith, ◌≡◌, inl, inr, ℕ, ◌+◌, ◌-◌, ◌<◌, ◌≤◌, true, false, List, [], ◌∷◌, ◌++◌, length, take, drop, map}
 use Rattle.std.proofs.Common.{None, is_some, ap, sym, ◌∙◌, refl, subst, append_assoc, length-append}
 use Rattle.std.proofs.lemmas.Bool.{cases_lt}
@@ -84,7 +84,7 @@ module _ (a b c : PacketReader) (front piece whole : List ℕ) (used total : ℕ
   pub bands_after : (progress : BandProgress) → BandMoves b piece used progress c → BandMoves a whole total progress c
   bands_after progress h = record { passes = h.passes; rises = omega (arith, h.rises, risen, sum); comes = comes_after progress h.comes }
 
--- what the hold has of the open packet is there
+-- the hold has at least the bytes of the open packet that are counted there
 kept_within : (s : State) (held : List ℕ) (field position : ℕ) → Keeps s held field position → held_in s ≤ length held
 kept_within Between held field position k = omega arith
 kept_within (Gathering count) held field position k = k.within
@@ -100,7 +100,7 @@ gathers_unless (Gathering count) h = refl
 gathers_unless (Passing left) h = absurd (h left refl)
 gathers_unless (FailedState fault) h = refl
 
--- the band of the open packet is that of the hold
+-- the open packet's band is that of the bytes in the hold
 pub hold_band : (r : PacketReader) → 5 ≤ held_in r.state → band_in (drop 4 (rest_of r)) ≡ band_in (drop 4 (held_of r))
 hold_band r five = band_of_take (held_in r.state) (held_of r) five (kept_within r.state r.hold.items r.field r.position (kept r))
 
@@ -116,7 +116,7 @@ first_five l u e few = elim (cases_lt 5 (length l + length u)) [
 unbanded_longer : (l u : List ℕ) → 5 ≤ length l → begins_band (drop 4 l) ≡ false → begins_band (drop 4 (l ++ u)) ≡ false
 unbanded_longer l u five e = ap is_some (band_longer l u five) ∙ e
 
--- a packet that has come whole is returned, or passed over
+-- a packet that came whole is returned or skipped
 module _ (old new : PacketReader) (u : List ℕ) (fits : bytes_held new ≤ 65520) (sound : fault_of old ≡ None) (gathers : passes_of old ≡ false)
     (unbanded : begins_band (drop 4 (rest_of old)) ≡ false) where
   none_before : passed_by_rest (rest_of old) ≡ []
@@ -166,7 +166,7 @@ module _ (old new : PacketReader) (u : List ℕ) (fits : bytes_held new ≤ 6552
   pub failed_goes : (f : Fault) → Moves old u (Failed f) new → passed_by_rest (rest_of old ++ u) ≡ [] → ReadsBandsOn old u [] [] new
   failed_goes f m none = bands_failed old new u f fits sound gathers none_before none m
 
-  -- after the first five bytes each more belongs to a packet of which nothing passes
+  -- if nothing passed of the first five bytes, nothing passes of the later ones
   pub none_longer : 5 ≤ length (rest_of old) → passed_by_rest (rest_of old ++ u) ≡ []
   none_longer five = passes_unbanded (rest_of old ++ u) (unbanded_longer (rest_of old) u five unbanded)
 

@@ -1,4 +1,4 @@
--- A payload has one band, or is refused by one name.
+-- A payload has one band, or is refused with one error.
 use Rattle.std.proofs.Common.{◌≡◌, ℕ, List, [], ◌∷◌, refl, sym, ◌∙◌}
 use Rattle.git_pkt.specs.declared.band.Band.{Band}
 use Rattle.git_pkt.specs.declared.band.Band.TheVariants.{Pack, Progress, Fatal}

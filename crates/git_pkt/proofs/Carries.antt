@@ -1,4 +1,4 @@
--- A step of the reader carries what it represents.
+-- A step of the reader keeps its relation to the stream.
 use Rattle.std.proofs.Common.{arith, ◌≡◌, ℕ, ◌+◌, ◌-◌, ◌≤◌, List, [], ◌∷◌, ◌++◌, length, Option, None, false, ap, sym, ◌∙◌, subst, length-append}
 use Rattle.std.proofs.lemmas.List.{append-nil}
 use Rattle.git_pkt.specs.Packets.{Spells}
@@ -20,12 +20,12 @@ stands_open r p end rest sound gathers same =
     subst (λ (o : Option Fault). StandsAt o p end rest r) (sym sound)
     (held_rest r rest gathers same, subst (λ (l : List ℕ). IsOpen l) same (rest_is_open r))
 
--- what the hold has of a stream's rest, where nothing passes
+-- the part of a stream's rest that the hold has, if no bytes pass
 pub was_held : (old : PacketReader) (start : ℕ) (bytes : List ℕ) (given : List Given) (rest : List ℕ) → fault_of old ≡ None → passes_of old ≡ false
     → Reads old start bytes given rest → rest_of old ≡ rest
 was_held old start bytes given rest sound gathers r = gathered_rest old rest gathers (sound_rest old start bytes given rest sound r).0
 
--- the rest goes on
+-- the rest gets longer
 pub reads_open : (old new : PacketReader) (u : List ℕ) → bytes_held new ≤ 65520 → fault_of old ≡ None → passes_of old ≡ false → Moves old u Open new
     → (start : ℕ) (bytes : List ℕ) (given : List Given) (rest : List ℕ) → Reads old start bytes given rest
     → Reads new start (bytes ++ u) (given ++ []) (rest ++ u)
@@ -43,7 +43,7 @@ reads_open old new u fits sound gathers m start bytes given rest r =
       state = stands_open new _ _ (rest ++ u) m.arrives.no_fault m.arrives.gathers same;
     }
 
--- the rest has become a packet
+-- the rest is now a packet
 pub reads_whole : (old new : PacketReader) (u : List ℕ) (g : Given)
     → bytes_held new ≤ 65520 → fault_of old ≡ None → passes_of old ≡ false → Moves old u Whole new → Spells g.packet (held_of new)
     → g.offset + length (held_of new) ≡ position_of new
@@ -65,7 +65,7 @@ reads_whole old new u g fits sound gathers m spells at start bytes given rest r 
       state = stands_open new _ _ [] m.arrives.no_fault (gathers_between new m.arrives.closed) (rest_of_shut new m.arrives.closed);
     }
 
--- the rest has a fault
+-- the rest has an error
 pub reads_failed : (old new : PacketReader) (u : List ℕ) (f : Fault) → bytes_held new ≤ 65520 → fault_of old ≡ None → passes_of old ≡ false
     → Moves old u (Failed f) new → (start : ℕ) (bytes : List ℕ) (given : List Given) (rest : List ℕ) → Reads old start bytes given rest
     → Reads new start (bytes ++ u) (given ++ []) (rest ++ u)

@@ -1,4 +1,4 @@
--- An open rest goes on to a packet, and each list of bytes splits.
+-- An open rest can become a packet, and each list of bytes can be split.
 use Rattle.std.proofs.Common.{◌≡◌, ◌≢◌, ◌⊎◌, inl, inr, ℕ, zero, suc, ◌+◌, ◌-◌, ◌<◌, ◌≤◌, List, [], ◌∷◌, ◌++◌, length, take, drop, slice_index, max}
 use Rattle.std.proofs.Common.{replicate, arith, refl, sym, ◌∙◌, ap, subst, length-append, length-drop, append_assoc}
 use Rattle.std.proofs.lemmas.Bool.{cases_lt}
@@ -23,7 +23,7 @@ pub record Begins (rest : List ℕ) : Type 0 where
   pub is : rest ≡ spelling ++ more
   pub spells : Spells packet spelling
 
--- four digits and as many bytes as they call for are a packet
+-- four digits, with as many bytes as they state, are a packet
 pub whole_spells : (s : List ℕ) (field : ℕ) → IsWhole s field → (p : Pkt) × Spells p s
 whole_spells s zero h = (flush, record { digits = h.digits; field = h.number; body = no_bytes _ (omega (arith, length-drop 4 s, h.long)); fits = omega arith })
 whole_spells s (suc zero) h =
@@ -102,7 +102,7 @@ split_within (suc n) start bytes h = elim (begins_or_none bytes) [
 pub split_of : (start : ℕ) (bytes : List ℕ) → SplitOf start bytes
 split_of start bytes = split_within (length bytes) start bytes (omega arith)
 
--- what may still come of a rest
+-- the packet that a rest may become
 pub record GoesOn (rest : List ℕ) : Type 0 where
   pub packet : Pkt
   pub more : List ℕ
@@ -112,7 +112,7 @@ pub record GoesOn (rest : List ℕ) : Type 0 where
 pub not_nothing : (l : List ℕ) → 0 < length l → l ≢ []
 not_nothing l h e = omega (arith, ap length e)
 
--- a number and too few bytes: zeros fill the packet
+-- a number and too few bytes: zeros complete the packet
 filled : (s : List ℕ) → HasDigits s → IsLengthField (digits_value s) → length s ≤ max 4 (digits_value s)
     → (p : Pkt) × Spells p (s ++ replicate (max 4 (digits_value s) - length s) 48)
 filled s h ok within =
@@ -130,7 +130,7 @@ zero_digit : digit_value 48 ≡ 0
 unfolding digit_value
 zero_digit = refl
 
--- fewer than four digits, and zeros in place of the others
+-- fewer than four digits, and zeros for the missing ones
 padded_at : (rest : List ℕ) (n k : ℕ)
     → length rest + n ≡ 4 → k < 4 → (k < length rest → IsHexDigit (slice_index rest k)) → IsHexDigit (slice_index (rest ++ replicate n 48) k)
 padded_at rest n k all among given = elim (cases_lt k (length rest)) [

@@ -1,4 +1,4 @@
--- Steps and credit of machines that read packets.
+-- The steps and the credit of machines that read packets.
 use Rattle.std.proofs.Common.{arith, ◌≡◌, ℕ, ◌+◌, ◌*◌, ◌≤◌, List, [], ◌∷◌, length, length-append, subst, ap}
 use Rattle.std.specs.Prelude.{flat_map, sum_by}
 use Rattle.std.proofs.lemmas.List.Sums.{sum_by-cons}
@@ -7,18 +7,18 @@ use Rattle.git_pkt.specs.Machine.PacketReader.{Counts}
 use Rattle.git_pkt.specs.declared.reader.Got.{Got}
 use Rattle.git_pkt.specs.declared.reader.PacketReader.{PacketReader}
 
--- what an answer of the reader counts, by its kind
+-- the count of a result, by its kind
 pub counts_by : (old new : PacketReader) (used : ℕ) (got same : Got) → got ≡ same → Counts old used got new → Counts old used same new
 counts_by old new used got same e h = subst (λ (g : Got). Counts old used g new) e h
 
--- one call after another, where the first has been paid for by its bytes
+-- one call after another, if the bytes of the first have paid for it
 pub paid_on : (used more before middle after credit rest left : ℕ) → middle + rest ≤ before + credit + 64 * used → Pays used before middle credit rest
     → Pays more middle after rest left → Pays (used + more) before after credit left
 paid_on used more before middle after credit rest left paid first second =
     record { rises = omega (arith, first.rises, second.rises); within = omega (arith, paid, second.within) }
 
 module _ {C M : Type 0} (Makes : C → ℕ → M → ℕ → M → Type 0) (credit : M → ℕ) (used : C → List ℕ) (feeds : C → ℕ) where
-  -- where each call is paid, all together are
+  -- if each call is paid for, all together are
   pub all_paid : ((call : C) (before : ℕ) (old : M) (after : ℕ) (new : M) → Makes call before old after new
       → ArePaid (length (used call)) (feeds call) before after (credit old) (credit new))
       → (calls : List C) (before : ℕ) (old : M) (after : ℕ) (new : M) → MakesAll Makes calls before old after new

@@ -1,4 +1,4 @@
--- Readers of the same bytes, however these came.
+-- Readers of the same bytes, whatever the chunks were.
 use Rattle.std.proofs.Common.{◌≡◌, ◌≢◌, ℕ, ◌+◌, ◌-◌, List, length, Option, Some, None, sym, ◌∙◌, ap, subst, refl}
 use Rattle.git_pkt.specs.Splits.{Given}
 use Rattle.git_pkt.specs.Faults.{IsOpen, IsRefused, RestFault, StopsBy}
@@ -16,13 +16,13 @@ pub same_split : (r s : PacketReader) (start : ℕ) (bytes : List ℕ) (given ot
 same_split r s start bytes given others rest other_rest h k =
     one_split start bytes given others rest other_rest h.splits.spelled k.splits.spelled h.splits.ends k.splits.ends
 
--- the fault that a reader reports is in its stream
+-- the error that a reader reports is in its stream
 pub stopped : (r : PacketReader) (f : Fault) (start : ℕ) (bytes : List ℕ) (given : List Given) (rest : List ℕ)
     → Reads r start bytes given rest → fault_of r ≡ Some f → StopsBy (start + length bytes - length rest) rest (start + length bytes) f.kind f.offset
 stopped r f start bytes given rest h told =
     (subst (λ (o : Option Fault). StandsAt o (start + length bytes - length rest) (start + length bytes) rest r) told h.state).1
 
--- a fault by one name is at one offset
+-- an error of one kind is at one offset
 pub one_offset : (p : ℕ) (rest : List ℕ) (end : ℕ) (kind : Kind) (m n : ℕ) → StopsBy p rest end kind m → StopsBy p rest end kind n → m ≡ n
 one_offset p rest end Truncated m n a b = a.2 ∙ sym b.2
 one_offset p rest end StreamTooLong m n a b = a.2 ∙ sym b.2
@@ -41,14 +41,14 @@ told_again_at p end rest f kind offset h k =
     let same : f ≡ g = one_fault p rest f g h k.0 in
     (ap (λ (x : Fault). x.kind) same, ap (λ (x : Fault). x.offset) same)
 
--- a fault that is none of an ending is one of the rest
+-- an error other than one of an ending is an error of the rest
 of_bytes : (p end : ℕ) (rest : List ℕ) (kind : Kind) (offset : ℕ)
     → kind ≢ Truncated → kind ≢ StreamTooLong → StopsBy p rest end kind offset → IsRefused p rest kind offset
 of_bytes p end rest Truncated offset a b h = absurd (a refl)
 of_bytes p end rest StreamTooLong offset a b h = absurd (b refl)
 of_bytes p end rest kind offset a b h = h.0
 
--- a fault that is none of an ending is the only one, and an open rest has none
+-- an error other than one of an ending is the only one, and an open rest has none
 pub stops_once : (p end : ℕ) (rest : List ℕ) (kind other : Kind) (m n : ℕ)
     → kind ≢ Truncated → kind ≢ StreamTooLong → StopsBy p rest end kind m → StopsBy p rest end other n → (kind ≡ other) × (m ≡ n)
 stops_once p end rest kind other m n a b h k =
@@ -65,7 +65,7 @@ told_by s f (Some g) p end rest h stands =
     let same = told_again_at p end rest f g.kind g.offset h stands.1 in
     ap (λ (x : Fault). Some x) (sym (same_fault f g same.0 same.1))
 
--- a fault that the bytes show is reported by each reader of them
+-- an error that the bytes show is reported by each of their readers
 pub told_by_all : (r s : PacketReader) (f : Fault) (start : ℕ) (bytes : List ℕ) (given others : List Given) (rest other_rest : List ℕ)
     → Reads r start bytes given rest → Reads s start bytes others other_rest
     → fault_of r ≡ Some f → f.kind ≢ Truncated → f.kind ≢ StreamTooLong → fault_of s ≡ Some f
@@ -76,7 +76,7 @@ told_by_all r s f start bytes given others rest other_rest h k told a b =
     told_by s f (fault_of s) p (start + length bytes) rest fault
     (subst (λ (l : List ℕ). StandsAt (fault_of s) (start + length bytes - length l) (start + length bytes) l s) (sym same) k.state)
 
--- two faults of one name are one
+-- two errors of one kind are equal
 pub one_by_name : (r s : PacketReader) (f g : Fault) (start : ℕ) (bytes : List ℕ) (given others : List Given) (rest other_rest : List ℕ)
     → Reads r start bytes given rest → Reads s start bytes others other_rest → fault_of r ≡ Some f → fault_of s ≡ Some g → f.kind ≡ g.kind → f ≡ g
 one_by_name r s f g start bytes given others rest other_rest h k told other name =
@@ -90,7 +90,7 @@ one_by_name r s f g start bytes given others rest other_rest h k told other name
     subst (λ (n : Kind). StopsBy p rest (start + length bytes) n g.offset) (sym name) b in
     same_fault f g name (one_offset p rest (start + length bytes) f.kind f.offset g.offset a c)
 
--- two readers without a fault that hold all of the rest hold one
+-- two readers without an error that hold all of the rest hold the same
 pub one_rest : (r s : PacketReader) (start : ℕ) (bytes : List ℕ) (given others : List Given) (rest other_rest : List ℕ) → Reads r start bytes given rest
     → Reads s start bytes others other_rest → fault_of r ≡ None → fault_of s ≡ None → HoldsAll r → HoldsAll s → rest_of r ≡ rest_of s
 one_rest r s start bytes given others rest other_rest h k sound well all others_all =

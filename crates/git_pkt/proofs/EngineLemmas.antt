@@ -1,4 +1,4 @@
--- Lemmas for runs over a reader and a writer: what each call does to all bytes read and written so far.
+-- Lemmas for runs over a reader and a writer: the effect of each call on all bytes read and written so far.
 use Rattle.std.proofs.Common.{◌≡◌, ◌≤◌, ◌<◌, ℕ, ◌+◌, ◌-◌, length, take, drop, arith, List, [], ◌∷◌, ◌++◌, Option, Result, Err, IsErrAnd, MatchResult, refl, ap}
 use Rattle.std.proofs.Common.{◌∙◌, sym, subst, append_assoc, append-nil, Bool, true, false}
 use Rattle.std.proofs.Math.Seq.{take-add}
@@ -11,16 +11,16 @@ use Rattle.git_pkt.specs.declared.fault.Kind.{Kind}
 use Rattle.git_pkt.specs.declared.fault.Kind.TheVariants.{Truncated, StreamTooLong}
 use Rattle.git_pkt.specs.declared.fault.RunFault.{RunFault}
 
--- bytes that were written whole, and then a front of others
+-- bytes that were written whole, and then a prefix of others
 pub AppendsFront-after : (a b c : Option (List ℕ)) (bs cs : List ℕ) → Appends a b bs → AppendsFront b c cs → AppendsFront a c (bs ++ cs)
 AppendsFront-after a b c bs cs whole (front, rest, split, written) =
     (bs ++ front, rest, ap (λ l. bs ++ l) split ∙ sym (append_assoc bs front rest), Appends-trans a b c bs front whole written)
 
--- a front of bytes is a front of those and others
+-- a prefix of bytes is a prefix of those and others
 pub AppendsFront-longer : (a b : Option (List ℕ)) (bs cs : List ℕ) → AppendsFront a b bs → AppendsFront a b (bs ++ cs)
 AppendsFront-longer a b bs cs (front, rest, split, written) = (front, rest ++ cs, ap (λ l. l ++ cs) split ∙ append_assoc front rest cs, written)
 
--- ---- the next part of a piece, `&piece[done..done + count]`
+-- ---- the next part of a chunk, `&piece[done..done + count]`
 
 pub take-next : (done count : ℕ) (piece : List ℕ) → take (done + count) piece ≡ take done piece ++ take (done + count - done) (drop done piece)
 take-next done count piece =
@@ -31,25 +31,25 @@ take-next done count piece =
 pub written_nothing : (held : Option (List ℕ)) → WrittenAs false (flow held held) []
 written_nothing held = Appends-nil held
 
--- bytes that were written whole, and then others, whole or up to where a write failed
+-- bytes that were written whole, and then others, whole or up to a failed write
 pub written_then : (broken : Bool) (before held after : Option (List ℕ)) (u v : List ℕ) → WrittenAs false (flow before held) u
     → WrittenAs broken (flow held after) v → WrittenAs broken (flow before after) (u ++ v)
 written_then false before held after u v first second = Appends-trans before held after u v first second
 written_then true before held after u v first second = AppendsFront-after before held after u v first second
 
--- bytes that were written whole are a front of themselves, so they count as written also where a write failed
+-- bytes that were written whole are a prefix of themselves, so they count as written even if a write failed
 pub written_whole : (broken : Bool) (stream : Flow) (u : List ℕ) → WrittenAs false stream u → WrittenAs broken stream u
 written_whole false stream u written = written
 written_whole true stream u written = (u, [], sym (append-nil u), written)
 
--- a flush leaves what was written, whether or not it fails
+-- a flush leaves the written bytes as they are, whether or not it fails
 pub written_flushed : (broken : Bool) (before held after : Option (List ℕ)) (u : List ℕ) → WrittenAs false (flow before held) u → Keeps held after
     → WrittenAs broken (flow before after) u
 written_flushed broken before held after u written kept = written_whole broken (flow before after) u (Appends-kept before held after u written kept)
 
 -- ---- a run over one reader and one writer
 
--- so far these bytes came and those were given, and the run's relation holds of both
+-- these bytes were read and those were written so far, and the run's relation holds of both
 pub record Moved (broken : Bool) (P : List ℕ → List ℕ → Type 0) (reader writer : Flow) : Type 0 where
   pub came : List ℕ
   pub given : List ℕ
@@ -86,7 +86,7 @@ module _ {P : List ℕ → List ℕ → Type 0} where
         stands = so_far.stands;
       }
 
-  -- some bytes came, and others were given for them, as far as that went
+  -- some bytes were read, and others written for them, or a write failed
   pub moved_on : (broken : Bool) (Q : List ℕ → List ℕ → Type 0) (bytes given : List ℕ)
       {left_before left left_after held_before held held_after : Option (List ℕ)}
       → ((came so_far : List ℕ) → P came so_far → Q (came ++ bytes) (so_far ++ given)) → Moved false P (flow left_before left) (flow held_before held)
@@ -101,7 +101,7 @@ module _ {P : List ℕ → List ℕ → Type 0} where
         stands = carries so_far.came so_far.given so_far.stands;
       }
 
-  -- what the run results in
+  -- the result of the run
   pub moves : {S : StreamRelation} {broken : Bool} {reader writer : Flow} → ((came given : List ℕ) → P came given → S (came ∷ []) (given ∷ []))
       → Moved broken P reader writer → Moves broken S (reader ∷ []) (writer ∷ [])
   moves says so_far =
@@ -113,7 +113,7 @@ module _ {P : List ℕ → List ℕ → Type 0} where
         related = says so_far.came so_far.given so_far.stands;
       }
 
--- ---- what `?` answers is the fault that it met
+-- ---- what `?` returns is the error that occurred
 
 pub at_fault : {T : Type 0} (r : Result T RunFault) (fault met : RunFault) (P : Result T RunFault → Type 0) → fault ≡ met
     → IsErrAnd r (λ e. e ≡ fault) → P (Err met) → P r
@@ -126,11 +126,11 @@ holds_at_fault r fault Q Until met until =
     let (e, is, same) = err_from_is_err_and r met in
     subst (λ x. MatchResult x Q Until) (sym is) (subst Until (sym same) until)
 
--- one more read brought some bytes
+-- one more read returned some bytes
 pub brings_more : (count n : ℕ) (came piece : List ℕ) → count ≤ length came → n ≤ length piece → 0 < n → count + 1 ≤ length (came ++ take n piece)
 brings_more count n came piece so_far within some = omega (arith, so_far, some, length-append came (take n piece), length-take-le n piece within)
 
--- a fault that the bytes of a piece show comes in time
+-- an error that the bytes of a chunk show is reported in time
 pub timely : (kind : Kind) (ended : Bool) (unused : List ℕ) → (kind ≡ Truncated → ⊥) → (kind ≡ StreamTooLong → 0 < length unused)
     → IsTimely kind ended unused
 timely Truncated ended unused early more = absurd (early refl)

@@ -31,7 +31,7 @@ plain_more block i false below so_far h =
     not_false true h = refl
     not_false false h = absurd (cc)
 
--- a byte's escape is never empty, and longer than the byte where it is not the byte itself
+-- the escape of a byte is never empty, and if it is not the byte itself, it is longer
 pub escape_of_some : (b : ℕ) → 1 ≤ length (escape_of b)
 unfolding escape_of
 escape_of_some b = grind (arith, common_steps)
@@ -40,7 +40,7 @@ pub escape_of_other : (b : ℕ) → ((nat_le 32 b && nat_le b 126) && not (nat_e
 unfolding escape_of
 escape_of_other b h = grind (arith, common_steps)
 
--- of the bytes before this one, the escapes have as many or more; more where one is not the byte itself
+-- the escapes of the bytes before this one are at least as many bytes, and more if one of them is not its own escape
 pub record AreLong (block : List ℕ) (i : ℕ) (other : Bool) : Type 0 where
   pub least : i ≤ length (escaped_of (take i block))
   pub more : other ≡ true → i < length (escaped_of (take i block))
@@ -61,7 +61,7 @@ long_more block i other below h =
       more = longer (length (escaped_of (take i block))) (length (escaped_of (take (i + 1) block))) i (slice_index block i) other _ refl joined h.least h.more;
     }
 
--- bytes are plain exactly where their escapes are the bytes
+-- bytes are plain exactly if their escapes are the same bytes
 pub plain_exactly : (block : List ℕ) (i : ℕ) (other : Bool) → i ≡ length block → (other ≡ false → escaped_of (take i block) ≡ take i block)
     → AreLong block i other
     → IsTrue (not other) ↔ (escaped_of block ≡ block)
@@ -76,14 +76,14 @@ plain_exactly block i false at plain long =
       λ same. refl,
     )
 
--- what is after bytes that are written stays
+-- the bytes after the written ones stay
 pub others_stay : (out four : List ℕ) (at from : ℕ) → at + length four ≤ from → at ≤ length out
     → drop from (take at out ++ four ++ drop (at + length four) out) ≡ drop from out
 others_stay out four at from after within =
     drop-append-drop (at + length four) out (take at out ++ four) from after
     (length-append (take at out) four ∙ ap (λ (n : ℕ). n + length four) (length-take-le at out within))
 
--- four bytes put after the first, of which some count
+-- four bytes are written after the first ones, and only some of the four count
 pub overwritten : (out four escaped escape : List ℕ) (at n : ℕ)
     → at ≤ length out → n ≤ length four → take at out ≡ escaped → take n four ≡ escape
     → take (at + n) (take at out ++ four ++ drop (at + length four) out) ≡ escaped ++ escape
@@ -94,7 +94,7 @@ overwritten out four escaped escape at n within fits e f =
     ∙ ap (λ (k : ℕ). take (k + n) (take at out ++ four)) (sym long) ∙ take-append-add (take at out) four n
     ∙ ap (λ (l : List ℕ). l ++ take n four) e ∙ ap (λ (l : List ℕ). escaped ++ l) f
 
--- one more byte is escaped after what is there
+-- the escape of one more byte is written after the others
 pub escaped_on : (bytes out four front : List ℕ) (i end n : ℕ)
     → i < length bytes → end ≤ length out → n ≤ length four
     → take end out ≡ front ++ escaped_of (take i bytes) → take n four ≡ escape_of (slice_index bytes i)
@@ -104,10 +104,10 @@ escaped_on bytes out four front i end n below within fits so_far one =
     ∙ append_assoc front (escaped_of (take i bytes)) (escape_of (slice_index bytes i))
     ∙ ap (λ (l : List ℕ). front ++ l) (sym (escaped_more bytes i below))
 
--- the escapes of two parts
+-- the escapes of two parts joined
 pub escaped-append : (front back : List ℕ) → escaped_of (front ++ back) ≡ escaped_of front ++ escaped_of back
 escaped-append front back = flat_map-append escape_of front back
 
--- the escapes of a front and of the others
+-- the escapes of a prefix and of the others
 pub escaped-parts : (bytes : List ℕ) (n : ℕ) → escaped_of (take n bytes) ++ escaped_of (drop n bytes) ≡ escaped_of bytes
 escaped-parts bytes n = sym (escaped-append (take n bytes) (drop n bytes)) ∙ ap escaped_of (take-append-drop n bytes)

@@ -1,4 +1,4 @@
--- How long the text of a fault is.
+-- The length of an error's text.
 use Rattle.std.proofs.Common.{ℕ, ◌^◌, ◌<◌, ◌≤◌, length, decimal, lit≤, arith}
 use Rattle.std.proofs.lemmas.Fmt.{length-decimal-le}
 use Rattle.git_pkt.specs.FaultNames.{kind_name}
@@ -9,7 +9,7 @@ use Rattle.git_pkt.specs.declared.fault.Kind.TheVariants.{DeepenConflict, NoWant
 use Rattle.git_pkt.specs.declared.fault.Kind.TheVariants.{UnexpectedPacket, RemoteError, UnknownRef, NotOurs, PackSource, NotVersion2}
 use Rattle.git_pkt.specs.declared.fault.Kind.TheVariants.{UnexpectedSection, BadLine, OutOfMemory, RemoteFatal, ReadFault, WriteFault, ReadLimit}
 
--- no name of a fault is longer than UnexpectedSection
+-- no error's name is longer than UnexpectedSection
 pub kind_name_fits : (kind : Kind) → length (kind_name kind) ≤ 17
 kind_name_fits BadDigit = lit≤ tt
 kind_name_fits BadLength = lit≤ tt

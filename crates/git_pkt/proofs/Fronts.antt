@@ -8,7 +8,7 @@ use Rattle.git_pkt.specs.Fronts.{HasFront}
 use Rattle.git_pkt.specs.Packets.{Pkt, Spells}
 use Rattle.git_pkt.proofs.Spelling.{digits_value-append, field_length, none_begins_bad}
 
--- the bytes are their front, and those after it
+-- the bytes are the packet at their front, and those after it
 parts : (bytes front : List ℕ) → StartsWith bytes front → bytes ≡ front ++ drop (length front) bytes
 parts bytes front h = sym (take-append-drop (length front) bytes) ∙ ap (λ (l : List ℕ). l ++ drop (length front) bytes) h
 
@@ -19,7 +19,7 @@ same_number bytes s p spells starts =
 long_as_told : (p : Pkt) (s : List ℕ) → Spells p s → length s ≡ max (digits_value s) 4
 long_as_told p s spells = omega (arith, field_length p s spells)
 
--- it is as long as its digits' number, and four bytes where that is less
+-- its length is the number in its digits, or four if that is less
 pub front_is : (bytes s : List ℕ) (p : Pkt) (field : ℕ) → digits_value bytes ≡ field → Spells p s → StartsWith bytes s
     → take (max field 4) bytes ≡ s
 front_is bytes s p field number spells starts =

@@ -10,7 +10,7 @@ use Rattle.git_pkt.specs.declared.fault.Kind.{Kind}
 use Rattle.git_pkt.specs.declared.fault.Kind.TheVariants.{BadDigit, BadLength, TooLong}
 use Rattle.git_pkt.proofs.Spelling.{digits_value-append, HasDigits-append, none_begins_bad, none_begins_refused, none_begins_partial}
 
--- what begins with four digits has those of its beginning
+-- if bytes begin with four digits, their first part does
 pub digits_of_front : (s t : List ℕ) → 4 ≤ length s → HasDigits (s ++ t) → HasDigits s
 digits_of_front s t four h = record {
   four = four;
@@ -51,7 +51,7 @@ gathering_whole s t field h four all =
       long = omega (arith, h.partial four);
     }
 
--- the digits of a piece, and of the part of it that a packet takes
+-- the digits of a chunk, and of the part of it that a packet uses
 pub digits_of_take : (p : List ℕ) (u : ℕ) → 4 ≤ u → u ≤ length p → HasDigits p → HasDigits (take u p)
 digits_of_take p u four within h =
     digits_of_front (take u p) (drop u p) (omega (arith, length-take-le u p within)) (rw take-append-drop h)
@@ -71,7 +71,7 @@ begun_whole p u field within h number ok all =
       long = length-take-le u p within ∙ all;
     }
 
--- the reading of a rest ends with this fault
+-- the rest of the stream ends with this error
 pub record EndsWith (rest : List ℕ) (kind : Kind) (p end offset : ℕ) : Type 0 where
   pub none : NoneBegins rest
   pub by : StopsBy p rest end kind offset
@@ -80,7 +80,7 @@ index_of_take : (p : List ℕ) (u k : ℕ) → u ≤ length p → k < u → slic
 index_of_take p u k within below =
     sym (get_or_append_left (take u p) (drop u p) 0 k (omega (arith, length-take-le u p within))) ∙ ap (λ (l : List ℕ). slice_index l k) (take-append-drop u p)
 
--- a byte that is no digit, the last of its rest
+-- a byte that is not a digit, at the end of the rest
 pub bad_digit_ends : (rest : List ℕ) (k p end offset : ℕ) → FirstBadDigit rest k → length rest ≡ k + 1 → offset ≡ p + k → EndsWith rest BadDigit p end offset
 bad_digit_ends rest k p end offset bad last at = record {
   none = none_begins_bad rest k bad;
@@ -95,7 +95,7 @@ bad_digit_ends rest k p end offset bad last at = record {
   );
 }
 
--- the first byte that is no digit is the first of the part that ends with it
+-- the first byte that is not a digit is the first such byte of the part that ends with it
 pub bad_digit_of_take : (p : List ℕ) (k : ℕ) → FirstBadDigit p k → FirstBadDigit (take (k + 1) p) k
 bad_digit_of_take p k bad =
     let within : k + 1 ≤ length p = omega (arith, bad.there) in
@@ -106,7 +106,7 @@ bad_digit_of_take p k bad =
       bad = rw (index_of_take p (k + 1) k within (omega arith)) bad.bad;
     }
 
--- four digits show no fault before the last of them
+-- four digits show no error before the last of them
 pub shows_at_four : (rest : List ℕ) → HasDigits rest → length rest ≡ 4 → ShowsAtEnd rest
 shows_at_four rest h four n less = record {
   digits = λ j below there.
@@ -115,7 +115,7 @@ shows_at_four rest h four n less = record {
   allowed = λ all. absurd (omega (arith, length-take-le n rest (omega arith)));
 }
 
--- a number that no packet has, with its four digits
+-- four digits with a number that no packet has
 pub field_ends : (rest : List ℕ) (field : ℕ) (kind : Kind) (p end offset : ℕ)
     → HasDigits rest → digits_value rest ≡ field → TellsField field (Some kind) → length rest ≡ 4 → offset ≡ p → EndsWith rest kind p end offset
 field_ends rest field BadLength p end offset h number tells four at = record {
@@ -128,7 +128,7 @@ field_ends rest field TooLong p end offset h number tells four at = record {
 }
 field_ends rest field kind p end offset h number tells four at = absurd tells
 
--- a number that is refused by no name is allowed
+-- a number without an error is allowed
 pub allowed_unrefused : (field : ℕ) (o : Option Kind) → TellsField field o → ((kind : Kind) → o ≡ Some kind → ⊥) → IsLengthField field
 allowed_unrefused field None tells none = tells
 allowed_unrefused field (Some kind) tells none = absurd (none kind refl)
@@ -139,7 +139,7 @@ open_nothing = record {
   allowed = λ four. absurd (omega arith);
 }
 
--- what is gathered of a packet is no packet yet
+-- the bytes gathered so far are not a whole packet
 pub none_in_gathering : (s : List ℕ) (field : ℕ) → IsGathering s field → NoneBegins s
 none_in_gathering s field h q t more e spells =
     let four : 4 ≤ length s = omega (arith, spells.digits.four, ap length e, length-append t more) in

@@ -1,4 +1,4 @@
--- What a reader keeps of its stream, by its state.
+-- What a reader has of its stream, by its state.
 use Rattle.std.proofs.Common.{arith, ◌≡◌, ℕ, List, None, ap, subst, refl}
 use Rattle.git_pkt.specs.Machine.ReaderState.{IsGathered, IsPassing, fault_in, gathers_in, held_in, left_in, passes_in}
 use Rattle.git_pkt.specs.declared.fault.Fault.{Fault}
@@ -26,7 +26,7 @@ kept r = kept_by r r.state refl
 pub kept_in : (r : PacketReader) (s : State) → r.state ≡ s → Keeps s r.hold.items r.field r.position
 kept_in r s e = kept_by r s e
 
--- a state that is none of a fault has none
+-- a state other than that of an error has no error
 pub sound_unless : (s : State) → ((fault : Fault) → s ≡ Failed fault → ⊥) → fault_in s ≡ None
 sound_unless Between h = refl
 sound_unless (Gathering count) h = refl

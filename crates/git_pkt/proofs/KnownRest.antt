@@ -1,4 +1,4 @@
--- What a reader knows of the rest of its stream.
+-- What a reader's state determines about the rest of its stream.
 use Rattle.std.proofs.Common.{arith, ◌≡◌, ◌≢◌, ℕ, ◌+◌, ◌-◌, ◌<◌, true, false, List, [], ◌++◌, length, take, Option, None, refl, ap, sym, ◌∙◌, subst}
 use Rattle.std.proofs.Common.{length-append}
 use Rattle.std.proofs.lemmas.List.{append-nil, length-take, length-take-le}
@@ -14,7 +14,7 @@ use Rattle.git_pkt.proofs.Kept.{Keeps, kept}
 use Rattle.git_pkt.proofs.Spelling.{no_bytes}
 use Rattle.git_pkt.proofs.ReaderMoves.{rest_of_shut, gathers_between}
 
--- without a fault it holds it, and a packet may still come of it
+-- a reader without an error holds the rest, and a packet may still come from it
 pub sound_rest : (r : PacketReader) (start : ℕ) (bytes : List ℕ) (given : List Given) (rest : List ℕ) → fault_of r ≡ None
     → Reads r start bytes given rest → Holds r rest × IsOpen rest
 sound_rest r start bytes given rest sound h =
@@ -29,7 +29,7 @@ none_passed (Gathering count) field e = refl
 none_passed (Passing left) field e = absurd (cc)
 none_passed (Failed fault) field e = refl
 
--- where nothing passes it is in the hold
+-- if no bytes pass, the rest is in the hold
 pub gathered_rest : (r : PacketReader) (rest : List ℕ) → passes_of r ≡ false → Holds r rest → rest_of r ≡ rest
 gathered_rest r rest e h =
     let none : h.passed ≡ [] = no_bytes h.passed (h.long ∙ none_passed r.state r.field e) in
@@ -42,11 +42,11 @@ held_rest r rest e same = record {
   long = sym (none_passed r.state r.field e);
 }
 
--- between two packets there is none
+-- between two packets there is no rest
 pub none_between : (r : PacketReader) (rest : List ℕ) → Holds r rest → is_open r ≡ false → rest ≡ []
 none_between r rest h shut = sym (gathered_rest r rest (gathers_between r shut) h) ∙ rest_of_shut r shut
 
--- how long it is, and how much of it the hold has
+-- the length of the rest, and how much of it the hold has
 kept_length : (s : State) (held : List ℕ) (field position : ℕ) → Keeps s held field position
     → length (take (held_in s) held) + passed_length_in s field ≡ come_in s field
 kept_length Between held field position k = refl
@@ -58,7 +58,7 @@ pub rest_length : (r : PacketReader) (rest : List ℕ) → Holds r rest → open
 rest_length r rest h =
     omega (arith, kept_length r.state r.hold.items r.field r.position (kept r), h.long, ap length h.all, length-append (rest_of r) h.passed)
 
--- inside a packet there is some
+-- inside a packet there is a rest
 some_come : (s : State) (held : List ℕ) (field position : ℕ) → Keeps s held field position → is_open_in s ≡ true → 0 < come_in s field
 some_come Between held field position k e = absurd (cc)
 some_come (Gathering count) held field position k e = omega (arith, length-take count held, k.gathering.some)
@@ -69,7 +69,7 @@ pub some_inside : (r : PacketReader) (rest : List ℕ) → Holds r rest → is_o
 some_inside r rest h begun none =
     absurd (omega (arith, some_come r.state r.hold.items r.field r.position (kept r) begun, rest_length r rest h, ap length none))
 
--- where nothing passes the hold has as many bytes of it as have come
+-- if no bytes pass, the hold has all bytes of it so far
 pub all_is_held : (r : PacketReader) → passes_of r ≡ false → HoldsAll r
 all_is_held r e = omega (arith, kept_length r.state r.hold.items r.field r.position (kept r), none_passed r.state r.field e)
 

@@ -1,4 +1,4 @@
--- How many bytes of the open packet have come, from call to call.
+-- The number of bytes so far of the open packet, from call to call.
 use Rattle.std.proofs.Common.{arith, ◌≡◌, ℕ, ◌+◌, ◌≤◌, false, List, length, Some, refl, ap, length-append, length-drop}
 use Rattle.git_pkt.specs.Packets.{Pkt, Spells, body_of}
 use Rattle.git_pkt.specs.Machine.ReaderState.{come_in, fault_in, is_open_in}
@@ -34,12 +34,12 @@ pub open_counts : (old new : PacketReader) (u : List ℕ) (n : ℕ) → passes_o
 open_counts old new u n gathers long m =
     omega (arith, all_is_held old gathers, all_is_held new m.arrives.gathers, ap length m.arrives.rest_is, length-append (rest_of old) u, long)
 
--- a packet that lies in the hold had come before, and with the bytes used
+-- a packet that is whole in the hold has the bytes from before and those used
 pub held_counts : (old new : PacketReader) (u : List ℕ) (n : ℕ) → passes_of old ≡ false → length u ≡ n → Moves old u Whole new
     → length (held_of new) ≡ open_length old + n
 held_counts old new u n gathers long m = omega (arith, all_is_held old gathers, ap length m.arrives.held, length-append (rest_of old) u, long)
 
--- how long it is
+-- its length
 pub spelled_counts : (p : Pkt) (s : List ℕ) → Spells p s → length (body_of p) + 4 ≡ length s
 spelled_counts p s spells = omega (arith, ap length spells.body, length-drop 4 s, spells.digits.four)
 
@@ -50,6 +50,6 @@ whole_counts old new u n p gathers long m spells = (
   shut_counts_none new m.arrives.closed,
 )
 
--- where no packet is open after a step, no more have come than before
+-- if no packet is open after a step, the number does not exceed that before
 pub shut_rises : (r : PacketReader) (n : ℕ) → is_open r ≡ false → open_length r ≤ n
 shut_rises r n e = omega (arith, shut_counts_none r e)

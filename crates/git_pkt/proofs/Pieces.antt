@@ -1,9 +1,9 @@
--- The part of a piece that is used, in two goes.
+-- The used part of a chunk, in two parts.
 use Rattle.std.proofs.Common.{arith, ◌≡◌, ℕ, ◌+◌, ◌-◌, ◌≤◌, List, ◌++◌, length, take, drop, sym, ◌∙◌, ap, append_assoc}
 use Rattle.std.proofs.Math.Seq.{take-add}
 use Rattle.std.proofs.lemmas.Grind.{common_steps}
 
--- what is left of a piece, as a slice shows it
+-- the rest of a chunk, as a slice shows it
 pub left_of : (piece : List ℕ) (done : ℕ) → done ≤ length piece → take (length piece - done) (drop done piece) ≡ drop done piece
 left_of piece done within = grind (arith, common_steps)
 
@@ -12,7 +12,7 @@ pub take_joined : (piece : List ℕ) (done used : ℕ)
 take_joined piece done used within =
     ap (λ (l : List ℕ). take done piece ++ take used l) (left_of piece done within) ∙ sym (take-add done used piece)
 
--- for a caller's loop: the bytes before the piece, what is done of it, and what a call used of the rest
+-- for a caller's loop: the bytes before the chunk, those used of it, and those that a call used of the rest
 pub joined : (bytes piece : List ℕ) (done used : ℕ)
     → done ≤ length piece → (bytes ++ take done piece) ++ take used (take (length piece - done) (drop done piece)) ≡ bytes ++ take (done + used) piece
 joined bytes piece done used within =

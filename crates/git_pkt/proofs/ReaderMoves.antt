@@ -1,4 +1,4 @@
--- What a step of the reader results in, from what its parts do.
+-- The result of a reader's step, from the results of its parts.
 use Rattle.std.proofs.Common.{take, arith, ◌≡◌, ℕ, ◌+◌, ◌-◌, ◌≤◌, ◌<◌, List, [], ◌∷◌, ◌++◌, length, false}
 use Rattle.std.proofs.Common.{ap, sym, ◌∙◌, refl, subst, append_assoc, length-append}
 use Rattle.std.proofs.lemmas.List.{append-nil, length-take, take_all}
@@ -25,7 +25,7 @@ held_shut (Gathering count) e = absurd (cc)
 held_shut (Passing left) e = absurd (cc)
 held_shut (Failed fault) e = refl
 
--- between packets the hold has nothing of one
+-- between packets the hold has no byte of one
 pub rest_of_shut : (r : PacketReader) → is_open r ≡ false → rest_of r ≡ []
 rest_of_shut r e = ap (λ (n : ℕ). take n (held_of r)) (held_shut r.state e)
 
@@ -57,7 +57,7 @@ stopped_after old mid new before u kind offset progress e s moved ends =
       by = rw s.position ends.by;
     }))
 
--- the same, where the reader had nothing open
+-- the same for a reader without an open packet
 pub stopped_between : (old mid new : PacketReader) (u : List ℕ) (kind : Kind) (offset : ℕ) (progress : Progress)
     → is_open old ≡ false → IsStopped mid kind offset progress new → position_of mid ≡ position_of old + length u
     → EndsWith u kind (position_of old) (position_of old + length u) offset → Moves old u progress new
@@ -65,7 +65,7 @@ stopped_between old mid new u kind offset progress shut s moved ends =
     let start : position_of mid - length u ≡ position_of old = omega arith in
     stopped_after old mid new [] u kind offset progress (rest_of_shut old shut) s moved (rw (start, moved) ends)
 
--- one step after another
+-- two steps, one after the other
 pub moves_on : (a b c : PacketReader) (u v : List ℕ) (progress : Progress) → Moves a u Open b → Moves b v progress c → Moves a (u ++ v) progress c
 moves_on a b c u v progress h k = record {
   position = omega (arith, h.position, k.position, length-append u v);
@@ -75,7 +75,7 @@ moves_on a b c u v progress h k = record {
       subst (λ (r : List ℕ). Arrives progress r c) same k.arrives;
 }
 
--- what the hold has of an open packet is open, and is no packet yet
+-- the bytes in the hold of an open packet are open, and are no whole packet yet
 kept_is_open : (s : State) (held : List ℕ) (field position : ℕ) → Keeps s held field position → IsOpen (take (held_in s) held)
 kept_is_open Between held field position k = open_nothing
 kept_is_open (Gathering count) held field position k = k.gathering.is_open
@@ -96,7 +96,7 @@ rest_is_open r = kept_is_open r.state r.hold.items r.field r.position (kept r)
 pub rest_is_partial : (r : PacketReader) → NoneBegins (rest_of r)
 rest_is_partial r = kept_is_partial r.state r.hold.items r.field r.position (kept r)
 
--- the reader is at the stream's last position, and a byte is offered
+-- the reader is at the stream's last position, and gets one more byte
 pub stopped_at_last : (old mid new : PacketReader) (u : List ℕ) (progress : Progress)
     → Moves old u Open mid → IsStopped mid StreamTooLong last_position progress new → position_of mid ≡ last_position → Moves old u progress new
 stopped_at_last old mid new u progress h s last =
@@ -106,14 +106,14 @@ stopped_at_last old mid new u progress h s last =
       by = (subst (λ (r : List ℕ). IsOpen r) rest (rest_is_open mid), last, refl);
     })
 
--- a packet that has come whole uses bytes
+-- a packet that came whole used bytes
 pub whole_uses : (old new : PacketReader) (u : List ℕ) (p : Pkt) → Moves old u Whole new → Spells p (held_of new) → 0 < length u
 whole_uses old new [] p m spells =
     absurd (rest_is_partial old p (rest_of old) [] (sym (append-nil (rest_of old)))
     (subst (λ (l : List ℕ). Spells p l) (m.arrives.held ∙ append-nil (rest_of old)) spells))
 whole_uses old new (b ∷ u) p m spells = omega arith
 
--- it begins at or after the stream's start
+-- the packet begins at or after the stream's start
 kept_behind : (s : State) (held : List ℕ) (field position : ℕ) → Keeps s held field position → length (take (held_in s) held) ≤ position
 kept_behind Between held field position k = omega arith
 kept_behind (Gathering count) held field position k = omega (arith, length-take count held, k.behind)

@@ -1,4 +1,4 @@
--- A rest is open or has one fault, which stays as bytes come and shows at one place.
+-- A rest is open or has one error, which does not change with more bytes and shows at one byte.
 use Rattle.std.proofs.Common.{◌≡◌, ◌⊎◌, inl, inr, ℕ, zero, suc, ◌+◌, ◌<◌, ◌≤◌, List, ◌++◌, length, take}
 use Rattle.std.proofs.Common.{slice_index, arith, refl, sym, ◌∙◌, ap, subst, length-append, below_more}
 use Rattle.std.proofs.lemmas.Bool.{cases_lt, cases_eq}
@@ -16,7 +16,7 @@ use Rattle.git_pkt.proofs.Gathered.{bad_digit_ends, bad_digit_of_take, digits_of
 digit_or_not : (c : ℕ) → IsHexDigit c ⊎ (IsHexDigit c → ⊥)
 digit_or_not c = elim (cases_lt (digit_value c) 16) [ inl h ↦ inl h | inr h ↦ inr (λ k. omega arith) ]
 
--- the bytes before k are digits, as far as they are there
+-- the bytes before k are digits, as far as they have come
 abbrev DigitsUpTo : List ℕ → ℕ → Type 0
 DigitsUpTo rest k = (j : ℕ) → j < k → j < length rest → IsHexDigit (slice_index rest j)
 
@@ -32,7 +32,7 @@ scanned_on rest k among before = elim (cases_lt k (length rest)) [
   | inr past ↦ inl (digits_and_one rest k before (λ there. absurd (omega arith)))
 ]
 
--- the first four bytes are digits, as far as they are there, or one is the first that is none
+-- the first four bytes are digits, as far as they have come, or one is the first that is not a digit
 scanned : (rest : List ℕ) (k : ℕ) → k ≤ 4 → DigitsUpTo rest k ⊎ ((j : ℕ) × FirstBadDigit rest j)
 scanned rest zero h = inl (λ j less there. absurd (omega arith))
 scanned rest (suc k) h = elim (scanned rest k (omega arith)) [
@@ -70,7 +70,7 @@ refused_not_open p rest kind offset o h = h
 pub not_open_and_faulty : (p : ℕ) (rest : List ℕ) (f : Fault) → IsOpen rest → RestFault p rest f → ⊥
 not_open_and_faulty p rest f o h = refused_not_open p rest f.kind f.offset o h
 
--- a rest whose fault shows with its last byte has four bytes at most
+-- a rest whose error shows with its last byte has at most four bytes
 pub refused_is_short : (p : ℕ) (rest : List ℕ) (kind : Kind) (offset : ℕ) → IsRefused p rest kind offset → ShowsAtEnd rest → length rest ≤ 4
 refused_is_short p rest BadDigit offset (k, bad, at) shows = elim (cases_lt (k + 1) (length rest)) [
   | inl more ↦
@@ -92,7 +92,7 @@ refused_is_short p rest TooLong offset (h, number, at) shows = elim (cases_lt 4 
 ]
 refused_is_short p rest kind offset h shows = absurd h
 
--- one name and one offset
+-- one kind and one offset
 pub same_fault : (f g : Fault) → f.kind ≡ g.kind → f.offset ≡ g.offset → f ≡ g
 same_fault f g e o =
     let kinds = ap (λ (k : Kind). let made : Fault = record { kind = k; offset = f.offset } in made) e in
@@ -144,7 +144,7 @@ refused_longer p rest more TooLong offset (h, number, at) =
     (HasDigits-append rest more h, omega (arith, digits_value-append rest more h.four), at)
 refused_longer p rest more kind offset h = h
 
--- more bytes leave the fault
+-- more bytes do not change the error
 pub fault_longer : (p : ℕ) (rest more : List ℕ) (f : Fault) → RestFault p rest f → RestFault p (rest ++ more) f
 fault_longer p rest more f h = refused_longer p rest more f.kind f.offset h
 

@@ -1,4 +1,4 @@
--- Bytes that are sent one after another, up to where that fails.
+-- Bytes that are sent one after another, until sending fails.
 use Rattle.std.proofs.Common.{◌≡◌, ◌||◌, Bool, true, false, ℕ, List, [], ◌++◌, append_assoc, append-nil, Option, Result, Ok, Err, OnOk, IsErrAnd}
 use Rattle.std.proofs.Common.{refl, sym, ap, ◌∙◌, subst}
 use Rattle.std.proofs.lemmas.Result.{err_from_is_err_and}
@@ -31,7 +31,7 @@ module _ {W : Type 0} {contents : W → Option (List ℕ)} where
     reads = record { reads = refl; ended = refl; wasted = refl };
   }
 
-  -- bytes that were sent, and then others
+  -- bytes that were sent, and then more
   pub sends_then : {S T : Type 0} {a b c : Told W} {u v : List ℕ} {x : S} {result : Result T RunFault} → Sends contents a u (Ok x) b
       → Sends contents b v result c → Sends contents a (u ++ v) result c
   sends_then {a = a} {b = b} {c = c} {u = u} {v = v} {result = Ok y} one two = record {
@@ -49,7 +49,7 @@ module _ {W : Type 0} {contents : W → Option (List ℕ)} where
     reads = reads_then one.reads two.reads;
   }
 
-  -- the sending failed, and `?` answers the fault: nothing of what would have come after the bytes was sent
+  -- the sending failed, and `?` returns the error: no byte after these was sent
   pub sends_front : {S T : Type 0} {a c : Told W} {u : List ℕ} {met : RunFault} {result : Result T RunFault} (v : List ℕ)
       → Sends {T = S} contents a u (Err met) c → IsErrAnd result (λ e. e ≡ met) → Sends contents a (u ++ v) result c
   sends_front {a = a} {c = c} {u = u} {met = met} {result = result} v front answered =
@@ -68,13 +68,13 @@ module _ {W : Type 0} {contents : W → Option (List ℕ)} where
   pub puts_waiting : {a : Told W} {s u t : List ℕ} → t ≡ s ++ u → Puts {T = Unit {0}} contents a s u (Ok tt) a t
   puts_waiting {s = s} {u = u} joined = record { sent = []; rest = s ++ u; all = refl; sends = sends_nothing; waits = joined }
 
-  -- all that waited was sent, and then the bytes
+  -- all waiting bytes were sent, and then these bytes
   pub puts_sent : {a b c : Told W} {s u t : List ℕ} {result : Result (Unit {0}) RunFault} → Sends {T = Unit {0}} contents a s (Ok tt) b
       → Sends contents b u result c → t ≡ [] → Puts contents a s u result c t
   puts_sent {s = s} {u = u} {result = result} one two none =
       record { sent = s ++ u; rest = []; all = sym (append-nil (s ++ u)); sends = sends_then one two; waits = on_ok result none }
 
-  -- what waited could not be sent
+  -- the waiting bytes could not be sent
   pub puts_unsent : {S T : Type 0} {a c : Told W} {s t : List ℕ} {met : RunFault} {result : Result T RunFault} (u : List ℕ)
       → Sends {T = S} contents a s (Err met) c → IsErrAnd result (λ e. e ≡ met) → Puts contents a s u result c t
   puts_unsent {a = a} {c = c} {s = s} {t = t} {met = met} {result = result} u front answered =
@@ -98,7 +98,7 @@ module _ {W : Type 0} {contents : W → Option (List ℕ)} where
     waits = two.waits;
   }
 
-  -- the sending failed, and `?` answers the fault
+  -- the sending failed, and `?` returns the error
   pub puts_front : {S T : Type 0} {a c : Told W} {s t x u : List ℕ} {met : RunFault} {result : Result T RunFault} (v : List ℕ)
       → Puts {T = S} contents a s u (Err met) c t → IsErrAnd result (λ e. e ≡ met) → Puts contents a s (u ++ v) result c x
   puts_front {a = a} {c = c} {s = s} {x = x} {u = u} {met = met} {result = result} v front answered =
@@ -111,7 +111,7 @@ module _ {W : Type 0} {contents : W → Option (List ℕ)} where
         waits = tt;
       })
 
-  -- nothing waited before, and at last all that waits is sent
+  -- nothing waited before, and at the end all waiting bytes are sent
   pub sends_all : {S T : Type 0} {a b c : Told W} {u t : List ℕ} {x : S} {result : Result T RunFault} → Puts contents a [] u (Ok x) b t
       → Sends contents b t result c → Sends contents a u result c
   sends_all {a = a} {b = b} {c = c} {result = result} puts sends =

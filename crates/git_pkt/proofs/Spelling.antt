@@ -1,4 +1,4 @@
--- No spelling begins another, and what follows from it.
+-- No spelling is the beginning of another, and what follows from that.
 use Rattle.std.proofs.Common.{◌≡◌, ◌≢◌, ℕ, ◌+◌, ◌<◌, ◌≤◌, List, [], ◌∷◌, ◌++◌, length, slice_index}
 use Rattle.std.proofs.Common.{drop, arith, refl, sym, ◌∙◌, ap, subst, length-append, length-drop, max}
 use Rattle.std.proofs.lemmas.List.{get_or_append_left}
@@ -28,11 +28,11 @@ HasDigits-append s t h = record {
   digits = λ k below. rw (get_or_append_left s t 0 k (omega (arith, h.four))) (h.digits k below);
 }
 
--- how long a spelling is, by its number
+-- the length of a spelling, by its number
 pub spelled_length : (p : Pkt) (s : List ℕ) → Spells p s → length s ≡ length (body_of p) + 4
 spelled_length p s h = omega (arith, length-drop 4 s, ap length h.body, h.digits.four)
 
--- packets of one number have bodies of one length
+-- packets with the same number have contents of the same length
 pub body_length : (p q : Pkt) → length_field p ≡ length_field q → length (body_of p) ≡ length (body_of q)
 body_length flush flush e = refl
 body_length flush delim e = refl
@@ -51,7 +51,7 @@ body_length (payload x) delim e = absurd (omega arith)
 body_length (payload x) resp_end e = absurd (omega arith)
 body_length (payload x) (payload y) e = omega arith
 
--- packets of one number and one body are one
+-- packets with the same number and the same contents are equal
 pub same_packet : (p q : Pkt) → length_field p ≡ length_field q → body_of p ≡ body_of q → p ≡ q
 same_packet flush flush e b = refl
 same_packet flush delim e b = absurd (omega arith)
@@ -70,7 +70,7 @@ same_packet (payload x) delim e b = absurd (omega arith)
 same_packet (payload x) resp_end e b = absurd (omega arith)
 same_packet (payload x) (payload y) e b = ap payload b
 
--- two packets that begin one list of bytes are one, and have one spelling there
+-- two packets that begin the same bytes are equal, with the same spelling there
 pub record SameStart (p q : Pkt) (s t x y : List ℕ) : Type 0 where
   pub spelling : s ≡ t
   pub rest : x ≡ y
@@ -98,7 +98,7 @@ same_start p q s t x y h k e =
       packet = same_packet p q fields (sym h.body ∙ ap (drop 4) same.0 ∙ k.body);
     }
 
--- nothing begins no bytes
+-- no packet begins an empty list of bytes
 pub none_begins_nothing : NoneBegins []
 none_begins_nothing q [] more e h = absurd (omega (arith, h.digits.four))
 none_begins_nothing q (b ∷ s) more e h = absurd (cc)
@@ -107,20 +107,20 @@ pub none_begins_short : (rest : List ℕ) → length rest < 4 → NoneBegins res
 none_begins_short rest short q s more e h =
     omega (arith, h.digits.four, ap length e, length-append s more)
 
--- a packet has as many bytes in all as its number: four for the short ones
+-- a packet has as many bytes in all as its number, or four if that is less
 pub field_length : (p : Pkt) (s : List ℕ) → Spells p s → length s ≡ max 4 (digits_value s)
 field_length flush s h = omega (arith, h.field, spelled_length flush s h)
 field_length delim s h = omega (arith, h.field, spelled_length delim s h)
 field_length resp_end s h = omega (arith, h.field, spelled_length resp_end s h)
 field_length (payload x) s h = omega (arith, h.field, spelled_length (payload x) s h)
 
--- fewer bytes than the number are no whole packet
+-- fewer bytes than the number are not a whole packet
 pub none_begins_partial : (rest : List ℕ) → 4 ≤ length rest → length rest < digits_value rest → NoneBegins rest
 none_begins_partial rest four less q s more e h =
     let number : digits_value rest ≡ digits_value s = ap digits_value e ∙ digits_value-append s more h.digits.four in
     omega (arith, field_length q s h, number, less, ap length e, length-append s more)
 
--- a byte that is no digit among the first four
+-- one of the first four bytes is not a digit
 pub none_begins_bad : (rest : List ℕ) (k : ℕ) → FirstBadDigit rest k → NoneBegins rest
 none_begins_bad rest k bad q s more e h =
     let same : slice_index rest k ≡ slice_index s k =

@@ -1,4 +1,4 @@
--- How a split goes on as bytes come, and that there is one.
+-- How a split continues with more bytes, and that it is unique.
 use Rattle.std.proofs.Common.{◌≡◌, ℕ, ◌+◌, ◌≤◌, List, [], ◌∷◌, ◌++◌, length, arith, refl, sym, ◌∙◌, ap, append_assoc, length-append}
 use Rattle.std.proofs.lemmas.List.{append-nil}
 use Rattle.git_pkt.specs.Packets.{Pkt, Spells}
@@ -12,7 +12,7 @@ spells_all_more p bytes [] rest more h = ap (λ (b : List ℕ). b ++ more) h
 spells_all_more p bytes (g ∷ gs) rest more (s, later, e, o, spells, tail) =
     (s, later ++ more, ap (λ (b : List ℕ). b ++ more) e ∙ append_assoc s later more, o, spells, spells_all_more (p + length s) later gs rest more tail)
 
--- where the rest begins
+-- the length of the rest
 pub spells_all_length : (p : ℕ) (bytes : List ℕ) (given : List Given) (rest : List ℕ) → SpellsAll p bytes given rest → length rest ≤ length bytes
 spells_all_length p bytes [] rest h = omega (arith, ap length h)
 spells_all_length p bytes (g ∷ gs) rest (s, later, e, o, spells, tail) =
@@ -33,7 +33,7 @@ spells_all_whole p bytes [] rest g h spells o =
 spells_all_whole p bytes (f ∷ fs) rest g (s, later, e, at, fs_spell, tail) spells o =
     (s, later, e, at, fs_spell, spells_all_whole (p + length s) later fs rest g tail spells (omega (arith, o, ap length e, length-append s later)))
 
--- there is one split
+-- the split is unique
 pub record SameSplit (gs hs : List Given) (rest others : List ℕ) : Type 0 where
   pub packets : gs ≡ hs
   pub rest_is : rest ≡ others

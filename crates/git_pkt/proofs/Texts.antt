@@ -4,7 +4,7 @@ use Rattle.std.proofs.lemmas.Bool.{cases_eq}
 use Rattle.std.proofs.lemmas.Grind.{common_steps}
 use Rattle.git_pkt.specs.Packets.{text_of}
 
--- a line end is taken off
+-- a line feed at the end is taken off
 pub text_of-line_end : (t : List ℕ) → text_of (t ++ 10 ∷ []) ≡ t
 text_of-line_end t = grind (arith, common_steps)
 

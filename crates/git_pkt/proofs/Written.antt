@@ -1,4 +1,4 @@
--- What is written is a spelling.
+-- The written form of a packet is a spelling of it.
 use Rattle.std.proofs.Common.{◌≡◌, ℕ, ◌/◌, ◌%◌, ◌<◌, ◌≤◌, List, ◌++◌, length, arith, refl, length-append}
 use Rattle.git_names.specs.Digits.{digit_value, lower_digit}
 use Rattle.git_names.proofs.HexDigits.{digit_value-lower_digit}

@@ -16,7 +16,7 @@ byte_of Fatal = 3
 abbrev pub band_packet : Band → List ℕ → Pkt
 band_packet band bytes = payload (byte_of band ∷ bytes)
 
--- the payload does not begin with a band's byte, and is refused by this name
+-- the payload does not begin with a band's byte, and is refused with this error
 abbrev pub IsNoBand : List ℕ → Kind → Type 0
 IsNoBand [] kind = kind ≡ NoBand
 IsNoBand (byte ∷ bytes) kind = ((band : Band) → byte ≢ byte_of band) × (kind ≡ BadBand)

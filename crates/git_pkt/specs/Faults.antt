@@ -13,7 +13,7 @@ pub record FirstBadDigit (rest : List ℕ) (k : ℕ) : Type 0 where
   pub before : (j : ℕ) → j < k → IsHexDigit (slice_index rest j)
   pub bad : ¬ IsHexDigit (slice_index rest k)
 
--- a rest at offset p is refused by this name at this offset
+-- a rest at offset p is refused with this error at this offset
 abbrev pub IsRefused : ℕ → List ℕ → Kind → ℕ → Type 0
 IsRefused p rest BadDigit offset = (k : ℕ) × FirstBadDigit rest k × (offset ≡ p + k)
 IsRefused p rest BadLength offset = HasDigits rest × (digits_value rest ≡ 3) × (offset ≡ p)

@@ -1,4 +1,4 @@
--- The name by which a text is refused that is none of Git's names.
+-- The error of a text that is none of Git's names.
 use Rattle.git_names.specs.declared.fault.NameFault.{NameFault}
 use Rattle.git_names.specs.declared.fault.NameFault.TheVariants.{BadObjectName as NoObjectName, BadRefName as NoRefName}
 use Rattle.git_pkt.specs.declared.fault.Kind.{Kind}

@@ -140,7 +140,7 @@ pub fn one_band()
         → (band ≡ other) × (part ≡ more) }
 {}
 
-/// A payload has a band or is refused, never both, and it is refused by at most one name.
+/// A payload has a band or is refused, never both, and it has at most one error.
 pub fn band_or_fault()
     ensures never_both { (bytes part : List ℕ) (band : Band) (kind : Kind) → bytes ≡ byte_of band ∷ part → IsNoBand bytes kind → ⊥ }
     ensures one_name { (bytes : List ℕ) (kind other : Kind) → IsNoBand bytes kind → IsNoBand bytes other → kind ≡ other }

@@ -7,18 +7,19 @@ use Rattle.git_server.specs.Repository.{Entry}
 use Rattle.std.proofs.lemmas.List.Elements.{All-nil}
 use Rattle.git_names.specs.declared.object_format.Format.{Format}
 use Rattle.git_names.specs.declared.object_format.Format.TheVariants.{Sha1, Sha256}
+use Rattle.git_msg.specs.Memory.{HasRefused}
 use Rattle.git_server.specs.Lists.{Lists}
 use Rattle.git_repository.specs.Packs.{PackBytes}
 use Rattle.git_repository.specs.RepositoryLines.{Said, reference, unborn, object, ready, boundary}
 use Rattle.git_repository.specs.RepositoryLines.{IsLineOf, SaysNothing, format_line, lines_of, longest_line}
-use Rattle.git_repository.specs.RepositoryText.{Begins, IsRepositoryText, MayStand, SayAll, WantsMemory}
+use Rattle.git_repository.specs.RepositoryText.{Begins, IsRepositoryText, MayStand, SayAll, WantsMemory, list_bytes}
 use Rattle.git_repository.specs.RepositoryText.{boundaries_in, counts_in, first_of, names_in, objects_in, refs_in, unborn_in}
-use Rattle.git_repository.specs.LinesTold.{AreTold, lines_behind, ready_lines, unborn_lines}
+use Rattle.git_repository.specs.LinesTold.{AreTold}
 use Rattle.git_repository.specs.Machine.RepositoryProgress.{IsLinesFault, IsTooLong}
 use Rattle.git_repository.specs.Machine.RepositoryFaults.{IsTextFault}
 use Rattle.git_repository.specs.declared.text_faults.TextFault.{TextFault}
 use Rattle.git_repository.specs.declared.text_faults.TextFault.TheVariants.{Bad, OutOfMemory as OutOfMemoryOfText}
-use Rattle.git_repository.specs.Drafts.{Holds, IsLineFault, MayFollow, empty_lists, head_names, with_packs, with_said}
+use Rattle.git_repository.specs.Drafts.{Holds, IsLineFault, MayFollow, empty_lists, head_names, lines_behind, ready_lines, unborn_lines, with_packs, with_said}
 use Rattle.git_repository.specs.declared.text_faults.LineFault.TheVariants.{Refused, OutOfMemory}
 use Rattle.git_repository.proofs.Drafting.{follows, holds_more, same_format, stands_more}
 use Rattle.git_repository.proofs.Saying.{fit_of_says, one_said}
@@ -129,91 +130,21 @@ told_lines lines lists h =
     let behind = said_behind h.said lists h.holds in
     omega (arith, whole, all, behind)
 
-refused_at : (lines : List (List ℕ)) (lists : Lists) (line : List ℕ) (number : ℕ) → (h : AreTold lines lists) → number ≡ lines_behind lists + 1
-    → ((more : Said) → IsLineOf lists.format line more → MayStand (h.said ++ more ∷ []) → ⊥) → IsLinesFault (lines ++ line ∷ []) (Bad number)
-refused_at lines lists line number h is refused = inr (record {
-  format = lists.format;
-  before = lines;
-  line = line;
-  behind = [];
-  whole = refl;
-  at_number = is ∙ ap (λ (n : ℕ). n + 1) (told_lines lines lists h);
-  said = h.said;
-  begins = h.begins;
-  refused = refused;
-})
-
-pub says_nothing_at : (lines : List (List ℕ)) (lists : Lists) (line : List ℕ) (number : ℕ) → number ≡ lines_behind lists + 1
-    → SaysNothing lists.format line → AreTold lines lists → IsLinesFault (lines ++ line ∷ []) (Bad number)
-says_nothing_at lines lists line number is nothing h = refused_at lines lists line number h is (λ more is may. nothing more is.1)
-
--- a line that is longer than a line may be
-pub too_long_at : (lines : List (List ℕ)) (lists : Lists) (line : List ℕ) (number : ℕ) → number ≡ lines_behind lists + 1
-    → longest_line < length line → AreTold lines lists → IsLinesFault (lines ++ line ∷ []) (Bad number)
-too_long_at lines lists line number is long h = refused_at lines lists line number h is (λ more also may. absurd (omega (arith, long, also.0)))
-
-pub may_not_stand_at : (lines : List (List ℕ)) (lists : Lists) (line : List ℕ) (number : ℕ) (says : Said) → number ≡ lines_behind lists + 1
-    → IsLineOf lists.format line says → IsLineFault lists says Refused → AreTold lines lists → IsLinesFault (lines ++ line ∷ []) (Bad number)
-may_not_stand_at lines lists line number says at is fault h = refused_at lines lists line number h at
-    (λ more also may. fault (follows h.said lists h.holds says
-    (subst (λ (s : Said). MayStand (h.said ++ s ∷ [])) (one_said lists.format line more says also.1 is.1) may)))
-
-pub memory_ran_out_at : (lines : List (List ℕ)) (lists : Lists) (line : List ℕ) (says : Said)
-    → IsLineOf lists.format line says → IsLineFault lists says OutOfMemory → AreTold lines lists → WantsMemory (lines ++ line ∷ [])
-memory_ran_out_at lines lists line says is fault h = record {
-  format = lists.format;
-  before = lines;
-  line = line;
-  after = [];
-  whole = refl;
-  said = h.said;
-  begins = h.begins;
-  next = says;
-  says = is;
-  may_stand = stands_more h.said lists h.holds says fault.0;
-  takes_memory = fault.1;
-}
-
 format_short : (format : Format) → length (format_line format) ≤ 13
 format_short Sha1 = omega arith
 format_short Sha256 = omega arith
 
--- a line that has become too long is refused, whatever comes after it
-pub too_long_fault : (ended : List (List ℕ)) (line : List ℕ) (more : List (List ℕ)) (fault : TextFault) → IsTooLong ended line fault
-    → IsLinesFault (ended ++ line ∷ more) fault
-too_long_fault ended line more fault h =
-    subst (IsLinesFault (ended ++ line ∷ more)) (sym h.at_number) (elim h.may_go_on [
-      | inl none ↦ inl (record {
-        at_first = ap (λ (ls : List (List ℕ)). length ls + 1) none;
-        first = line;
-        others = more;
-        whole = ap (λ (ls : List (List ℕ)). ls ++ line ∷ more) none;
-        no_format = λ format e. let short = format_short format in omega (arith, h.long, short, ap length e);
-      })
-      | inr begins ↦ inr (record {
-        format = begins.0;
-        before = ended;
-        line = line;
-        behind = more;
-        whole = refl;
-        at_number = refl;
-        said = begins.1;
-        begins = begins.2;
-        refused = λ next is may. absurd (omega (arith, h.long, is.0));
-      })
-    ])
-
--- and it stays so as it goes on
+-- a line that has become too long stays so as it goes on
 pub too_long_on : (ended : List (List ℕ)) (line more : List ℕ) (fault : TextFault) → IsTooLong ended line fault → IsTooLong ended (line ++ more) fault
 too_long_on ended line more fault h =
     record { may_go_on = h.may_go_on; long = omega (arith, h.long, length-append line more); at_number = h.at_number }
 
--- the first line
+-- and so it is where it is the first line
 pub too_long_at_first : (lines : List (List ℕ)) (line : List ℕ) → longest_line < length line → lines ≡ [] → IsTooLong lines line (Bad 1)
 too_long_at_first lines line long none =
     record { may_go_on = inl none; long = long; at_number = ap (λ (ls : List (List ℕ)). Bad (length ls + 1)) (sym none) }
 
--- after lines that begin a text its number is the next one
+-- after lines that begin a text the number of a line that has become too long is the next one
 pub too_long_behind : (lines : List (List ℕ)) (lists : Lists) (line : List ℕ) (number : ℕ) → number ≡ lines_behind lists + 1 → longest_line < length line
     → AreTold lines lists → IsTooLong lines line (Bad number)
 too_long_behind lines lists line number is long h = record {
@@ -221,44 +152,6 @@ too_long_behind lines lists line number is long h = record {
   long = long;
   at_number = ap Bad (is ∙ ap (λ (n : ℕ). n + 1) (told_lines lines lists h));
 }
-
--- a fault stays the first with the lines after it
-pub fault_stays : (lines more : List (List ℕ)) (fault : TextFault) → IsLinesFault lines fault → IsLinesFault (lines ++ more) fault
-fault_stays lines more (Bad number) (inl h) = inl (record {
-  at_first = h.at_first;
-  first = h.first;
-  others = h.others ++ more;
-  whole = ap (λ (ls : List (List ℕ)). ls ++ more) h.whole;
-  no_format = h.no_format;
-})
-fault_stays lines more (Bad number) (inr h) = inr (record {
-  format = h.format;
-  before = h.before;
-  line = h.line;
-  behind = h.behind ++ more;
-  whole = ap (λ (ls : List (List ℕ)). ls ++ more) h.whole ∙ append_assoc h.before (h.line ∷ h.behind) more;
-  at_number = h.at_number;
-  said = h.said;
-  begins = h.begins;
-  refused = h.refused;
-})
-fault_stays lines more OutOfMemoryOfText h = record {
-  format = h.format;
-  before = h.before;
-  line = h.line;
-  after = h.after ++ more;
-  whole = ap (λ (ls : List (List ℕ)). ls ++ more) h.whole ∙ append_assoc h.before (h.line ∷ h.after) more;
-  said = h.said;
-  begins = h.begins;
-  next = h.next;
-  says = h.says;
-  may_stand = h.may_stand;
-  takes_memory = h.takes_memory;
-}
-
-pub text_fault : (text : List ℕ) (fault : TextFault) → IsLinesFault (lines_of text) fault → IsTextFault text fault
-text_fault text (Bad number) h = h
-text_fault text OutOfMemoryOfText h = h
 
 pub whole_text : (text : List ℕ) (packs : PackBytes) (lists made : Lists) → AreTold (lines_of text) lists → made ≡ with_packs lists packs
     → IsRepositoryText text packs made
@@ -268,3 +161,114 @@ whole_text text packs lists made h is = record {
   begins = h.begins;
   lists_are = is ∙ ap (λ (l : Lists). with_packs l packs) h.holds.lists_are;
 }
+
+module _ (refuses : ℕ → Type 0) where
+  refused_at : (lines : List (List ℕ)) (lists : Lists) (line : List ℕ) (number : ℕ) → (h : AreTold lines lists) → number ≡ lines_behind lists + 1
+      → ((more : Said) → IsLineOf lists.format line more → MayStand (h.said ++ more ∷ []) → ⊥) → IsLinesFault refuses (lines ++ line ∷ []) (Bad number)
+  refused_at lines lists line number h is refused = inr (record {
+    format = lists.format;
+    before = lines;
+    line = line;
+    behind = [];
+    whole = refl;
+    at_number = is ∙ ap (λ (n : ℕ). n + 1) (told_lines lines lists h);
+    said = h.said;
+    begins = h.begins;
+    refused = refused;
+  })
+
+  pub says_nothing_at : (lines : List (List ℕ)) (lists : Lists) (line : List ℕ) (number : ℕ) → number ≡ lines_behind lists + 1
+      → SaysNothing lists.format line → AreTold lines lists → IsLinesFault refuses (lines ++ line ∷ []) (Bad number)
+  says_nothing_at lines lists line number is nothing h = refused_at lines lists line number h is (λ more is may. nothing more is.1)
+
+  -- a line that is longer than a line may be
+  pub too_long_at : (lines : List (List ℕ)) (lists : Lists) (line : List ℕ) (number : ℕ) → number ≡ lines_behind lists + 1
+      → longest_line < length line → AreTold lines lists → IsLinesFault refuses (lines ++ line ∷ []) (Bad number)
+  too_long_at lines lists line number is long h = refused_at lines lists line number h is (λ more also may. absurd (omega (arith, long, also.0)))
+
+  pub may_not_stand_at : (lines : List (List ℕ)) (lists : Lists) (line : List ℕ) (number : ℕ) (says : Said) → number ≡ lines_behind lists + 1
+      → IsLineOf lists.format line says → IsLineFault refuses lists says Refused → AreTold lines lists → IsLinesFault refuses (lines ++ line ∷ []) (Bad number)
+  may_not_stand_at lines lists line number says at is fault h = refused_at lines lists line number h at
+      (λ more also may. fault (follows h.said lists h.holds says
+      (subst (λ (s : Said). MayStand (h.said ++ s ∷ [])) (one_said lists.format line more says also.1 is.1) may)))
+
+  pub memory_ran_out_at : (lines : List (List ℕ)) (lists : Lists) (line : List ℕ) (says : Said)
+      → IsLineOf lists.format line says → IsLineFault refuses lists says OutOfMemory → AreTold lines lists → WantsMemory refuses (lines ++ line ∷ [])
+  memory_ran_out_at lines lists line says is fault h = record {
+    format = lists.format;
+    before = lines;
+    line = line;
+    after = [];
+    whole = refl;
+    said = h.said;
+    begins = h.begins;
+    next = says;
+    says = is;
+    may_stand = stands_more h.said lists h.holds says fault.0;
+    takes_memory = fault.1;
+    refused = subst (λ (n : ℕ). HasRefused refuses (list_bytes n says)) (told_lines lines lists h) fault.2;
+  }
+
+  -- a line that has become too long is refused, whatever comes after it
+  pub too_long_fault : (ended : List (List ℕ)) (line : List ℕ) (more : List (List ℕ)) (fault : TextFault) → IsTooLong ended line fault
+      → IsLinesFault refuses (ended ++ line ∷ more) fault
+  too_long_fault ended line more fault h =
+      subst (IsLinesFault refuses (ended ++ line ∷ more)) (sym h.at_number) (elim h.may_go_on [
+        | inl none ↦ inl (record {
+          at_first = ap (λ (ls : List (List ℕ)). length ls + 1) none;
+          first = line;
+          others = more;
+          whole = ap (λ (ls : List (List ℕ)). ls ++ line ∷ more) none;
+          no_format = λ format e. let short = format_short format in omega (arith, h.long, short, ap length e);
+        })
+        | inr begins ↦ inr (record {
+          format = begins.0;
+          before = ended;
+          line = line;
+          behind = more;
+          whole = refl;
+          at_number = refl;
+          said = begins.1;
+          begins = begins.2;
+          refused = λ next is may. absurd (omega (arith, h.long, is.0));
+        })
+      ])
+
+  -- a fault stays the first with the lines after it
+  pub fault_stays : (lines more : List (List ℕ)) (fault : TextFault) → IsLinesFault refuses lines fault → IsLinesFault refuses (lines ++ more) fault
+  fault_stays lines more (Bad number) (inl h) = inl (record {
+    at_first = h.at_first;
+    first = h.first;
+    others = h.others ++ more;
+    whole = ap (λ (ls : List (List ℕ)). ls ++ more) h.whole;
+    no_format = h.no_format;
+  })
+  fault_stays lines more (Bad number) (inr h) = inr (record {
+    format = h.format;
+    before = h.before;
+    line = h.line;
+    behind = h.behind ++ more;
+    whole = ap (λ (ls : List (List ℕ)). ls ++ more) h.whole ∙ append_assoc h.before (h.line ∷ h.behind) more;
+    at_number = h.at_number;
+    said = h.said;
+    begins = h.begins;
+    refused = h.refused;
+  })
+  fault_stays lines more OutOfMemoryOfText h = record {
+    format = h.format;
+    before = h.before;
+    line = h.line;
+    after = h.after ++ more;
+    whole = ap (λ (ls : List (List ℕ)). ls ++ more) h.whole ∙ append_assoc h.before (h.line ∷ h.after) more;
+    said = h.said;
+    begins = h.begins;
+    next = h.next;
+    says = h.says;
+    may_stand = h.may_stand;
+    takes_memory = h.takes_memory;
+    refused = h.refused;
+  }
+
+  pub text_fault : (text : List ℕ) (fault : TextFault) → IsLinesFault refuses (lines_of text) fault → IsTextFault refuses text fault
+  text_fault text (Bad number) h = h
+  text_fault text OutOfMemoryOfText h = h

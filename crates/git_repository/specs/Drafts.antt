@@ -1,16 +1,17 @@
 -- The contents of the lines of a repository's text so far, and what one more line adds.
-use Rattle.std.specs.Prelude.{◌≡◌, ℕ, ◌-◌, ◌<◌, Bool, true, false, List, [], ◌∷◌, ◌++◌, Some, None, Result, codes, length, map, slice_index_or}
+use Rattle.std.specs.Prelude.{◌≡◌, ℕ, ◌+◌, ◌-◌, ◌<◌, Bool, true, false, List, [], ◌∷◌, ◌++◌, Option, Some, None, Result, codes, length, map, slice_index_or}
 use Rattle.std.specs.Prelude.{All, MatchResult}
 use Rattle.std.specs.Option.{IfSome, is_some}
 use Rattle.git_names.specs.RefName.{IsRefName}
 use Rattle.git_names.specs.declared.object_format.Format.{Format}
 use Rattle.git_names.specs.ObjectName.{ObjectName}
+use Rattle.git_msg.specs.Memory.{HasRefused}
 use Rattle.git_server.specs.Repository.{IsNamed, IsOfFormat, comes_before}
 use Rattle.git_server.specs.Objects.{object_of, precedes}
 use Rattle.git_server.specs.Lists.{Lists, AreOfFormat}
 use Rattle.git_repository.specs.Packs.{PackBytes, no_packs}
 use Rattle.git_repository.specs.RepositoryLines.{Said, reference, unborn, object, ready, boundary}
-use Rattle.git_repository.specs.RepositoryText.{MayStand, TakesMemory, count_in, lists_said, name_in, names_in, object_in}
+use Rattle.git_repository.specs.RepositoryText.{MayStand, TakesMemory, list_bytes, count_in, lists_said, name_in, names_in, object_in}
 use Rattle.git_repository.specs.declared.text_faults.LineFault.{LineFault}
 use Rattle.git_repository.specs.declared.text_faults.LineFault.TheVariants.{Refused, OutOfMemory}
 
@@ -37,6 +38,20 @@ ComesLast names name = (d : List ℕ) → 0 < length names → comes_before (sli
 abbrev pub ComesLastObject : List (ObjectName × ℕ) → ObjectName → Type 0
 ComesLastObject objects id = (d : ObjectName × ℕ) → 0 < length objects → precedes (slice_index_or objects (length objects - 1) d).0 id ≡ true
 
+-- the number of lines that a ready count takes
+abbrev pub ready_lines : Option ℕ → ℕ
+ready_lines None = 0
+ready_lines (Some count) = 1
+
+-- the number of lines that an unborn `HEAD` takes
+abbrev pub unborn_lines : Option (List ℕ) → ℕ
+unborn_lines None = 0
+unborn_lines (Some target) = 1
+
+-- the number of lines that contain the lists, with the first line, which names the format
+abbrev pub lines_behind : Lists → ℕ
+lines_behind lists = length lists.refs + length lists.objects + length lists.boundaries + ready_lines lists.ready_after + unborn_lines lists.unborn_head + 1
+
 -- with the contents of one more line
 abbrev pub with_said : Lists → Said → Lists
 with_said lists (reference entry) = record lists { refs = lists.refs ++ entry ∷ [] }
@@ -51,14 +66,14 @@ pub record MayFollow (lists : Lists) (next : Said) : Type 0 where
   pub object_last : IfSome (object_in next) (λ sized. ComesLastObject lists.objects sized.0)
   pub first_count : IfSome (count_in next) (λ _. lists.ready_after ≡ None)
 
--- why a line is not stored: it is not allowed there, or it is allowed and there was no memory
-abbrev pub IsLineFault : Lists → Said → LineFault → Type 0
-IsLineFault lists next Refused = ¬ MayFollow lists next
-IsLineFault lists next OutOfMemory = MayFollow lists next × TakesMemory next
+-- why a line is not stored: it is not allowed there, or it is allowed and memory refused a list for it
+abbrev pub IsLineFault : (ℕ → Type 0) → Lists → Said → LineFault → Type 0
+IsLineFault refuses lists next Refused = ¬ MayFollow lists next
+IsLineFault refuses lists next OutOfMemory = MayFollow lists next × TakesMemory next × HasRefused refuses (list_bytes (lines_behind lists) next)
 
 -- a line that is allowed is stored, or there is an error
-abbrev pub Keeps : Lists → Said → Lists → Result (Unit {0}) LineFault → Type 0
-Keeps old next new result = MatchResult result (λ _. (new ≡ with_said old next) × MayFollow old next) (IsLineFault old next)
+abbrev pub Keeps : (ℕ → Type 0) → Lists → Said → Lists → Result (Unit {0}) LineFault → Type 0
+Keeps refuses old next new result = MatchResult result (λ _. (new ≡ with_said old next) × MayFollow old next) (IsLineFault refuses old next)
 
 -- the contents of a line are of the format, and its names are names
 abbrev pub IsFit : Format → Said → Type 0

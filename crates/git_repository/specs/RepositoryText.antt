@@ -1,9 +1,11 @@
 -- The contents of the text of a repository, and the line that is refused.
-use Rattle.std.specs.Prelude.{◌≡◌, ◌≢◌, ◌⊎◌, ℕ, ◌+◌, ◌≤◌, true, List, [], ◌∷◌, ◌++◌, Option, Some, None, codes, length}
+use Rattle.std.specs.Prelude.{◌≡◌, ◌≢◌, ◌⊎◌, ℕ, ◌+◌, ◌*◌, ◌≤◌, true, List, [], ◌∷◌, ◌++◌, Option, Some, None, codes, length}
 use Rattle.std.specs.List.{AllAdjacentBelow, filter_map}
 use Rattle.git_names.specs.declared.object_format.Format.{Format}
 use Rattle.git_names.specs.ObjectName.{ObjectName}
 use Rattle.git_msg.specs.declared.Boundary.{Boundary}
+use Rattle.git_msg.specs.Memory.{HasRefused}
+use Rattle.git_server.specs.NameBytes.{name_bytes}
 use Rattle.git_server.specs.Repository.{Entry, comes_before}
 use Rattle.git_server.specs.Objects.{AreRising}
 use Rattle.git_server.specs.Lists.{Lists}
@@ -139,8 +141,17 @@ TakesMemory (object id size) = Unit {0}
 TakesMemory (ready count) = ⊥
 TakesMemory (boundary line) = Unit {0}
 
--- memory ran out at a line: together with it the lines before it begin a text, and its contents take memory
-pub record WantsMemory (lines : List (List ℕ)) : Type 0 where
+-- the maximum number of bytes of a list that stores the contents of a line after so many lines, the first of which names the format. The list of the
+-- references, of the objects or of the boundaries has at most one item for each of the lines after the first; each name has a list of its own
+abbrev pub list_bytes : ℕ → Said → ℕ
+list_bytes before (reference entry) = 152 * before + (length entry.name + name_bytes entry.target)
+list_bytes before (unborn target) = length target
+list_bytes before (object id size) = 48 * before
+list_bytes before (ready count) = 0
+list_bytes before (boundary line) = 34 * before
+
+-- memory ran out at a line: together with it the lines before it begin a text, and its contents take memory, which refused a list that stores them
+pub record WantsMemory (refuses : ℕ → Type 0) (lines : List (List ℕ)) : Type 0 where
   pub format : Format
   pub before : List (List ℕ)
   pub line : List ℕ
@@ -152,3 +163,4 @@ pub record WantsMemory (lines : List (List ℕ)) : Type 0 where
   pub says : IsLineOf format line next
   pub may_stand : MayStand (said ++ next ∷ [])
   pub takes_memory : TakesMemory next
+  pub refused : HasRefused refuses (list_bytes (length before) next)

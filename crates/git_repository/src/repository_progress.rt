@@ -11,8 +11,7 @@ use crate::packs::Packs;
 use crate::repository_lines::read_format;
 use crate::text_faults::{LONGEST_LINE, TextFault};
 use git_msg::split_at_first;
-use git_server::ListRepo;
-use std::alloc::Global;
+use git_server::{ListRepo, RepoMemory};
 
 /// The contents of the lines that have ended.
 #[derive(Drop)]
@@ -39,22 +38,22 @@ impl Progress {
     }
 
     /// The progress after the first line.
-    fn begin(alloc: Global, line: &[u8]) -> Progress
-        ensures { HasRead result (line.now ∷ []) }
+    fn begin<M: RepoMemory + Copy>(memory: M, line: &[u8]) -> Progress
+        ensures { HasRead M.refuses result (line.now ∷ []) }
     {
         match read_format(line) {
-            Some(format) => Progress::Lines(Draft::new(alloc, format)),
+            Some(format) => Progress::Lines(Draft::new(memory.alloc(), format)),
             None => Progress::Failed(TextFault::Bad { line: 1 }),
         }
     }
 
     /// The progress after another line.
-    pub(crate) fn with_line(self, alloc: Global, line: &[u8]) -> Progress
-        ensures { (lines : List (List ℕ)) → HasRead self lines → HasRead result (lines ++ line.now ∷ []) }
+    pub(crate) fn with_line<M: RepoMemory + Copy>(self, memory: M, line: &[u8]) -> Progress
+        ensures { (lines : List (List ℕ)) → HasRead M.refuses self lines → HasRead M.refuses result (lines ++ line.now ∷ []) }
     {
         match self {
-            Progress::Start => Progress::begin(alloc, line),
-            Progress::Lines(mut draft) => match draft.read(alloc, line) {
+            Progress::Start => Progress::begin(memory, line),
+            Progress::Lines(mut draft) => match draft.read(memory, line) {
                 Ok(()) => Progress::Lines(draft),
                 Err(fault) => Progress::Failed(fault),
             },
@@ -63,8 +62,9 @@ impl Progress {
     }
 
     /// The progress after a line that has begun and is already longer than a line may be: it is refused, whatever comes after it.
-    fn with_long_line(self) -> Progress
-        ensures reads { (lines : List (List ℕ)) (begun : List ℕ) → longest_line < length begun → HasRead self lines → HasReadTo result lines begun }
+    fn with_long_line<M: RepoMemory + Copy>(self) -> Progress
+        ensures reads { (lines : List (List ℕ)) (begun : List ℕ) → longest_line < length begun → HasRead M.refuses self lines
+            → HasReadTo M.refuses result lines begun }
         ensures failed { HasFailed result }
     {
         match self {
@@ -77,107 +77,121 @@ impl Progress {
     }
 
     /// The progress with the line that a text leaves open, which is refused if it is too long already.
-    fn with_open<'a>(self, line: &'a [u8]) -> (Progress, &'a [u8])
-        ensures stands { (lines : List (List ℕ)) → HasRead self lines → Stands result.0 result.1.now (lines ++ line.now ∷ []) }
+    fn with_open<'a, M: RepoMemory + Copy>(self, line: &'a [u8]) -> (Progress, &'a [u8])
+        ensures stands { (lines : List (List ℕ)) → HasRead M.refuses self lines → Stands M.refuses result.0 result.1.now (lines ++ line.now ∷ []) }
         ensures within { length result.1.now ≤ length line.now }
         ensures short { length result.1.now ≤ longest_line }
     {
         if line.len() > LONGEST_LINE {
-            return (self.with_long_line(), &line[..0]);
+            return (self.with_long_line::<M>(), &line[..0]);
         }
         (self, line)
     }
 
     /// The progress after the lines that end in the text, and the line that the text leaves open.
-    pub(crate) fn with_text<'a>(self, alloc: Global, text: &'a [u8]) -> (Progress, &'a [u8])
-        ensures reads { (lines : List (List ℕ)) → HasRead self lines → Stands result.0 result.1.now (lines ++ parts_of 10 text.now) }
+    pub(crate) fn with_text<'a, M: RepoMemory + Copy>(
+        self,
+        memory: M,
+        text: &'a [u8],
+    ) -> (Progress, &'a [u8])
+        ensures reads { (lines : List (List ℕ)) → HasRead M.refuses self lines → Stands M.refuses result.0 result.1.now (lines ++ parts_of 10 text.now) }
         ensures within { length result.1.now ≤ length text.now }
         ensures short { length result.1.now ≤ longest_line }
     {
         let (first, rest) = split_at_first(text, b'\n');
         let Some(left) = rest else {
-            return self.with_open(first);
+            return self.with_open::<M>(first);
         };
-        match self.with_line(alloc, first) {
-            Progress::Lines(draft) => Progress::read_on(draft, alloc, left),
+        match self.with_line(memory, first) {
+            Progress::Lines(draft) => Progress::read_on(draft, memory, left),
             Progress::Failed(fault) => (Progress::Failed(fault), &text[..0]),
             Progress::Start => (Progress::Start, &text[..0]),
         }
     }
 
     /// The progress after the further lines that end in the text, and the line that the text leaves open.
-    fn read_on<'a>(mut draft: Draft, alloc: Global, text: &'a [u8]) -> (Progress, &'a [u8])
-        ensures reads { (lines : List (List ℕ)) → HasRead (Progress.Lines draft) lines → Stands result.0 result.1.now (lines ++ parts_of 10 text.now) }
+    fn read_on<'a, M: RepoMemory + Copy>(
+        mut draft: Draft,
+        memory: M,
+        text: &'a [u8],
+    ) -> (Progress, &'a [u8])
+        ensures reads { (lines : List (List ℕ)) → HasRead M.refuses (Progress.Lines draft) lines
+            → Stands M.refuses result.0 result.1.now (lines ++ parts_of 10 text.now) }
         ensures within { length result.1.now ≤ length text.now }
         ensures short { length result.1.now ≤ longest_line }
     {
         let (mut line, mut rest) = split_at_first(text, b'\n');
         'lines: while let Some(left) = rest {
-            if let Err(fault) = draft.read(alloc, line) {
+            if let Err(fault) = draft.read(memory, line) {
                 return (Progress::Failed(fault), &text[..0]);
             }
             let (next_line, next) = split_at_first(left, b'\n');
             line = next_line;
             rest = next;
         }
-        Progress::Lines(draft).with_open(line)
+        Progress::Lines(draft).with_open::<M>(line)
     }
 
     /// The progress after a chunk of the text, which continues the open line. The line that the chunk leaves open is the open line then.
-    pub(crate) fn with_piece(self, alloc: Global, begun: &mut Vec<u8>, piece: &[u8]) -> Progress
+    pub(crate) fn with_piece<M: RepoMemory + Copy>(
+        self,
+        memory: M,
+        begun: &mut Vec<u8>,
+        piece: &[u8],
+    ) -> Progress
         requires room { length begun.old.items + length piece.now ≤ vec_capacity begun.old }
         requires short { length begun.old.items ≤ longest_line }
         ensures short { length begun.new.items ≤ longest_line }
-        ensures reads { (text : List ℕ) (lines : List (List ℕ)) → parts_of 10 text ≡ lines ++ begun.old.items ∷ [] → HasRead self lines
-            → Stands result begun.new.items (parts_of 10 (text ++ piece.now)) }
+        ensures reads { (text : List ℕ) (lines : List (List ℕ)) → parts_of 10 text ≡ lines ++ begun.old.items ∷ [] → HasRead M.refuses self lines
+            → Stands M.refuses result begun.new.items (parts_of 10 (text ++ piece.now)) }
     {
         if begun.as_slice().is_empty() {
-            let (progress, left) = self.with_text(alloc, piece);
+            let (progress, left) = self.with_text(memory, piece);
             append(begun, left);
             return progress;
         }
         let (line, rest) = split_at_first(piece, b'\n');
         if line.len() > LONGEST_LINE - begun.len() {
-            return self.with_long_line();
+            return self.with_long_line::<M>();
         }
         append(begun, line);
         let Some(rest) = rest else {
             return self;
         };
-        let progress = self.with_line(alloc, begun);
+        let progress = self.with_line(memory, begun);
         begun.clear();
-        let (progress, left) = progress.with_text(alloc, rest);
+        let (progress, left) = progress.with_text(memory, rest);
         append(begun, left);
         progress
     }
 
     /// The progress after the last line: the open line, if it has a byte or is the only one.
-    fn with_end(self, alloc: Global, begun: &[u8]) -> Progress
-        ensures { (text : List ℕ) → Stands self begun.now (parts_of 10 text) → HasRead result (lines_of text) }
+    fn with_end<M: RepoMemory + Copy>(self, memory: M, begun: &[u8]) -> Progress
+        ensures { (text : List ℕ) → Stands M.refuses self begun.now (parts_of 10 text) → HasRead M.refuses result (lines_of text) }
     {
         match self {
-            Progress::Start => Progress::begin(alloc, begun),
+            Progress::Start => Progress::begin(memory, begun),
             Progress::Lines(draft) => {
                 if begun.is_empty() {
                     return Progress::Lines(draft);
                 }
-                Progress::Lines(draft).with_line(alloc, begun)
+                Progress::Lines(draft).with_line(memory, begun)
             }
             Progress::Failed(fault) => Progress::Failed(fault),
         }
     }
 
     /// The repository of the text, or why it is none.
-    pub(crate) fn finish(
+    pub(crate) fn finish<M: RepoMemory + Copy>(
         self,
-        alloc: Global,
+        memory: M,
         begun: &[u8],
         packs: Packs,
     ) -> Result<ListRepo, TextFault>
-        ensures { (text : List ℕ) → Stands self begun.now (parts_of 10 text)
-            → MatchResult result (IsWholeText text (packs_of packs)) (IsTextFault text) }
+        ensures { (text : List ℕ) → Stands M.refuses self begun.now (parts_of 10 text)
+            → MatchResult result (IsWholeText text (packs_of packs)) (IsTextFault M.refuses text) }
     {
-        match self.with_end(alloc, begun) {
+        match self.with_end(memory, begun) {
             Progress::Lines(draft) => Ok(draft.finish(packs)),
             Progress::Failed(fault) => Err(fault),
             // Every text has a line.

@@ -1,4 +1,4 @@
--- Lines of references without attributes.
+-- The lines of references without attributes.
 use Rattle.std.proofs.Common.{[], ◌++◌, None, Some, codes, refl}
 use Rattle.git_names.specs.declared.object_format.Format.TheVariants.{Sha1}
 use Rattle.git_msg.specs.References.{IsReferenceLine, reference_of}

@@ -1,4 +1,4 @@
--- Which texts are names, by computing.
+-- Texts that are names, by computing.
 use Rattle.std.proofs.Common.{◌≡◌, ◌≢◌, ℕ, zero, suc, ◌+◌, ◌-◌, ◌<◌, ◌≤◌, ◌==◌, Bool, true, false, not, nat_le}
 use Rattle.std.proofs.Common.{List, length, slice_index, codes, refl, arith, ◌&&◌}
 use Rattle.std.proofs.lemmas.Bool.{and_parts}
@@ -8,7 +8,7 @@ use Rattle.git_names.specs.RefName.{BeginsWith, EndsWith, IsRefName, Lacks}
 use Rattle.git_rows.proofs.TextsByComputing.{differ, not_true}
 use Rattle.git_names.proofs.Tables.{all_pass, all_pass-at}
 
--- the part is in the text at this place
+-- the part occurs in the text at this index
 abbrev pub is_at : List ℕ → List ℕ → ℕ → Bool
 is_at text part k =
     nat_le (k + length part) (length text) && all_pass (λ j. slice_index text (k + j) == slice_index part j) (length part)
@@ -43,7 +43,7 @@ occurs_not text part k h at =
     let both : is_at text part k ≡ true = rw (fits, same) refl in
     cc
 
--- the part is nowhere in the text
+-- the part occurs nowhere in the text
 abbrev pub is_nowhere : List ℕ → List ℕ → Bool
 is_nowhere text part = all_pass (λ k. not (is_at text part k)) (suc (length text))
 
@@ -67,7 +67,7 @@ is_name_byte c =
     nat_le 33 c && not (c == 42) && not (c == 58) && not (c == 63) && not (c == 91) && not (c == 92) && not (c == 94) && not (c == 126)
     && not (c == 127)
 
--- what is known of such a byte
+-- the properties of such a byte
 record BytesOf (c : ℕ) : Type 0 where
   no_control : 32 ≤ c
   no_space : c ≢ 32
@@ -94,7 +94,7 @@ byte_by c h = record {
   no_delete = grind arith;
 }
 
--- all that is asked of a name after its beginning
+-- the rules for a name other than that of its beginning
 abbrev pub is_name : List ℕ → Bool
 is_name text =
     nat_le (length text) 32000 && all_pass (λ k. is_name_byte (slice_index text k)) (length text) && is_nowhere text (codes "//")
@@ -139,7 +139,7 @@ name_by text begins h =
       no_delete = λ k lt. (at k lt).no_delete;
     }
 
--- a reference name that begins as all do but `HEAD`
+-- a reference name other than `HEAD`
 pub ref_by : (text : List ℕ) → is_at text (codes "refs/") 0 ≡ true → is_name text ≡ true → IsRefName text
 ref_by text begins h = name_by text (λ other. occurs text (codes "refs/") 0 begins) h
 

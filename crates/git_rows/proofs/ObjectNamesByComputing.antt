@@ -1,4 +1,4 @@
--- Which texts are object names, by computing.
+-- Texts that are object names, by computing.
 use Rattle.std.proofs.Common.{◌≡◌, ℕ, List, length, refl, Ok}
 use Rattle.hex.specs.Hex.{decode_of, decode_pairs}
 use Rattle.git_names.specs.ObjectName.{IsObjectName, IsPadded, ObjectName, name_bytes}

@@ -32,7 +32,7 @@ pub gives_version : (t : Terms) (asked : List Asked) → GivesAt t asked [] (tex
 gives_version t asked =
     gives_at t asked [] (text_line (codes "version 2")) [] version refl (record { no_error = no_error_by (codes "version 2") refl; says = refl })
 
--- the advertisement without capabilities, and what comes after it
+-- the advertisement without capabilities, and what follows it
 pub offer_then : (asked : List Asked) (more : List Given) (later : List EventValue) → GiveAll terms asked offered_before more later
     → GiveAll terms asked [] (at 0 (text_line (codes "version 2")) ∷ at 14 flush ∷ more) (offered ∷ later)
 offer_then asked more later h = (
@@ -49,7 +49,7 @@ offer_then asked more later h = (
   ),
 )
 
--- a conversation's packets have a flush for the advertisement and one for each request, however they are found
+-- the packets of a conversation have a flush for the advertisement and one for each request
 pub flushes_are : (t : Terms) (asked : List Asked) (bytes : List ℕ) (events : List EventValue) (given : List Given) (rest : List ℕ)
     → IsConversation t asked bytes events → Splits 0 bytes given rest → flushes (nearest given []) ≡ suc (length asked)
 flushes_are t asked bytes events given rest h k =

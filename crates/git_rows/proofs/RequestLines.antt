@@ -78,7 +78,7 @@ done_line limit fits = record {
 pub are_done_lines : (limit : ℕ) → 49 ≤ limit → AreLines offer_all limit [] (want_alone_packets ++ at 72 (text_line (codes "done")) ∷ []) done_lines
 are_done_lines limit fits = (fetch_command limit, ((refl, (tt, tt)), (want_line limit (omega arith), (done_line limit fits, tt))))
 
--- a fetch of one object, which is done
+-- a fetch of one object, with `done`
 pub asks_fetch : (limit : ℕ) → 49 ≤ limit → Asks offer_all limit fetch_done_packets (fetch (fetch_of (name_a ∷ []) true)) 49
 asks_fetch limit fits = record {
   front = want_alone_packets ++ at 72 (text_line (codes "done")) ∷ [];

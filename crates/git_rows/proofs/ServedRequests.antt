@@ -1,4 +1,4 @@
--- Requests as a server reads them, and sessions that have one outcome.
+-- Requests as a server reads them, and sessions with one outcome.
 use Rattle.std.proofs.Common.{◌≡◌, ◌≢◌, ℕ, codes, true, Option, None, List, [], ◌∷◌, ◌++◌, length, length-append, refl, ap, arith}
 use Rattle.std.proofs.lemmas.List.Elements.{All-cons, All-nil}
 use Rattle.git_names.specs.Digits.{lower_digit}
@@ -25,7 +25,7 @@ use Rattle.git_rows.specs.WorkedSessions.{fetch_bytes, ls_refs_bytes, repo, sett
 use Rattle.git_rows.proofs.RequestLines.{asks_fetch, asks_ls_refs}
 use Rattle.git_rows.proofs.WrittenPackets.{splits_written}
 
--- the first packet of a request is no argument that a repository refuses
+-- the first packet of a request is not an argument that a repository refuses
 no_delimiter_before : (offer : Offer) (limit : ℕ) (g last : Given) (front : List Given) (lines : List Line) → g ∷ [] ≡ front ++ last ∷ []
     → AreLines offer limit [] front lines → has_delimiter lines ≡ true → ⊥
 no_delimiter_before offer limit g last [] [] e are behind = cc

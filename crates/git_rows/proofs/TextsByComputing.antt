@@ -12,15 +12,15 @@ differ a b h e =
     let same : bytes_eq a b ≡ true = (bytes_eq-Decides a b).1 e in
     cc
 
--- texts that are one where they are there
+-- two present texts that are equal
 pub some_same : (a b : List ℕ) → Some a ≡ Some b → a ≡ b
 some_same a b e = cc
 
--- a text begins otherwise
+-- a text that does not begin with the word
 pub begins_otherwise : (word text : List ℕ) → bytes_eq (take (length word) text) word ≡ false → BeginsOtherThan word text
 begins_otherwise word text h rest e = differ (take (length word) text) word h (ap (take (length word)) e ∙ take-append_seam word rest)
 
--- it is no error packet's
+-- it is not that of an error packet
 pub no_error_by : (text : List ℕ) → bytes_eq (take 4 text) (codes "ERR ") ≡ false → ¬ IsErrorText text
 no_error_by text h error = begins_otherwise (codes "ERR ") text h error.message error.spelled
 

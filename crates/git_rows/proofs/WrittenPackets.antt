@@ -1,4 +1,4 @@
--- Bytes that fall into packets, by computing.
+-- Bytes that split into packets, by computing.
 use Rattle.std.proofs.Common.{◌≡◌, ℕ, ◌+◌, ◌≤◌, Bool, true, nat_le, List, [], ◌∷◌, ◌++◌, length, drop, slice_index, refl, arith, ◌&&◌}
 use Rattle.std.proofs.lemmas.Bool.{and_parts}
 use Rattle.git_names.specs.Digits.{IsHexDigit}
@@ -15,12 +15,12 @@ abbrev pub placed : ℕ → List Pkt → List Given
 placed p [] = []
 placed p (packet ∷ packets) = at p packet ∷ placed (p + length (spelling_of packet)) packets
 
--- each is a packet of the wire
+-- each of them fits
 abbrev pub all_fit : List Pkt → Bool
 all_fit [] = true
 all_fit (packet ∷ packets) = nat_le (length (body_of packet)) longest_payload && all_fit packets
 
--- the bytes that are written of the packets, and then others
+-- the written form of the packets, and then other bytes
 abbrev pub written : List Pkt → List ℕ → List ℕ
 written [] rest = rest
 written (packet ∷ packets) rest = spelling_of packet ++ written packets rest
@@ -32,12 +32,12 @@ spelled p (packet ∷ packets) rest fits =
     let fit = parts.0 in
     (spelling_of packet, written packets rest, refl, refl, spells_written packet (grind arith), spelled (p + length (spelling_of packet)) packets rest parts.1)
 
--- what is written of packets falls into them
+-- the written form of packets splits into them
 pub splits_written : (p : ℕ) (packets : List Pkt) (rest : List ℕ) → all_fit packets ≡ true → NoneBegins rest
     → Splits p (written packets rest) (placed p packets) rest
 splits_written p packets rest fits none = record { spelled = spelled p packets rest fits; ends = none }
 
--- a packet begins what is written of it
+-- a packet begins its written form
 pub one_begins : (packet : Pkt) (more : List ℕ) → length (body_of packet) ≤ longest_payload → NoneBegins (spelling_of packet ++ more) → ⊥
 one_begins packet more fit none = none packet (spelling_of packet) more refl (spells_written packet fit)
 
@@ -47,7 +47,7 @@ no_first p bytes g gs rest none h =
     let first = h.spelled in
     none g.packet first.0 first.1 first.2 first.4
 
--- four bytes that are digits of either case, and what they spell with those after them
+-- four bytes that are digits of either case, and the packet that they spell with those after them
 pub spells : (packet : Pkt) (s : List ℕ) → 4 ≤ length s → IsHexDigit (slice_index s 0) → IsHexDigit (slice_index s 1)
     → IsHexDigit (slice_index s 2) → IsHexDigit (slice_index s 3) → digits_value s ≡ length_field packet → drop 4 s ≡ body_of packet
     → length (body_of packet) ≤ longest_payload → Spells packet s
@@ -58,7 +58,7 @@ spells packet s four a b c d field body fits = record {
   fits = fits;
 }
 
--- the same of packets of an answer
+-- the same for the packets of an answer
 pub fit_by : (packets : List Pkt) → all_fit packets ≡ true → AllFit packets
 fit_by [] h = tt
 fit_by (packet ∷ packets) h =

@@ -1,4 +1,4 @@
--- How the rows write what they are about.
+-- The values that the rows use.
 use Rattle.std.specs.Prelude.{ℕ, Bool, false, List, [], Option, None, ◌∷◌, ◌++◌, codes, replicate}
 use Rattle.git_msg.specs.Advertisement.{everything}
 use Rattle.git_msg.specs.Asked.{FetchAsked, LsRefsAsked}
@@ -17,7 +17,7 @@ use Rattle.git_pkt.specs.declared.fault.Kind.{Kind}
 abbrev pub at : ℕ → Pkt → Given
 at offset packet = record { packet = packet; offset = offset }
 
--- the fault of this name, at this offset
+-- the error of this kind, at this offset
 abbrev pub fault_at : Kind → ℕ → Fault
 fault_at kind offset = record { kind = kind; offset = offset }
 
@@ -28,7 +28,7 @@ all_a = codes "aaaaaaaaaaaaaaaaaaaaaaaaaaaaaaaaaaaaaaaa"
 abbrev pub all_upper_a : List ℕ
 all_upper_a = codes "AAAAAAAAAAAAAAAAAAAAAAAAAAAAAAAAAAAAAAAA"
 
--- the object name of SHA-1 of which each byte is this
+-- the SHA-1 object name whose bytes all have this value
 abbrev pub name_of_bytes : ℕ → ObjectName
 name_of_bytes byte = record { format = Sha1; bytes = replicate 20 byte ++ replicate 12 0 }
 
@@ -43,27 +43,27 @@ all_b = codes "bbbbbbbbbbbbbbbbbbbbbbbbbbbbbbbbbbbbbbbb"
 abbrev pub name_b : ObjectName
 name_b = name_of_bytes 187
 
--- the object name of all a with bytes after the twenty that are not zero
+-- the object name of all a, with bytes other than zero after the first twenty
 abbrev pub name_unpadded : ObjectName
 name_unpadded = record { format = Sha1; bytes = replicate 20 170 ++ replicate 12 1 }
 
--- the object name of all a but for a b at its end
+-- the object name of all a, except for a b at its end
 abbrev pub name_ab : ObjectName
 name_ab = record { format = Sha1; bytes = replicate 19 170 ++ 171 ∷ replicate 12 0 }
 
--- all features, where object names are those of SHA-1
+-- all features, for object names of SHA-1
 abbrev pub offer_all : Offer
 offer_all = everything Sha1
 
--- what a server has of an object
+-- the object, with its size if the server has it
 abbrev pub info_of : ObjectName → Option ℕ → Info
 info_of id size = record { id = id; size = size }
 
--- what a request for references asks for that has these prefixes and no flag
+-- what a request for references without flags asks for, with these prefixes
 abbrev pub ls_refs_of : List (List ℕ) → LsRefsAsked
 ls_refs_of prefixes = record { symrefs = false; peel = false; unborn = false; ref_prefixes = prefixes }
 
--- what a fetch asks for that has these `want` lines and maybe `done`, and no other line
+-- what a fetch asks for, with these `want` lines, perhaps `done`, and no other line
 abbrev pub fetch_of : List ObjectName → Bool → FetchAsked
 fetch_of wants is_done = record {
   wants = wants;
@@ -87,7 +87,7 @@ ls_refs_packets = at 0 (text_line (codes "command=ls-refs")) ∷ at 20 flush ∷
 abbrev pub want_alone_packets : List Given
 want_alone_packets = at 0 (text_line (codes "command=fetch")) ∷ at 18 delim ∷ at 22 (text_line (codes "want " ++ all_a)) ∷ []
 
--- a fetch of one object, which is done
+-- a fetch of one object, with `done`
 abbrev pub fetch_done_packets : List Given
 fetch_done_packets = want_alone_packets ++ at 72 (text_line (codes "done")) ∷ at 81 flush ∷ []
 
@@ -95,7 +95,7 @@ fetch_done_packets = want_alone_packets ++ at 72 (text_line (codes "done")) ∷ 
 abbrev pub no_want_packets : List Given
 no_want_packets = at 0 (text_line (codes "command=fetch")) ∷ at 18 delim ∷ at 22 (text_line (codes "done")) ∷ at 31 flush ∷ []
 
--- a request for references with three arguments, of which the first two have 26 bytes
+-- a request for references with three arguments; the first two have 26 bytes together
 abbrev pub three_argument_packets : List Given
 three_argument_packets =
     at 0 (text_line (codes "command=ls-refs")) ∷ at 20 delim ∷ at 24 (text_line (codes "peel"))
@@ -105,6 +105,6 @@ three_argument_packets =
 abbrev pub asked_with : (symrefs peel : Bool) → List (List ℕ) → LsRefsAsked
 asked_with symrefs peel prefixes = record { symrefs = symrefs; peel = peel; unborn = false; ref_prefixes = prefixes }
 
--- a fetch that negotiates, by these `have` lines
+-- a fetch that negotiates, with these `have` lines
 abbrev pub haves_of : List ObjectName → FetchAsked
 haves_of haves = record (fetch_of (name_a ∷ []) false) { haves = haves }

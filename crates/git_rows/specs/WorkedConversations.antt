@@ -9,7 +9,7 @@ use Rattle.git_names.specs.declared.object_format.Format.TheVariants.{Sha1}
 use Rattle.git_pkt.specs.Packets.{Pkt, flush}
 use Rattle.git_rows.specs.Worked.{all_a, fetch_of, ls_refs_of, name_a}
 
--- object names of SHA-1, and responses that a flush ends
+-- object names of SHA-1, and responses that end with a flush
 abbrev pub terms : Terms
 terms = terms_of Sha1 FlushOnly
 
@@ -17,7 +17,7 @@ terms = terms_of Sha1 FlushOnly
 abbrev pub asked_refs : List Asked
 asked_refs = ls_refs (ls_refs_of []) ∷ []
 
--- a fetch that is done, one that negotiates, and a request for sizes
+-- a fetch with `done`, one that negotiates, and a request for sizes
 abbrev pub asked_fetch : List Asked
 asked_fetch = fetch (fetch_of (name_a ∷ []) true) ∷ []
 
@@ -35,7 +35,7 @@ head_ref = reference_of (Some name_a) (codes "HEAD") None None
 abbrev pub offer_bytes : List ℕ
 offer_bytes = codes "000eversion 2\n0000"
 
--- after it a reference, and the flush that ends the response
+-- after it the line of a reference, and the flush that ends the response
 abbrev pub refs_begun_bytes : List ℕ
 refs_begun_bytes = offer_bytes ++ codes "0032" ++ all_a ++ codes " HEAD\n"
 

@@ -1,19 +1,22 @@
--- How the rows write what became of the streams of a run, and what a play gives.
-use Rattle.std.specs.Prelude.{ℕ, Bool, false, List, [], ◌++◌, None, codes}
+-- The states of a run's streams in the rows, and the transcript that a play writes.
+use Rattle.std.specs.Prelude.{ℕ, Bool, false, true, List, [], ◌++◌, None, codes}
 use Rattle.git_names.specs.declared.object_format.Format.TheVariants.{Sha1}
 use Rattle.git_server.specs.Repository.{Repository, RepoState}
 use Rattle.git2show_lib.specs.Machine.CheckFaults.{Standing}
+use Rattle.git2show_lib.specs.declared.views.Form.TheVariants.{Json, Lines}
+use Rattle.git2show_lib.specs.declared.views.Tally.{Tally}
+use Rattle.git2show_lib.specs.declared.views.View.{View}
 use Rattle.git_rows.specs.WorkedSessions.{repo}
 
--- no read failed, and the stream has ended where this says so
+-- no read failed, and the stream has ended if the flag is set
 abbrev pub standing : Bool → Standing
 standing ended = record { ended = ended; failed = false }
 
--- the repository, of which no read has failed
+-- the repository, before any read of it failed
 abbrev pub repo_state : RepoState
 repo_state = record { answers = repo; failures = 0 }
 
--- a repository that has nothing, of which no read has failed
+-- an empty repository
 abbrev pub bare_repo : Repository
 bare_repo = record {
   format = Sha1;
@@ -34,3 +37,15 @@ abbrev pub offer_transcript : List ℕ
 offer_transcript =
     codes "capability agent=git2/1\ncapability ls-refs=unborn\ncapability fetch=shallow ref-in-want wait-for-done filter\n"
     ++ codes "capability server-option\ncapability object-format=sha1\ncapability object-info\noffered\n"
+
+-- a view that leaves packs out
+abbrev pub without_packs : View
+without_packs = record { form = Lines; from = 0; no_pack = true }
+
+-- a view that shows JSON from an offset on
+abbrev pub from_eight : View
+from_eight = record { form = Json; from = 8; no_pack = false }
+
+-- what was counted up to a packfile section
+abbrev pub tally_before : Tally
+tally_before = record { bytes = 9; packets = 1; requests = 0; pack = 0; in_pack = true }

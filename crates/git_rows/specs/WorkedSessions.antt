@@ -7,8 +7,8 @@ use Rattle.git_server.specs.Repository.{Repository}
 use Rattle.git_server.specs.Sessions.{Setting}
 use Rattle.git_rows.specs.Worked.{all_a, all_b, name_a, name_b, offer_all}
 
--- a symbolic reference and a tag, the object that both lead to, of 12 bytes, and a pack of five; the repository is ready to send it where
--- this says so, and its history is cut off at that object
+-- A symbolic reference and a tag, the object of 12 bytes that both lead to, and a pack of five bytes. If the flag is set, the repository is ready to
+-- send the pack, and its history is cut off at that object.
 abbrev pub repo_where : Bool → Repository
 repo_where ready = record {
   format = Sha1;
@@ -27,17 +27,17 @@ repo_where ready = record {
 abbrev pub repo : Repository
 repo = repo_where false
 
--- a session that has a limit of 49 bytes on a request's arguments
+-- a session with a limit of 49 bytes on a request's arguments
 abbrev pub setting : Setting
 setting = record { offer = offer_all; limit = 49; advertise = false; repo = repo; failures = 0 }
 
--- a request for references, and what answers it
+-- a request for references, and the answer to it
 abbrev pub ls_refs_bytes : List ℕ
 ls_refs_bytes = codes "0014command=ls-refs\n0000"
 
 abbrev pub listed_bytes : List ℕ
 listed_bytes = codes "0032" ++ all_a ++ codes " HEAD\n003a" ++ all_b ++ codes " refs/tags/v1\n0000"
 
--- a fetch of one object, which is done
+-- a fetch of one object, with `done`
 abbrev pub fetch_bytes : List ℕ
 fetch_bytes = codes "0012command=fetch\n00010032want " ++ all_a ++ codes "\n0009done\n0000"

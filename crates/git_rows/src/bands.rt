@@ -1,4 +1,4 @@
-//! Side bands: how bytes are put into packets of a band, which payloads have none, and what passes as it comes.
+//! Side bands: how bytes are put into packets of a band, which payloads have none, and which bytes pass.
 
 ghost use Rattle.std.specs.Prelude.{◌≡◌, ◌≢◌, ◌++◌, ◌∷◌, [], codes};
 ghost use Rattle.git_pkt.specs.Bands.{AreBands, IsNoBand};
@@ -28,7 +28,7 @@ pub fn bands_refused()
     ensures not_the_third { ¬ IsNoBand (3 ∷ []) BadBand }
 {}
 
-/// What passes of packets, whole and open.
+/// The bytes that pass of packets, whole and open.
 pub fn bytes_that_pass()
     ensures pack { passed_by (payload (1 ∷ codes "AB")) ≡ on Pack 65 ∷ on Pack 66 ∷ [] }
     ensures begun { passed_by_rest (codes "0007" ++ 2 ∷ codes "A") ≡ on Progress 65 ∷ [] }

@@ -1,4 +1,4 @@
-//! Conversations: the events of the bytes that a client receives, their pack, and the first fault in them.
+//! Conversations: the events of the bytes that a client receives, their pack, and the first error in them.
 
 ghost use Rattle.std.specs.Prelude.{◌≡◌, ◌≢◌, ◌++◌, ◌∷◌, [], None, Some, codes, false, true};
 ghost use Rattle.git_client.specs.Conversation.{FirstMalformed, GivesAt, HasEvents, IsConversation, RefusesAt};
@@ -48,7 +48,7 @@ pub fn pack_received()
     ensures not_less_of_an_open_packet { ¬ HasEvents terms asked_fetch (pack_bytes 1 (codes "0007" ++ 1 ∷ codes "B")) (offered ∷ pack 65 ∷ []) }
 {}
 
-/// The first fault of bytes: in a packet, in what is no packet, and where the input ends.
+/// The first error of bytes: in a packet, in bytes that are no packet, and at the end of the input.
 pub fn first_faults_received()
     ensures no_version { FirstMalformed terms [] (codes "0007ERR") (fault_at NotVersion2 0) }
     ensures error { FirstMalformed terms [] (codes "000dERR nope\n") (fault_at RemoteError 0) }
@@ -103,7 +103,7 @@ pub fn sizes_and_response_ends_received()
     ensures not_where_a_flush_ends_it { ¬ GivesAt terms asked_refs offered_before resp_end (ended ∷ []) }
 {}
 
-/// What an advertisement notes.
+/// The capabilities that an advertisement notes.
 pub fn advertisement_noted()
     ensures feature { (noted_of (text_line (codes "fetch=shallow filter") ∷ [])).filter ≡ true }
     ensures format { (noted_of (text_line (codes "object-format=sha256") ∷ [])).sha256 ≡ true }

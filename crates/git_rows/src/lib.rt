@@ -1,5 +1,5 @@
-//! Worked rows: each definition that the contracts rest on, at concrete bytes where it holds and at others where it does not.
-//! Each row is the contract of a function that does nothing.
+//! Worked rows: each definition that the contracts rest on, at concrete bytes that it holds of and at others that it does not hold of. Each
+//! row is the contract of a function that does nothing.
 #![tactic(auto)]
 
 pub mod bands;

@@ -50,7 +50,7 @@ pub fn arguments_of_each_kind()
     ensures not_what_is_not_offered { ¬ ReadsAs LsRefs (nothing Sha1) (codes "unborn") (alone (of_flag Unborn)) }
 {}
 
-/// Arguments that are refused, each by its name.
+/// Arguments that are refused, each with its error.
 pub fn arguments_refused()
     ensures of_another_command { IsArgumentFault LsRefs offer_all (codes "done") UnknownArgument }
     ensures without_a_space { IsArgumentFault Fetch offer_all (codes "deepen-not") UnknownArgument }

@@ -1,4 +1,4 @@
-//! Packets: how bytes fall into them, what is wrong with a rest, and the texts of payloads.
+//! Packets: how bytes split into them, what is wrong with a rest, and the texts of payloads.
 
 ghost use Rattle.std.specs.Prelude.{◌≡◌, ◌≢◌, ◌++◌, ◌∷◌, [], List, codes, length, ℕ};
 ghost use Rattle.git_pkt.specs.Escape.{escaped_of};
@@ -48,7 +48,7 @@ pub fn length_of_three()
     ensures not_shown_later { ¬ ShowsAtEnd (codes "0003a") }
 {}
 
-/// A letter that is no digit, among the four of a length: reported at that byte, and when it comes.
+/// A letter among the four digits of a length: it is reported at its byte, as soon as it comes.
 pub fn letter_among_the_digits()
     ensures refused { StopsBy 0 (codes "00g") 3 BadDigit 2 }
     ensures not_at_another_byte { ¬ IsRefused 0 (codes "00g") BadDigit 1 }

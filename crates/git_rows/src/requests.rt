@@ -1,4 +1,4 @@
-//! Requests: the packets that are one, and the first packet that is refused, by its name and its offset.
+//! Requests: packets that are one, and the first packet that is refused, with its error and its offset.
 
 ghost use Rattle.std.specs.Prelude.{◌++◌, ◌∷◌, [], codes, false, true};
 ghost use Rattle.git_msg.specs.Arguments.{alone, of_flag, want, with_id};
@@ -22,7 +22,7 @@ pub fn request_for_references()
     ensures not_without_its_flush { ¬ Asks offer_all 0 (at 0 (text_line (codes "command=ls-refs")) ∷ []) (ls_refs (ls_refs_of [])) 0 }
 {}
 
-/// A fetch of one object, which is done, within a limit of just as many bytes.
+/// A fetch of one object, with `done`, within a limit of exactly its bytes.
 pub fn fetch_of_one_object()
     ensures asks { Asks offer_all 49 fetch_done_packets (fetch (fetch_of (name_a ∷ []) true)) 49 }
     ensures not_with_haves_to_come { ¬ Asks offer_all 49 fetch_done_packets (fetch (fetch_of (name_a ∷ []) false)) 49 }
@@ -30,7 +30,7 @@ pub fn fetch_of_one_object()
     ensures not_past_the_limit { ¬ Asks offer_all 48 fetch_done_packets (fetch (fetch_of (name_a ∷ []) true)) 49 }
 {}
 
-/// The third of three arguments passes the limit, and is reported at its offset.
+/// The third of three arguments exceeds the limit, and is reported at its offset.
 pub fn argument_past_the_limit()
     ensures refused { FirstFault offer_all 26 three_argument_packets TooMuchKept 60 }
     ensures not_at_the_one_before { ¬ FirstFault offer_all 26 three_argument_packets TooMuchKept 33 }
@@ -44,7 +44,7 @@ pub fn fetch_without_a_want()
     ensures no_request { ¬ Asks offer_all 49 no_want_packets (fetch (fetch_of [] true)) 4 }
 {}
 
-/// Packets that no request may have at that place, each by its name.
+/// Packets that no request may have at that place, each with its error.
 pub fn packets_refused()
     ensures unknown_command { HasFault offer_all 0 [] (text_line (codes "command=bundle-uri")) UnknownCommand }
     ensures two_commands { HasFault offer_all 0 (command LsRefs ∷ []) (text_line (codes "command=ls-refs")) TwoCommands }

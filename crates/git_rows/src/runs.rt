@@ -1,4 +1,4 @@
-//! Runs: the bytes of their streams, and what `show`, `check` and `play` result in.
+//! Runs: the bytes of their streams, and the results of `show`, `check` and `play`.
 
 ghost use Rattle.std.specs.Prelude.{ℕ, ◌≡◌, ◌++◌, ◌∷◌, [], Err, List, None, Ok, Some, codes, false, true};
 ghost use Rattle.git2show_lib.specs.Others.{IsOtherAnswer, counted_of, names_other};
@@ -9,13 +9,16 @@ ghost use Rattle.git_msg.specs.Asked.{ls_refs};
 ghost use Rattle.git_msg.specs.Machine.HeldRequest.{asked_of};
 ghost use Rattle.git_msg.specs.declared.requests.Request.{Request};
 ghost use Rattle.git_client.specs.declared.events.Ending.TheVariants.{FlushOnly};
-ghost use Rattle.git_pkt.specs.Packets.{delim, payload};
+ghost use Rattle.git_pkt.specs.Packets.{delim, flush, payload};
+ghost use Rattle.git2show_lib.specs.JsonLines.{json_line};
+ghost use Rattle.git2show_lib.specs.PacketViews.{counted, viewed};
+ghost use Rattle.git2show_lib.specs.PrettyLines.{pretty_line};
 ghost use Rattle.git_pkt.specs.Streams.{AreRead, AreWritten, IsTimely, flow};
 ghost use Rattle.git_pkt.specs.declared.fault.Kind.TheVariants.{BadLength, StreamTooLong, Truncated};
 ghost use Rattle.git_pkt.specs.declared.fault.RunFault.TheVariants.{ReadFault, Refused};
 ghost use Rattle.git_rows.specs.Worked.{asked_with, at, fault_at};
 ghost use Rattle.git_rows.specs.WorkedConversations.{offer_bytes, terms};
-ghost use Rattle.git_rows.specs.WorkedRuns.{bare_state, offer_transcript, repo_state, standing};
+ghost use Rattle.git_rows.specs.WorkedRuns.{bare_state, from_eight, offer_transcript, repo_state, standing, tally_before, without_packs};
 
 use git_both_ends::answer_laws::heard_offer;
 use git_both_ends::play_laws::played_as_told;
@@ -45,6 +48,20 @@ pub fn stream_shown()
     ensures not_of_a_part { ¬ Shows (Ok tt) true 3 (codes "00000" ∷ []) (codes "0 flush\n" ∷ []) }
 {}
 
+/// What is shown of packets with options, and what is counted of them.
+pub fn packets_viewed()
+    ensures section { pretty_line false 80 false (at 76 (payload (codes "wanted-refs\n"))) ≡ codes "      76    12  section   wanted-refs\n" }
+    ensures cut { pretty_line false 40 false (at 0 (payload (codes "ghijklmnopqrstuvwxyz"))) ≡ codes "       0    20  data      ghijklmnopqr..\n" }
+    ensures band { pretty_line false 80 true (at 9 (payload (2 ∷ codes "half\n"))) ≡ codes "       9     6  progress  half\n" }
+    ensures no_band { pretty_line false 80 false (at 9 (payload (2 ∷ []))) ≡ codes "       9     1  data      \\x02\n" }
+    ensures json { json_line (at 18 delim) ≡ codes "{\"offset\":18,\"kind\":\"delim\"}\n" }
+    ensures counted { (counted tally_before (at 9 (payload (1 ∷ codes "PACK")))).pack ≡ 4 }
+    ensures left_out { viewed (Some without_packs) tally_before (at 9 (payload (1 ∷ codes "PACK"))) ≡ [] }
+    ensures not_left_out { viewed (Some without_packs) tally_before (at 8 flush) ≡ codes "8 flush\n" }
+    ensures before { viewed (Some from_eight) tally_before (at 7 flush) ≡ [] }
+    ensures not_before { viewed (Some from_eight) tally_before (at 8 delim) ≡ codes "{\"offset\":8,\"kind\":\"delim\"}\n" }
+{}
+
 /// No requests, and responses that are an advertisement alone.
 pub fn streams_checked<A: Allocator + Copy>()
     ensures whole { Checked A terms 0 (Ok tt) (standing true) (standing true) ([] ∷ offer_bytes ∷ []) (codes "offered\n" ∷ []) }
@@ -53,7 +70,7 @@ pub fn streams_checked<A: Allocator + Copy>()
     ensures not_without_an_advertisement { ¬ Checked A terms 0 (Ok tt) (standing true) (standing true) ([] ∷ [] ∷ []) ([] ∷ []) }
 {}
 
-/// A command that is not known and was advertised, and where a fault is reported after what passed for it.
+/// A command that was advertised but is not known, and the offset of an error after the bytes that were passed on for it.
 pub fn another_command()
     ensures named { names_other (codes "bundle-uri\n") (payload (codes "command=bundle-uri\n")) ≡ true }
     ensures passes { IsOtherAnswer FlushOnly (codes "0006a\n0000") }
@@ -76,7 +93,7 @@ pub fn nothing_played<A: Allocator + Copy>()
     heard_offer();
 }
 
-/// Plays of no request and of one for references, of a repository that has nothing, which ended well: just this was written.
+/// Plays of no request and of one for references, over an empty repository, which ended well: exactly this was written.
 pub fn plays_that_ended_well<A: Allocator + Copy>()
     ensures nothing_asked { (given : List (List ℕ)) → Played {A = A} 0 terms 0 bare_state [] (Ok tt) [] given → given ≡ offer_transcript ∷ [] ∷ [] }
     ensures references_asked { (request : Request A) (given : List (List ℕ)) → asked_of request ≡ ls_refs (asked_with false false [])

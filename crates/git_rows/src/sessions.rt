@@ -1,4 +1,4 @@
-//! Sessions: what a server gives for the bytes that it used, and how a session ends.
+//! Sessions: what a server sends for the bytes that it used, and how a session ends.
 
 ghost use Rattle.std.specs.Prelude.{◌++◌, ◌∷◌, [], Some, codes, false, true};
 ghost use Rattle.git_msg.specs.Asked.{fetch, ls_refs, object_info};
@@ -28,7 +28,7 @@ pub fn references_listed()
     ensures not_left { ¬ IsSession setting ls_refs_bytes true listed_bytes Flush }
 {}
 
-/// A fetch that is done, with its pack in one packet, in two, and where the pack cannot be read.
+/// A fetch with `done`: its pack in one packet, in two, and a pack that cannot be read.
 pub fn pack_sent()
     ensures in_one_packet { IsSession setting fetch_bytes true (codes "000dpackfile\n000a" ++ 1 ∷ codes "PACK!0000") Closed }
     ensures in_two_packets { IsSession setting fetch_bytes true (codes "000dpackfile\n0007" ++ 1 ∷ codes "PA0008" ++ 1 ∷ codes "CK!0000") Closed }
@@ -36,7 +36,7 @@ pub fn pack_sent()
     ensures not_left { ¬ IsSession setting fetch_bytes true (codes "000dpackfile\n000a" ++ 1 ∷ codes "PACK!0000") Flush }
 {}
 
-/// Input that is refused, each time with what reports it.
+/// Input that is refused, each time with the error packet.
 pub fn input_refused()
     ensures unknown_command { IsSession setting (codes "0017command=bundle-uri\n") false (codes "001cERR UnknownCommand at 0\n")
         (Refused (fault_at UnknownCommand 0)) }
@@ -62,7 +62,7 @@ pub fn answers_about_references_and_objects()
     ensures never_broken_off { ¬ IsAnswerAs broken repo (ls_refs (asked_with false false [])) [] }
 {}
 
-/// Answers to fetches: that negotiate, that are ready, and that are done.
+/// Answers to fetches: one that negotiates, one that is ready, and one with `done`.
 pub fn answers_to_fetches()
     ensures nothing_common { IsAnswer repo (fetch (haves_of (name_b ∷ []))) (text_line (codes "acknowledgments") ∷ text_line (codes "NAK") ∷ flush ∷ []) }
     ensures one_common { IsAnswer repo (fetch (haves_of (name_b ∷ name_a ∷ [])))

@@ -1,5 +1,5 @@
-//! How much memory each machine is, with the usual allocator. Beside it a machine has only what it keeps of arguments, which lies behind
-//! its pointers and is within its limit.
+//! How much memory each machine takes, with the default allocator. A machine has no other bytes but the arguments that it keeps, which are
+//! behind its pointers and within its limit.
 
 use git_client::Client;
 use git_msg::{RequestReader, RequestStream};
@@ -7,10 +7,10 @@ use git_pkt::PacketReader;
 use git_server::{ListRepo, Server, SharedRepo};
 use std::alloc::Global;
 
-/// The most that a machine with a buffer of one packet is: 65 KiB. The packet has 65,520 bytes of it.
+/// The maximum size of a machine with a buffer for one packet: 65 KiB. The packet takes 65,520 bytes of it.
 const MACHINE: usize = 66_560;
 
-/// The most that a reader of requests is, which has no such buffer.
+/// The maximum size of a reader of requests, which has no such buffer.
 const READER: usize = 512;
 
 const _: () = prove!(size_of::<RequestReader<Global>>() <= READER);

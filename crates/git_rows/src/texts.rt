@@ -21,7 +21,7 @@ pub fn repository_of_a_few_lines()
     ensures not_ready_at_once { ¬ Says Sha1 (codes "ready 0") (ready 0) }
 {}
 
-/// Texts with a line that is refused, which is the first such.
+/// Texts with a refused line, each with the number of the first one.
 pub fn repository_lines_refused()
     ensures no_format { IsFirstBad [] 1 }
     ensures no_word { IsFirstBad (codes "format sha1\nx\n") 2 }

@@ -38,6 +38,7 @@ pub mod OneOutcome
 pub mod OneOutput
 pub mod AtRest
 pub mod RefusedMemory
+pub mod Refusals
 pub mod Calls
 pub mod Listed
 pub mod Rising

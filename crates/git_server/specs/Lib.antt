@@ -1,4 +1,5 @@
 pub mod Repository
+pub mod NameBytes
 pub mod Objects
 pub mod SameObjects
 pub mod Lists

@@ -1,13 +1,16 @@
 //! A reference of a repository.
 
-ghost use Rattle.std.specs.Prelude.{◌≡◌, ◌≤◌, ◌↔◌, length, IfOk, IsOk, IsTrue, MatchResult, Some, None};
+ghost use Rattle.std.specs.Prelude.{◌≡◌, ◌+◌, ◌≤◌, ◌↔◌, length, IfOk, IsOk, IsTrue, MatchResult, OnErr, Some, None};
 ghost use Rattle.std.specs.Option.{option_copied, ForSome};
 ghost use Rattle.git_names.specs.RefName.{IsRefName};
+ghost use Rattle.git_msg.specs.Memory.{HasRefused};
+ghost use Rattle.git_server.specs.NameBytes.{name_bytes};
 ghost use Rattle.git_server.specs.Repository.{Entry, IsNamed, IsOfFormat, bytes_of};
 
+use crate::repo_memory::{RepoMemory, copy_text};
 use git_names::{Format, NameFault, Oid, RefName, Steps};
 use smallvec::SmallVec;
-use std::alloc::{AllocError, Global};
+use std::alloc::AllocError;
 use std::marker::Model;
 
 /// The maximum length of a name that is stored in its entry: a longer name has memory of its own.
@@ -22,6 +25,8 @@ pub struct RefEntry {
     id: Oid,
     peeled: Option<Oid>,
 }
+
+const _: () = prove!(size_of::<RefEntry>() == 152);
 
 impl Model for RefEntry {
     ghost use Rattle.git_server.specs.Repository.{Entry, IsNamed, bytes_of};
@@ -61,10 +66,10 @@ impl RefEntry {
     }
 
     /// The same reference with copies of a name and a target that are known to be valid reference names, for example because they
-    /// were read from a line. It fails only if memory runs out, and never for a name of at most 32 bytes without a target, which needs no
-    /// memory.
-    pub fn copied(
-        alloc: Global,
+    /// were read from a line. It fails only if memory for a copy is refused, and never for a name of at most 32 bytes without a target,
+    /// which needs no memory.
+    pub fn copied<M: RepoMemory + Copy>(
+        memory: M,
         name: &[u8],
         id: Oid,
         target: Option<&[u8]>,
@@ -73,9 +78,10 @@ impl RefEntry {
         requires { IsNamed name.now (option_copied target) }
         ensures copied { IfOk result (λ e. e ≡ record { name = name.now; id = id; target = option_copied target.entry; peeled = peeled }) }
         ensures succeeds { length name.now ≤ SHORT_NAME → option_copied target.entry ≡ None → IsOk result }
+        ensures memory { OnErr result (HasRefused M.refuses (length name.now + name_bytes (option_copied target.entry))) }
     {
-        let name = SmallVec::from_slice(alloc, name)?;
-        let copy = copy_target(alloc, target)?;
+        let name = copy_name(memory, name)?;
+        let copy = copy_target(memory, target)?;
         Ok(RefEntry {
             name,
             id,
@@ -129,13 +135,32 @@ impl RefEntry {
     }
 }
 
-fn copy_target(alloc: Global, target: Option<&[u8]>) -> Result<Option<Vec<u8>>, AllocError>
+fn copy_name<M: RepoMemory + Copy>(
+    memory: M,
+    name: &[u8],
+) -> Result<SmallVec<u8, SHORT_NAME>, AllocError>
+    ensures copied { IfOk result (λ copy. copy.items ≡ name.now) }
+    ensures succeeds { length name.now ≤ SHORT_NAME → IsOk result }
+    ensures memory { OnErr result (HasRefused M.refuses (length name.now)) }
+{
+    if name.len() <= SHORT_NAME {
+        return SmallVec::from_slice(memory.alloc(), name);
+    }
+    let copy = copy_text(memory, name)?;
+    Ok(SmallVec::from_vec(copy))
+}
+
+fn copy_target<M: RepoMemory + Copy>(
+    memory: M,
+    target: Option<&[u8]>,
+) -> Result<Option<Vec<u8>>, AllocError>
     ensures copied { IfOk result (λ copy. bytes_of copy ≡ option_copied target.entry) }
     ensures succeeds { option_copied target.entry ≡ None → IsOk result }
+    ensures memory { OnErr result (HasRefused M.refuses (name_bytes (option_copied target.entry))) }
 {
     match target {
         Some(target) => {
-            let copy = Vec::from_slice(alloc, target)?;
+            let copy = copy_text(memory, target)?;
             Ok(Some(copy))
         }
         None => Ok(None),

@@ -1,8 +1,11 @@
 pub mod AsBox
 pub mod Determined
+pub mod FilledArrays
 pub mod FilledRooms
 pub mod GivenNames
 pub mod Handing
+pub mod ListedEvents
+pub mod ListedPackets
 pub mod Making
 pub mod Reporting
 pub mod ShownLengths

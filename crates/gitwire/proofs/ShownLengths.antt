@@ -27,7 +27,7 @@ text_length : (text : Option (List ℕ)) → length (text_shown text) ≡ option
 text_length None = refl
 text_length (Some text) = refl
 
-shown_length : (p : Parts)
+pub shown_length : (p : Parts)
     → length (bytes_shown p) ≡ length (digits_shown p.id) + length (text_shown p.name) + length (text_shown p.text) + length (digits_shown p.peeled)
 shown_length p =
     let id = digits_shown p.id in

@@ -3,6 +3,7 @@ pub mod Calls
 pub mod ClientAnswers
 pub mod EscapeAnswers
 pub mod EventAnswers
+pub mod EventLists
 pub mod FaultAnswers
 pub mod Handles
 pub mod Held
@@ -12,9 +13,11 @@ pub mod Machines
 pub mod Numbers
 pub mod Offers
 pub mod PacketAnswers
+pub mod PacketLists
 pub mod RepositoryAnswers
 pub mod RequestAnswers
 pub mod RequestReaderAnswers
 pub mod Rooms
 pub mod ServerAnswers
+pub mod StaticTexts
 pub mod WrittenForC

@@ -3,8 +3,8 @@ use Rattle.std.specs.Prelude.{◌≡◌, ◌⊎◌, ℕ, List, Option, Some, Non
 use Rattle.git_server.specs.Machine.SharedRepo.{shared_by}
 use Rattle.git_server.specs.declared.shared_repo.SharedRepo.{SharedRepo}
 use Rattle.git_repository.specs.Packs.{PackBytes}
-use Rattle.git_repository.specs.Machine.RepositoryFaults.{IsTextFault, IsWholeText}
-use Rattle.git_repository.specs.declared.text_faults.TextFault.TheVariants.{Bad}
+use Rattle.git_repository.specs.RepositoryText.{IsFirstBad}
+use Rattle.git_repository.specs.Machine.RepositoryFaults.{IsWholeText}
 use Rattle.gitwire.specs.Answers.{answering, answering_packet}
 use Rattle.gitwire.specs.declared.answer.GitwireAnswer.{GitwireAnswer}
 use Rattle.gitwire.specs.declared.answer.What.TheVariants as What
@@ -12,7 +12,7 @@ use Rattle.gitwire.specs.declared.answer.What.TheVariants as What
 -- a line of the text is refused, and it is reported to C which
 pub record RefusesText (text : List ℕ) (answer : GitwireAnswer) : Type 0 where
   pub line : ℕ
-  pub refused : IsTextFault text (Bad line)
+  pub refused : IsFirstBad text line
   pub answer_is : answer ≡ answering_packet 0 line 0 What.Failed
 
 -- the packs that C passes: one for each fetch, and another for each fetch with a filter, or none

@@ -24,7 +24,7 @@ use std::alloc::Global;
 use std::mem::replace;
 
 /// The maximum length of the parts of an event: that of the longest payload.
-const LONGEST_PARTS: usize = 65_516;
+pub(crate) const LONGEST_PARTS: usize = 65_516;
 
 /// What was noted of an advertisement.
 #[repr(C)]

@@ -31,7 +31,7 @@ pub extern "C" fn gitwire_fault_text(fault: u8, offset: u64, room: &mut [u8]) ->
 }
 
 /// The kind of error with this number.
-fn kind_of(number: u8) -> Option<Kind>
+pub(crate) fn kind_of(number: u8) -> Option<Kind>
     ensures { IsKindOf number result }
 {
     match number {

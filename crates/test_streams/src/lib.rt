@@ -1,10 +1,10 @@
-//! Readers and writers in memory that go slowly, fail once, count and never end, for tests.
+//! Readers and writers in memory that are slow, fail once, count, or never end, for tests.
 #![tactic(auto)]
 
 use std::io;
 use std::io::{ErrorKind, Read, Write};
 
-/// Gives its bytes at most `step` at a read, and fails once with `error`, at the read numbered `failing` from 0.
+/// Returns at most `step` of its bytes for each read, and fails once with `error`, at the read numbered `failing` from 0.
 #[derive(Drop)]
 pub struct Stream<'a> {
     pub rest: &'a [u8],
@@ -15,7 +15,7 @@ pub struct Stream<'a> {
 }
 
 impl<'a> Stream<'a> {
-    /// A reader of these bytes, of which no read was made yet. It fails as a connection that was reset does.
+    /// A reader of these bytes, before the first read. It fails as a connection that was reset does.
     pub fn new(rest: &'a [u8], step: usize, failing: u32) -> Stream<'a> {
         Stream {
             rest,
@@ -41,8 +41,8 @@ impl<'a> Read for Stream<'a> {
     }
 }
 
-/// Takes at most `step` bytes at a write, and fails once with `error`, at the write numbered
-/// `failing` from 0. Of what was taken, `flushed` bytes were flushed.
+/// Takes at most `step` bytes for each write, and fails once with `error`, at the write numbered `failing` from 0. It has flushed `flushed`
+/// of the bytes taken.
 #[derive(Drop)]
 pub struct Sink {
     pub taken: Vec<u8>,
@@ -88,17 +88,17 @@ impl Write for Sink {
     }
 }
 
-/// Gives its pieces one at a read, and of a long one what the buffer holds. Empty ones are passed over.
+/// Returns one of its chunks for each read, or as much of a long one as the buffer holds. Empty ones are skipped.
 #[derive(Drop)]
 pub struct Pieces<'a> {
     pieces: &'a [&'a [u8]],
-    // The piece that is read, and how many of its bytes were given.
+    // The current chunk, and how many of its bytes were returned.
     number: usize,
     given: usize,
 }
 
 impl<'a> Pieces<'a> {
-    /// A reader of these pieces, from the first on.
+    /// A reader of these chunks, from the first on.
     pub fn new(pieces: &'a [&'a [u8]]) -> Pieces<'a> {
         Pieces {
             pieces,
@@ -128,7 +128,7 @@ impl<'a> Read for Pieces<'a> {
     }
 }
 
-/// Gives its first bytes once, and then those of a round again and again, for ever.
+/// Returns its first bytes once, and then those of a round again and again, without an end.
 #[derive(Drop)]
 pub struct Endless<'a> {
     rest: &'a [u8],
@@ -136,7 +136,7 @@ pub struct Endless<'a> {
 }
 
 impl<'a> Endless<'a> {
-    /// A reader that gives these bytes first, and then the round for ever.
+    /// A reader that returns these bytes first, and then the round again and again.
     pub fn new(first: &'a [u8], round: &'a [u8]) -> Endless<'a> {
         Endless { rest: first, round }
     }

@@ -10,7 +10,7 @@ use git_names::{Format, Steps};
 use git_pkt::{Hold, Kind};
 use std::alloc::Global;
 
-/// A request that is to be made, and what the other end advertised.
+/// A request to be made, and what the other side advertised.
 #[derive(Clone, Copy)]
 pub struct Asking {
     pub command: Command,
@@ -20,7 +20,7 @@ pub struct Asking {
     pub object_format: bool,
 }
 
-/// The argument of a command that a text is, where this is offered.
+/// The argument of a command with this text, if it is advertised.
 pub fn argument_of<'a>(
     command: Command,
     offer: &Offer,
@@ -29,7 +29,7 @@ pub fn argument_of<'a>(
     read_argument(command, offer, text, &mut Steps::new())
 }
 
-// The argument that a text is, of whichever command.
+// The argument with this text, of any command.
 fn any_argument(format: Format, text: &[u8]) -> Option<Argument<'_>> {
     let offer = offer(format, true);
     for command in [Command::LsRefs, Command::Fetch, Command::ObjectInfo] {
@@ -40,7 +40,7 @@ fn any_argument(format: Format, text: &[u8]) -> Option<Argument<'_>> {
     None
 }
 
-// Adds the argument that a text is, and returns how much is kept then. None where it is no argument.
+// Adds the argument with this text, and returns how many bytes are kept then. None if the text is no argument.
 fn added(request: &mut Request<Global>, format: Format, text: &[u8]) -> Option<Result<u32, Kind>> {
     let Some(argument) = any_argument(format, text) else {
         return None;
@@ -51,7 +51,7 @@ fn added(request: &mut Request<Global>, format: Format, text: &[u8]) -> Option<R
     }
 }
 
-/// The packets that are written of a request to one who advertised this, a line each.
+/// The packets written for a request to a server that advertised this, a line each.
 pub fn written(alloc: Global, request: &Request<Global>, caps: &Caps) -> Result<Vec<u8>, Trouble> {
     let mut writer = RequestWriter::new(request, caps);
     let mut hold = Hold::new();
@@ -67,7 +67,7 @@ pub fn written(alloc: Global, request: &Request<Global>, caps: &Caps) -> Result<
 }
 
 impl Asking {
-    // Adds an argument, and returns how that went.
+    // Adds an argument, and returns the result.
     fn told(
         self,
         alloc: Global,
@@ -81,7 +81,7 @@ impl Asking {
         }
     }
 
-    // The packets that are written of a request, a line each.
+    // The packets written for a request, a line each.
     fn written(self, alloc: Global, request: &Request<Global>) -> Result<Vec<u8>, Trouble> {
         let caps = Caps {
             agent: self.agent,
@@ -91,7 +91,7 @@ impl Asking {
         written(alloc, request, &caps)
     }
 
-    // Adds the argument of each step, and returns how these went.
+    // Adds the argument of each step, and returns the results.
     fn all_told(
         self,
         alloc: Global,
@@ -108,7 +108,7 @@ impl Asking {
         Ok(told)
     }
 
-    /// Each argument is kept or refused as the line after it states, and the request is written as the ending has it.
+    /// Each argument is kept or refused as the line after it states, and the request is written as the ending states.
     pub fn goes(self, alloc: Global, script: &Script) -> Result<usize, Trouble> {
         let limits = limits(self.limit);
         let mut request = Request::new(alloc, self.command, self.format, limits);
@@ -120,7 +120,7 @@ impl Asking {
     }
 }
 
-// What came is what the case has.
+// Compares what was written with what the case states.
 fn same(alloc: Global, came: &[u8], due: &[u8]) -> Result<(), Trouble> {
     if came != due {
         let came = String::from_utf8_lossy(alloc, came)?;

@@ -1,4 +1,4 @@
-//! Cases, as a text has them: a name, what is run and how it is set up, and the lines of what comes and is given.
+//! Cases, as a text contains them: a name, what is run and how it is set up, the input and output, line by line.
 
 use crate::asking::Asking;
 use crate::ends::End;
@@ -13,7 +13,7 @@ use git_names::Format;
 use std::alloc::{AllocError, Global};
 use std::fs;
 
-/// The usual limit of a request's arguments.
+/// The default limit of a request's arguments.
 const USUAL: u32 = 16_777_216;
 
 /// The files that a case names.
@@ -23,7 +23,7 @@ struct Files {
     repository: Vec<u8>,
     pack: Vec<u8>,
     filtered: Option<Vec<u8>>,
-    /// What a client has received before.
+    /// The input of a client before its case.
     heard: Vec<u8>,
     recording: Option<Recording>,
 }
@@ -37,7 +37,7 @@ enum Subject<'a> {
     Asking(Asking),
 }
 
-/// A case's words on what is run.
+/// The words of a case that state what is run.
 #[derive(Clone, Copy)]
 struct Words<'a> {
     text: &'a str,
@@ -74,7 +74,7 @@ impl<'a> Words<'a> {
         }
     }
 
-    // The word after which the file of a repository is named.
+    // The word before the name of the repository's file.
     fn end(self) -> &'static str {
         match self.has("play") {
             true => "play",
@@ -92,7 +92,7 @@ impl<'a> Words<'a> {
         Command::LsRefs
     }
 
-    // The number after this word, if the word is there.
+    // The number after this word, if the case has the word.
     fn number(self, word: &str) -> Result<Option<u32>, Trouble> {
         match self.after(word) {
             Some(number) => match number.parse::<u32>() {
@@ -107,7 +107,7 @@ impl<'a> Words<'a> {
         Ok(self.number("limit")?.unwrap_or(USUAL))
     }
 
-    // How a pack is read. A read that no run makes is the first to fail where none is named.
+    // How a pack is read. If no failing read is named, the first to fail is one that no run makes.
     fn reads(self) -> Result<Option<Reads>, Trouble> {
         let (fail_from, most) = (self.number("failing")?, self.number("most")?);
         if fail_from.is_none() && most.is_none() {
@@ -119,7 +119,7 @@ impl<'a> Words<'a> {
         }))
     }
 
-    // Whether the features of `fetch` and the command `object-info` are offered.
+    // Whether the features of `fetch` and the command `object-info` are advertised.
     fn features(self) -> bool {
         !self.has("no-features")
     }
@@ -152,7 +152,7 @@ fn table_of(words: Words<'_>) -> Option<Table> {
     }
 }
 
-// What a server gives by these files.
+// The contents that a server has with these files.
 fn contents_of<'a>(files: &'a Files) -> Contents<'a> {
     Contents {
         text: files.repository.as_slice(),
@@ -161,7 +161,7 @@ fn contents_of<'a>(files: &'a Files) -> Contents<'a> {
     }
 }
 
-// The server that these words set up.
+// The server set up by these words.
 fn server_of<'a>(words: Words<'_>, files: &'a Files) -> Result<Setup<'a>, Trouble> {
     Ok(Setup {
         contents: contents_of(files),
@@ -172,7 +172,7 @@ fn server_of<'a>(words: Words<'_>, files: &'a Files) -> Result<Setup<'a>, Troubl
     })
 }
 
-// The client that these words set up.
+// The client set up by these words.
 fn client_of<'a>(words: Words<'_>, files: &'a Files) -> clients::Setup<'a> {
     clients::Setup {
         format: words.format(),
@@ -181,7 +181,7 @@ fn client_of<'a>(words: Words<'_>, files: &'a Files) -> clients::Setup<'a> {
     }
 }
 
-// The conversation that is checked by these words.
+// The conversation to check, set up by these words.
 fn check_of(words: Words<'_>) -> checks::Setup {
     checks::Setup {
         format: words.format(),
@@ -200,7 +200,7 @@ fn asking_of(words: Words<'_>) -> Result<Asking, Trouble> {
     })
 }
 
-// The end that these words name.
+// The side that these words name.
 fn end_of<'a>(words: Words<'_>, files: &'a Files) -> Result<End<'a>, Trouble> {
     let format = words.format();
     match words.text.split_whitespace().next() {
@@ -227,7 +227,7 @@ fn subject_of<'a>(words: Words<'_>, files: &'a Files) -> Result<Subject<'a>, Tro
     Ok(Subject::End(end_of(words, files)?))
 }
 
-// The file that is named after this word, where the word is there.
+// The file named after this word, if the case has the word.
 fn named_file(rt: &HostRuntime, words: Words<'_>, word: &str) -> Result<Option<Vec<u8>>, Trouble> {
     match words.after(word) {
         Some(path) => Ok(Some(fs::read(rt, path)?)),
@@ -235,7 +235,7 @@ fn named_file(rt: &HostRuntime, words: Words<'_>, word: &str) -> Result<Option<V
     }
 }
 
-// The same, or nothing.
+// The same, or an empty file.
 fn file_after(
     rt: &HostRuntime,
     alloc: Global,
@@ -259,7 +259,7 @@ fn read_recorded(
     Ok(fs::read(rt, path.as_str())?)
 }
 
-// What was recorded, where these words name it.
+// The recording, if these words name one.
 fn read_recording(
     rt: &HostRuntime,
     alloc: Global,
@@ -286,7 +286,7 @@ fn read_files(rt: &HostRuntime, alloc: Global, words: Words<'_>) -> Result<Files
     })
 }
 
-// Runs a case of which these are the lines after its name. Answers how many runs were made.
+// Runs a case with these lines after its name. Returns how many runs were made.
 fn goes(rt: &HostRuntime, alloc: Global, setup: &str, lines: &[&str]) -> Result<usize, Trouble> {
     let words = Words { text: setup };
     let mut files = read_files(rt, alloc, words)?;
@@ -317,7 +317,7 @@ fn goes(rt: &HostRuntime, alloc: Global, setup: &str, lines: &[&str]) -> Result<
     }
 }
 
-// The line that reports how a case went.
+// The line that reports the result of a case.
 fn line_of(alloc: Global, name: &str, went: &Result<usize, Trouble>) -> Result<String, AllocError> {
     match went {
         Ok(runs) => format!(in alloc; "ok: {name} ({runs})"),
@@ -329,7 +329,7 @@ fn line_of(alloc: Global, name: &str, went: &Result<usize, Trouble>) -> Result<S
     }
 }
 
-/// How many cases went as they state, and how many did not.
+/// How many cases passed, and how many did not.
 #[derive(Clone, Copy, Default)]
 pub struct Count {
     pub passed: u32,
@@ -355,7 +355,7 @@ impl Count {
         Ok(())
     }
 
-    /// Runs the cases of a text, which empty lines part. A line that begins with `#` is a comment.
+    /// Runs the cases of a text, separated by empty lines. A line that begins with `#` is a comment.
     pub fn run_all(&mut self, rt: &HostRuntime, text: &str) -> Result<(), Trouble> {
         let mut lines: Vec<&str> = Vec::new(rt.alloc());
         for line in text.lines() {

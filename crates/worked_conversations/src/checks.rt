@@ -56,7 +56,7 @@ fn checked(
     Ok(Run::new(alloc, sink.taken, ending, None))
 }
 
-/// Checks the pieces as responses, with the requests whole and cut at the same place.
+/// Checks the chunks as responses, with the requests whole and cut at the same place.
 pub fn goes(
     alloc: Global,
     setup: Setup,
@@ -88,7 +88,7 @@ fn before_request(given: &[u8], number: usize) -> usize {
     given.len()
 }
 
-// How many bytes of the responses come before so many bytes of the transcript are given.
+// How many bytes of the responses come before this many bytes of the transcript are written.
 fn responses_before(script: &Script, given: usize) -> usize {
     for step in script.steps.as_slice() {
         if step.given >= given {
@@ -98,7 +98,7 @@ fn responses_before(script: &Script, given: usize) -> usize {
     script.told()
 }
 
-/// How far the requests have come at a byte.
+/// How far the requests go up to a byte.
 #[derive(Clone, Copy)]
 struct Place {
     /// Where the last whole packet ends.
@@ -136,7 +136,7 @@ fn reached(asked: &[u8], at: usize) -> Place {
     reached
 }
 
-// What is due where the requests end at this byte, and all of them would be answered.
+// The expected result if the requests end at this byte and all of them are answered.
 fn due_of_requests(alloc: Global, script: &Script, end: usize) -> Result<Due, Trouble> {
     let reached = reached(script.asked.as_slice(), end);
     let all = script.given.as_slice();
@@ -159,7 +159,7 @@ fn due_of_requests(alloc: Global, script: &Script, end: usize) -> Result<Due, Tr
     })
 }
 
-/// Checks the responses of a conversation that is whole with requests that end at each byte. Answers how many runs were made.
+/// Checks the responses of a whole conversation with requests that end at each byte. Returns how many runs were made.
 pub fn goes_with_requests_cut_short(
     alloc: Global,
     setup: Setup,

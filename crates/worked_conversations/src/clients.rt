@@ -1,5 +1,5 @@
-//! A client that asks and is fed: what it sends, the transcript of what it receives, the bytes of the side bands, how it ended,
-//! and what it noted.
+//! A client that asks and is fed: what it sends, the transcript of what it receives, the bytes of the side bands, how it ended, and the
+//! capabilities that it noted.
 
 use crate::escapes::escaped;
 use crate::runs::Run;
@@ -19,11 +19,11 @@ use std::alloc::{AllocError, Global};
 pub struct Setup<'a> {
     pub format: Format,
     pub ending: Ending,
-    /// The advertisement that it has received before its case begins, where the case does not begin with one.
+    /// The advertisement that it has received before its case, if the case does not begin with one.
     pub heard: &'a [u8],
 }
 
-// Appends a word where its flag is set.
+// Appends a word if its flag is set.
 fn append_word(line: &mut String, is_set: bool, word: &str) -> Result<(), AllocError> {
     if is_set {
         append_str(line, " ")?;
@@ -32,7 +32,7 @@ fn append_word(line: &mut String, is_set: bool, word: &str) -> Result<(), AllocE
     Ok(())
 }
 
-/// Appends the line of what was noted.
+/// Appends the line of the noted capabilities.
 pub fn append_noted(line: &mut String, caps: &Caps) -> Result<(), AllocError> {
     append_str(line, "noted")?;
     append_word(line, caps.agent, "agent")?;
@@ -59,7 +59,7 @@ struct Notes {
     // The bytes of the pack and of the progress, joined.
     pack: Vec<u8>,
     progress: Vec<u8>,
-    // Where those of the last response begin.
+    // Where the bytes of the last response begin.
     pack_start: usize,
     progress_start: usize,
 }
@@ -99,20 +99,20 @@ impl Notes {
     }
 }
 
-/// A client, what it is still to be asked, and what came of it so far.
+/// A client, the requests still to be asked, and its results so far.
 #[derive(Drop)]
 struct Talk<'a> {
     alloc: Global,
     client: Client<Global>,
     wordings: &'a [Wording],
     leaves: bool,
-    // Whether the case has the packets that are sent.
+    // Whether the case states the packets that are sent.
     shows_sent: bool,
     notes: Notes,
 }
 
 impl<'a> Talk<'a> {
-    // A client that has received what comes before its case.
+    // A client that has received the input before its case.
     fn new(alloc: Global, setup: &Setup<'_>, script: &'a Script) -> Result<Talk<'a>, Trouble> {
         let mut talk = Talk {
             alloc,
@@ -133,7 +133,7 @@ impl<'a> Talk<'a> {
         Ok(talk)
     }
 
-    // Whether it uses bytes that it is given.
+    // Whether it uses bytes passed to it.
     fn uses_more(&mut self) -> bool {
         self.client.feed(b"0000", &mut Steps::new()).used != 0
     }
@@ -146,7 +146,7 @@ impl<'a> Talk<'a> {
         Ok(())
     }
 
-    // Sends all that is to be sent, and asks all that can be asked now.
+    // Sends everything that has to be sent, and asks all requests that can be asked now.
     fn say(&mut self) -> Result<(), Trouble> {
         for _ in 0..MANY {
             self.check_waiting()?;
@@ -167,7 +167,7 @@ impl<'a> Talk<'a> {
         Err(Trouble::Breaks("a client sends without an end"))
     }
 
-    // Asks what is to be asked next, or leaves. Answers whether there was something to do.
+    // Asks the next request, or leaves. Returns whether there was something to do.
     fn ask(&mut self) -> Result<bool, Trouble> {
         if !self.client.can_ask() {
             return Err(Trouble::Breaks("a client that can be asked says that it cannot"));
@@ -213,7 +213,7 @@ impl<'a> Talk<'a> {
         Ok(())
     }
 
-    // Receives a piece up to an event, and notes that. What is left of the piece, if there was one.
+    // Receives bytes of a chunk up to an event, and notes the event. Returns the rest of the chunk, if there was an event.
     fn hear_event<'p>(&mut self, piece: &'p [u8]) -> Result<Option<&'p [u8]>, Trouble> {
         let is_wanted = self.client.wants_input();
         let heard = self.client.feed(piece, &mut Steps::new());
@@ -230,7 +230,7 @@ impl<'a> Talk<'a> {
         }
     }
 
-    // Receives a piece, up to where no more input is wanted, and sends what is to be sent between.
+    // Receives a chunk up to the point where no more input is needed, and sends what has to be sent in between.
     fn hear(&mut self, piece: &[u8]) -> Result<(), Trouble> {
         let mut rest = piece;
         for _ in 0..=piece.len() {
@@ -243,12 +243,12 @@ impl<'a> Talk<'a> {
         Err(Trouble::Breaks("a piece has events without an end"))
     }
 
-    // Whether it says that it needs input.
+    // Whether it reports that it needs input.
     fn needs_input(&mut self) -> bool {
         matches!(self.client.pull(), Sent::NeedInput)
     }
 
-    // The fault that it tells, if it failed.
+    // The error that it reports, if it failed.
     fn fault(&mut self) -> Option<Fault> {
         match self.client.pull() {
             Sent::Failed(fault) => Some(fault),
@@ -274,7 +274,7 @@ impl<'a> Talk<'a> {
         Ok(())
     }
 
-    // How many bytes a client uses that is at its end, and the fault that it tells then.
+    // How many bytes a client uses at its end, and the error that it reports then.
     fn feed_more(&mut self) -> Result<(usize, Option<Fault>), Trouble> {
         let heard = self.client.feed(b"0000", &mut Steps::new());
         match heard.got {
@@ -284,7 +284,7 @@ impl<'a> Talk<'a> {
         }
     }
 
-    // How a client ended: whether it can be asked, its fault, and the line that reports it.
+    // How a client ended: whether it can ask, its error, and the line that reports the end.
     fn ending(&mut self) -> Result<(bool, Option<Fault>, String), Trouble> {
         match self.client.pull() {
             Sent::CanAsk => Ok((true, None, String::from_str(self.alloc, "can ask\n")?)),
@@ -297,7 +297,7 @@ impl<'a> Talk<'a> {
         }
     }
 
-    // A client that is at its end uses nothing more, and reports its end by each of its functions. Answers how it ended.
+    // A client at its end uses nothing more, and each of its functions reports the end. Returns how it ended.
     fn ended(&mut self) -> Result<String, Trouble> {
         let position = self.client.position();
         let (used, told) = self.feed_more()?;
@@ -329,7 +329,7 @@ fn append_message(alloc: Global, ending: &mut String, message: &[u8]) -> Result<
     append_str(ending, "\n")
 }
 
-/// Feeds the pieces to a client, which sends the requests of the case as soon as it can, and after which the input ends.
+/// Feeds the chunks to a client, which sends the requests of the case as soon as it can. Then the input ends.
 pub fn fed(
     alloc: Global,
     setup: &Setup<'_>,

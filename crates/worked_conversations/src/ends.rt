@@ -1,4 +1,4 @@
-//! The ends and readers that a case can run.
+//! The sides and readers that a case can run.
 
 use crate::runs::{Due, compare};
 use crate::script::{Given, Script};
@@ -9,18 +9,18 @@ use crate::{checks, clients, packets, requests, sessions};
 use git_names::Format;
 use std::alloc::{AllocError, Global};
 
-/// An end or a reader, and how it is set up.
+/// A side or a reader, and how it is set up.
 #[derive(Drop)]
 pub enum End<'a> {
     /// The packet reader from this offset on, and `show`.
     Packets(u64),
-    /// A request reader that keeps each argument, within a limit. The features of `fetch` are offered to it or not.
+    /// A request reader that keeps each argument, within a limit. The features of `fetch` are advertised or not.
     Requests(Format, u32, bool),
     /// A server of a repository's text.
     Server(sessions::Setup<'a>),
     /// A client.
     Client(clients::Setup<'a>),
-    /// `check`, of which the second stream has the requests.
+    /// `check`, with the requests as its second stream.
     Check(checks::Setup),
 }
 
@@ -31,7 +31,7 @@ fn is_whole(transcript: &[u8]) -> bool {
     last == b"offered".as_slice() || last.starts_with(b"end ")
 }
 
-// The packet reader, and `show` where the stream begins.
+// The packet reader, and also `show` if the stream begins at 0.
 fn packets_go(
     alloc: Global,
     start: u64,
@@ -68,7 +68,7 @@ fn server_goes(
 }
 
 impl<'a> End<'a> {
-    /// How what it gives is written.
+    /// How its output is written.
     pub fn form(&self) -> Given {
         match self {
             End::Server(_) => Given::Bytes,
@@ -86,7 +86,7 @@ impl<'a> End<'a> {
         }
     }
 
-    /// Whether its input may end after a whole step: all that was given so far, and whether the step gave something.
+    /// Whether its input may end after a whole step, by all output so far and whether the step had output.
     pub fn may_end_after(&self, given: &[u8], is_answered: bool) -> bool {
         match self {
             End::Packets(_) | End::Requests(..) => true,
@@ -96,13 +96,13 @@ impl<'a> End<'a> {
         }
     }
 
-    /// How many bytes of all its steps it does not use: the one past the last position.
+    /// How many bytes of all its steps it does not use: the byte past the last position.
     pub fn unread(&self, script: &Script) -> usize {
         let last = self.start().saturating_add(script.told() as u64);
         usize::from(last > LAST_POSITION)
     }
 
-    /// How it ends where the input ends inside a packet or a request, of which the last whole packet ends here.
+    /// How it ends if the input ends inside a packet or a request, and the last whole packet ends here.
     pub fn truncated(&self, alloc: Global, offset: u64) -> Result<String, AllocError> {
         match self {
             End::Check(_) => format!(in alloc; "responses: Truncated at {offset}\n"),
@@ -110,7 +110,7 @@ impl<'a> End<'a> {
         }
     }
 
-    /// Appends what it gives there.
+    /// Appends its output in that case.
     pub fn append_truncated(
         &self,
         alloc: Global,
@@ -127,7 +127,7 @@ impl<'a> End<'a> {
         }
     }
 
-    /// Runs it over the pieces, in each way in which it can be run, and compares.
+    /// Runs it over the chunks, in each way in which it can be run, and compares.
     pub fn goes(
         &self,
         alloc: Global,
@@ -152,7 +152,7 @@ impl<'a> End<'a> {
         }
     }
 
-    /// The runs of its own, in which another stream than the input is cut short. Answers how many they were.
+    /// Its further runs, in which another stream than the input is cut short. Returns how many there were.
     pub fn goes_elsewhere(&self, alloc: Global, script: &Script) -> Result<usize, Trouble> {
         match self {
             End::Check(setup) => checks::goes_with_requests_cut_short(alloc, *setup, script),

@@ -5,7 +5,7 @@ use crate::trouble::Trouble;
 use git_pkt::escape_into;
 use std::alloc::{AllocError, Global};
 
-/// How far an escape has come between two bytes of a text.
+/// How far an escape has come, between two bytes of a text.
 #[derive(Clone, Copy)]
 enum Place {
     Plain,
@@ -36,7 +36,7 @@ pub fn length_told(digits: &[u8]) -> Option<usize> {
     Some(((first * 16 + second) * 16 + third) * 16 + fourth)
 }
 
-// How far an escape has come after one more byte, and the byte that is whole then.
+// How far an escape has come after one more byte, and the byte that is complete then.
 fn unescaped(place: Place, byte: u8) -> Result<(Place, Option<u8>), Trouble> {
     match (place, byte) {
         (Place::Plain, b'\\') => Ok((Place::Escape, None)),

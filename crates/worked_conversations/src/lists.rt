@@ -1,4 +1,4 @@
-//! Lists that make a repository or do not, given as lines.
+//! Lists that make a repository or do not, as lines.
 
 use crate::texts::copied;
 use crate::trouble::Trouble;
@@ -14,16 +14,16 @@ struct Lists {
     refs: Vec<RefEntry>,
     objects: Vec<(Oid, u64)>,
     boundaries: Vec<Boundary>,
-    // What `HEAD` points to where it is unborn.
+    // The name that `HEAD` points to if it is unborn.
     unborn: Option<Vec<u8>>,
 }
 
-// The object name that a text is, of the format that its length calls for.
+// The object name with this text, in the format that has its length.
 fn object(text: &str) -> Result<Oid, Trouble> {
     Oid::from_hex(text).map_err(|_| Trouble::BadCase("no object name"))
 }
 
-// The reference that the words after `ref` give, or how its names are refused.
+// The reference of the words after `ref`, or the error of its names.
 fn entry(
     alloc: Global,
     name: &str,
@@ -48,7 +48,7 @@ fn entry(
 }
 
 impl Lists {
-    // Adds what a line contains. Answers how it is refused, if it is.
+    // Adds what a line states. Returns the error, if it is refused.
     fn add(&mut self, alloc: Global, line: &str) -> Result<Option<String>, Trouble> {
         let (kind, words) = line.split_once(' ').unwrap_or((line, ""));
         let (first, rest) = words.split_once(' ').unwrap_or((words, ""));
@@ -80,7 +80,7 @@ impl Lists {
     }
 }
 
-/// What is made of the lists that a text contains, a line an entry: `taken`, or how they are refused.
+/// The result of the lists in a text, one entry per line: `taken`, or the error.
 pub fn made(alloc: Global, format: Format, text: &str) -> Result<String, Trouble> {
     let mut lists = Lists {
         refs: Vec::new(alloc),

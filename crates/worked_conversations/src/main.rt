@@ -1,5 +1,5 @@
-//! Runs worked cases: packets, requests, sessions, advertisements and lines of text, each as a text describes it, in every
-//! cut and ended everywhere.
+//! Runs worked cases: packets, requests, sessions, advertisements and lines of text, each as a text describes it, with every cut and every
+//! end of the input.
 #![tactic(auto)]
 
 mod asking;
@@ -34,7 +34,7 @@ fn run_text(rt: &HostRuntime, count: &mut Count, text: &[u8]) -> Result<(), Trou
     }
 }
 
-/// Runs the cases of the files that the command line names, or those of standard input where it names none.
+/// Runs the cases of the files that the command line names, or of standard input if it names none.
 fn run(rt: &HostRuntime, count: &mut Count) -> Result<(), Trouble> {
     let alloc = rt.alloc();
     let words: Vec<String> = env::args(rt)?.collect(alloc)?;

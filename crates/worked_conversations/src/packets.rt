@@ -38,7 +38,7 @@ fn append_line(
     append(lines, b"\n")
 }
 
-// After a packet the hold has its bytes as they came, and an empty piece leaves them. Then it may be written over.
+// After a packet the hold has its bytes as they came, and an empty chunk leaves them. Then it may be written over.
 fn check_hold(reader: &mut PacketReader, came: &[u8]) -> Result<(), Trouble>
     requires gathers { passes_of reader.old ≡ false }
     ensures gathers { passes_of reader.new ≡ false }
@@ -57,17 +57,17 @@ fn check_hold(reader: &mut PacketReader, came: &[u8]) -> Result<(), Trouble>
     Ok(())
 }
 
-/// How far a piece was used.
+/// How far a chunk was used.
 #[derive(Clone, Copy)]
 enum Used<'a> {
     Whole,
     /// Up to the end of a packet: this is left.
     Front(&'a [u8]),
-    /// Up to a fault.
+    /// Up to an error.
     Failed,
 }
 
-// Feeds a piece up to the end of a packet, and appends the line of that.
+// Feeds a chunk up to the end of a packet, and appends the packet's line.
 fn feed_packet<'a>(
     alloc: Global,
     reader: &mut PacketReader,
@@ -89,7 +89,7 @@ fn feed_packet<'a>(
     }
 }
 
-// Feeds a piece whole, also an empty one. Answers whether it met a fault.
+// Feeds a whole chunk, also an empty one. Returns whether there was an error.
 fn feed(
     alloc: Global,
     reader: &mut PacketReader,
@@ -114,7 +114,7 @@ fn feed(
     Err(Trouble::Breaks("a piece is never used up"))
 }
 
-// A reader that failed uses nothing more, has no packet open, and reports the same fault for good.
+// A reader that failed uses nothing more, has no packet open, and keeps reporting the same error.
 fn check_failed(reader: &mut PacketReader, fault: Fault) -> Result<(), Trouble>
     requires gathers { passes_of reader.old ≡ false }
 {
@@ -135,7 +135,7 @@ fn check_failed(reader: &mut PacketReader, fault: Fault) -> Result<(), Trouble>
     Ok(())
 }
 
-/// Reads the pieces, and then the input ends.
+/// Reads the chunks, and then the input ends.
 pub fn read(alloc: Global, start: u64, script: &Script, pieces: &[&[u8]]) -> Result<Run, Trouble> {
     if start > LAST_POSITION {
         return Err(Trouble::BadCase("an offset past the last position"));
@@ -165,7 +165,7 @@ pub fn read(alloc: Global, start: u64, script: &Script, pieces: &[&[u8]]) -> Res
     Ok(Run::new(alloc, lines, ending, Some(used)))
 }
 
-/// Shows the pieces.
+/// Shows the chunks.
 pub fn shown(alloc: Global, pieces: &[&[u8]]) -> Result<Run, Trouble> {
     let mut sink = Sink::new(Vec::new(alloc), usize::MAX, u32::MAX);
     let mut piece = [0; 4_096];

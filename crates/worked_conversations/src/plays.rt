@@ -1,4 +1,4 @@
-//! Both ends against each other in memory: in pieces of each length, and whether one server answers all or each request has its own.
+//! Both sides against each other in memory: in chunks of each length, and with one server for all requests or one for each.
 
 ghost use Rattle.std.specs.Prelude.{◌<◌};
 
@@ -16,10 +16,10 @@ use git2show_lib::{play, read_script};
 use std::alloc::{AllocError, Global};
 use test_streams::Sink;
 
-/// The bytes go over in pieces of at most so many, from 1 on.
+/// The bytes go over in chunks of at most this length, from 1 on.
 const SHORT: usize = 65;
 
-/// And in the longest pieces of the program.
+/// And in the longest chunks of the program.
 const LONGEST: usize = 65_536;
 
 /// How many bytes a response end has.
@@ -72,7 +72,7 @@ fn played(
     Ok(run)
 }
 
-// How many bytes of response ends the client has received before a fault, where there are such: one for each response that was whole.
+// How many bytes of response ends the client has received before an error, if there are any: one response end for each whole response.
 fn response_ends(given: &[u8], ending: Ending) -> u64 {
     let mut bytes = 0u64;
     for line in given.split(|byte| *byte == b'\n') {
@@ -83,7 +83,7 @@ fn response_ends(given: &[u8], ending: Ending) -> u64 {
     bytes
 }
 
-// How a play ends: as the script states, and a fault comes after the response ends.
+// How a play ends: as the script states, with an error's offset after the response ends.
 fn due_ending(alloc: Global, script: &Script, ending: Ending) -> Result<String, Trouble> {
     let line = script.ending.as_str();
     let Some((fault, offset)) = line.trim_end().split_once(" at ") else {
@@ -107,7 +107,7 @@ fn due(alloc: Global, script: &Script, ending: Ending) -> Result<Due, Trouble> {
     })
 }
 
-// Plays it in pieces of each length. Answers how many runs were made.
+// Plays it in chunks of each length. Returns how many runs were made.
 fn goes_with(
     alloc: Global,
     contents: Contents<'_>,
@@ -130,7 +130,7 @@ fn goes_with(
     Ok(runs.saturating_add(1))
 }
 
-/// The play goes as the script states, with either ending of the responses. Answers how many runs were made.
+/// The play goes as the script states, with either ending of the responses. Returns how many runs were made.
 pub fn goes(alloc: Global, contents: Contents<'_>, script: &Script) -> Result<usize, Trouble> {
     let by_flush = goes_with(alloc, contents, script, Ending::FlushOnly)?;
     let by_response_end = goes_with(alloc, contents, script, Ending::ResponseEnd)?;

@@ -15,7 +15,7 @@ use git_pkt::{Fault, Got, Packet, PacketReader, text};
 use hex::ToHex;
 use std::alloc::{AllocError, Global};
 
-/// What a packet brought.
+/// The result of a packet.
 #[derive(Drop)]
 enum Brought {
     More,
@@ -24,7 +24,7 @@ enum Brought {
     Stop,
 }
 
-/// A request reader of which each argument was kept.
+/// A request reader that has kept each argument.
 #[derive(Drop)]
 struct Keeper {
     reader: RequestReader<Global>,
@@ -32,7 +32,7 @@ struct Keeper {
 }
 
 impl Keeper {
-    // Gives the reader a packet, and keeps the argument that it is.
+    // Gives the reader a packet, and keeps its argument, if it is one.
     fn hear(&mut self, packet: Packet<'_>, offset: u64) -> Result<Brought, Fault> {
         let taken = match self.reader.take(packet, offset, &mut Steps::new()) {
             Ok(taken) => taken,
@@ -50,7 +50,7 @@ impl Keeper {
     }
 }
 
-// Appends the words that are set, a line each.
+// Appends the words whose flags are set, a line each.
 fn append_flags(lines: &mut Vec<u8>, flags: &[(bool, &str)]) -> Result<(), AllocError> {
     for (is_set, name) in flags {
         if *is_set {
@@ -89,7 +89,7 @@ fn append_objects(
     Ok(())
 }
 
-// Appends the line of a number that a request may have.
+// Appends the line of a number, if the request has it.
 fn append_number(
     alloc: Global,
     lines: &mut Vec<u8>,
@@ -105,7 +105,7 @@ fn append_number(
     }
 }
 
-// Appends how a request cuts the history off.
+// Appends how a request cuts off the history.
 fn append_shallow(
     alloc: Global,
     lines: &mut Vec<u8>,
@@ -179,7 +179,7 @@ fn append_request(
     append_objects(alloc, lines, "oid", request.oids())
 }
 
-// Appends the line of what a packet brought. Answers whether it was the last.
+// Appends the line of a packet's result. Returns whether it was the last packet.
 fn append_heard(
     alloc: Global,
     lines: &mut Vec<u8>,
@@ -199,7 +199,7 @@ fn append_heard(
     Ok(false)
 }
 
-// How a reader ended at a fault, which it keeps.
+// How a reader ended with an error, which it keeps reporting.
 fn refused(alloc: Global, keeper: &mut Keeper, fault: Fault) -> Result<String, Trouble> {
     if keeper.hear(Packet::Flush, 7).err() != Some(fault) {
         return Err(Trouble::Breaks("a reader goes on after its fault"));
@@ -207,7 +207,7 @@ fn refused(alloc: Global, keeper: &mut Keeper, fault: Fault) -> Result<String, T
     Ok(format!(in alloc; "refused {fault}\n")?)
 }
 
-// Gives the reader a packet, and appends the line of what that brought. Answers how it ended, if it did.
+// Gives the reader a packet, and appends the line of its result. Returns how the reader ended, if it did.
 fn hear(
     alloc: Global,
     keeper: &mut Keeper,
@@ -224,17 +224,17 @@ fn hear(
     }
 }
 
-/// How far a piece was used.
+/// How far a chunk was used.
 #[derive(Drop)]
 enum Used<'a> {
     Whole,
     /// Up to the end of a packet: this is left.
     Front(&'a [u8]),
-    /// Up to where it ended as this line reports.
+    /// Up to where the reader ended as this line reports.
     Ended(String),
 }
 
-// Feeds a piece up to the end of a packet.
+// Feeds a chunk up to the end of a packet.
 fn feed_packet<'a>(
     alloc: Global,
     packets: &mut PacketReader,
@@ -257,7 +257,7 @@ fn feed_packet<'a>(
     }
 }
 
-// Feeds a piece whole. Answers how it ended, if it did.
+// Feeds a whole chunk. Returns how the reader ended, if it did.
 fn feed(
     alloc: Global,
     packets: &mut PacketReader,
@@ -279,7 +279,7 @@ fn feed(
     Err(Trouble::Breaks("a piece is never used up"))
 }
 
-/// What a reader that keeps so much of a request receives in the pieces, after which the input ends.
+/// What a reader with this limit receives in the chunks. Then the input ends.
 pub fn heard(alloc: Global, offer: Offer, limit: u32, pieces: &[&[u8]]) -> Result<Run, Trouble> {
     let mut packets = PacketReader::new();
     let mut keeper = Keeper {

@@ -1,4 +1,4 @@
-//! One end over an input that is cut in every way and ended everywhere, and what is due of it.
+//! One side over an input that is cut in every way and ended everywhere, and the expected result.
 
 use crate::ends::End;
 use crate::escapes::{escaped, length_told};
@@ -9,21 +9,21 @@ use crate::trouble::Trouble;
 use git_pkt::BAND_HEAD;
 use std::alloc::{AllocError, Global};
 
-/// What came of a run.
+/// The result of a run.
 #[derive(Drop)]
 pub struct Run {
-    /// What the end gave, and beside it the bytes of the pack and of the progress, joined.
+    /// The output, and the bytes of the pack and of the progress, joined.
     pub given: Vec<u8>,
     pub pack: Vec<u8>,
     pub progress: Vec<u8>,
     /// How it ended, a line or more.
     pub ending: String,
-    /// How many bytes it used, where the end reports that.
+    /// How many bytes it used, if it reports that.
     pub used: Option<usize>,
 }
 
 impl Run {
-    /// A run of an end that gives no bytes on side bands.
+    /// A run without bytes on side bands.
     pub fn new(alloc: Global, given: Vec<u8>, ending: String, used: Option<usize>) -> Run {
         Run {
             given,
@@ -35,17 +35,17 @@ impl Run {
     }
 }
 
-/// How much of what is due of a run is known.
+/// How much of the expected result is known.
 #[derive(Clone, Copy, PartialEq, Eq)]
 pub enum Known {
     All,
-    /// What is given, and the first line of the ending.
+    /// The output, and the first line of the ending.
     Given,
-    /// That what is given begins what is stated here, and the first line of the ending.
+    /// That the output is a prefix of the one stated here, and the first line of the ending.
     Front,
 }
 
-/// What is due of a run.
+/// The expected result of a run.
 #[derive(Drop)]
 pub struct Due {
     pub given: Vec<u8>,
@@ -56,7 +56,7 @@ pub struct Due {
     pub known: Known,
 }
 
-/// Near its two ends alone an input of more bytes is cut and ended.
+/// An input of more bytes is cut and ended only near its two ends.
 const LONG: usize = 3_000;
 
 const NEAR: usize = 8;
@@ -65,7 +65,7 @@ fn is_cut_at(length: usize, place: usize) -> bool {
     length < LONG || place < NEAR || length.saturating_sub(place) < NEAR
 }
 
-// The last step that ends by here, and whether something was given for it.
+// The last step that ends here or earlier, and whether it had output.
 fn last_step(script: &Script, end: usize) -> (Step, bool) {
     let mut last = script.greeting;
     let mut is_answered = true;
@@ -78,8 +78,8 @@ fn last_step(script: &Script, end: usize) -> (Step, bool) {
     (last, is_answered)
 }
 
-// How many bytes of the pack and of the progress are handed out where the input ends here, after this step: of a packet on their
-// bands all that has come after its first five bytes.
+// How many bytes of the pack and of the progress are handed out if the input ends here, after this step: all bytes so far after the first
+// five of a packet on their bands.
 fn on_bands(script: &Script, last: Step, at: usize) -> (usize, usize) {
     let come = at.saturating_sub(last.input).saturating_sub(BAND_HEAD);
     for step in script.steps.as_slice() {
@@ -100,7 +100,7 @@ fn front(alloc: Global, bytes: &Vec<u8>, count: usize) -> Result<Vec<u8>, AllocE
     copied(alloc, bytes.as_slice().get(..count).unwrap_or(&[]))
 }
 
-// Where the last packet ends that ends by here.
+// Where the last packet ends that is whole by here.
 fn last_packet(input: &[u8], at: usize) -> usize {
     let mut end = 0usize;
     for _ in 0..MANY {
@@ -116,7 +116,7 @@ fn last_packet(input: &[u8], at: usize) -> usize {
     end
 }
 
-// What is due where the input ends at this byte of a recording.
+// The expected result if the input ends at this byte of a recording.
 fn recorded_due_at(
     alloc: Global,
     end: &End<'_>,
@@ -134,7 +134,7 @@ fn recorded_due_at(
     })
 }
 
-/// What is due where the input ends at this byte.
+/// The expected result if the input ends at this byte.
 pub fn due_at(alloc: Global, end: &End<'_>, script: &Script, at: usize) -> Result<Due, Trouble> {
     let told = script.told();
     if told <= at {
@@ -174,7 +174,7 @@ fn first_line(text: &str) -> &str {
     text.split_once('\n').unwrap_or((text, "")).0
 }
 
-// How bytes that came are reported.
+// Reports bytes other than the expected ones.
 fn told(alloc: Global, place: usize, what: &str, came: &[u8]) -> Result<Trouble, AllocError> {
     let came = escaped(alloc, came)?;
     let came = String::from_utf8_lossy(alloc, came.as_slice())?;
@@ -182,7 +182,7 @@ fn told(alloc: Global, place: usize, what: &str, came: &[u8]) -> Result<Trouble,
     Ok(Trouble::Differs(format!(in alloc; "at {place}, {what}: {came}")?))
 }
 
-// Whether what came is what is due, or begins it where no more is known.
+// Whether the result is the expected one, or a prefix of it if no more is known.
 fn is_due(came: &Vec<u8>, due: &Vec<u8>, known: Known) -> bool {
     match known {
         Known::All | Known::Given => came.as_slice() == due.as_slice(),
@@ -190,7 +190,7 @@ fn is_due(came: &Vec<u8>, due: &Vec<u8>, known: Known) -> bool {
     }
 }
 
-/// Compares what came with what is due.
+/// Compares the result with the expected one.
 pub fn compare(alloc: Global, run: &Run, due: &Due, place: usize) -> Result<(), Trouble> {
     for (what, came, wanted) in [
         ("given", &run.given, &due.given),
@@ -218,7 +218,7 @@ pub fn compare(alloc: Global, run: &Run, due: &Due, place: usize) -> Result<(), 
     }
 }
 
-// The bytes one by one, with empty pieces between.
+// The bytes one by one, with empty chunks between.
 fn single_bytes(alloc: Global, input: &[u8]) -> Result<Vec<&[u8]>, Trouble> {
     let mut single: Vec<&[u8]> = Vec::new(alloc);
     for byte in input.chunks(1) {
@@ -228,7 +228,7 @@ fn single_bytes(alloc: Global, input: &[u8]) -> Result<Vec<&[u8]>, Trouble> {
     Ok(single)
 }
 
-// The case goes as it states where it is cut in two at a byte, and where it ends there.
+// The case passes if its input is cut in two at a byte, and if it ends there.
 fn goes_cut(
     alloc: Global,
     end: &End<'_>,
@@ -243,8 +243,8 @@ fn goes_cut(
     end.goes(alloc, script, &[front], &ended, at)
 }
 
-/// The case goes as it states: whole, cut in two at each byte, in single bytes with empty pieces between, and ended
-/// at each byte. Answers how many runs were made.
+/// The case passes: whole, cut in two at each byte, in single bytes with empty chunks between, and ended at each byte. Returns how many
+/// runs were made.
 pub fn goes(alloc: Global, end: &End<'_>, script: &Script) -> Result<usize, Trouble> {
     let input = script.input.as_slice();
     let due = due_at(alloc, end, script, input.len())?;

@@ -1,4 +1,4 @@
-//! The lines of a case: what comes, what is given for it, and how it ends.
+//! The lines of a case: the input, the output for it, and how it ends.
 
 use crate::escapes::{append_unescaped, escaped};
 use crate::texts::{append, append_str, copied};
@@ -6,7 +6,7 @@ use crate::trouble::Trouble;
 use crate::wordings::Wording;
 use std::alloc::{AllocError, Global};
 
-/// How a line of what is given is written.
+/// How a line of output is written.
 #[derive(Clone, Copy, PartialEq, Eq)]
 pub enum Given {
     /// Escaped bytes, one line after another with nothing between.
@@ -17,7 +17,7 @@ pub enum Given {
     Talk,
 }
 
-/// Where a step ends, in what comes and in what is given.
+/// Where a step ends, in the input and in the output.
 #[derive(Clone, Copy, Default, PartialEq, Eq)]
 pub struct Step {
     pub input: usize,
@@ -26,7 +26,7 @@ pub struct Step {
     pub progress: usize,
 }
 
-/// What a line with a plus sign goes on with.
+/// What a line with a plus sign continues.
 #[derive(Clone, Copy, PartialEq, Eq)]
 enum Last {
     Nothing,
@@ -38,7 +38,7 @@ enum Last {
     Ending,
 }
 
-/// What was recorded of a client and a server: what each of them sent, and the pack bytes among it.
+/// The recording of a client and a server: what each of them sent, and the pack bytes among it.
 #[derive(Drop)]
 pub struct Recording {
     pub requests: Vec<u8>,
@@ -49,23 +49,23 @@ pub struct Recording {
 /// What the lines of a case contain.
 #[derive(Drop)]
 pub struct Script {
-    /// What comes, whole: the steps, and after them what is left unread.
+    /// The whole input: the steps, and after them what is left unread.
     pub input: Vec<u8>,
-    /// What is given, whole.
+    /// The whole output.
     pub given: Vec<u8>,
-    /// What is given of the pack and of the progress, whole.
+    /// The whole output of pack and progress bytes.
     pub pack: Vec<u8>,
     pub progress: Vec<u8>,
     /// Where each step ends.
     pub steps: Vec<Step>,
-    /// What was given before the first step.
+    /// The output before the first step.
     pub greeting: Step,
-    /// Whether the steps are not known, since all that comes was recorded.
+    /// Whether the steps are not known, because all of the input was recorded.
     pub is_recorded: bool,
-    /// What a second stream has, whole, and how much of it is read; of a client, what it sends.
+    /// The whole second stream, and how much of it is read; for a client, what it sends.
     pub asked: Vec<u8>,
     pub asked_read: usize,
-    /// What a client is to ask, and whether it leaves then.
+    /// What a client has to ask, and whether it leaves then.
     pub wordings: Vec<Wording>,
     pub leaves: bool,
     /// The lines that state how it ends, each with its LF.
@@ -125,7 +125,7 @@ impl Script {
         Ok(())
     }
 
-    // A step, or what is left after the end.
+    // A step, or the bytes left after the end.
     fn take_input(&mut self, text: &str) -> Result<(), Trouble> {
         append_unescaped(&mut self.input, text)?;
         self.last = Last::Input;
@@ -135,7 +135,7 @@ impl Script {
         }
     }
 
-    // A step ends where the bytes so far do.
+    // A step ends where the bytes so far end.
     fn end_step(&mut self) -> Result<(), Trouble> {
         let step = self.reached();
         self.steps.push(step).map_err(|_| Trouble::OutOfMemory)
@@ -173,7 +173,7 @@ impl Script {
         Ok(())
     }
 
-    // A packet that is sent: a line among what is given.
+    // A packet that is sent: a line of the output.
     fn take_sent(&mut self, alloc: Global, text: &str) -> Result<(), Trouble> {
         let start = self.asked.len();
         append_unescaped(&mut self.asked, text)?;
@@ -191,7 +191,7 @@ impl Script {
             .map_err(|_| Trouble::OutOfMemory)
     }
 
-    // An argument of what is asked last.
+    // An argument of the last request.
     fn take_argument(&mut self, alloc: Global, text: &str) -> Result<(), Trouble> {
         let mut argument = Vec::new(alloc);
         append_unescaped(&mut argument, text)?;
@@ -218,7 +218,7 @@ impl Script {
         Ok(())
     }
 
-    /// Takes what was recorded: what was sent, which has to be what the lines state, all that came, and its pack.
+    /// Takes a recording: what was sent, which has to be what the lines state, all input, and its pack.
     pub fn take_recording(&mut self, recording: Recording) -> Result<(), Trouble> {
         if self.asked.as_slice() != recording.requests.as_slice() {
             return Err(Trouble::BadCase("other requests than were recorded"));
@@ -232,7 +232,7 @@ impl Script {
         self.end_step()
     }
 
-    /// Takes what was recorded as the streams that are checked against each other: all of both.
+    /// Takes a recording as the streams that are checked against each other: all of both.
     pub fn take_conversation(&mut self, recording: Recording) -> Result<(), Trouble> {
         if !self.asked.is_empty() || !self.steps.is_empty() {
             return Err(Trouble::BadCase("more comes than was recorded"));
@@ -244,7 +244,7 @@ impl Script {
         self.end_step()
     }
 
-    // Goes on with what is given, whose last line is not at its end yet where it is lines.
+    // Continues the output. If that is lines, its last line has no end yet.
     fn give_more(&mut self, count: u32, text: &str, form: Given) -> Result<(), Trouble> {
         if form == Given::Bytes {
             return append_often(&mut self.given, count, text);
@@ -254,7 +254,7 @@ impl Script {
         Ok(append(&mut self.given, b"\n")?)
     }
 
-    // Goes on with the last line of the ending.
+    // Continues the last line of the ending.
     fn end_more(&mut self, count: u32, text: &str) -> Result<(), Trouble> {
         self.ending.pop();
         for _ in 0..count {
@@ -263,7 +263,7 @@ impl Script {
         Ok(append_str(&mut self.ending, "\n")?)
     }
 
-    // Goes on with the line before: so many times these bytes.
+    // Continues the line before: this many times these bytes.
     fn take_more(&mut self, text: &str, form: Given) -> Result<(), Trouble> {
         let (count, text) = text.split_once(' ').unwrap_or((text, ""));
         let count = count
@@ -285,7 +285,7 @@ impl Script {
         Ok(())
     }
 
-    // The packet before comes so many times more, each a step for which nothing is given.
+    // The packet before comes this many times more, each a step without output.
     fn take_again(&mut self, alloc: Global, count: &str) -> Result<(), Trouble> {
         let count = count
             .parse::<u32>()
@@ -304,13 +304,13 @@ impl Script {
         Ok(())
     }
 
-    /// What comes between the ends of two steps.
+    /// The input between the ends of two steps.
     pub fn between(&self, last: Step, next: Step) -> &[u8] {
         let bytes = self.input.as_slice().get(last.input..next.input);
         bytes.unwrap_or(&[])
     }
 
-    // The last step ends where the bytes so far do.
+    // The last step ends where the bytes so far end.
     fn mark(&mut self) {
         if !self.ending.is_empty() {
             return;
@@ -322,7 +322,7 @@ impl Script {
         }
     }
 
-    /// How many bytes all steps have.
+    /// How many bytes all steps have together.
     pub fn told(&self) -> usize {
         match self.steps.as_slice().last() {
             Some(step) => step.input,

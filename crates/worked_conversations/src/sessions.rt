@@ -18,18 +18,18 @@ use test_streams::Pieces;
 pub struct Reads {
     /// The first of them that fails, from 0.
     pub fail_from: u32,
-    /// How many bytes each of them gives at the most.
+    /// The maximum number of bytes that each of them returns.
     pub most: usize,
 }
 
-/// What a server gives.
+/// The contents of a server's repository.
 #[derive(Clone, Copy)]
 pub struct Contents<'a> {
     /// The text of its repository.
     pub text: &'a [u8],
     /// Its pack.
     pub pack: &'a [u8],
-    /// Its pack for requests that have a filter, where they do not get the other.
+    /// Its pack for requests with a filter, if that is another one.
     pub filtered: Option<&'a [u8]>,
 }
 
@@ -37,11 +37,11 @@ pub struct Contents<'a> {
 #[derive(Drop)]
 pub struct Setup<'a> {
     pub contents: Contents<'a>,
-    /// How the pack is read, where that is not as always.
+    /// How the pack is read, if not in the default way.
     pub reads: Option<Reads>,
-    /// How many bytes of a request's arguments it keeps at the most.
+    /// The maximum number of bytes of a request's arguments.
     pub limit: u32,
-    /// Whether it offers the features of `fetch`.
+    /// Whether it advertises the features of `fetch`.
     pub features: bool,
     /// Whether its advertisement comes first.
     pub advertises: bool,
@@ -85,7 +85,7 @@ fn ending_of(alloc: Global, outcome: Outcome) -> Result<String, AllocError> {
     }
 }
 
-// Appends all that the server owes. Its outcome, if there is one.
+// Appends all that the server has to send. Returns its outcome, if there is one.
 fn drain<R: Repo>(
     server: &mut Server<R, Global>,
     output: &mut Vec<u8>,
@@ -100,14 +100,14 @@ fn drain<R: Repo>(
     Err(Trouble::Breaks("an answer has no end"))
 }
 
-// How many bytes of a piece a server uses.
+// How many bytes of a chunk a server uses.
 fn used_of<R: Repo>(server: &mut Server<R, Global>, piece: &[u8]) -> usize
     ensures used { result ≤ length piece.now }
 {
     server.feed(piece, &mut Steps::new())
 }
 
-// Feeds a piece up to where the server has something to give, and appends that. Its outcome, and what is left of the piece.
+// Feeds a chunk up to the point where the server has something to send, and appends that. Returns its outcome, and the rest of the chunk.
 fn feed_front<'a, R: Repo>(
     server: &mut Server<R, Global>,
     piece: &'a [u8],
@@ -118,7 +118,7 @@ fn feed_front<'a, R: Repo>(
     Ok((outcome, &piece[used..]))
 }
 
-// Feeds a piece whole, and appends what the server gives for it. Its outcome, and how many bytes it used.
+// Feeds a whole chunk, and appends what the server sends for it. Returns its outcome, and how many bytes it used.
 fn feed<R: Repo>(
     server: &mut Server<R, Global>,
     piece: &[u8],
@@ -135,7 +135,7 @@ fn feed<R: Repo>(
     Err(Trouble::Breaks("a piece is never used up"))
 }
 
-// The outcome that a server has, if it has nothing more to give.
+// The outcome of a server, if it has nothing more to send.
 fn outcome_of<R: Repo>(server: &mut Server<R, Global>) -> Option<Outcome> {
     match server.pull() {
         Pulled::Finished(outcome) => Some(outcome),
@@ -143,7 +143,7 @@ fn outcome_of<R: Repo>(server: &mut Server<R, Global>) -> Option<Outcome> {
     }
 }
 
-// A server whose session is over uses nothing more, gives nothing more, and has its outcome's fault.
+// A server whose session is over uses nothing more, sends nothing more, and has its outcome's error.
 fn check_over<R: Repo>(server: &mut Server<R, Global>, outcome: Outcome) -> Result<(), Trouble> {
     let used = used_of(server, b"0000");
     let again = outcome_of(server);
@@ -156,7 +156,7 @@ fn check_over<R: Repo>(server: &mut Server<R, Global>, outcome: Outcome) -> Resu
     Ok(())
 }
 
-// Feeds all pieces to a new server. Its last outcome, and how many bytes it used.
+// Feeds all chunks to a new server. Returns its last outcome, and how many bytes it used.
 fn feed_all<R: Repo>(
     server: &mut Server<R, Global>,
     pieces: &[&[u8]],
@@ -172,7 +172,7 @@ fn feed_all<R: Repo>(
     Ok((outcome, used))
 }
 
-// The input ends here, where a server wants more of it. Its outcome, which is this one where it wants nothing more.
+// Ends the input, if the server needs more of it. Returns the outcome, which is the one passed in if no more is needed.
 fn close<R: Repo>(
     server: &mut Server<R, Global>,
     outcome: Option<Outcome>,
@@ -186,7 +186,7 @@ fn close<R: Repo>(
     outcome.ok_or(Trouble::Breaks("a closed server has no outcome"))
 }
 
-// Feeds the pieces to a new server, after which the input ends.
+// Feeds the chunks to a new server. Then the input ends.
 fn fed_to<R: Repo + Drop>(
     alloc: Global,
     mut server: Server<R, Global>,
@@ -200,7 +200,7 @@ fn fed_to<R: Repo + Drop>(
     Ok(Run::new(alloc, given, ending, Some(used)))
 }
 
-/// Feeds the pieces to a server, after which the input ends.
+/// Feeds the chunks to a server. Then the input ends.
 pub fn fed(alloc: Global, setup: &Setup<'_>, pieces: &[&[u8]]) -> Result<Run, Trouble> {
     let repo = repository(alloc, setup.contents)?;
     match setup.reads {
@@ -212,7 +212,7 @@ pub fn fed(alloc: Global, setup: &Setup<'_>, pieces: &[&[u8]]) -> Result<Run, Tr
     }
 }
 
-// Serves the pieces, and appends what the server gives.
+// Serves the chunks, and appends what the server sends.
 fn serve_pieces<R: Repo>(
     server: &mut Server<R, Global>,
     pieces: &[&[u8]],
@@ -231,7 +231,7 @@ fn ending_of_run(alloc: Global, run: Result<Outcome, RunFault>) -> Result<String
     }
 }
 
-// Serves the pieces by a new server.
+// Serves the chunks with a new server.
 fn served_by<R: Repo + Drop>(
     alloc: Global,
     mut server: Server<R, Global>,
@@ -243,7 +243,7 @@ fn served_by<R: Repo + Drop>(
     Ok(Run::new(alloc, given, ending, None))
 }
 
-/// Serves the pieces.
+/// Serves the chunks.
 pub fn served(alloc: Global, setup: &Setup<'_>, pieces: &[&[u8]]) -> Result<Run, Trouble> {
     let repo = repository(alloc, setup.contents)?;
     match setup.reads {

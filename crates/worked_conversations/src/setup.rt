@@ -1,4 +1,4 @@
-//! How the ends of all cases are set up, and numbers that no case reaches.
+//! How the sides of all cases are set up, and numbers that no case reaches.
 
 ghost use Rattle.std.specs.Prelude.{◌≡◌};
 
@@ -17,7 +17,7 @@ pub const LAST_POSITION: u64 = 9_223_372_036_854_775_807;
 /// The most bytes that the texts of a request's arguments may have.
 pub const MOST_KEPT: u32 = 1_073_741_824;
 
-/// All that may be offered, in this format, but the features of `fetch` and the command `object-info` where they are left out.
+/// Everything that may be advertised, in this format, except the features of `fetch` and the command `object-info` if they are left out.
 pub fn offer(format: Format, features: bool) -> Offer
     ensures format { result.format ≡ format }
 {
@@ -30,7 +30,7 @@ pub fn offer(format: Format, features: bool) -> Offer
     }
 }
 
-/// The limit that a case gives, or the highest that there is.
+/// The limit of a case, or the highest one.
 pub fn limits(args: u32) -> Limits {
     Limits {
         args: args.min(MOST_KEPT),

@@ -1,4 +1,4 @@
-//! Tables: each text that comes is read or written by itself, and what is reported of it are lines.
+//! Tables: each input text is read or written by itself, and the results are lines.
 
 use crate::asking::argument_of;
 use crate::clients::append_noted;
@@ -26,9 +26,9 @@ pub enum Table {
     ObjectNames(Format),
     ReferenceNames,
     CapabilityLines,
-    /// It is the capability lines of an advertisement, parted by LF.
+    /// It is the capability lines of an advertisement, separated by LF.
     Notes,
-    /// It is an argument of this command, whose features are offered or not.
+    /// It is an argument of this command, with its features advertised or not.
     Arguments(Command, Format, bool),
     ReferenceLines(Format),
     RepositoryTexts,
@@ -38,7 +38,7 @@ pub enum Table {
     Lists(Format),
 }
 
-/// What is on a line after a word.
+/// The rest of a line after a word.
 #[derive(Clone, Copy)]
 enum Said<'a> {
     Nothing,
@@ -226,7 +226,7 @@ fn say_reference(
     }
 }
 
-// Appends the format of a repository text, what its `HEAD` points to where that is unborn, and its references.
+// Appends the format of a repository text, the name that its `HEAD` points to if it is unborn, and its references.
 fn say_repository(alloc: Global, lines: &mut Vec<u8>, text: &[u8]) -> Result<(), Trouble> {
     let packs = Packs {
         pack: Vec::new(alloc),
@@ -261,7 +261,7 @@ fn say_repository(alloc: Global, lines: &mut Vec<u8>, text: &[u8]) -> Result<(),
     Ok(())
 }
 
-// Appends the packets of each request of a script, as they are written to one who advertised all that may be named.
+// Appends the packets of each request of a script, as they are written to a server that advertised everything.
 fn say_script(
     alloc: Global,
     lines: &mut Vec<u8>,
@@ -283,7 +283,7 @@ fn say_script(
     Ok(())
 }
 
-// A text gives other lines than are after it.
+// The lines of a text are not those after it.
 fn differs(alloc: Global, text: &[u8], told: &[u8]) -> Result<Trouble, AllocError> {
     let text = escaped(alloc, text)?;
     let told = escaped(alloc, told)?;
@@ -318,7 +318,7 @@ impl Table {
         Ok(lines)
     }
 
-    /// Each text gives the lines that are after it. Answers how many texts there are.
+    /// Each text has the lines after it as its result. Returns how many texts there are.
     pub fn goes(self, alloc: Global, script: &Script) -> Result<usize, Trouble> {
         let mut last = Step::default();
         for step in script.steps.as_slice() {

@@ -1,16 +1,16 @@
-//! What keeps a case from going as it states.
+//! Why a case does not pass.
 
 use std::alloc::{AllocError, AllocFailed};
 use std::io;
 
-/// Why a case did not go as it states.
+/// Why a case did not pass.
 #[derive(Debug, Drop)]
 pub enum Trouble {
     /// Its text is no case.
     BadCase(&'static str),
-    /// What came is not what it states: at which place the input was cut or ended, and what came.
+    /// The result is not the stated one: where the input was cut or ended, and the result.
     Differs(String),
-    /// An end broke a rule that holds in every case.
+    /// A side broke a rule that holds in every case.
     Breaks(&'static str),
     /// Memory ran out.
     OutOfMemory,

@@ -1,4 +1,4 @@
-//! What a case asks of a client: requests, each made of the texts of its arguments.
+//! What a case asks of a client: requests, each made from the texts of its arguments.
 
 use crate::asking::{argument_of, written};
 use crate::setup::{MOST_KEPT, limits, offer};
@@ -17,7 +17,7 @@ pub struct Wording {
 }
 
 impl Wording {
-    /// A request that has no argument yet, by its words: the command's name, and the format where it is not SHA-1.
+    /// A request without arguments, by its words: the command's name, and the format if it is not SHA-1.
     pub fn new(alloc: Global, words: &str) -> Result<Wording, Trouble> {
         let (name, format) = words.split_once(' ').unwrap_or((words, "sha1"));
         let command = match name {
@@ -36,7 +36,7 @@ impl Wording {
         })
     }
 
-    // Adds the argument that a text is.
+    // Adds the argument with this text.
     fn add(
         &self,
         request: &mut Request<Global>,
@@ -52,7 +52,7 @@ impl Wording {
         }
     }
 
-    /// The request, of whose arguments each is read as by one who offers all of them.
+    /// The request, whose arguments are read as by a server that advertises all of them.
     pub fn request(&self, alloc: Global) -> Result<Request<Global>, Trouble> {
         let offer = offer(self.format, true);
         let mut request = Request::new(alloc, self.command, self.format, limits(MOST_KEPT));
@@ -63,7 +63,7 @@ impl Wording {
     }
 }
 
-/// All that a request is, as it would be written.
+/// The whole request, as it is written.
 pub fn shown(alloc: Global, request: &Request<Global>) -> Result<Vec<u8>, Trouble> {
     let caps = Caps {
         agent: true,

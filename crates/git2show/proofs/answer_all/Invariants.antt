@@ -1,4 +1,4 @@
--- What was read after the last request lies in the piece.
+-- The bytes read after the last request are in the chunk.
 use Rattle.std.proofs.Common.{◌≤◌, length}
 use Rattle.git2show.proofs.answer_all.Given as goal
 

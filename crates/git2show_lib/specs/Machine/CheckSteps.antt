@@ -7,7 +7,6 @@ use Rattle.git_pkt.specs.Streams.{Flow, flow, IsTimely}
 use Rattle.git_pkt.specs.declared.fault.Fault.{Fault}
 use Rattle.git_pkt.specs.declared.fault.RunFault.{RunFault}
 use Rattle.git_pkt.specs.declared.fault.Kind.TheVariants.{UnexpectedPacket}
-use Rattle.git_msg.specs.Asked.{Asked}
 use Rattle.git_msg.specs.Machine.HeldRequest.{asked_of, format_of}
 use Rattle.git_msg.specs.Requests.{IsStop}
 use Rattle.git_msg.specs.declared.requests.Request.{Request}
@@ -15,7 +14,11 @@ use Rattle.git_client.specs.Machine.RunSteps.{HearsTo, HearsWhole, window_of}
 use Rattle.git_client.specs.declared.client.Client.{Client}
 use Rattle.git_client.specs.declared.hearing.Window.{Window}
 use Rattle.git2show_lib.specs.Others.{judged_of}
-use Rattle.git2show_lib.specs.Machine.JudgedRequests.{HasRead, AreAskedBy, IsBegun, IsReady, IsRefused, advertised_by, limit_of, offer_of, text_of}
+use Rattle.git2show_lib.specs.OtherLines.{Question, other}
+use Rattle.git2show_lib.specs.Machine.KeptLines.{noted_in}
+use Rattle.git2show_lib.specs.Machine.JudgedRequests.{HasRead, AreAskedBy, IsBegun, IsReady, IsRefused, advertised_by, limit_of, offer_of, question_of}
+use Rattle.git2show_lib.specs.Machine.JudgedRequests.{text_of}
+use Rattle.git2show_lib.specs.declared.judged_requests.Judged.{Judged}
 use Rattle.git2show_lib.specs.Machine.Noting.{HasNotedLines}
 use Rattle.git2show_lib.specs.declared.judged_requests.JudgedRequests.{JudgedRequests}
 use Rattle.git2show_lib.specs.declared.noting.Noting.{Noting}
@@ -36,23 +39,23 @@ module _ {A : Type 0} where
   HearsNoting (Err fault) ended old new notes piece reader out = HearsTo (Err fault) ended old new [] piece reader out nowhere nowhere
 
   -- of the bytes that waited and those that came, all but the last were used, and they ask this
-  pub record ReadsOn (old new : JudgedRequests A) (asked : List (Option Asked)) (waiting unused : List ℕ) (reader : Flow) : Type 0 where
+  pub record ReadsOn (old new : JudgedRequests A) (asked : List Question) (waiting unused : List ℕ) (reader : Flow) : Type 0 where
     pub came : List ℕ
     pub used : List ℕ
     pub read : Consumes reader.before reader.after came
     pub parts : waiting ++ came ≡ used ++ unused
-    pub reads : (before : List ℕ) (known : List (Option Asked)) → HasRead before known old → HasRead (before ++ used) (known ++ asked) new
+    pub reads : (before : List ℕ) (known : List Question) → HasRead before known old → HasRead (before ++ used) (known ++ asked) new
     pub advertised : advertised_by new ≡ advertised_by old
     pub limit : limit_of new ≡ limit_of old
 
   -- what the bytes used so far ask, whatever they are, with what comes after the last whole request
   abbrev pub Asking : JudgedRequests A → (List ℕ → List Given → List ℕ → Type 0) → Type 0
   Asking s Stands =
-      (before : List ℕ) (known : List (Option Asked)) → HasRead before known s
+      (before : List ℕ) (known : List Question) → HasRead before known s
       → (left : List Given) × (rest : List ℕ) × AreAskedBy (advertised_by s) (limit_of s) before known left rest × Stands before left rest
 
   -- a request was read whole, for a command that is known or not, and nothing after it
-  pub record ReadsWhole (ended : Bool) (old new : JudgedRequests A) (question : Option Asked) (waiting unused : List ℕ) (reader : Flow) : Type 0 where
+  pub record ReadsWhole (ended : Bool) (old new : JudgedRequests A) (question : Question) (waiting unused : List ℕ) (reader : Flow) : Type 0 where
     pub reads : ReadsOn old new (question ∷ []) waiting unused reader
     pub onward : IsReady new
     pub can_come : ended ≡ false
@@ -60,9 +63,9 @@ module _ {A : Type 0} where
     pub alone : Asking new (λ used left rest. (left ≡ []) × (rest ≡ []))
 
   -- it is this request
-  pub record ReadsRequest (ended : Bool) (old new : JudgedRequests A) (request : Request A) (waiting unused : List ℕ) (reader : Flow) : Type 0 where
-    pub whole : ReadsWhole ended old new (Some (asked_of request)) waiting unused reader
-    pub format : format_of request ≡ (offer_of new).format
+  pub record ReadsRequest (ended : Bool) (old new : JudgedRequests A) (judged : Judged A) (waiting unused : List ℕ) (reader : Flow) : Type 0 where
+    pub whole : ReadsWhole ended old new (question_of judged) waiting unused reader
+    pub format : format_of judged.request ≡ (offer_of new).format
 
   -- no further request comes: a flush comes instead of one, or the input ended after a whole one
   pub record ReadsNoMore (ended : Bool) (old new : JudgedRequests A) (waiting : List ℕ) (reader : Flow) : Type 0 where
@@ -85,9 +88,10 @@ module _ {A : Type 0} where
 
   -- how the next request was read
   abbrev pub ReadsTo : Result (Next A) CheckFault → Bool → JudgedRequests A → JudgedRequests A → List ℕ → Window → List ℕ → Flow → Type 0
-  ReadsTo (Ok (NextRequest request)) ended old new waiting window piece reader =
-      ReadsRequest ended old new request waiting (window_of window piece) reader
-  ReadsTo (Ok NextOther) ended old new waiting window piece reader = ReadsWhole ended old new None waiting (window_of window piece) reader
+  ReadsTo (Ok (NextRequest judged)) ended old new waiting window piece reader =
+      ReadsRequest ended old new judged waiting (window_of window piece) reader
+  ReadsTo (Ok (NextOther others)) ended old new waiting window piece reader =
+      ReadsWhole ended old new (other (noted_in others).lines) waiting (window_of window piece) reader
   ReadsTo (Ok NextNothing) ended old new waiting window piece reader = ReadsNoMore ended old new waiting reader
   ReadsTo (Err (Requests fault)) ended old new waiting window piece reader = ReadsFault fault ended old new waiting reader
   ReadsTo (Err ReadFault) ended old new waiting window piece reader = ReadsAll ended old new waiting reader

@@ -1,12 +1,14 @@
 -- What a check of two recorded streams results in: what the requests ask, what the responses to them contain, and how it ended.
-use Rattle.std.specs.Prelude.{◌≡◌, ◌⊎◌, ℕ, ◌+◌, ◌<◌, ◌≤◌, min, All, Bool, true, false, List, [], ◌∷◌, ◌++◌, length, Option, Some, None, Result, Ok, Err}
-use Rattle.git_pkt.specs.Splits.{Given}
+use Rattle.std.specs.Prelude.{◌≡◌, ◌≢◌, ◌⊎◌, ℕ, ◌+◌, ◌-◌, ◌<◌, ◌≤◌, min, All, Bool, true, false, List, [], ◌∷◌, ◌++◌, length, Option, Some, None, Result, Ok, Err}
+use Rattle.git_names.specs.declared.object_format.Format.{Format}
+use Rattle.git_pkt.specs.Packets.{Pkt, spelling_of}
+use Rattle.git_pkt.specs.Splits.{Given, Splits}
 use Rattle.git_pkt.specs.Faults.{IsOpen}
 use Rattle.git_pkt.specs.Streams.{IsTimely}
 use Rattle.git_pkt.specs.declared.fault.Fault.{Fault}
 use Rattle.git_pkt.specs.declared.fault.RunFault.{RunFault}
 use Rattle.git_pkt.specs.declared.fault.RunFault.TheVariants.{ReadFault as RunReadFault, WriteFault as RunWriteFault, ReadLimit as RunReadLimit, Refused}
-use Rattle.git_pkt.specs.declared.fault.Kind.TheVariants.{UnexpectedPacket}
+use Rattle.git_pkt.specs.declared.fault.Kind.TheVariants.{Truncated, UnexpectedPacket}
 use Rattle.git_msg.specs.Advertisement.{noted_offer, offers_command}
 use Rattle.git_msg.specs.Asked.{Asked, command_asked}
 use Rattle.git_msg.specs.Machine.HeldRequest.{asked_of, format_of}
@@ -14,13 +16,18 @@ use Rattle.git_msg.specs.Requests.{IsStop}
 use Rattle.git_msg.specs.declared.offers.Caps.{Caps}
 use Rattle.git_msg.specs.declared.offers.Offer.{Offer}
 use Rattle.git_msg.specs.declared.requests.Request.{Request}
-use Rattle.git_client.specs.Machine.Client.{History}
-use Rattle.git_client.specs.Conversation.{GoesOn, HasEvents, HasNoted, IsConversation}
+use Rattle.git_client.specs.Machine.Client.{History, spelled}
+use Rattle.git_client.specs.Conversation.{FirstMalformed, GoesOn, HasEvents, HasNoted, IsConversation}
 use Rattle.git_client.specs.Events.{EventValue, turns_of}
 use Rattle.git_client.specs.Parts.{Terms}
 use Rattle.git_client.specs.Machine.Runs.{IsMalformed, IsRefusedRequest}
-use Rattle.git_client.specs.Transcript.{transcript_of}
+use Rattle.git_client.specs.Machine.RunSteps.{IsOneTurn}
+use Rattle.git_client.specs.Transcript.{asked_line, transcript_from}
 use Rattle.git2show_lib.specs.Others.{Advertised, BreakOff, HasLines, IsAnswerBegun, IsOtherAnswer, judged_of}
+use Rattle.git2show_lib.specs.OtherLines.{Noted, Question, known, other, form_asked}
+use Rattle.git2show_lib.specs.Sieve.{ArePassed, sieved, sieved_packet, spot_after}
+use Rattle.git2show_lib.specs.declared.sieve.Form.{Form}
+use Rattle.git2show_lib.specs.declared.sieve.Spot.TheVariants.{Header}
 use Rattle.git2show_lib.specs.Machine.CheckFaults.{Standing}
 use Rattle.git2show_lib.specs.Machine.JudgedRequests.{AreAskedBy, IsBegun, IsRefused}
 use Rattle.git2show_lib.specs.Machine.Noting.{IsLost}
@@ -54,74 +61,164 @@ placed_result before (Err fault) = Err (placed before fault)
 pub record Found : Type 0 where
   pub used : List ℕ
   pub unused : List ℕ
-  pub asked : List (Option Asked)
+  pub asked : List Question
   pub left : List Given
   pub rest : List ℕ
 
--- what came for a request: the response to it; or, where its command is not known, an answer that passes
+-- a request, and what came for it: these bytes, of which a client received those, which have these events
 pub record Turn : Type 0 where
-  pub question : Option Asked
+  pub question : Question
   pub bytes : List ℕ
+  pub received : List ℕ
+  pub events : List EventValue
 
--- what a client is asked and receives of a turn, and what passes by it
-abbrev pub known_of : Option Asked → List Asked
-known_of None = []
-known_of (Some q) = q ∷ []
+-- what a client was asked
+abbrev pub known_of : Question → List Asked
+known_of (known q noted) = q ∷ []
+known_of (other lines) = []
 
-abbrev pub heard_of : Option Asked → List ℕ → List ℕ
-heard_of None bytes = []
-heard_of (Some q) bytes = bytes
-
-abbrev pub passed_of : Option Asked → List ℕ → List ℕ
-passed_of None bytes = bytes
-passed_of (Some q) bytes = []
+abbrev pub questions_in : List Turn → List Question
+questions_in [] = []
+questions_in (turn ∷ turns) = turn.question ∷ questions_in turns
 
 abbrev pub asked_in : List Turn → List Asked
 asked_in [] = []
 asked_in (turn ∷ turns) = known_of turn.question ++ asked_in turns
 
-abbrev pub heard_in : List Turn → List ℕ
-heard_in [] = []
-heard_in (turn ∷ turns) = heard_of turn.question turn.bytes ++ heard_in turns
-
-abbrev pub passed_in : List Turn → List ℕ
-passed_in [] = []
-passed_in (turn ∷ turns) = passed_of turn.question turn.bytes ++ passed_in turns
-
 abbrev pub bytes_in : List Turn → List ℕ
 bytes_in [] = []
 bytes_in (turn ∷ turns) = turn.bytes ++ bytes_in turns
 
-abbrev pub questions_in : List Turn → List (Option Asked)
-questions_in [] = []
-questions_in (turn ∷ turns) = turn.question ∷ questions_in turns
+abbrev pub received_in : List Turn → List ℕ
+received_in [] = []
+received_in (turn ∷ turns) = turn.received ++ received_in turns
 
--- before a turn all that was asked was answered, and what passes is a whole answer
-pub record MayCome (t : Terms) (asked : List Asked) (used : List ℕ) (turn : Turn) : Type 0 where
-  pub events : List EventValue
-  pub answered : IsConversation t asked used events
-  pub passes : turn.question ≡ None → IsOtherAnswer t.ending turn.bytes
+abbrev pub events_in : List Turn → List EventValue
+events_in [] = []
+events_in (turn ∷ turns) = turn.events ++ events_in turns
 
-abbrev pub ComeInTurn : Terms → List Asked → List ℕ → List Turn → Type 0
-ComeInTurn t asked used [] = Unit {0}
-ComeInTurn t asked used (turn ∷ turns) =
-    MayCome t asked used turn × ComeInTurn t (asked ++ known_of turn.question) (used ++ heard_of turn.question turn.bytes) turns
+-- how many bytes the client did not receive
+abbrev pub passed_in : List Turn → ℕ
+passed_in [] = 0
+passed_in (turn ∷ turns) = (length turn.bytes - length turn.received) + passed_in turns
 
--- the responses: the advertisement, what came for each request, and what came of an answer that passes and is not whole
+-- the form in which the response to a request comes, if it asked for one that the client does not know
+abbrev pub form_of : Format → Question → Option Form
+form_of format (known q noted) = form_asked format noted.asks
+form_of format (other lines) = None
+
+abbrev pub last_form : Format → List Turn → Option Form
+last_form format [] = None
+last_form format (turn ∷ []) = form_of format turn.question
+last_form format (turn ∷ turns) = last_form format turns
+
+-- of the packets of a response in such a form, and perhaps one that is refused, the client received these bytes, and not all of the last
+pub record IsSieved (form : Form) (bytes received : List ℕ) : Type 0 where
+  pub given : List Given
+  pub bad : List Given
+  pub rest : List ℕ
+  pub beyond : List ℕ
+  pub splits : Splits 0 bytes (given ++ bad) rest
+  pub passed : ArePassed form Header given
+  pub cut : spelled (sieved form given) ≡ received ++ beyond
+
+-- the client received these bytes of a response: all, or what is left for it
+abbrev pub Receives : Option Form → (bytes received : List ℕ) → Type 0
+Receives None bytes received = received ≡ bytes
+Receives (Some form) bytes received = IsSieved form bytes received
+
+-- and nothing is left of it
+abbrev pub ReceivesAll : Option Form → (bytes received : List ℕ) → Type 0
+ReceivesAll None bytes received = received ≡ bytes
+ReceivesAll (Some form) bytes received =
+    (given : List Given) × Splits 0 bytes given [] × ArePassed form Header given × (spelled (sieved form given) ≡ received)
+
+-- what comes for a request: the bytes of its response and the events of that, as far as it came; or a whole answer that passes, where the
+-- command is not known
+abbrev pub Comes : Terms → Question → (bytes received : List ℕ) → List EventValue → Type 0
+Comes t (known q noted) bytes received events =
+    Receives (form_asked t.format noted.asks) bytes received × ((whole : Bool) × IsOneTurn events whole)
+Comes t (other lines) bytes received events = IsOtherAnswer t.ending bytes × (received ≡ []) × (events ≡ [])
+
+-- all of the response came
+abbrev pub HasEnded : Terms → Question → (bytes received : List ℕ) → List EventValue → Type 0
+HasEnded t (known q noted) bytes received events = ReceivesAll (form_asked t.format noted.asks) bytes received × IsOneTurn events true
+HasEnded t (other lines) bytes received events = Unit {0}
+
+-- and so of each turn
+abbrev pub AllEnded : Terms → List Turn → Type 0
+AllEnded t turns = All (λ turn. HasEnded t turn.question turn.bytes turn.received turn.events) turns
+
+-- after the advertisement and earlier turns, in which all that was asked was answered, a turn comes
+pub record MayCome (t : Terms) (opening : List ℕ) (greeting : List EventValue) (earlier : List Turn) (turn : Turn) : Type 0 where
+  pub answered : IsConversation t (asked_in earlier) (opening ++ received_in earlier) (greeting ++ events_in earlier)
+  pub greeted : IsOneTurn greeting true
+  pub ended : AllEnded t earlier
+  pub comes : Comes t turn.question turn.bytes turn.received turn.events
+
+abbrev pub ComeInTurn : Terms → List ℕ → List EventValue → (earlier turns : List Turn) → Type 0
+ComeInTurn t opening greeting earlier [] = Unit {0}
+ComeInTurn t opening greeting earlier (turn ∷ turns) =
+    MayCome t opening greeting earlier turn × ComeInTurn t opening greeting (earlier ++ turn ∷ []) turns
+
+-- a request for a command that is not known, by its line, and what came of the answer, which is not whole
+pub record Begun : Type 0 where
+  pub lines : List ℕ
+  pub bytes : List ℕ
+
+abbrev pub bytes_begun : Option Begun → List ℕ
+bytes_begun None = []
+bytes_begun (Some begun) = begun.bytes
+
+abbrev pub lines_begun : Option Begun → List ℕ
+lines_begun None = []
+lines_begun (Some begun) = begun.lines
+
+-- the responses: the advertisement and its events, what came for each request, and such an answer
 pub record Heard : Type 0 where
   pub opening : List ℕ
+  pub greeting : List EventValue
   pub turns : List Turn
-  pub begun : List ℕ
+  pub begun : Option Begun
+
+-- where what comes after these turns begins: after what the client received and what it did not
+abbrev pub place_after : (opening : List ℕ) → List Turn → ℕ
+place_after opening turns = length (opening ++ received_in turns) + passed_in turns
 
 -- all of their bytes before that answer
 abbrev pub whole_of : Heard → List ℕ
 whole_of r = r.opening ++ bytes_in r.turns
 
--- of the responses a client that was asked this received these bytes
-pub record AreHeard (t : Terms) (asked : List Asked) (used : List ℕ) (r : Heard) : Type 0 where
+-- of the responses a client that was asked this received these bytes, which have these events
+pub record AreHeard (t : Terms) (asked : List Asked) (used : List ℕ) (events : List EventValue) (r : Heard) : Type 0 where
   pub asked_is : asked ≡ asked_in r.turns
-  pub used_is : used ≡ r.opening ++ heard_in r.turns
-  pub in_turn : ComeInTurn t [] r.opening r.turns
+  pub used_is : used ≡ r.opening ++ received_in r.turns
+  pub events_are : events ≡ r.greeting ++ events_in r.turns
+  pub one_turn : (whole : Bool) × IsOneTurn r.greeting whole
+  pub in_turn : ComeInTurn t r.opening r.greeting [] r.turns
+
+-- ---- the transcript
+
+-- the lines of a request: its command's, and then those of what it has that is not known, in the order in which that came
+abbrev pub question_shown : Question → List ℕ
+question_shown (known q noted) = asked_line (command_asked q) ++ noted.lines
+question_shown (other lines) = lines
+
+-- the lines of the advertisement, or of a response
+abbrev pub events_shown : List EventValue → List ℕ
+events_shown events = transcript_from [] 0 0 events
+
+-- the lines of a turn
+abbrev pub turn_shown : Turn → List ℕ
+turn_shown turn = question_shown turn.question ++ events_shown turn.events
+
+abbrev pub turns_shown : List Turn → List ℕ
+turns_shown [] = []
+turns_shown (turn ∷ turns) = turn_shown turn ++ turns_shown turns
+
+-- all lines
+abbrev pub heard_shown : Heard → List ℕ
+heard_shown r = (events_shown r.greeting ++ turns_shown r.turns) ++ lines_begun r.begun
 
 -- a whole advertisement is at the head of the bytes, and this is offered by it, and advertised beside what is known
 pub record IsOffered (t : Terms) (bytes : List ℕ) (by : Advertised) : Type 0 where
@@ -145,17 +242,19 @@ pub record AreAllAsked (r : Heard) (found : Found) : Type 0 where
   pub asked : found.asked ≡ questions_in r.turns
   pub nothing_left : found.left ≡ []
   pub no_rest : found.rest ≡ []
-  pub nothing_begun : r.begun ≡ []
+  pub nothing_begun : r.begun ≡ None
 
 -- the requests that were read came in turn, and what came for each is whole
 pub record AreAnswered (t : Terms) (h : History) (r : Heard) (found : Found) : Type 0 where
   pub asked : found.asked ≡ questions_in r.turns
-  pub nothing_begun : r.begun ≡ []
+  pub ended : AllEnded t r.turns
+  pub nothing_begun : r.begun ≡ None
   pub whole : IsConversation t h.asked h.used h.events
 
 -- so did those before the last one, whose command is not known
-pub record IsOtherDue (t : Terms) (h : History) (r : Heard) (found : Found) : Type 0 where
-  pub asked : found.asked ≡ questions_in r.turns ++ None ∷ []
+pub record IsOtherDue (t : Terms) (h : History) (r : Heard) (begun : Begun) (found : Found) : Type 0 where
+  pub asked : found.asked ≡ questions_in r.turns ++ other begun.lines ∷ []
+  pub is_begun : r.begun ≡ Some begun
   pub nothing_left : found.left ≡ []
   pub no_rest : found.rest ≡ []
   pub whole : IsConversation t h.asked h.used h.events
@@ -186,16 +285,66 @@ pub record IsBadRequest (t : Terms) (by : Advertised) (limit : ℕ) (requests re
 -- the responses are refused for their first fault, before the next request is read
 pub record IsBadResponse (t : Terms) (responses : Standing) (unused : List ℕ) (h : History) (r : Heard) (found : Found) (fault : Fault) : Type 0 where
   pub all_asked : AreAllAsked r found
+  pub plain : last_form t.format r.turns ≡ None
   pub malformed : IsMalformed t responses.ended unused h fault
+
+-- the bytes of a sieved response break off after its packets
+pub record SieveBreaksOff (t : Terms) (h : History) (ended : Bool) (unused bytes : List ℕ) {form : Form} {received : List ℕ}
+    (s : IsSieved form bytes received) (fault : Fault) : Type 0 where
+  pub none_bad : s.bad ≡ []
+  pub all : s.beyond ≡ []
+  pub goes_on : GoesOn t h.asked h.used h.events
+  pub breaks : BreakOff s.rest (length bytes) fault
+  pub timely : IsTimely fault.kind ended unused
+
+-- its last packet is refused, and the client received nothing of it
+pub record SieveRefuses (t : Terms) (h : History) {form : Form} {bytes received : List ℕ} (s : IsSieved form bytes received) (fault : Fault) : Type 0 where
+  pub packet : Given
+  pub bad_is : s.bad ≡ packet ∷ []
+  pub no_rest : s.rest ≡ []
+  pub all : s.beyond ≡ []
+  pub goes_on : GoesOn t h.asked h.used h.events
+  pub refused : sieved_packet form (spot_after form Header s.given) packet.packet ≡ Err fault.kind
+  pub at : fault.offset ≡ packet.offset
+
+-- or the client refuses what it received for the last packet
+pub record SieveRefusesLater (t : Terms) (h : History) {form : Form} {bytes received : List ℕ} (s : IsSieved form bytes received) (fault : Fault) : Type 0 where
+  pub front : List Given
+  pub packet : Given
+  pub given_is : s.given ≡ front ++ packet ∷ []
+  pub none_bad : s.bad ≡ []
+  pub no_rest : s.rest ≡ []
+  pub passed_as : Pkt
+  pub passed_is : sieved_packet form (spot_after form Header front) packet.packet ≡ Ok (Some passed_as)
+  pub part : List ℕ
+  pub received_is : received ≡ spelled (sieved form front) ++ part
+  pub part_is : spelling_of passed_as ≡ part ++ s.beyond
+  pub own : Fault
+  pub first : FirstMalformed t h.asked h.used own
+  pub kind_is : own.kind ≡ fault.kind
+  pub not_the_end : own.kind ≢ Truncated
+  pub at : fault.offset ≡ packet.offset
+
+-- the last response, which is sieved, is refused for its first fault
+pub record IsBadSieved (t : Terms) (responses : Standing) (unused : List ℕ) (h : History) (r : Heard) (found : Found) (earlier : List Turn) (fault : Fault)
+    : Type 0 where
+  pub all_asked : AreAllAsked r found
+  pub last : Turn
+  pub turns_are : r.turns ≡ earlier ++ last ∷ []
+  pub form : Form
+  pub form_is : form_of t.format last.question ≡ Some form
+  pub s : IsSieved form last.bytes last.received
+  pub why : SieveBreaksOff t h responses.ended unused last.bytes s fault ⊎ (SieveRefuses t h s fault ⊎ SieveRefusesLater t h s fault)
 
 -- the last request that was read, of the object format that is offered, can't be asked
 pub record IsBadQuestion (A : Type 0) (t : Terms) (offer : Offer) (h : History) (r : Heard) (found : Found) (fault : Fault) : Type 0 where
   pub request : Request A
+  pub noted : Noted
   pub format : format_of request ≡ offer.format
-  pub asked : found.asked ≡ questions_in r.turns ++ Some (asked_of request) ∷ []
+  pub asked : found.asked ≡ questions_in r.turns ++ known (asked_of request) noted ∷ []
   pub nothing_left : found.left ≡ []
   pub no_rest : found.rest ≡ []
-  pub nothing_begun : r.begun ≡ []
+  pub nothing_begun : r.begun ≡ None
   pub refused : IsRefusedRequest t (request ∷ []) h fault
 
 -- the advertisement is whole, and a line of it was not kept: for the limit, or for want of memory
@@ -215,24 +364,48 @@ pub record IsLeftOver (t : Terms) (by : Advertised) (requests : Standing) (unuse
 
 -- the answer to a command that is not known breaks off
 pub record IsBadAnswer (t : Terms) (responses : Standing) (unused : List ℕ) (h : History) (r : Heard) (found : Found) (fault : Fault) : Type 0 where
-  pub due : IsOtherDue t h r found
+  pub begun : Begun
+  pub due : IsOtherDue t h r begun found
   pub rest : List ℕ
-  pub begun : IsAnswerBegun t.ending r.begun rest
-  pub breaks : BreakOff rest (length r.begun) fault
+  pub begins : IsAnswerBegun t.ending begun.bytes rest
+  pub breaks : BreakOff rest (length begun.bytes) fault
   pub timely : IsTimely fault.kind responses.ended unused
+
+-- the line of a request for a command that is not known is written
+pub record IsBeingShown (t : Terms) (h : History) (r : Heard) (found : Found) : Type 0 where
+  pub begun : Begun
+  pub due : IsOtherDue t h r begun found
+  pub none_came : begun.bytes ≡ []
+
+-- the last response, which is sieved, goes on, and so does what the client received of it
+pub record IsSievedSoFar (t : Terms) (r : Heard) (form : Form) : Type 0 where
+  pub earlier : List Turn
+  pub last : Turn
+  pub turns_are : r.turns ≡ earlier ++ last ∷ []
+  pub form_is : form_of t.format last.question ≡ Some form
+  pub s : IsSieved form last.bytes last.received
+  pub none_bad : s.bad ≡ []
+  pub all : s.beyond ≡ []
+  pub still_open : IsOpen s.rest
+
+abbrev pub IsSoFar : Terms → Heard → Option Form → Type 0
+IsSoFar t r None = Unit {0}
+IsSoFar t r (Some form) = IsSievedSoFar t r form
 
 -- more is due of the advertisement or of a response
 pub record IsWithinResponse (t : Terms) (unused : List ℕ) (h : History) (r : Heard) (found : Found) : Type 0 where
   pub all_asked : AreAllAsked r found
+  pub so_far : IsSoFar t r (last_form t.format r.turns)
   pub all_used : unused ≡ []
   pub goes_on : GoesOn t h.asked h.used h.events
 
 -- or of the answer to a command that is not known
 pub record IsWithinAnswer (t : Terms) (unused : List ℕ) (h : History) (r : Heard) (found : Found) : Type 0 where
-  pub due : IsOtherDue t h r found
+  pub begun : Begun
+  pub due : IsOtherDue t h r begun found
   pub all_used : unused ≡ []
   pub rest : List ℕ
-  pub begun : IsAnswerBegun t.ending r.begun rest
+  pub begins : IsAnswerBegun t.ending begun.bytes rest
   pub still_open : IsOpen rest
 
 -- a request is begun, or can come
@@ -273,18 +446,19 @@ abbrev pub EndsAs : (A : Type 0) → Terms → Advertised → ℕ → Result (Un
 EndsAs A t by limit (Ok done) requests responses unused h r found = IsWhole t by requests responses unused h r found
 EndsAs A t by limit (Err (Requests fault)) requests responses unused h r found = IsBadRequest t by limit requests responses h r found fault
 EndsAs A t by limit (Err (Responses fault)) requests responses unused h r found =
-    IsReported (IsBad A t by requests responses unused h r found) (length (passed_in r.turns)) fault
-    ⊎ IsReported (IsBadAnswer t responses unused h r found) (length (whole_of r)) fault
+    IsReported (IsBad A t by requests responses unused h r found) (passed_in r.turns) fault
+    ⊎ (IsReported (IsBadAnswer t responses unused h r found) (place_after r.opening r.turns) fault
+    ⊎ ((earlier : List Turn) × IsReported (IsBadSieved t responses unused h r found earlier) (place_after r.opening earlier) fault))
 EndsAs A t by limit (Err ReadFault) requests responses unused h r found =
     IsCutOff t by limit (requests.failed ≡ true) (responses.failed ≡ true) requests responses unused h r found
-EndsAs A t by limit (Err WriteFault) requests responses unused h r found = AreAllAsked r found
+EndsAs A t by limit (Err WriteFault) requests responses unused h r found = AreAllAsked r found ⊎ IsBeingShown t h r found
 EndsAs A t by limit (Err ReadLimit) requests responses unused h r found =
     IsCutOff t by limit (Unit {0}) (responses.ended ≡ false) requests responses unused h r found
 
 -- what a check has to do with the bytes of its streams: the requests are read against what the advertisement offers, and not before
 -- it is whole; what is advertised beside what is known is taken as it comes, and what comes for a command that is not known passes; each
 -- that counts as asked has a command that is advertised, and there are no more of them than one for the advertisement and one for each
--- whole response; what is given is the transcript of what was asked and received
+-- whole response; what is written is the transcript, turn by turn: what was asked, what of it is not known, and what was received for it
 pub record Checked (A : Type 0) (t : Terms) (limit : ℕ) (result : Result (Unit {0}) CheckFault) (requests responses : Standing)
     (read given : List (List ℕ)) : Type 0 where
   pub h : History
@@ -292,9 +466,9 @@ pub record Checked (A : Type 0) (t : Terms) (limit : ℕ) (result : Result (Unit
   pub found : Found
   pub by : Advertised
   pub r : Heard
-  pub were_read : read ≡ (found.used ++ found.unused) ∷ ((whole_of r ++ r.begun) ++ unused) ∷ []
-  pub told : given ≡ transcript_of h.asked h.events ∷ []
-  pub received : AreHeard t h.asked h.used r
+  pub were_read : read ≡ (found.used ++ found.unused) ∷ ((whole_of r ++ bytes_begun r.begun) ++ unused) ∷ []
+  pub told : given ≡ heard_shown r ∷ []
+  pub received : AreHeard t h.asked h.used h.events r
   pub heard : HasEvents t h.asked h.used h.events
   pub may_be : (caps : Caps) → HasNoted t h.asked h.used caps → All (λ q. offers_command caps (command_asked q) ≡ true) h.asked
   pub in_turn : length h.asked ≤ turns_of h.events

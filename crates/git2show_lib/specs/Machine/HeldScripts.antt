@@ -1,14 +1,22 @@
 -- What is held of a script after some of its lines, and what one more adds.
-use Rattle.std.specs.Prelude.{◌≡◌, ℕ, ◌+◌, ◌≤◌, Bool, true, false, List, [], ◌∷◌, ◌++◌, Some, None, All, Result, MatchResult, length, map}
+use denote.RattleType.{RattleType}
+use Rattle.std.specs.declared.alloc.Allocator.{Ghosts}
+use Rattle.std.specs.Prelude.{◌≡◌, ℕ, ◌+◌, ◌*◌, ◌≤◌, Bool, true, false, List, [], ◌∷◌, ◌++◌, Some, None, All, Result, MatchResult, length, map}
 use Rattle.git_msg.specs.declared.offers.Offer.{Offer}
 use Rattle.git_msg.specs.declared.arguments.Command.{Command}
 use Rattle.git_msg.specs.declared.requests.Request.{Request}
 use Rattle.git_msg.specs.Arguments.{Arg, ReadsAs, TakesMemory as TakesMemoryFor, name_of, written_text}
+use Rattle.git_msg.specs.Memory.{HasRefused, bytes_each}
+use Rattle.git_msg.specs.contracts.requests.Request.{the_row}
 use Rattle.git_msg.specs.Machine.HeldRequest.{IsEmpty, Keeps, command_of, format_of, holding_of, kept_of, limit_of}
 use Rattle.git_repository.specs.RepositoryLines.{longest_line}
 use Rattle.git_repository.specs.declared.text_faults.LineFault.{LineFault}
 use Rattle.git_repository.specs.declared.text_faults.LineFault.TheVariants.{Refused, OutOfMemory}
-use Rattle.git2show_lib.specs.Scripts.{ScriptLine, MayFollow, TakesMemory, kept_after, nearest, open_after, requests_in}
+use Rattle.git2show_lib.specs.Scripts.{ScriptLine, MayFollow, TakesMemory, kept_after, list_bytes, nearest, open_after, requests_in}
+
+-- the number of bytes of a request, with memory from this allocator
+abbrev pub request_bytes : (A : RattleType) → Ghosts A.Denot → ℕ
+request_bytes A ghosts = bytes_each (the_row A ghosts)
 
 -- what is offered, the limit, the requests so far, and whether the last of them is open
 pub record Held (A : Type 0) : Type 0 where
@@ -16,11 +24,6 @@ pub record Held (A : Type 0) : Type 0 where
   pub limit : ℕ
   pub requests : List (Request A)
   pub is_open : Bool
-
--- why no request begins: the text is no command, or it is and there was no memory
-abbrev pub IsBeginFault : List ℕ → LineFault → Type 0
-IsBeginFault text Refused = (of : Command) → ¬ (text ≡ name_of of)
-IsBeginFault text OutOfMemory = (of : Command) × (text ≡ name_of of)
 
 module _ {A : Type 0} where
   -- nothing was read
@@ -59,6 +62,11 @@ module _ {A : Type 0} where
     pub is_empty : IsEmpty of old.offer.format old.limit request
     pub new_is : new ≡ with_requests old (old.requests ++ request ∷ []) true
 
+  -- why no request begins: the text is no command, or it is and memory refused a request more
+  abbrev pub IsBeginFault : (ℕ → Type 0) → ℕ → Held A → List ℕ → LineFault → Type 0
+  IsBeginFault refuses each old text Refused = (of : Command) → ¬ (text ≡ name_of of)
+  IsBeginFault refuses each old text OutOfMemory = (of : Command) × (text ≡ name_of of) × HasRefused refuses ((length old.requests + 1) * each)
+
   -- the text is an argument of the request, no longer than a line may be, and its limit has room for it
   pub record FitsIn (offer : Offer) (last : Request A) (text : List ℕ) (arg : Arg) : Type 0 where
     pub reads : ReadsAs (command_of last) offer text arg
@@ -73,15 +81,16 @@ module _ {A : Type 0} where
     pub keeps : Keeps last arg (length (written_text arg)) request
     pub new_is : new ≡ with_requests old (others ++ request ∷ []) true
 
-  -- why none is added: the text is no argument that fits, or it is and there was no memory
-  abbrev pub IsAddFault : Offer → Request A → List ℕ → LineFault → Type 0
-  IsAddFault offer last text Refused = (arg : Arg) → ¬ FitsIn offer last text arg
-  IsAddFault offer last text OutOfMemory = (arg : Arg) × FitsIn offer last text arg × TakesMemoryFor arg
+  -- why none is added: the text is no argument that fits, or it is and memory refused a list of it
+  abbrev pub IsAddFault : (ℕ → Type 0) → Offer → Request A → List ℕ → LineFault → Type 0
+  IsAddFault refuses offer last text Refused = (arg : Arg) → ¬ FitsIn offer last text arg
+  IsAddFault refuses offer last text OutOfMemory =
+      (arg : Arg) × FitsIn offer last text arg × TakesMemoryFor arg × HasRefused refuses (limit_of last)
 
-  abbrev pub AddsArgument : Held A → List ℕ → Held A → Result (Unit {0}) LineFault → Type 0
-  AddsArgument old text new result =
+  abbrev pub AddsArgument : (ℕ → Type 0) → Held A → List ℕ → Held A → Result (Unit {0}) LineFault → Type 0
+  AddsArgument refuses old text new result =
       (others : List (Request A)) (last : Request A) → old.requests ≡ others ++ last ∷ [] → format_of last ≡ old.offer.format → old.is_open ≡ true
-      → MatchResult result (λ _. AddsLast old others last text new) (IsAddFault old.offer last text)
+      → MatchResult result (λ _. AddsLast old others last text new) (IsAddFault refuses old.offer last text)
 
   -- after the lines the text is one more, which may follow them, and with it the new is held
   pub record GoesOn (lines : List ScriptLine) (old : Held A) (text : List ℕ) (new : Held A) : Type 0 where
@@ -95,9 +104,10 @@ module _ {A : Type 0} where
   abbrev pub TakesLine : Held A → List ℕ → Held A → Type 0
   TakesLine old text new = (lines : List ScriptLine) → Holds lines old → GoesOn lines old text new
 
-  -- why it is not taken: no line may follow that is this text, or one may and there was no memory
-  abbrev pub IsLineFault : Held A → List ℕ → LineFault → Type 0
-  IsLineFault old text Refused =
+  -- why it is not taken: no line may follow that is this text, or one may and memory refused a list that it makes longer
+  abbrev pub IsLineFault : (ℕ → Type 0) → ℕ → Held A → List ℕ → LineFault → Type 0
+  IsLineFault refuses each old text Refused =
       (lines : List ScriptLine) → Holds lines old → (line : ScriptLine) → ¬ MayFollow old.offer old.limit (nearest lines []) text line
-  IsLineFault old text OutOfMemory = (lines : List ScriptLine) → Holds lines old
+  IsLineFault refuses each old text OutOfMemory = (lines : List ScriptLine) → Holds lines old
       → (line : ScriptLine) × MayFollow old.offer old.limit (nearest lines []) text line × TakesMemory line
+      × HasRefused refuses (list_bytes each old.limit (length lines) line)

@@ -4,7 +4,8 @@ use Rattle.git_pkt.specs.Packets.{Pkt, flush}
 use Rattle.git_pkt.specs.Splits.{Given, Splits}
 use Rattle.git_pkt.specs.Machine.PacketReader.{Reads, ShownByFeed, fault_of as packet_fault, is_open, passes_of, position_of}
 use Rattle.git_pkt.specs.declared.fault.Fault.{Fault}
-use Rattle.git_pkt.specs.declared.fault.Kind.TheVariants.{TooMuchKept, Truncated}
+use Rattle.git_pkt.specs.declared.fault.Kind.{Kind}
+use Rattle.git_pkt.specs.declared.fault.Kind.TheVariants.{OutOfMemory, Truncated}
 use Rattle.git_msg.specs.Asked.{Asked}
 use Rattle.git_msg.specs.Machine.HeldRequest.{asked_of, format_of}
 use Rattle.git_msg.specs.Machine.RequestReader.{Takes, fault_of as reader_fault, is_waiting, limit_in, offer_of as offer_in}
@@ -14,30 +15,35 @@ use Rattle.git_msg.specs.declared.offers.Offer.{Offer}
 use Rattle.git_msg.specs.declared.streams.ReadGot.{ReadGot}
 use Rattle.git_msg.specs.declared.streams.ReadGot.TheVariants as OfReader
 use Rattle.git_msg.specs.declared.streams.Stage.TheVariants as OfRequests
-use Rattle.git2show_lib.specs.Others.{Advertised, BreakOff, IsOtherBegun, IsOtherRequest, counted_of, first_place, judged_of, place_after}
+use Rattle.git2show_lib.specs.Others.{Advertised, BreakOff, IsOtherBegun, IsOtherRequest, counted_of, first_place, judged_of, names_other, place_after}
+use Rattle.git2show_lib.specs.OtherLines.{Noted, Question, known, other, asks_nothing, named_by, nothing_noted, noted_of, shown_at}
+use Rattle.git2show_lib.specs.Machine.KeptLines.{IsNotKept, noted_in}
+use Rattle.git2show_lib.specs.declared.other_lines.OtherLines.{OtherLines}
 use Rattle.git2show_lib.specs.declared.others.Place.{Place}
 use Rattle.git2show_lib.specs.declared.judged_requests.JudgedGot.{JudgedGot}
 use Rattle.git2show_lib.specs.declared.judged_requests.JudgedGot.TheVariants.{More, Request as RequestGot, Other as OtherGot}
 use Rattle.git2show_lib.specs.declared.judged_requests.JudgedGot.TheVariants.{Stop as StopGot, Failed as FailedGot}
+use Rattle.git2show_lib.specs.declared.judged_requests.Judged.{Judged}
 use Rattle.git2show_lib.specs.declared.judged_requests.JudgedRead.{JudgedRead}
 use Rattle.git2show_lib.specs.declared.judged_requests.JudgedRequests.{JudgedRequests}
 use Rattle.git2show_lib.specs.declared.judged_requests.Stage.{Stage}
 use Rattle.git2show_lib.specs.declared.judged_requests.Stage.TheVariants.{Between, Within, Passing, Stopped, Failed}
 
 -- the packets are a whole request: one that asks for this, where each packet is read as what was advertised has it, and of which no more
--- counts as kept than the limit; or one for a command that is not known
-abbrev pub IsQuestion : Advertised → ℕ → List Given → Option Asked → Type 0
-IsQuestion by limit packets (Some q) = IsOne by.offer limit (judged_of by.text packets) q × (counted_of by.text packets ≤ limit)
-IsQuestion by limit packets None = IsOtherRequest by.text packets
+-- counts as kept than the limit; or one for a command that is not known. All of it that is not known is noted.
+abbrev pub IsQuestion : Advertised → ℕ → List Given → Question → Type 0
+IsQuestion by limit packets (known q noted) =
+    IsOne by.offer limit (judged_of by.text packets) q × (counted_of by.text packets ≤ limit) × (noted ≡ noted_of by.text packets)
+IsQuestion by limit packets (other lines) = IsOtherRequest by.text packets × (lines ≡ named_by packets)
 
 -- the packets are whole requests, one after another, and then what is left
-abbrev pub AreQuestions : Advertised → ℕ → List Given → List (Option Asked) → List Given → Type 0
+abbrev pub AreQuestions : Advertised → ℕ → List Given → List Question → List Given → Type 0
 AreQuestions by limit packets [] left = packets ≡ left
 AreQuestions by limit packets (q ∷ qs) left =
     (front : List Given) × (more : List Given) × (packets ≡ front ++ more) × IsQuestion by limit front q × AreQuestions by limit more qs left
 
 -- the bytes are whole requests, further packets, and a rest that no packet begins
-pub record AreAskedBy (by : Advertised) (limit : ℕ) (bytes : List ℕ) (asked : List (Option Asked)) (left : List Given) (rest : List ℕ) : Type 0 where
+pub record AreAskedBy (by : Advertised) (limit : ℕ) (bytes : List ℕ) (asked : List Question) (left : List Given) (rest : List ℕ) : Type 0 where
   pub packets : List Given
   pub splits : Splits 0 bytes packets rest
   pub requests : AreQuestions by limit packets asked left
@@ -46,22 +52,31 @@ pub record AreAskedBy (by : Advertised) (limit : ℕ) (bytes : List ℕ) (asked 
 abbrev pub IsBegun : Advertised → ℕ → List Given → Type 0
 IsBegun by limit left = AreBegun by.offer limit (judged_of by.text left) ⊎ IsOtherBegun by.text left
 
--- the last packet is the first with which more counts as kept than the limit; it is not refused otherwise, nor are those before it
-pub record IsOverLimit (by : Advertised) (limit : ℕ) (left : List Given) (rest : List ℕ) (fault : Fault) : Type 0 where
+-- the last packet is the first that can't be kept: with it more counts as kept than the limit, or there was no memory for its line. It is
+-- not refused otherwise, nor are those before it.
+pub record IsUnkept (by : Advertised) (limit : ℕ) (left : List Given) (rest : List ℕ) (fault : Fault) : Type 0 where
   pub front : List Given
   pub last : Given
   pub parts : left ≡ front ++ last ∷ []
   pub begun : AreBegun by.offer limit (judged_of by.text front)
   pub kept : counted_of by.text front ≤ limit
-  pub over : limit < counted_of by.text left
+  pub why : IsNotKept fault.kind (counted_of by.text left) limit (shown_at by.text (place_after first_place front) last.packet)
   pub no_rest : rest ≡ []
-  pub fault_is : fault ≡ record { kind = TooMuchKept; offset = last.offset }
+  pub at : fault.offset ≡ last.offset
+
+-- the packet begins a request for a command that is not known, and there was no memory for its line
+pub record IsUnnamed (by : Advertised) (left : List Given) (rest : List ℕ) (fault : Fault) : Type 0 where
+  pub first : Given
+  pub alone : left ≡ first ∷ []
+  pub names : names_other by.text first.packet ≡ true
+  pub no_rest : rest ≡ []
+  pub fault_is : fault ≡ record { kind = OutOfMemory; offset = first.offset }
 
 -- what is left after the whole requests is refused
 abbrev pub IsRefused : Advertised → ℕ → List Given → List ℕ → ℕ → Fault → Type 0
 IsRefused by limit left rest end fault =
     IsRefusedAs by.offer limit (judged_of by.text left) rest end fault
-    ⊎ ((IsOtherBegun by.text left × BreakOff rest end fault) ⊎ IsOverLimit by limit left rest fault)
+    ⊎ ((IsOtherBegun by.text left × BreakOff rest end fault) ⊎ (IsUnkept by limit left rest fault ⊎ IsUnnamed by left rest fault))
 
 -- ---- the stage of a reader
 
@@ -88,6 +103,11 @@ abbrev pub counted_for : Stage → List ℕ → List Given → ℕ
 counted_for Passing text left = 0
 counted_for stage text left = counted_of text left
 
+-- and what is noted of it
+abbrev pub noted_for : Stage → List ℕ → List Given → Noted
+noted_for Passing text left = record { lines = named_by left; asks = asks_nothing }
+noted_for stage text left = noted_of text left
+
 -- the fault of a stage
 abbrev pub fault_in : Stage → Option Fault
 fault_in (Failed fault) = Some fault
@@ -105,15 +125,21 @@ abbrev pub stage_is_between : Stage → Bool
 stage_is_between Between = true
 stage_is_between stage = false
 
--- the stage after a packet of a request that passes, and what that brought
+-- the stage after a packet of a request that passes
 abbrev pub stage_passed : Pkt → Stage
 stage_passed flush = Between
 stage_passed packet = Passing
 
+-- what is noted after it
+abbrev pub noted_passed : Pkt → Noted → Noted
+noted_passed flush noted = nothing_noted
+noted_passed packet noted = noted
+
 module _ {A : Type 0} where
-  abbrev pub got_passed : Pkt → JudgedGot A
-  got_passed flush = OtherGot
-  got_passed packet = More
+  -- and what it brought
+  abbrev pub got_passed : Pkt → OtherLines A → JudgedGot A
+  got_passed flush lines = OtherGot lines
+  got_passed packet lines = More
 
   -- the stage after a packet that brought this to a reader of requests
   abbrev pub stage_brought : ReadGot A → Stage
@@ -122,11 +148,11 @@ module _ {A : Type 0} where
   stage_brought OfReader.Stop = Stopped
   stage_brought (OfReader.Failed fault) = Failed fault
 
-  -- what was brought by a packet with which more counts as kept than the limit
-  abbrev pub limited_got : Bool → ℕ → ReadGot A → ReadGot A
-  limited_got true offset OfReader.More = OfReader.Failed (record { kind = TooMuchKept; offset = offset })
-  limited_got true offset (OfReader.Request request) = OfReader.Failed (record { kind = TooMuchKept; offset = offset })
-  limited_got over offset got = got
+  -- what was brought by a packet that can't be kept for this reason
+  abbrev pub limited_got : Option Kind → ℕ → ReadGot A → ReadGot A
+  limited_got (Some kind) offset OfReader.More = OfReader.Failed (record { kind = kind; offset = offset })
+  limited_got (Some kind) offset (OfReader.Request request) = OfReader.Failed (record { kind = kind; offset = offset })
+  limited_got refused offset got = got
 
   -- how many bytes count as kept after it
   abbrev pub kept_brought : ReadGot A → ℕ → ℕ
@@ -138,12 +164,17 @@ module _ {A : Type 0} where
   place_brought (OfReader.Request request) next = first_place
   place_brought got next = next
 
-  -- and what is handed on
-  abbrev pub got_as : ReadGot A → JudgedGot A
-  got_as OfReader.More = More
-  got_as (OfReader.Request request) = RequestGot request
-  got_as OfReader.Stop = StopGot
-  got_as (OfReader.Failed fault) = FailedGot fault
+  -- what is noted after it
+  abbrev pub noted_brought : ReadGot A → Noted → Noted
+  noted_brought (OfReader.Request request) noted = nothing_noted
+  noted_brought got noted = noted
+
+  -- and what is handed on, with these lines of the request
+  abbrev pub got_as : ReadGot A → OtherLines A → JudgedGot A
+  got_as OfReader.More others = More
+  got_as (OfReader.Request request) others = RequestGot (record { request = request; others = others })
+  got_as OfReader.Stop others = StopGot
+  got_as (OfReader.Failed fault) others = FailedGot fault
 
   -- ---- a reader
 
@@ -194,7 +225,7 @@ module _ {A : Type 0} where
     pub fits : s.limit ≤ 4294967295
 
   -- the reader has used these bytes, and handed out these requests
-  pub record HasRead (used : List ℕ) (asked : List (Option Asked)) (s : JudgedRequests A) : Type 0 where
+  pub record HasRead (used : List ℕ) (asked : List Question) (s : JudgedRequests A) : Type 0 where
     pub packets : List Given
     pub left : List Given
     pub rest : List ℕ
@@ -203,12 +234,17 @@ module _ {A : Type 0} where
     pub left_is : IsLeft s.stage (advertised_by s) (limit_of s) left rest (length used)
     pub place_is : wants_input s ≡ true → s.place ≡ place_for s.stage left
     pub kept_is : wants_input s ≡ true → s.kept ≡ counted_for s.stage (text_of s) left
+    pub noted_is : wants_input s ≡ true → noted_in s.others ≡ noted_for s.stage (text_of s) left
     pub onward : wants_input s ≡ true → Takes (taken_in s.stage (text_of s) left) s.requests
 
+  -- what a request asks, with what it has beside that
+  abbrev pub question_of : Judged A → Question
+  question_of judged = known (asked_of judged.request) (noted_in judged.others)
+
   -- what was asked by an answer
-  abbrev pub asked_by : JudgedGot A → List (Option Asked)
-  asked_by (RequestGot request) = Some (asked_of request) ∷ []
-  asked_by OtherGot = None ∷ []
+  abbrev pub asked_by : JudgedGot A → List Question
+  asked_by (RequestGot judged) = question_of judged ∷ []
+  asked_by (OtherGot others) = other (noted_in others).lines ∷ []
   asked_by got = []
 
   -- how the reader is left after a whole request
@@ -221,8 +257,8 @@ module _ {A : Type 0} where
   -- or after a flush instead of one, or a fault
   abbrev pub LeavesAt : JudgedGot A → ℕ → JudgedRequests A → Type 0
   LeavesAt More used new = Unit {0}
-  LeavesAt (RequestGot request) used new = IsOnward used new × (format_of request ≡ (offer_of new).format)
-  LeavesAt OtherGot used new = IsOnward used new
+  LeavesAt (RequestGot judged) used new = IsOnward used new × (format_of judged.request ≡ (offer_of new).format)
+  LeavesAt (OtherGot others) used new = IsOnward used new
   LeavesAt StopGot used new = (0 < used) × (wants_input new ≡ false) × (fault_of new ≡ None)
   LeavesAt (FailedGot fault) used new = fault_of new ≡ Some fault
 
@@ -243,7 +279,7 @@ module _ {A : Type 0} where
   -- what a reader does with the bytes that it uses, whatever was read before, by how it is left
   pub record ReadsBy (Left : JudgedGot A → ℕ → JudgedRequests A → Type 0) (old : JudgedRequests A) (piece : List ℕ) (read : JudgedRead A)
       (new : JudgedRequests A) : Type 0 where
-    pub reads : (used : List ℕ) (asked : List (Option Asked)) → HasRead used asked old
+    pub reads : (used : List ℕ) (asked : List Question) → HasRead used asked old
         → HasRead (used ++ take read.used piece) (asked ++ asked_by read.got) new
     pub leaves : Left read.got read.used new
     pub news : IsNews piece read
@@ -261,7 +297,7 @@ module _ {A : Type 0} where
   -- what a call of `close` means: all was whole requests, or the last was cut off
   abbrev pub Closes : Result (Unit {0}) Fault → JudgedRequests A → JudgedRequests A → Type 0
   Closes (Ok done) old new =
-      (new ≡ old) × ((used : List ℕ) (asked : List (Option Asked)) → HasRead used asked old → AreAskedBy (advertised_by old) (limit_of old) used asked [] [])
+      (new ≡ old) × ((used : List ℕ) (asked : List Question) → HasRead used asked old → AreAskedBy (advertised_by old) (limit_of old) used asked [] [])
   Closes (Err fault) old new =
       (fault.kind ≡ Truncated) × (fault_of new ≡ Some fault) × (advertised_by new ≡ advertised_by old) × (limit_of new ≡ limit_of old)
-      × ((used : List ℕ) (asked : List (Option Asked)) → HasRead used asked old → HasRead used asked new)
+      × ((used : List ℕ) (asked : List Question) → HasRead used asked old → HasRead used asked new)

@@ -12,7 +12,7 @@ use Rattle.git_pkt.specs.declared.fault.RunFault.TheVariants.{ReadFault, WriteFa
 use Rattle.git_pkt.specs.declared.reader.PacketReader.{PacketReader}
 use Rattle.git_client.specs.Machine.RunSteps.{window_of}
 use Rattle.git_client.specs.declared.events.Ending.{Ending}
-use Rattle.git2show_lib.specs.Others.{BreakOff, IsAnswerBegun, IsOtherAnswer, NoneIs, last_of}
+use Rattle.git2show_lib.specs.Others.{AreCutOff, BreakOff, IsAnswerBegun, IsOtherAnswer, NoneIs, last_of}
 use Rattle.git2show_lib.specs.declared.other_answers.Passed.{Passed}
 
 -- ---- the reader
@@ -58,10 +58,11 @@ PassesPiece ending (Ok None) old new piece = PassesAll ending old new piece
 PassesPiece ending (Ok (Some used)) old new piece = PassesUpTo ending used old new piece
 PassesPiece ending (Err fault) old new piece = BreaksIn ending fault old piece
 
--- the input ends in an answer
+-- the input ends after packets, where more are expected
 abbrev pub ClosesAnswer : Fault → PacketReader → Type 0
 ClosesAnswer fault old =
-    (fault.kind ≡ Truncated) × ((ending : Ending) (used : List ℕ) → Passes ending used old → BreaksOff ending used fault)
+    (fault.kind ≡ Truncated)
+    × ((used : List ℕ) (given : List Given) (rest : List ℕ) → Reads old 0 used given rest → AreCutOff rest (length used) fault)
 
 -- ---- an answer over a reader of bytes
 

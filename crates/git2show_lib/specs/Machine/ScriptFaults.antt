@@ -13,6 +13,7 @@ use Rattle.git2show_lib.specs.Scripts.{HasBadScriptLine, IsScript, WantsScriptMe
 abbrev pub IsWholeScript : {A : Type 0} → Format → ℕ → List ℕ → List (Request A) → Type 0
 IsWholeScript format limit text requests = IsScript (everything format) limit text (map holding_of requests)
 
-abbrev pub IsScriptFault : Format → ℕ → List ℕ → TextFault → Type 0
-IsScriptFault format limit text (Bad line) = HasBadScriptLine (everything format) limit (lines_of text) line
-IsScriptFault format limit text OutOfMemory = WantsScriptMemory (everything format) limit (lines_of text)
+-- why the text is no script: its first bad line, or that memory refused a list
+abbrev pub IsScriptFault : (ℕ → Type 0) → ℕ → Format → ℕ → List ℕ → TextFault → Type 0
+IsScriptFault refuses each format limit text (Bad line) = HasBadScriptLine (everything format) limit (lines_of text) line
+IsScriptFault refuses each format limit text OutOfMemory = WantsScriptMemory refuses each (everything format) limit (lines_of text)

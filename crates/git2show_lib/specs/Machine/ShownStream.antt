@@ -10,6 +10,9 @@ use Rattle.git_pkt.specs.declared.fault.RunFault.TheVariants.{ReadFault, WriteFa
 use Rattle.git_pkt.specs.declared.reader.PacketReader.{PacketReader}
 use Rattle.git_client.specs.Machine.LineParts.{PutAs}
 use Rattle.git2show_lib.specs.PacketLines.{lines_of}
+use Rattle.git2show_lib.specs.PacketViews.{shown, tally_of}
+use Rattle.git2show_lib.specs.declared.views.Tally.{Tally}
+use Rattle.git2show_lib.specs.declared.views.View.{View}
 
 -- how the run ended: well where the input did, between two packets; else the rest shows why, or a stream failed. Where its
 -- reads were spent each of them had brought some bytes.
@@ -21,46 +24,62 @@ EndsAs (Err WriteFault) ended turns used rest unused = Unit {0}
 EndsAs (Err (Refused f)) ended turns used rest unused =
     StopsBy (length used - length rest) rest (length used) f.kind f.offset × IsTimely f.kind ended unused
 
+-- the bytes given are what is shown of the packets of what was read, up to where reading stopped
+pub record ShowsAs (show_all : List Given → List ℕ) (result : Result (Unit {0}) RunFault) (ended : Bool) (turns : ℕ) (read given : List (List ℕ)) : Type 0
+  where
+    pub used : List ℕ
+    pub unused : List ℕ
+    pub packets : List Given
+    pub rest : List ℕ
+    pub cut : read ≡ (used ++ unused) ∷ []
+    pub splits : Splits 0 used packets rest
+    pub lines : given ≡ show_all packets ∷ []
+    pub ends : EndsAs result ended turns used rest unused
+
 -- the lines given are those of the packets of what was read, up to where reading stopped
-pub record Shows (result : Result (Unit {0}) RunFault) (ended : Bool) (turns : ℕ) (read given : List (List ℕ)) : Type 0 where
-  pub used : List ℕ
-  pub unused : List ℕ
-  pub packets : List Given
-  pub rest : List ℕ
-  pub cut : read ≡ (used ++ unused) ∷ []
-  pub splits : Splits 0 used packets rest
-  pub lines : given ≡ lines_of packets ∷ []
-  pub ends : EndsAs result ended turns used rest unused
+abbrev pub Shows : Result (Unit {0}) RunFault → Bool → ℕ → List (List ℕ) → List (List ℕ) → Type 0
+Shows = ShowsAs lines_of
 
--- the reader went on over these bytes, and the lines of its packets were sent or wait
-pub record Prints (old new : PacketReader) (bytes waiting : List ℕ) (writer : Flow) : Type 0 where
+-- the same with options: what was counted before and after
+pub record ShowsView (view : Option View) (start final : Tally) (result : Result (Unit {0}) RunFault) (ended : Bool) (turns : ℕ)
+    (read given : List (List ℕ)) : Type 0 where
+  pub shows : ShowsAs (shown view start) result ended turns read given
+  pub tally : final ≡ tally_of view start shows.packets
+
+-- the reader went on over these bytes, and what is shown of its packets was sent or waits
+pub record Prints (view : Option View) (start final : Tally) (old new : PacketReader) (bytes waiting : List ℕ) (writer : Flow) : Type 0 where
   pub packets : List Given
   pub reads : ReadsOn old bytes packets new
-  pub put : PutAs false writer [] (lines_of packets) waiting
+  pub put : PutAs false writer [] (shown view start packets) waiting
+  pub tally : final ≡ tally_of view start packets
 
--- the reader went on over these bytes, and the lines of its packets were written, or a front of them
-pub record Writes (broken : Bool) (old new : PacketReader) (bytes : List ℕ) (writer : Flow) : Type 0 where
+-- the reader went on over these bytes, and what is shown of its packets was written, or a front of it
+pub record Writes (view : Option View) (start final : Tally) (broken : Bool) (old new : PacketReader) (bytes : List ℕ) (writer : Flow) : Type 0 where
   pub packets : List Given
   pub reads : ReadsOn old bytes packets new
-  pub written : WrittenAs broken writer (lines_of packets)
+  pub written : WrittenAs broken writer (shown view start packets)
+  pub tally : final ≡ tally_of view start packets
 
 -- the reader met this fault when it had used so many bytes of the piece
 pub record MeetsFault (f : Fault) (new : PacketReader) (piece : List ℕ) (used : ℕ) : Type 0 where
   pub told : fault_of new ≡ Some f
   pub shown : ShownByFeed f used piece
 
--- all of the piece was used and printed, or a front of it up to a fault
-abbrev pub PrintsPiece : Option Fault → PacketReader → PacketReader → List ℕ → List ℕ → Flow → Type 0
-PrintsPiece None old new piece waiting writer = Prints old new piece waiting writer × (fault_of new ≡ None)
-PrintsPiece (Some f) old new piece waiting writer = (used : ℕ) × Prints old new (take used piece) waiting writer × MeetsFault f new piece used
+module _ (view : Option View) (start final : Tally) where
+  -- all of the piece was used and printed, or a front of it up to a fault
+  abbrev pub PrintsPiece : Option Fault → PacketReader → PacketReader → List ℕ → List ℕ → Flow → Type 0
+  PrintsPiece None old new piece waiting writer = Prints view start final old new piece waiting writer × (fault_of new ≡ None)
+  PrintsPiece (Some f) old new piece waiting writer =
+      (used : ℕ) × Prints view start final old new (take used piece) waiting writer × MeetsFault f new piece used
 
--- a front of the piece was used, and a front of its lines written
-abbrev pub WritesFront : PacketReader → PacketReader → List ℕ → Flow → Type 0
-WritesFront old new piece writer = (used : ℕ) × Writes true old new (take used piece) writer
+  -- a front of the piece was used, and a front of its lines written
+  abbrev pub WritesFront : PacketReader → PacketReader → List ℕ → Flow → Type 0
+  WritesFront old new piece writer = (used : ℕ) × Writes view start final true old new (take used piece) writer
 
--- all of the piece was used and its lines were written, or those of a front of it up to a fault; or a write failed somewhere in it
-abbrev pub ShowsPiece : Result (Unit {0}) RunFault → PacketReader → PacketReader → List ℕ → Flow → Type 0
-ShowsPiece (Ok done) old new piece writer = Writes false old new piece writer × (fault_of new ≡ None)
-ShowsPiece (Err WriteFault) old new piece writer = WritesFront old new piece writer
-ShowsPiece (Err (Refused f)) old new piece writer = (used : ℕ) × Writes false old new (take used piece) writer × MeetsFault f new piece used
-ShowsPiece (Err fault) old new piece writer = ⊥
+  -- all of the piece was used and its lines were written, or those of a front of it up to a fault; or a write failed somewhere in it
+  abbrev pub ShowsPiece : Result (Unit {0}) RunFault → PacketReader → PacketReader → List ℕ → Flow → Type 0
+  ShowsPiece (Ok done) old new piece writer = Writes view start final false old new piece writer × (fault_of new ≡ None)
+  ShowsPiece (Err WriteFault) old new piece writer = WritesFront old new piece writer
+  ShowsPiece (Err (Refused f)) old new piece writer =
+      (used : ℕ) × Writes view start final false old new (take used piece) writer × MeetsFault f new piece used
+  ShowsPiece (Err fault) old new piece writer = ⊥

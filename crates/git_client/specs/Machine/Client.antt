@@ -445,7 +445,7 @@ module _ {A : Type 0} where
     pub gives : GivesOne old new (held_of (reader_of new))
     pub credit : credit_of (reader_of new) ≡ 0
 
--- the server's message in a payload that is refused by this name
+-- the server's message in a payload that is refused with this error
 abbrev pub IsMessage : Kind → List ℕ → List ℕ → Type 0
 IsMessage RemoteError line message = IsErrorOf (text_of line) message
 IsMessage RemoteFatal line message = line ≡ 3 ∷ message

@@ -102,7 +102,7 @@ module _ {A : Type 0} where
   abbrev pub FaultsInTime : Client A → Bool → List ℕ → Type 0
   FaultsInTime client ended unused = (fault : Fault) → fault_of client ≡ Some fault → IsTimely fault.kind ended unused
 
-  -- a prefix of the bytes that waited and those that came was received
+  -- a prefix of the waiting and the newly read bytes was received
   pub record HearsFrom (broken : Bool) (old new : Client A) (waiting unused : List ℕ) (reader out packs progress : Flow) : Type 0 where
     pub came : List ℕ
     pub used : List ℕ

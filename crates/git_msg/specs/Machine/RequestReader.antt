@@ -75,7 +75,7 @@ module _ {A : Type 0} where
   abbrev pub fault_of : RequestReader A → Option Fault
   fault_of r = fault_in r.part
 
-  -- an argument was given and is not kept yet
+  -- an argument was returned and is not kept yet
   abbrev pub is_waiting : RequestReader A → Bool
   is_waiting r = waits_in r.part
 

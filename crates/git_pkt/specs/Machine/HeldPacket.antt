@@ -25,7 +25,7 @@ pub record IsWhole (s : List ℕ) (field : ℕ) : Type 0 where
   pub allowed : IsLengthField field
   pub long : length s ≡ max 4 field
 
--- the name by which a number is refused, if it is
+-- the error of a number that no packet may have
 abbrev pub TellsField : ℕ → Option Kind → Type 0
 TellsField n None = IsLengthField n
 TellsField n (Some BadLength) = n ≡ 3

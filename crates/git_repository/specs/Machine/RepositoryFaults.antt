@@ -12,6 +12,7 @@ use Rattle.git_repository.specs.declared.text_faults.TextFault.TheVariants.{Bad,
 abbrev pub IsWholeText : List ℕ → PackBytes → ListRepo → Type 0
 IsWholeText text packs repo = IsRepositoryText text packs (lists_of repo)
 
-abbrev pub IsTextFault : List ℕ → TextFault → Type 0
-IsTextFault text (Bad line) = IsFirstBad text line
-IsTextFault text OutOfMemory = WantsMemory (lines_of text)
+-- why the text is no repository: its first bad line, or that memory refused a list
+abbrev pub IsTextFault : (ℕ → Type 0) → List ℕ → TextFault → Type 0
+IsTextFault refuses text (Bad line) = IsFirstBad text line
+IsTextFault refuses text OutOfMemory = WantsMemory refuses (lines_of text)

@@ -11,15 +11,15 @@ use Rattle.git_repository.specs.declared.text_faults.TextFault.TheVariants.{Bad,
 use Rattle.git_repository.specs.LinesTold.{AreTold}
 
 -- the error is in these lines
-abbrev pub IsLinesFault : List (List ℕ) → TextFault → Type 0
-IsLinesFault lines (Bad number) = HasNoFormat lines number ⊎ HasBadLine lines number
-IsLinesFault lines OutOfMemory = WantsMemory lines
+abbrev pub IsLinesFault : (ℕ → Type 0) → List (List ℕ) → TextFault → Type 0
+IsLinesFault refuses lines (Bad number) = HasNoFormat lines number ⊎ HasBadLine lines number
+IsLinesFault refuses lines OutOfMemory = WantsMemory refuses lines
 
 -- these lines were read
-abbrev pub HasRead : Progress → List (List ℕ) → Type 0
-HasRead Start lines = lines ≡ []
-HasRead (Lines draft) lines = AreTold lines (drafted draft)
-HasRead (Failed fault) lines = IsLinesFault lines fault
+abbrev pub HasRead : (ℕ → Type 0) → Progress → List (List ℕ) → Type 0
+HasRead refuses Start lines = lines ≡ []
+HasRead refuses (Lines draft) lines = AreTold lines (drafted draft)
+HasRead refuses (Failed fault) lines = IsLinesFault refuses lines fault
 
 -- there are no lines, or they begin a text
 abbrev pub MayGoOn : List (List ℕ) → Type 0
@@ -32,10 +32,10 @@ pub record IsTooLong (ended : List (List ℕ)) (begun : List ℕ) (fault : TextF
   pub at_number : fault ≡ Bad (length ended + 1)
 
 -- these lines were read, and the bytes of this one that have come
-abbrev pub HasReadTo : Progress → List (List ℕ) → List ℕ → Type 0
-HasReadTo Start ended begun = ended ≡ []
-HasReadTo (Lines draft) ended begun = AreTold ended (drafted draft)
-HasReadTo (Failed fault) ended begun = IsLinesFault ended fault ⊎ IsTooLong ended begun fault
+abbrev pub HasReadTo : (ℕ → Type 0) → Progress → List (List ℕ) → List ℕ → Type 0
+HasReadTo refuses Start ended begun = ended ≡ []
+HasReadTo refuses (Lines draft) ended begun = AreTold ended (drafted draft)
+HasReadTo refuses (Failed fault) ended begun = IsLinesFault refuses ended fault ⊎ IsTooLong ended begun fault
 
 -- a line was refused
 abbrev pub HasFailed : Progress → Type 0
@@ -50,9 +50,9 @@ IsBegun (Lines draft) held begun = held ≡ begun
 IsBegun (Failed fault) held begun = Unit {0}
 
 -- all of these lines but the last were read, and the last has begun
-pub record Stands (progress : Progress) (held : List ℕ) (lines : List (List ℕ)) : Type 0 where
+pub record Stands (refuses : ℕ → Type 0) (progress : Progress) (held : List ℕ) (lines : List (List ℕ)) : Type 0 where
   pub ended : List (List ℕ)
   pub begun : List ℕ
   pub whole : lines ≡ ended ++ begun ∷ []
-  pub read : HasReadTo progress ended begun
+  pub read : HasReadTo refuses progress ended begun
   pub is_begun : IsBegun progress held begun

@@ -4,24 +4,25 @@ use Rattle.git_msg.specs.Texts.{parts_of}
 use Rattle.git_repository.specs.Machine.RepositoryProgress.{HasFailed, Stands}
 use Rattle.git_repository.specs.declared.repository_reader.RepositoryReader.{RepositoryReader}
 
--- a line was refused
-abbrev pub HasRefused : RepositoryReader → Type 0
-HasRefused reader = HasFailed reader.progress
+module _ {M : Type 0} where
+  -- a line was refused
+  abbrev pub HasRefusedLine : RepositoryReader M → Type 0
+  HasRefusedLine reader = HasFailed reader.progress
 
--- there is no room for so many bytes after the line that is open
-abbrev pub LacksRoom : RepositoryReader → ℕ → Type 0
-LacksRoom reader bytes = vec_capacity reader.begun < length reader.begun.items + bytes
+  -- there is no room for so many bytes after the line that is open
+  abbrev pub LacksRoom : RepositoryReader M → ℕ → Type 0
+  LacksRoom reader bytes = vec_capacity reader.begun < length reader.begun.items + bytes
 
--- the number of buffered bytes of the line that is open
-abbrev pub open_bytes : RepositoryReader → ℕ
-open_bytes reader = length reader.begun.items
+  -- the number of buffered bytes of the line that is open
+  abbrev pub open_bytes : RepositoryReader M → ℕ
+  open_bytes reader = length reader.begun.items
 
--- the reader was fed this text, or enough of it to show the line that it refused
-abbrev pub Reads : RepositoryReader → List ℕ → Type 0
-Reads reader text = Stands reader.progress reader.begun.items (parts_of 10 text)
+  -- the reader was fed this text, or enough of it to show the line that it refused
+  abbrev pub Reads : (ℕ → Type 0) → RepositoryReader M → List ℕ → Type 0
+  Reads refuses reader text = Stands refuses reader.progress reader.begun.items (parts_of 10 text)
 
--- the contents that were read and the line that has begun are unchanged
-pub record Stays (old new : RepositoryReader) : Type 0 where
-  pub progress : new.progress ≡ old.progress
-  pub begun : new.begun.items ≡ old.begun.items
-  pub room : vec_capacity new.begun ≡ vec_capacity old.begun
+  -- the contents that were read and the line that has begun are unchanged
+  pub record Stays (old new : RepositoryReader M) : Type 0 where
+    pub progress : new.progress ≡ old.progress
+    pub begun : new.begun.items ≡ old.begun.items
+    pub room : vec_capacity new.begun ≡ vec_capacity old.begun

@@ -13,7 +13,7 @@ use Rattle.git2show_lib.proofs.checking.check.Given as goal
 -- and not used
 abbrev pub invariant-requests : goal.invariant-requests
 invariant-requests g l = record {
-  checking : Checking (terms_of l.fn.format l.fn.ending) USUAL l.client l.asking l.passed (window_of l.waiting l.piece) (window_of l.left l.other_piece)
+  checking : Checking (terms_of l.fn.format l.fn.ending) USUAL l.client l.asking l.over.passed (window_of l.waiting l.piece) (window_of l.over.left l.other_piece)
       (flow (g.Q.Read.remaining (inner_of l.fn.requests)) (g.Q.Read.remaining (inner_of l.requests)))
       (flow (g.R.Read.remaining (inner_of l.fn.responses)) (g.R.Read.remaining (inner_of l.responses)))
       (flow (g.O.Write.contents (inner_of l.fn.out)) (g.O.Write.contents (inner_of l.out)));
@@ -22,8 +22,8 @@ invariant-requests g l = record {
   ordered : l.waiting.start ≤ l.waiting.end;
   within : l.waiting.end ≤ length l.piece;
   other_room : 0 < length l.other_piece;
-  other_ordered : l.left.start ≤ l.left.end;
-  other_within : l.left.end ≤ length l.other_piece;
+  other_ordered : l.over.left.start ≤ l.over.left.end;
+  other_within : l.over.left.end ≤ length l.other_piece;
   reads : reads_of l.requests + reads_of l.responses ≤ l.turns;
   sound_requests : has_failed l.requests ≡ false;
   open_requests : has_ended l.requests ≡ false;

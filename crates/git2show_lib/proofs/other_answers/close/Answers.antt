@@ -7,10 +7,10 @@ pub returns-in-Ok : goal.returns-in-Ok
 returns-in-Ok c =
     let (same, sound, shut) = c.in-Ok.ensures.between in (
       refl,
-      λ ending used h. cut_between ending c.args.packets.now used _ h sound refl shut (c.position.ensures ∙ ap position_of same),
+      λ used given rest reads. cut_between c.args.packets.now used given rest _ reads sound refl shut (c.position.ensures ∙ ap position_of same),
     )
 
 pub returns-in-Err : goal.returns-in-Err
 returns-in-Err c =
     let (opened, name, at) = c.in-Err.ensures.truncated c.requires in
-    (name, λ ending used h. cut_there ending c.args.packets.now used c.in-Err.fault h c.requires name at)
+    (name, λ used given rest reads. cut_there c.args.packets.now used given rest c.in-Err.fault reads c.requires name at)

@@ -7,8 +7,8 @@ use Rattle.git2show_lib.specs.Machine.JudgedRequests.{IsReady}
 use Rattle.git2show_lib.proofs.requests_read.next_request.Given as goal
 
 -- nothing has failed or ended, and bytes are wanted on; of those that came all but the window's were used, and brought nothing whole
-abbrev pub invariant-loop-request : goal.invariant-loop-request
-invariant-loop-request g l = record {
+abbrev pub invariant-loop-judged : goal.invariant-loop-judged
+invariant-loop-judged g l = record {
   room : length l.piece ≡ length l.fn.piece;
   ordered : l.waiting.start ≤ l.waiting.end;
   within : l.waiting.end ≤ length l.piece;
@@ -22,5 +22,5 @@ invariant-loop-request g l = record {
 }
 
 -- each turn is one read
-abbrev pub decreases-loop-request : goal.decreases-loop-request
-decreases-loop-request g l = l.turns - reads_of l.reader
+abbrev pub decreases-loop-judged : goal.decreases-loop-judged
+decreases-loop-judged g l = l.turns - reads_of l.reader

@@ -24,11 +24,13 @@ lines-preserved g c =
 pub returns-in-Err-Refused : goal.returns-in-Err-Refused
 returns-in-Err-Refused g c =
     let h = rw c.in-Some.is at c.lines.invariant in
-    refused_at (option_copied c.split_at_first.result.1) h.reading c.split_at_first.ensures.parts
-    (subst (IsLineFault (held c.lines.script) c.split_at_first.result.0.now) c.in-Err-Refused.field-0-is c.in-Err-Refused.ensures)
+    refused_at (option_copied c.split_at_first.result.1) h.reading c.split_at_first.ensures.parts g.A.Memory.refuses 0
+    (subst (IsLineFault _ _ (held c.lines.script) c.split_at_first.result.0.now)
+    c.in-Err-Refused.field-0-is c.in-Err-Refused.ensures)
 
 pub returns-in-Err-OutOfMemory : goal.returns-in-Err-OutOfMemory
 returns-in-Err-OutOfMemory g c =
     let h = rw c.in-Some.is at c.lines.invariant in
-    no_memory_at (option_copied c.split_at_first.result.1) h.reading c.split_at_first.ensures.parts
-    (subst (IsLineFault (held c.lines.script) c.split_at_first.result.0.now) c.in-Err-OutOfMemory.field-0-is c.in-Err-OutOfMemory.ensures)
+    no_memory_at (option_copied c.split_at_first.result.1) h.reading c.split_at_first.ensures.parts _ _
+    (subst (IsLineFault _ _ (held c.lines.script) c.split_at_first.result.0.now)
+    c.in-Err-OutOfMemory.field-0-is c.in-Err-OutOfMemory.ensures)

@@ -1,4 +1,4 @@
--- What is written is a text of the name, and a text is one object name at most.
+-- The written form is a text of the name, and a text is at most one object name.
 use Rattle.git_names.proofs.ObjectNames.{one_object_name}
 use Rattle.git2show_tests.proofs.names.reads_back.Goals as goal
 

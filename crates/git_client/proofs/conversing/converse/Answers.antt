@@ -22,7 +22,7 @@ use Rattle.git_client.proofs.Writing.{no_failure}
 use Rattle.git_client.proofs.conversing.converse.Goals as goal
 use Rattle.git_client.proofs.conversing.converse.Goals.{then-eq+in_ok-say, else-eq}
 
--- a write broke a step that answers nothing
+-- a write broke a step without a value
 abbrev write_broke : RunFault → Bool
 write_broke fault = is_broken {T = Unit {0}} (Err fault)
 

@@ -8,8 +8,8 @@ use Rattle.git_client.specs.Machine.RunSteps.{no_counts, window_of}
 use Rattle.git_client.proofs.ClientRuns.{Running}
 use Rattle.git_client.proofs.conversing.converse.Given as goal
 
--- The requests that came off the vector were asked, and the response to each was received whole: what waits of the piece is all
--- that was read and not used.
+-- The requests taken off the vector were asked, and each of their responses was received whole. The bytes that wait in the chunk are those that were
+-- read and not used.
 abbrev pub invariant-loop-request : goal.invariant-loop-request
 invariant-loop-request g l = record {
   runs : (t : Terms) → Converses t nothing_yet l.fn.client

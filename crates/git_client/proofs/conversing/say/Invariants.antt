@@ -1,4 +1,4 @@
--- What was pulled was written, and nothing has failed since the call began.
+-- All packets pulled were written, and nothing has failed since the call began.
 use Rattle.std.proofs.Common.{◌≡◌, false, length}
 use Rattle.git_pkt.specs.Streams.{flow}
 use Rattle.git_client.specs.Machine.Client.{left_to_say}
@@ -11,6 +11,6 @@ invariant-loop-packet g l = record {
   says : SaysSome false l.fn.client l.client (flow (g.W.Output.contents l.fn.writer) (g.W.Output.contents l.writer));
 }
 
--- each packet that is given was owed, and is owed no more
+-- each turn sends one of the packets that are left
 abbrev pub decreases-loop-packet : goal.decreases-loop-packet
 decreases-loop-packet g l = length (left_to_say l.client)

@@ -6,7 +6,7 @@ use Rattle.git_client.specs.Machine.RunSteps.{window_of}
 use Rattle.git_client.proofs.HearingBytes.{HeardSoFar}
 use Rattle.git_client.proofs.hearing.hear.Given as goal
 
--- nothing has failed or ended; while input is wanted all bytes that came are used
+-- nothing has failed or ended; while input is needed all bytes so far are used
 abbrev pub invariant-loop-left : goal.invariant-loop-left
 invariant-loop-left g l = record {
   room : length l.piece ≡ length l.fn.piece;

@@ -5,7 +5,7 @@ use Rattle.git_client.specs.Machine.Client.{fault_of, can_ask, wants_input}
 use Rattle.git_client.proofs.WaitingLines.{HeardLines}
 use Rattle.git_client.proofs.hearing.hear_piece.Given as goal
 
--- the client waits for input or can ask, and no writer has failed; what the bytes used contain was written, but for lines that wait
+-- The client needs input or can ask, and no writer has failed. The contents of the bytes used were written, except for lines that wait.
 abbrev pub invariant-loop-used : goal.invariant-loop-used
 invariant-loop-used g l = record {
   within : l.used ≤ length l.piece;

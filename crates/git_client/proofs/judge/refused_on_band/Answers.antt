@@ -10,7 +10,7 @@ use Rattle.git_client.proofs.judge.refused_on_band.Goals as goal
 other_byte : (byte : ℕ) (bytes : List ℕ) → byte ≢ 1 → byte ≢ 2 → byte ≢ 3 → band_says (byte ∷ bytes) ≡ Err BadBand
 other_byte byte bytes one two three = grind (arith, nat_tests)
 
--- a payload that begins with no band's byte
+-- a payload that does not begin with a band's byte
 no_band : (bytes : List ℕ) (kind : Kind) → IsNoBand bytes kind → band_says bytes ≡ Err kind
 no_band [] kind is = ap Err (sym is)
 no_band (byte ∷ bytes) kind (none, is) = other_byte byte bytes (none Pack) (none Progress) (none Fatal) ∙ ap Err (sym is)

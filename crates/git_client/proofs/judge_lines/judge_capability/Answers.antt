@@ -9,7 +9,7 @@ use Rattle.git_client.proofs.judge_lines.judge_capability.Goals as goal
 abbrev places_of : List ℕ → Option (List ℕ) → CapabilityPlaces
 places_of key value = record { key_length = length key; has_value = is_some value }
 
--- the parts of a capability line lie at these places
+-- the parts of a capability line are at these places
 located : (text key : List ℕ) (value : Option (List ℕ)) → IsCapability text key value
     → (take (length key) text ≡ key) × (value_at (places_of key value) text ≡ value) × LiesIn (places_of key value) text
 located text key None (key_is, spelled) = (

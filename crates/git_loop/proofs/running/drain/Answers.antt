@@ -1,4 +1,5 @@
 use Rattle.std.proofs.Common.{rules, sym, refl, [], true, false}
+use Rattle.git_pkt.proofs.EngineLemmas.{written_nothing}
 use Rattle.git_loop.proofs.RunLemmas.{on_err_at, writes_more, writes_nothing}
 use Rattle.git_loop.proofs.running.drain.Goals as goal
 
@@ -25,6 +26,16 @@ packets-preserved g c =
       writes = writes_more g.met.M.Machine.reaches_further false _ _ _ [] [] _ c.packets.invariant.writes
           (rw (sym (c.packet.ensures gives.bytes gives.lent)) (search rules)) gives.reaches;
     }
+
+pub returns-in-NeedInput-clause-ok : goal.returns-in-NeedInput-clause-ok
+returns-in-NeedInput-clause-ok g c =
+    writes_more g.met.M.Machine.reaches_further false _ _ _ [] [] [] c.packets.invariant.writes (written_nothing _)
+    (c.in-NeedInput.ensures.needs_input refl).1
+
+pub returns-in-Finished-clause-ok : goal.returns-in-Finished-clause-ok
+returns-in-Finished-clause-ok g c =
+    writes_more g.met.M.Machine.reaches_further false _ _ _ [] [] [] c.packets.invariant.writes (written_nothing _)
+    (c.in-Finished.ensures.finished refl).1
 
 pub returns-in_err-send-in-Packet-clause-front : goal.returns-in_err-send-in-Packet-clause-front
 returns-in_err-send-in-Packet-clause-front g c =

@@ -6,7 +6,7 @@ use Rattle.git_msg.proofs.WrittenNames.{named_in}
 use Rattle.git_msg.proofs.response_lines.put_wanted.Goals as goal
 use Rattle.std.proofs.lemmas.Grind.{common_steps}
 
--- a reference of which only the object is given has the format of that
+-- a reference that has only an object has the format of that object
 own_format : (id : ObjectName) (name : List ℕ) → HasFormat id.format (reference_of (Some id) name None None)
 own_format id name = search rules
 

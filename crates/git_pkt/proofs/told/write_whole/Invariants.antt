@@ -1,4 +1,4 @@
--- What is gone from `rest` was appended, and each write so far took some of it or was interrupted.
+-- The bytes taken from `rest` were appended, and each write so far took some or was interrupted.
 use Rattle.std.proofs.Common.{◌≡◌, ℕ, List, ◌++◌}
 use Rattle.std.specs.Io.KnownBytes.{Appends}
 use Rattle.git_pkt.specs.Machine.Calls.{WritesOn}

@@ -17,7 +17,7 @@ use Rattle.git_rows.proofs.ReceivedPackets.{conversation_events, flushes_are, gi
 use Rattle.git_rows.proofs.WrittenPackets.{splits_written}
 use Rattle.git_rows.proofs.conversations.shortest_conversation.Goals as goal
 
--- to a client of SHA-256 the advertisement ends before it has named a format that is spoken
+-- a client of SHA-256 refuses the flush of the advertisement, since no line has named its format
 refused : HasEvents (terms_of Sha256 FlushOnly) [] offer_bytes []
 refused = record {
   clean = at 0 (text_line (codes "version 2")) ∷ [];

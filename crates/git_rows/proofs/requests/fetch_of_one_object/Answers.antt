@@ -14,7 +14,7 @@ use Rattle.git_rows.proofs.RequestLines.{are_want_lines, asks_fetch, done_reads,
 use Rattle.git_rows.proofs.TextsByComputing.{no_error_by}
 use Rattle.git_rows.proofs.requests.fetch_of_one_object.Goals as goal
 
--- `done` passes a limit of one byte less
+-- `done` exceeds a limit that is one byte lower
 past_the_limit : FirstFault offer_all 48 fetch_done_packets TooMuchKept 72
 past_the_limit = record {
   front = want_alone_packets;

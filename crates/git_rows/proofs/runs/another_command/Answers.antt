@@ -32,7 +32,7 @@ pub returns-clause-counted : goal.returns-clause-counted
 unfolding counted_line is_advertised is_allowed_key is_allowed_value is_other_capability is_own_key line_has place_at_line
 returns-clause-counted c = refl
 
--- of two flushes the first is not the last
+-- of two flushes, the first is not the last packet
 two_flushes : (front : List Given) (last : Given) → at 0 flush ∷ at 4 flush ∷ [] ≡ front ++ last ∷ [] → NoneIs flush front → ⊥
 two_flushes [] last e none = cc
 two_flushes (x ∷ front) last e none = let same : at 0 flush ≡ x = cc in none.0 (ap (λ (g : Given). g.packet) (sym same))

@@ -29,7 +29,7 @@ use Rattle.git_rows.proofs.OpenRests.{open_nothing}
 use Rattle.git_rows.proofs.WrittenPackets.{fit_by, placed, splits_written}
 use Rattle.git_rows.proofs.runs.nothing_played.Goals as goal
 
--- the packets of the advertisement, each at its place, and its bytes and events
+-- the packets of the advertisement, each at its offset, and its bytes and events
 abbrev offer : List Pkt
 offer = advertisement_of offer_all
 
@@ -53,7 +53,7 @@ noted gives = (
   refl,
 )
 
--- the server's session: nothing was asked, and then the client left
+-- the server's session: nothing was requested, and then the client left
 abbrev served : Setting
 served = setting_of terms 0 repo_state true
 

@@ -17,7 +17,7 @@ use Rattle.git_rows.proofs.runs.stream_shown.Goals as goal
 head : (a b : List ℕ) → a ∷ [] ≡ b ∷ [] → a ≡ b
 head a b e = cc
 
--- a stream that was used whole is what was read
+-- if a stream was used whole, the bytes used are those read
 all_used : (read used unused : List ℕ) → read ∷ [] ≡ (used ++ unused) ∷ [] → unused ≡ [] → used ≡ read
 all_used read used unused e none = sym (append-nil used) ∙ ap (λ (l : List ℕ). used ++ l) (sym none) ∙ sym (head read (used ++ unused) e)
 

@@ -1,4 +1,4 @@
-use Rattle.std.proofs.Common.{◌≡◌, ◌⊎◌, ◌≤◌, length, length-append, ℕ, Option, None, Some, true, false, List, [], ◌∷◌, ◌++◌, codes, refl, sym, ap}
+use Rattle.std.proofs.Common.{◌≡◌, ◌⊎◌, length, length-append, ℕ, None, true, false, List, [], ◌∷◌, ◌++◌, codes, refl, sym, ap}
 use Rattle.std.proofs.Common.{arith, ◌∙◌, inl, inr, subst}
 use Rattle.std.proofs.lemmas.List.Elements.{All-nil}
 use Rattle.git_pkt.proofs.Spelling.{none_begins_nothing}
@@ -9,12 +9,13 @@ use Rattle.git_client.specs.Conversation.{IsConversation}
 use Rattle.git_msg.specs.Advertisement.{noted_of, noted_offer, offers_command}
 use Rattle.git_msg.specs.Asked.{Asked, command_asked}
 use Rattle.git_msg.specs.WrittenRequest.{text_line}
-use Rattle.git_client.specs.Events.{offered}
+use Rattle.git_client.specs.Events.{EventValue, offered}
 use Rattle.git_names.specs.declared.object_format.Format.TheVariants.{Sha1}
 use Rattle.git_pkt.specs.Packets.{flush}
 use Rattle.git_client.proofs.EventsHeard.{later_questions}
 use Rattle.git2show_lib.specs.Others.{Advertised, is_other_line, is_own_key, judged_of, line_kept}
-use Rattle.git2show_lib.specs.Machine.CheckedStreams.{Turn, bytes_in, heard_in, heard_of}
+use Rattle.git2show_lib.specs.OtherLines.{Question}
+use Rattle.git2show_lib.specs.Machine.CheckedStreams.{ComeInTurn, HasEnded, Turn, bytes_begun, bytes_in, received_in}
 use Rattle.git2show_lib.specs.Machine.JudgedRequests.{AreQuestions}
 use Rattle.git_rows.specs.WorkedConversations.{offer_bytes, terms}
 use Rattle.git_rows.proofs.ReceivedPackets.{flushes_are, offer_packets, offer_splits, offer_then, whole_offer}
@@ -27,10 +28,10 @@ returns-clause-whole g c = record {
   unused = [];
   found = record { used = []; unused = []; asked = []; left = []; rest = [] };
   by = record { offer = noted_offer (noted_of (flush ∷ text_line (codes "version 2") ∷ [])) Sha1; text = [] };
-  r = record { opening = offer_bytes; turns = []; begun = [] };
+  r = record { opening = offer_bytes; greeting = offered ∷ []; turns = []; begun = None };
   were_read = refl;
   told = refl;
-  received = record { asked_is = refl; used_is = refl; in_turn = tt };
+  received = record { asked_is = refl; used_is = refl; events_are = refl; one_turn = (true, (refl, refl)); in_turn = tt };
   heard = later_questions terms [] [] offer_bytes (offered ∷ []) whole_offer;
   may_be = λ caps noted. All-nil (λ (q : Asked). offers_command caps (command_asked q) ≡ true);
   in_turn = omega arith;
@@ -60,14 +61,19 @@ returns-clause-whole g c = record {
   });
   asks = record { packets = []; splits = record { spelled = refl; ends = none_begins_nothing }; requests = refl };
   ends = record {
-    answered = record { asked = refl; nothing_begun = refl; whole = whole_offer };
+    answered = record {
+      asked = refl;
+      ended = All-nil (λ turn. HasEnded terms turn.question turn.bytes turn.received turn.events);
+      nothing_begun = refl;
+      whole = whole_offer;
+    };
     over = (refl, inr (refl, refl, refl));
     nothing_left = refl;
     ended = refl;
   };
 }
 
--- a stream of no bytes was used whole
+-- an empty stream was used whole
 nothing_used : (used unused : List ℕ) → used ++ unused ≡ [] → used ≡ []
 nothing_used [] unused e = refl
 nothing_used (b ∷ used) unused e = cc
@@ -75,24 +81,8 @@ nothing_used (b ∷ used) unused e = cc
 first_of_two : (a b x y : List ℕ) → a ∷ b ∷ [] ≡ x ∷ y ∷ [] → (x ≡ a) × (y ≡ b)
 first_of_two a b x y e = (cc, cc)
 
--- no more is received of turns than comes in them
-heard_once : (question : Option Asked) (bytes : List ℕ) → length (heard_of question bytes) ≤ length bytes
-heard_once None bytes = omega arith
-heard_once (Some q) bytes = omega arith
-
-heard_within : (turns : List Turn) → length (heard_in turns) ≤ length (bytes_in turns)
-heard_within [] = omega arith
-heard_within (x ∷ turns) =
-    omega (
-      arith,
-      heard_once x.question x.bytes,
-      heard_within turns,
-      length-append (heard_of x.question x.bytes) (heard_in turns),
-      length-append x.bytes (bytes_in turns),
-    )
-
--- where no packet comes none is left
-none_left : (by : Advertised) (limit : ℕ) (packets : List Given) (asked : List (Option Asked)) (left : List Given) → packets ≡ []
+-- without packets none are left
+none_left : (by : Advertised) (limit : ℕ) (packets : List Given) (asked : List Question) (left : List Given) → packets ≡ []
     → AreQuestions by limit packets asked left → left ≡ []
 none_left by limit packets [] left none same = sym same ∙ none
 none_left by limit packets (q ∷ qs) left none (front, more, whole, first, rest) =
@@ -102,7 +92,7 @@ none_left by limit packets (q ∷ qs) left none (front, more, whole, first, rest
     nothing_after [] more e = e
     nothing_after (g ∷ front) more e = cc
 
--- and no flush comes instead of a request
+-- and no flush comes in place of a request
 none_stops : (text : List ℕ) (left : List Given) (P : Type 0) → left ≡ [] → IsStop (judged_of text left) ⊎ ((left ≡ []) × P × (false ≡ true)) → ⊥
 none_stops text left P none (inl stop) = omega (arith, ap length (ap (judged_of text) none), ap length stop.alone)
 none_stops text left P none (inr (same, rest, ended)) = cc
@@ -114,18 +104,25 @@ returns-clause-not_while_requests_may_come g c = λ h.
     let packets = (one_split 0 [] h.asks.packets [] h.found.rest [] splits.spelled refl splits.ends none_begins_nothing).packets in
     none_stops h.by.text h.found.left _ (none_left h.by 0 h.asks.packets h.found.asked h.found.left packets h.asks.requests) h.ends.over.1
 
--- nothing was received where nothing was read
-none_received : (opening heard bytes begun unused : List ℕ) → (((opening ++ bytes) ++ begun) ++ unused ≡ []) → length heard ≤ length bytes
-    → opening ++ heard ≡ []
-none_received [] [] bytes begun unused e less = refl
-none_received [] (b ∷ heard) bytes begun unused e less =
-    absurd (omega (arith, less, ap length e, length-append (bytes ++ begun) unused, length-append bytes begun))
-none_received (b ∷ opening) heard bytes begun unused e less = cc
+-- where no byte of an advertisement came, no turn came
+no_turns : (opening : List ℕ) (greeting : List EventValue) (turns : List Turn) → opening ≡ [] → ComeInTurn terms opening greeting [] turns
+    → received_in turns ≡ []
+no_turns opening greeting [] none come = refl
+no_turns opening greeting (turn ∷ turns) none (first, come) =
+    let whole = subst (λ (bytes : List ℕ). IsConversation terms [] (bytes ++ []) (greeting ++ [])) none first.answered in
+    let count = flushes_are terms [] [] (greeting ++ []) [] [] whole (record { spelled = refl; ends = none_begins_nothing }) in
+    absurd (omega (arith, count))
+
+nothing_first : (opening bytes begun unused : List ℕ) → ((opening ++ bytes) ++ begun) ++ unused ≡ [] → opening ≡ []
+nothing_first [] bytes begun unused e = refl
+nothing_first (b ∷ opening) bytes begun unused e = cc
 
 pub returns-clause-not_without_an_advertisement : goal.returns-clause-not_without_an_advertisement
 returns-clause-not_without_an_advertisement g c = λ h.
     let all = (first_of_two [] [] _ _ h.were_read).1 in
-    let used = h.received.used_is ∙ none_received h.r.opening (heard_in h.r.turns) (bytes_in h.r.turns) h.r.begun h.unused all (heard_within h.r.turns) in
+    let none = nothing_first h.r.opening (bytes_in h.r.turns) (bytes_begun h.r.begun) h.unused all in
+    let used : h.h.used ≡ [] =
+    h.received.used_is ∙ ap (λ (l : List ℕ). l ++ received_in h.r.turns) none ∙ no_turns h.r.opening h.r.greeting h.r.turns none h.received.in_turn in
     let whole = subst (λ (bytes : List ℕ). IsConversation terms h.h.asked bytes h.h.events) used h.ends.answered.whole in
     let count = flushes_are terms h.h.asked [] h.h.events [] [] whole (record { spelled = refl; ends = none_begins_nothing }) in
     omega (arith, count)

@@ -16,7 +16,7 @@ use Rattle.git_rows.proofs.ServedRequests.{fetch_request, fetch_splits, fetch_st
 use Rattle.git_rows.proofs.WrittenPackets.{all_fit, fit_by}
 use Rattle.git_rows.proofs.sessions.pack_sent.Goals as goal
 
--- the answer and the session, by how the pack was cut
+-- the answer and the session, depending on how the pack is cut into packets
 abbrev with_header : List Pkt → List Pkt
 with_header bands = text_line (codes "packfile") ∷ (bands ++ flush ∷ [])
 

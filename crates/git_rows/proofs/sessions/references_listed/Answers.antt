@@ -43,7 +43,7 @@ one_answer : (answers : List Pkt) → AreAnswers repo (ls_refs (ls_refs_of []) �
 one_answer answers (answer, more, parts, is, ends) =
     parts ∙ ap (λ (ps : List Pkt). ps ++ more) is ∙ ap (λ (ps : List Pkt). ls_refs_answer (ls_refs_of []) repo ++ ps) ends
 
--- these bytes have no other output where the input ends after them
+-- if the input ends after these bytes, there is no other output
 only_output : (given : List ℕ) → IsSession setting ls_refs_bytes true given Closed → given ≡ listed_bytes
 unfolding encode_with lower_digit
 only_output given h =

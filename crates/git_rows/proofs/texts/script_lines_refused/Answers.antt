@@ -14,7 +14,7 @@ use Rattle.git_rows.proofs.Scripts.{script}
 use Rattle.git_rows.proofs.TextsByComputing.{differ, begins_with_none_by}
 use Rattle.git_rows.proofs.texts.script_lines_refused.Goals as goal
 
--- the other flags are not its text, and this one is of another command
+-- the text is that of no other flag, and this one belongs to another command
 no_fetch_flag : IsNoFlagOf Fetch (codes "symrefs")
 no_fetch_flag Flag.ThinPack of = differ (codes "symrefs") (codes "thin-pack") refl
 no_fetch_flag Flag.NoProgress of = differ (codes "symrefs") (codes "no-progress") refl

@@ -1,6 +1,6 @@
-use Rattle.std.proofs.Common.{arith, ◌++◌, ◌+◌, ◌∙◌, ap, subst, take, length, length-drop, append-nil, List, Option}
+use Rattle.std.proofs.Common.{arith, ◌++◌, ◌+◌, ◌∙◌, ap, subst, take, length, length-drop, append-nil, List}
 use Rattle.git_pkt.proofs.Pieces.{left_of}
-use Rattle.git_msg.specs.Asked.{Asked}
+use Rattle.git2show_lib.specs.OtherLines.{Question}
 use Rattle.git2show_lib.specs.Machine.JudgedRequests.{HasRead}
 use Rattle.git2show_lib.specs.declared.judged_requests.JudgedGot.TheVariants.{More}
 use Rattle.git2show_lib.proofs.JudgedSteps.{leaves_further, reads_further, shows_further, steps_with}
@@ -19,7 +19,7 @@ loop-used-preserved g c =
     record {
       within = omega (arith, c.step-step.ensures.used, ap length (left_of piece done was.within), length-drop done piece);
       reads = λ used asked h.
-          subst (λ (qs : List (Option Asked)). HasRead (used ++ take (done + read.used) piece) qs new) (append-nil asked)
+          subst (λ (qs : List Question). HasRead (used ++ take (done + read.used) piece) qs new) (append-nil asked)
           (reads_further old mid new piece done was.within read.used More steps was.reads used asked h);
       ready = steps.leaves.1;
       by = steps.by ∙ was.by;

@@ -1,5 +1,5 @@
-use Rattle.std.proofs.Common.{length, ◌-◌, ◌≡◌, ◌++◌, ◌≤◌, ℕ, List, take, Option}
-use Rattle.git_msg.specs.Asked.{Asked}
+use Rattle.std.proofs.Common.{length, ◌-◌, ◌≡◌, ◌++◌, ◌≤◌, ℕ, List, take}
+use Rattle.git2show_lib.specs.OtherLines.{Question}
 use Rattle.git2show_lib.specs.Machine.JudgedRequests.{HasRead, IsReady, advertised_by, limit_of}
 use Rattle.git2show_lib.proofs.judged_requests.JudgedRequests.feed.Given as goal
 
@@ -7,7 +7,7 @@ use Rattle.git2show_lib.proofs.judged_requests.JudgedRequests.feed.Given as goal
 abbrev pub invariant-loop-used : goal.invariant-loop-used
 invariant-loop-used g l = record {
   within : l.used ≤ length l.piece;
-  reads : (used : List ℕ) (asked : List (Option Asked)) → HasRead used asked l.fn.self → HasRead (used ++ take l.used l.piece) asked l.self;
+  reads : (used : List ℕ) (asked : List Question) → HasRead used asked l.fn.self → HasRead (used ++ take l.used l.piece) asked l.self;
   ready : IsReady l.self;
   by : advertised_by l.self ≡ advertised_by l.fn.self;
   limit : limit_of l.self ≡ limit_of l.fn.self;

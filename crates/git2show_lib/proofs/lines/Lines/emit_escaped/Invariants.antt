@@ -1,12 +1,13 @@
 use Rattle.std.proofs.Common.{◌≡◌}
 use Rattle.std.specs.Slice.Iter.{chunks_rest, chunks_size}
 use Rattle.git2show_lib.specs.declared.lines.TheConstants.{RUN}
-use Rattle.git2show_lib.proofs.Sendings.{EscapesTo}
+use Rattle.git_pkt.specs.Escape.{escape_of}
+use Rattle.git2show_lib.proofs.Sendings.{CodesTo}
 use Rattle.git2show_lib.proofs.lines.Lines.emit_escaped.Given as goal
 
 -- what came of the bytes has been escaped
 abbrev pub invariant-loop-run : goal.invariant-loop-run
 invariant-loop-run g l = record {
   size : chunks_size l.run-iterator ≡ RUN;
-  escapes : EscapesTo g.W.Write.contents l.fn.writer l.writer l.fn.self l.bytes l.self (chunks_rest l.run-iterator);
+  codes : CodesTo escape_of g.W.Write.contents l.fn.writer l.writer l.fn.self l.bytes l.self (chunks_rest l.run-iterator);
 }

@@ -1,8 +1,9 @@
-use Rattle.std.proofs.Common.{arith, subst, ◌∙◌, ap, length, inl, inr}
+use Rattle.std.proofs.Common.{rules, arith, subst, ◌∙◌, ap, length, inl, inr}
 use Rattle.git_msg.specs.declared.arguments.Command.{Command}
 use Rattle.git_msg.specs.declared.requests.Request.{Request}
-use Rattle.git_msg.specs.Arguments.{IsArgumentFault, ReadsAs, shown, written_text}
-use Rattle.git_msg.specs.Machine.HeldRequest.{Keeps, add_checks, command_of}
+use Rattle.git_msg.specs.Arguments.{Arg, IsArgumentFault, ReadsAs, TakesMemory, shown, written_text}
+use Rattle.git_msg.specs.Memory.{HasRefused}
+use Rattle.git_msg.specs.Machine.HeldRequest.{Keeps, add_checks, command_of, limit_of}
 use Rattle.git_msg.specs.Checks.{Refuses}
 use Rattle.git2show_lib.specs.Machine.HeldScripts.{FitsIn}
 use Rattle.git2show_lib.specs.Machine.ScriptLines.{held}
@@ -45,3 +46,12 @@ returns-in_default-kind g c others last is format opened =
       | inr ran_out ↦ absurd (c.in_default-kind.not-OutOfMemory ran_out.name)
     ]
     )
+
+pub returns-in-OutOfMemory : goal.returns-in-OutOfMemory
+returns-in-OutOfMemory g c others last is format opened =
+    let old = c.args.self.now in
+    let same = last_now old.requests.items others last c.in-Some.request.now old.requests.len old.requests.ok.0 c.in-Some.ensures.value is in
+    let kept_back : (arg : Arg) × FitsIn old.offer last c.args.text.now arg × TakesMemory arg = search rules in
+    let refused : HasRefused g.A.Memory.refuses (limit_of last) =
+    subst (λ (r : Request _). HasRefused g.A.Memory.refuses (limit_of r)) same (c.in-Err.ensures.memory c.in-OutOfMemory.is) in
+    (kept_back.0, kept_back.1, kept_back.2, refused)

@@ -7,9 +7,9 @@ pub returns-then-is_empty : goal.returns-then-is_empty
 returns-then-is_empty g c = takes_blank (held c.args.self.now) c.args.text.now (no_bytes c.args.text.now (sym c.is_empty.ensures ∙ c.if-is_empty.true))
 
 pub returns-then-self : goal.returns-then-self
-returns-then-self g c = said_argument (held c.args.self.now) (held c.add.new.self) c.args.text.now c.add.result c.if-self.true
+returns-then-self g c = said_argument _ _ (held c.args.self.now) (held c.add.new.self) c.args.text.now c.add.result c.if-self.true
     (some_bytes c.args.text.now (sym c.is_empty.ensures ∙ c.if-is_empty.false)) c.add.ensures
 
 pub returns : goal.returns
-returns g c = said_command (held c.args.self.now) (held c.begin.new.self) c.args.text.now c.begin.result c.if-self.false
+returns g c = said_command _ _ (held c.args.self.now) (held c.begin.new.self) c.args.text.now c.begin.result c.if-self.false
     (some_bytes c.args.text.now (sym c.is_empty.ensures ∙ c.if-is_empty.false)) c.begin.ensures

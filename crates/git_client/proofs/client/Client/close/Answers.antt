@@ -41,7 +41,7 @@ returns-clause-offset g c =
           (w.in-Err.ensures.truncated (is_sound old c.requires)).2)
     ]
 
--- a reader that is this one has no more credit
+-- a reader that equals this one has no more credit
 no_more : (old new reader : PacketReader) → new ≡ reader → credit_of reader ≤ credit_of old → credit_of new ≤ credit_of old
 no_more old new reader is less = let same = ap credit_of is in omega (arith, same, less)
 

@@ -19,7 +19,7 @@ use Rattle.git_client.proofs.HandedOut.{answers, has_no_fault, has_part}
 use Rattle.git_client.proofs.Opened.{no_turns}
 use Rattle.git_client.proofs.client.Client.feed.Goals as goal
 
--- what a packet contained gives some event
+-- contents other than nothing give some event
 gives_some : (said : Said) (bytes : List ℕ) → said ≢ Nothing → events_at said bytes ≢ []
 gives_some Nothing bytes other e = other refl
 gives_some said bytes other e = cc
@@ -48,7 +48,7 @@ module _ {A : Type 0} where
   event_ends (Progress bytes) used piece new lent shut = absurd lent
   event_ends event used piece new lent shut = shut
 
-  -- an event of bytes taken
+  -- an event for the bytes used
   feeds_event : (old new : Client A) (piece : List ℕ) (used : ℕ) (outcome : Outcome) (event : Event) → wants_input old ≡ true
       → outcome ≡ EventNow → Takes old piece (record { used = used; outcome = outcome }) new → IsLent event
       → values_of event ≡ events_at (said_last new) (drop 4 (held_of (reader_of new))) → Feeds old piece (record { used = used; got = EventGot event }) new

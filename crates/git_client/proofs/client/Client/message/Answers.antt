@@ -7,7 +7,7 @@ use Rattle.git_client.specs.Machine.Client.{is_told}
 use Rattle.git_client.proofs.Held.{HoldsMessage, holds_message, error_told, fatal_told}
 use Rattle.git_client.proofs.client.Client.message.Goals as goal
 
--- what a look-up of all bytes after the first finds
+-- what the look-up of all bytes after the first finds
 after_first : (bytes : List ℕ) (found : Option (Bor (List ℕ)))
     → MatchOption found ((length bytes < 1) ⊎ (length bytes < length bytes)) (λ x. (1 ≤ length bytes) × (length bytes ≤ length bytes)
     × (x.now ≡ slice_range bytes 1 (length bytes)) × (length x.now + 1 ≡ length bytes))

@@ -1,13 +1,14 @@
-use Rattle.std.proofs.Common.{arith, ◌≤◌, ◌++◌, length, refl, subst, sym}
+use Rattle.std.proofs.Common.{arith, ◌≤◌, ◌++◌, None, length, refl, subst, sym}
 use Rattle.git_msg.specs.Machine.RequestStreams.{hold_of}
 use Rattle.git_server.specs.Answers.{error_packet}
 use Rattle.git_server.specs.declared.outcome.Outcome.{Outcome}
 use Rattle.git_host.specs.HostSessions.{IsHosted}
 use Rattle.git_host.specs.HostAnswers.{StepsAnswer}
-use Rattle.git_host.specs.HostServer.{HostsIn}
+use Rattle.git_host.specs.HostServer.{HostsIn, IsFaultAfter, fault_in}
 use Rattle.git_host.specs.declared.host_answer.AnswerStep.{AnswerStep}
 use Rattle.git_host.specs.declared.host_server.Phase.{Phase}
-use Rattle.git_host.specs.declared.host_server.Phase.TheVariants.{Answering, Reading}
+use Rattle.git_host.specs.declared.host_server.Phase.TheVariants.{Answering, Ended, Reading}
+use Rattle.git_host.proofs.HostFaults.{lacking_fault}
 use Rattle.git_host.proofs.HostMoves.{answering_credit, answering_no, broken_done, credit_falls, lacking_done, need_done, on_some, packet_done, whole_done}
 use Rattle.git_host.proofs.LentStreams.{lent_within}
 use Rattle.git_host.proofs.HostMoves.{lent_credit}
@@ -129,3 +130,13 @@ returns-in-Whole-clause-credit g c =
     let lent = on_some c.lend.result c.in-Some.hold _ c.in-Some.is (c.lend.follows.holds w) in
     credit_falls Reading c.args.self.now (c.lend.follows.lender w) (answering_credit c.args.self.now c.in-Answering.answer c.in-Answering.is)
     (lent_credit c.args.self.now.stream w (c.lend.follows.lender w) lent)
+
+pub returns-in-Refused-clause-fault : goal.returns-in-Refused-clause-fault
+returns-in-Refused-clause-fault g c s used over reported given h =
+    let old = c.args.self.now in
+    let stands = subst (λ (p : Phase g.row.A.Denot). HostsIn p s used over reported given old.stream old.flush) c.in-Answering.is h.stands in
+    let lacks = subst (λ (x : AnswerStep). StepsAnswer c.in-Answering.answer x c.next-step.new.hold.items c.next-step.new.self) c.in-Refused.is
+    c.next-step.ensures in
+    let name = lacking_fault s used over reported given old.flush old.stream c.in-Answering.answer c.in-Refused.kind stands lacks in
+    subst (λ (p : Phase g.row.A.Denot). IsFaultAfter (fault_in p) (fault_in {A = g.row.A.Denot} (Ended c.ended_by.result))) (sym c.in-Answering.is)
+    (subst (λ (o : Outcome). IsFaultAfter None (fault_in {A = g.row.A.Denot} (Ended o))) (sym c.ended_by.ensures) name)

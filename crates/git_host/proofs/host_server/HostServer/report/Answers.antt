@@ -1,4 +1,7 @@
-use Rattle.std.proofs.Common.{arith, sym, subst}
+use Rattle.std.proofs.Common.{arith, ◌≡◌, ◌+◌, ◌*◌, sym, subst}
+use Rattle.git_msg.specs.Memory.{HasRefused}
+use Rattle.git_host.specs.HostMemory.{objects_in}
+use Rattle.git_host.specs.declared.report.HostReported.TheVariants.{OutOfMemory}
 use Rattle.git_host.specs.HostServer.{HostsIn, HasReason}
 use Rattle.git_host.specs.declared.host_server.Phase.{Phase}
 use Rattle.git_host.specs.declared.host_server.Phase.TheVariants.{Answering}
@@ -17,7 +20,7 @@ returns-clause-reports g c s used over facts given h =
     let stands = subst (λ (p : Phase g.row.A.Denot). HostsIn p s used over facts given old.stream old.flush) c.in-Answering.is h.stands in
     let (is, handed, why, ends) = report_done s used over facts given old.flush old.stream (c.lend.follows.lender w) w lent
     (omega (arith, c.len.ensures.value, c.len.ensures.fits)) c.in-Answering.answer c.report-reported.new.self stands c.args.report c.report-reported.result
-    c.report-reported.ensures in (
+    c.report-reported.ensures.reports in (
       record { offer = h.offer; limit = h.limit; reads_within = lent_within old.stream w (c.lend.follows.lender w) lent s h.reads_within; stands = is },
       handed,
       subst (λ (p : Phase g.row.A.Denot). HasReason c.args.report p c.report-reported.result) (sym c.in-Answering.is) why,
@@ -30,3 +33,11 @@ returns-clause-credit g c =
     let lent = on_some c.lend.result c.in-Some.hold _ c.in-Some.is (c.lend.follows.holds w) in
     credit_falls (Answering c.report-reported.new.self) c.args.self.now (c.lend.follows.lender w)
     (answering_credit c.args.self.now c.in-Answering.answer c.in-Answering.is) (lent_credit c.args.self.now.stream w (c.lend.follows.lender w) lent)
+
+pub returns-in-Failed-clause-memory : goal.returns-in-Failed-clause-memory
+returns-in-Failed-clause-memory g c = λ is. absurd (c.fail.ensures.memory is)
+
+pub returns-clause-memory : goal.returns-clause-memory
+returns-clause-memory g c =
+    subst (λ (p : Phase g.row.A.Denot). c.report-reported.result ≡ OutOfMemory → HasRefused g.A.Memory.refuses (33 * (objects_in p + 1)))
+    (sym c.in-Answering.is) c.report-reported.ensures.memory

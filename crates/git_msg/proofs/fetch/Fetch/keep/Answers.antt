@@ -32,7 +32,7 @@ invariant_of-self g c =
 pub returns-in-Some-clause-kept : goal.returns-in-Some-clause-kept
 returns-in-Some-clause-kept g c = rw (← c.self.view_is) (flag_kept g (goal.at.returns-in-Some-clause-kept g c).After-add)
 
--- and an argument that is none
+-- an argument other than a flag is kept
 value_kept : (g : given.Over) (c : Joined-argument g) → KeepsArgument (fetch_kept c.self.inside) (shown c.args.argument.now) c.args.text_length
     (fetch_kept (record c.match-argument.self-inside { budget = c.charge.new.self }))
 value_kept g c = elim c.match-argument.branch [

@@ -5,7 +5,7 @@ use Rattle.git_msg.specs.Asked.{flag_arguments, joined}
 use Rattle.git_msg.specs.Flags.{is_held}
 use Rattle.git_msg.proofs.flags.FlagSet.at.Given as goal
 
--- the place among all of them is the place left among those that are left
+-- the index among all of them follows from the index among those left
 abbrev pub invariant-loop-flag : goal.invariant-loop-flag
 invariant-loop-flag l =
     (others : List Arg) → slice_get (joined (flag_arguments (is_held l.self) l.order) others) l.i

@@ -4,7 +4,7 @@ use Rattle.git_msg.specs.Arguments.{name_of}
 use Rattle.git_msg.specs.Texts.{spaced_words}
 use Rattle.git_msg.proofs.offers.Caps.with_words.Given as goal
 
--- what was noted so far, and then the words that are left, are all that is noted
+-- the capabilities noted so far, with those of the words left, are all that are noted
 abbrev pub invariant-words : goal.invariant-words
 invariant-words l = record {
   noted : noted_after l.noted (name_of l.command) l.value (spaced_words l.left) ≡ noted_with l.fn.self (name_of l.command) l.value;

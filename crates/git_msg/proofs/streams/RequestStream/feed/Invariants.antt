@@ -5,7 +5,7 @@ use Rattle.git_msg.specs.Memory.{FaultNeedsRefusal}
 use Rattle.git_msg.specs.Machine.RequestStreams.{HasRead, credit_of, fault_of, offer_of, limit_of, wants_input}
 use Rattle.git_msg.proofs.streams.RequestStream.feed.Given as goal
 
--- what was used so far brought nothing whole, and bytes are wanted on if they were
+-- the bytes used so far completed nothing, and input is needed if it was needed before
 abbrev pub invariant-loop-used : goal.invariant-loop-used
 invariant-loop-used g l = record {
   within : l.used ≤ length l.piece;
@@ -20,6 +20,6 @@ invariant-loop-used g l = record {
   paid : wants_input l.self ≡ true → l.used < length l.piece → l.steps + credit_of l.self ≤ l.fn.steps + credit_of l.fn.self + 64 * l.used;
 }
 
--- a step uses bytes, or stops
+-- a step uses bytes or stops
 abbrev pub decreases-loop-used : goal.decreases-loop-used
 decreases-loop-used g l = length l.piece - l.used

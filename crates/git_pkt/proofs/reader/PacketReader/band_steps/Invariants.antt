@@ -4,7 +4,7 @@ use Rattle.git_pkt.specs.Machine.PacketReader.{fault_of, held_of, open_length}
 use Rattle.git_pkt.specs.Machine.BandReader.{MayPass, ReadsBandsOn}
 use Rattle.git_pkt.proofs.reader.PacketReader.band_steps.Given as goal
 
--- packets so far came that give nothing
+-- the packets so far gave nothing
 abbrev pub invariant-loop-used : goal.invariant-loop-used
 invariant-loop-used l = record {
   within : l.used ≤ length l.piece;

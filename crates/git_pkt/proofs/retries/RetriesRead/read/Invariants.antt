@@ -1,4 +1,4 @@
--- Reads that were interrupted took no bytes.
+-- Interrupted reads took no bytes.
 use Rattle.std.specs.Io.KnownBytes.{Keeps}
 use Rattle.git_pkt.specs.Machine.Calls.{AreInterrupted}
 use Rattle.git_pkt.specs.Machine.Retries.{inner_of}

@@ -1,4 +1,4 @@
-use Rattle.std.proofs.Common.{rules, true, ◌≡◌, List, sym, subst}
+use Rattle.std.proofs.Common.{arith, true, ◌≡◌, ◌+◌, ◌*◌, List, length, sym, subst}
 use Rattle.std.specs.Prelude.{All}
 use Rattle.std.proofs.lemmas.List.Elements.{All-push}
 use Rattle.git_server.specs.Repository.{Entry, IsNamed, IsOfFormat, IsRising, IsUnbornHead, comes_before}
@@ -7,20 +7,35 @@ use Rattle.git_repository.specs.Machine.DraftLists.{drafted}
 use Rattle.git_repository.specs.Drafts.{ComesLast, head_names, names_of}
 use Rattle.git_repository.proofs.Drafting.{pushed}
 use Rattle.git_repository.proofs.LastNames.{after_those_of_refs, still_unborn}
+use Rattle.git_msg.specs.Memory.{HasRefused}
+use Rattle.git_server.proofs.Refusals.{refused_within}
 use Rattle.git_server.proofs.Rising.{rising_more}
 use Rattle.git_repository.proofs.drafts.Draft.keep_reference.Goals as goal
-use Rattle.git_repository.proofs.drafts.Draft.keep_reference.Goals.{in-Ok-push, in-Err}
 
-pub returns : goal.returns
-returns c = elim c.match-push.branch [ in-Ok-push w ↦ rw w.result-is (search rules) | in-Err w ↦ rw w.result-is (search rules) ]
+pub returns-in_default : goal.returns-in_default
+returns-in_default g c =
+    let behind = c.comes_last.ensures.0 c.if-not-comes_last.false in (
+      record { name_last = behind; object_last = tt; first_count = tt },
+      tt,
+      refused_within g.M.RepoMemory.refuses _ _ (omega arith) c.in_default.ensures.memory,
+    )
+
+pub returns-in-Err : goal.returns-in-Err
+returns-in-Err g c =
+    let behind = c.comes_last.ensures.0 c.if-not-comes_last.false in
+    let refused : HasRefused g.M.RepoMemory.refuses (152 * (length c.args.self.now.lists.refs.items + 1)) = c.in-Err.ensures.memory in (
+      record { name_last = behind; object_last = tt; first_count = tt },
+      tt,
+      refused_within g.M.RepoMemory.refuses _ _ (omega arith) refused,
+    )
 
 pub invariant_of-self : goal.invariant_of-self
-invariant_of-self c =
+invariant_of-self g c =
     let old = c.args.self.now in
     let lists = drafted old in
     let entry = c.in-Ok.made in
-    let came = λ (P : List Entry → Type 0). pushed P _ lists.refs c.push.new.self.items entry c.push.ensures.items in
-    let is = sym c.in-Ok.ensures in
+    let came = λ (P : List Entry → Type 0). pushed P _ lists.refs c.keep_item.new.list.items entry c.keep_item.ensures.items in
+    let is = sym c.in-Ok.ensures.made in
     let named : IsNamed entry.name entry.target = subst (λ (e : Entry). IsNamed e.name e.target) is c.requires.named in
     let of_format : IsOfFormat lists.format entry = subst (IsOfFormat lists.format) is c.requires.of_format in
     let behind : ComesLast (names_of lists) entry.name =

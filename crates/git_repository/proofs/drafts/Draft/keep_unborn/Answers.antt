@@ -7,7 +7,7 @@ use Rattle.git_repository.proofs.LastNames.{head_comes_alone, no_refs_there, unb
 use Rattle.git_repository.proofs.drafts.Draft.keep_unborn.Goals as goal
 
 pub invariant_of-self : goal.invariant_of-self
-invariant_of-self c =
+invariant_of-self g c =
     let old = c.args.self.now in
     let lists = drafted old in
     let alone = head_comes_alone lists.unborn_head lists.refs old.named (c.comes_last.ensures.0 c.if-not-comes_last.false) in
@@ -21,13 +21,13 @@ invariant_of-self c =
           by_boundaries = old.fit.of_format.by_boundaries;
         };
         unborn_head = unborn_told lists.refs c.args.target.now c.in-Ok.copy.items
-            (no_refs_there (head_names (is_some lists.unborn_head)) lists.refs alone) c.in-Ok.ensures.items c.requires;
+            (no_refs_there (head_names (is_some lists.unborn_head)) lists.refs alone) c.in-Ok.ensures.copied c.requires;
       };
       named = old.named;
     }
 
 pub returns-in-Ok : goal.returns-in-Ok
-returns-in-Ok c = (
-  ap (λ (target : List ℕ). with_said (drafted c.args.self.now) (unborn target)) c.in-Ok.ensures.items,
+returns-in-Ok g c = (
+  ap (λ (target : List ℕ). with_said (drafted c.args.self.now) (unborn target)) c.in-Ok.ensures.copied,
   record { name_last = c.comes_last.ensures.0 c.if-not-comes_last.false; object_last = tt; first_count = tt },
 )

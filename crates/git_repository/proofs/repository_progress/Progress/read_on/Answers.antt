@@ -5,7 +5,7 @@ use Rattle.git_repository.proofs.Progressing.{at_first, cut_within, rest_within,
 use Rattle.git_repository.proofs.repository_progress.Progress.read_on.Goals as goal
 
 pub lines-init : goal.lines-init
-lines-init c = record {
+lines-init g c = record {
   reads = λ lines h. at_first c.args.text.now lines c.split_at_first.result.0.now (option_copied c.split_at_first.result.1) (drafted c.args.draft)
       c.split_at_first.ensures.parts h;
   within = cut_within c.args.text.now c.split_at_first.result.0.now (option_copied c.split_at_first.result.1) c.split_at_first.ensures.cut;
@@ -13,13 +13,13 @@ lines-init c = record {
 }
 
 pub returns-in-Err-clause-reads : goal.returns-in-Err-clause-reads
-returns-in-Err-clause-reads c lines h =
+returns-in-Err-clause-reads g c lines h =
     let now = rw c.in-Some.is at c.lines.invariant in
-    reads_bad_line c.args.text.now lines c.lines.line.now _ c.in-Some.left.now (drafted c.lines.draft) c.in-Err.fault
+    reads_bad_line g.M.RepoMemory.refuses c.args.text.now lines c.lines.line.now _ c.in-Some.left.now (drafted c.lines.draft) c.in-Err.fault
     (now.reads lines h) c.in-Err.ensures
 
 pub lines-preserved : goal.lines-preserved
-lines-preserved c =
+lines-preserved g c =
     let now = rw c.in-Some.is at c.lines.invariant in
     record {
       reads = λ lines h.
@@ -38,12 +38,12 @@ lines-preserved c =
     }
 
 pub returns-clause-reads : goal.returns-clause-reads
-returns-clause-reads c lines h =
+returns-clause-reads g c lines h =
     let now = rw c.in_default.is at c.lines.invariant in
-    reads_all c.args.text.now lines c.lines.line.now _ c.lines.draft (now.reads lines h) c.with_open.result.0 c.with_open.ensures.stands
+    reads_all g.M.RepoMemory.refuses c.args.text.now lines c.lines.line.now _ c.lines.draft (now.reads lines h) c.with_open.result.0 c.with_open.ensures.stands
 
 pub returns-clause-within : goal.returns-clause-within
-returns-clause-within c =
+returns-clause-within g c =
     let now = rw c.in_default.is at c.lines.invariant in
     let within = now.within in
     omega (arith, within, c.with_open.ensures.within)

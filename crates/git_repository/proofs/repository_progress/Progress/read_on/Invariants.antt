@@ -7,11 +7,11 @@ use Rattle.git_repository.proofs.Progressing.{ReadsOn}
 use Rattle.git_repository.proofs.repository_progress.Progress.read_on.Given as goal
 
 abbrev pub invariant-lines : goal.invariant-lines
-invariant-lines l = record {
+invariant-lines g l = record {
   reads : (lines : List (List ℕ)) → AreTold lines (drafted l.fn.draft) → ReadsOn l.fn.text lines l.line (option_copied l.rest) (drafted l.draft);
   within : length l.line ≤ length l.fn.text;
   room : bytes_left (option_copied l.rest) ≤ length l.fn.text;
 }
 
 abbrev pub decreases-lines : goal.decreases-lines
-decreases-lines l = bytes_left (option_copied l.rest)
+decreases-lines g l = bytes_left (option_copied l.rest)

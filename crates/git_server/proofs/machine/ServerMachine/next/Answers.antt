@@ -1,9 +1,15 @@
-use Rattle.std.proofs.Common.{refl, sym, ◌∙◌}
+use Rattle.std.proofs.Common.{sym, ◌∙◌}
+use Rattle.git_server.specs.Machine.Moved.{goes_nowhere}
 use Rattle.git_server.proofs.Machines.{gives_packet, reads_now, stays_ended, too_long_by_pull}
 use Rattle.git_server.proofs.machine.ServerMachine.next.Goals as goal
 
 pub returns-in-NeedInput-clause-needs_input : goal.returns-in-NeedInput-clause-needs_input
-returns-in-NeedInput-clause-needs_input g c = λ is. (reads_now c.args.self.now.phase (sym c.turn.ensures ∙ c.in-NeedInput.is), refl)
+returns-in-NeedInput-clause-needs_input g c = λ is.
+    (reads_now c.args.self.now.phase (sym c.turn.ensures ∙ c.in-NeedInput.is), goes_nowhere g.R.Repo.state c.args.self.now)
+
+pub returns-in-Finished-clause-finished : goal.returns-in-Finished-clause-finished
+returns-in-Finished-clause-finished g c = λ is.
+    ((c.in-Finished.field-0, sym c.turn.ensures ∙ c.in-Finished.is), goes_nowhere g.R.Repo.state c.args.self.now)
 
 pub returns-in-Packet-clause-packet : goal.returns-in-Packet-clause-packet
 returns-in-Packet-clause-packet g c = λ is. gives_packet g.R.Repo.state _ _ c.give.ensures.gives

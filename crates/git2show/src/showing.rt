@@ -1,0 +1,106 @@
+//! The packets of standard input, on standard output.
+
+use crate::failures::{Failure, Stream, Watched};
+use crate::{PIECE, TURNS, flag_argument};
+use clap::{Arg, ArgMatches, Command, value_parser};
+use git_pkt::{Retries, Told};
+use git2show_lib::{Form, Look, Tally, View, show_view, summarize};
+use std::alloc::{AllocError, Global};
+use std::env::{self, VarError};
+use std::io::IsTerminal;
+
+/// How many columns a line has at least, and at most.
+const NARROWEST: i64 = 40;
+
+const WIDEST: i64 = 200;
+
+/// The default number of columns of a line.
+const COLUMNS: u32 = 80;
+
+/// The words that may follow `show`.
+pub(crate) fn show_command<'a>(alloc: Global) -> Result<Command<'a>, AllocError> {
+    Command::new(alloc, "show")
+        .about(
+            "Prints a line for each packet on standard input: its offset, kind, length and payload",
+        )
+        .arg(flag_argument(alloc, "pretty").help(
+            "Lines of columns for a reader, with a summary below them; on a terminal with colours",
+        ))?
+        .arg(
+            flag_argument(alloc, "json")
+                .conflicts_with("pretty")?
+                .help("A JSON object for each packet"),
+        )?
+        .arg(
+            Arg::new(alloc, "width")
+                .long("width")
+                .value_name("N")
+                .value_parser(value_parser!(u32).range(NARROWEST..=WIDEST))
+                .help("How many columns a line of --pretty has at most [usual: 80]"),
+        )?
+        .arg(flag_argument(alloc, "no-pack").help("Leaves out packets with bytes of a pack"))?
+        .arg(
+            Arg::new(alloc, "from")
+                .long("from")
+                .value_name("OFFSET")
+                .value_parser(value_parser!(u64))
+                .help("Leaves out packets before this offset"),
+        )
+}
+
+/// Shows the packets of standard input.
+pub(crate) fn run_show(rt: &HostRuntime, matches: &ArgMatches<'_>) -> Result<(), Failure> {
+    let mut input = Watched::new(Stream::Input, Retries::new(rt.stdin()));
+    let mut output = Watched::new(Stream::Output, rt.stdout());
+    let mut piece = [0; PIECE];
+    let mut tally = Tally::START;
+    let done = show_view(
+        &mut Told::new(&mut input),
+        &mut Told::new(&mut output),
+        &mut piece,
+        TURNS,
+        view_of(rt, matches),
+        &mut tally,
+    );
+    let done = match done {
+        Ok(()) if matches.get_flag("pretty") => summarize(tally, &mut Told::new(&mut output)),
+        _ => done,
+    };
+    done.map_err(|fault| Failure::of_run(fault, input.failed_call().or(output.failed_call())))
+}
+
+/// How packets are shown, by the command line. Without options their lines are the plain ones.
+fn view_of(rt: &HostRuntime, matches: &ArgMatches<'_>) -> Option<View> {
+    let view = View {
+        form: form_of(rt, matches),
+        from: matches.get_one::<u64>("from").unwrap_or(0),
+        no_pack: matches.get_flag("no-pack"),
+    };
+    if view.form == Form::Lines && view.from == 0 && !view.no_pack {
+        return None;
+    }
+    Some(view)
+}
+
+/// What the line of a packet is, by the command line.
+fn form_of(rt: &HostRuntime, matches: &ArgMatches<'_>) -> Form {
+    if matches.get_flag("json") {
+        return Form::Json;
+    }
+    match matches.get_flag("pretty") {
+        true => Form::Columns(Look {
+            colours: rt.stdout().is_terminal() && !forbids_colours(rt),
+            width: matches.get_one::<u32>("width").unwrap_or(COLUMNS),
+        }),
+        false => Form::Lines,
+    }
+}
+
+/// Whether the environment forbids colours: it has a `NO_COLOR` that is not empty.
+fn forbids_colours(rt: &HostRuntime) -> bool {
+    match env::var(rt, "NO_COLOR") {
+        Ok(value) => !value.is_empty(),
+        Err(VarError::NotPresent) => false,
+        Err(VarError::NotUnicode | VarError::OutOfMemory) => true,
+    }
+}

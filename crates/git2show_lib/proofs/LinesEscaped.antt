@@ -1,0 +1,29 @@
+-- The escapes of bytes, appended a block at a time.
+use Rattle.std.proofs.Common.{◌≡◌, ℕ, List, [], ◌++◌, length, refl, sym, ap, ◌∙◌, append_assoc, append-nil}
+use Rattle.std.proofs.lemmas.List.{nil_from_length}
+use Rattle.git_pkt.specs.Escape.{escaped_of}
+use Rattle.git_pkt.proofs.Escapes.{escaped-append}
+
+-- the escapes of all but the rest of the bytes were appended
+pub record EscapedUpTo (before bytes lines rest : List ℕ) : Type 0 where
+  pub done : List ℕ
+  pub parts : done ++ rest ≡ bytes
+  pub lines_are : lines ≡ before ++ escaped_of done
+
+pub escaped_none : (before bytes lines rest : List ℕ) → lines ≡ before → rest ≡ bytes → EscapedUpTo before bytes lines rest
+escaped_none before bytes lines rest same all = record { done = []; parts = all; lines_are = same ∙ sym (append-nil before) }
+
+module _ {before bytes lines left : List ℕ} (so_far : EscapedUpTo before bytes lines left) where
+  pub escaped_more : (block rest new : List ℕ) → left ≡ block ++ rest → new ≡ lines ++ escaped_of block → EscapedUpTo before bytes new rest
+  escaped_more block rest new cut is = record {
+    done = so_far.done ++ block;
+    parts = append_assoc so_far.done block rest ∙ ap (λ (l : List ℕ). so_far.done ++ l) (sym cut) ∙ so_far.parts;
+    lines_are = is ∙ ap (λ (l : List ℕ). l ++ escaped_of block) so_far.lines_are ∙ append_assoc before (escaped_of so_far.done) (escaped_of block)
+        ∙ ap (λ (l : List ℕ). before ++ l) (sym (escaped-append so_far.done block));
+  }
+
+  pub escaped_all : length left ≡ 0 → lines ≡ before ++ escaped_of bytes
+  escaped_all none =
+      let all : so_far.done ≡ bytes =
+      sym (append-nil so_far.done) ∙ ap (λ (l : List ℕ). so_far.done ++ l) (sym (nil_from_length left none)) ∙ so_far.parts in
+      so_far.lines_are ∙ ap (λ (l : List ℕ). before ++ escaped_of l) all

@@ -1,0 +1,148 @@
+//! What is shown of a stream with options, and what is counted.
+
+ghost use Rattle.std.specs.Prelude.{◌≡◌, ◌≤◌, ◌+◌, ◌++◌, decimal, length, take};
+ghost use Rattle.git_pkt.specs.Machine.Sends.{Sends};
+ghost use Rattle.git_pkt.specs.Packets.{seen};
+ghost use Rattle.git2show_lib.specs.PacketViews.{counted, goes_on, leaves_out, pack_in, requests_in, summary_of};
+
+use crate::pretty::{Label, Look, body};
+use git_pkt::{Packet, RunFault, Told, put_at, send, text};
+use itoa::Buffer;
+use std::io::Write;
+
+/// Room for the line below all others.
+const SUMMARY: usize = 160;
+
+/// How packets are shown.
+#[derive(Clone, Copy, Debug, PartialEq, Eq)]
+pub struct View {
+    /// What the line of a packet is.
+    pub form: Form,
+    /// Packets before this offset are left out.
+    pub from: u64,
+    /// Whether packets with bytes of a pack are left out.
+    pub no_pack: bool,
+}
+
+/// What the line of a packet is.
+#[derive(Clone, Copy, Debug, PartialEq, Eq)]
+pub enum Form {
+    /// That of [`show`](crate::show).
+    Lines,
+    /// A line of columns, which names what the packet is.
+    Columns(Look),
+    /// A JSON object.
+    Json,
+}
+
+/// What was counted of the packets so far. A count that would be larger than a `u64` stays at the largest.
+#[derive(Clone, Copy, Debug, PartialEq, Eq)]
+pub struct Tally {
+    /// The offset after the last packet.
+    pub bytes: u64,
+    /// How many packets there were.
+    pub packets: u64,
+    /// How many of them were the line of a command, one for each request.
+    pub requests: u64,
+    /// How many bytes of packs there were.
+    pub pack: u64,
+    /// Whether the packfile section goes on.
+    pub in_pack: bool,
+}
+
+impl Tally {
+    /// Nothing was counted yet.
+    pub const START: Self = Tally {
+        bytes: 0,
+        packets: 0,
+        requests: 0,
+        pack: 0,
+        in_pack: false,
+    };
+
+    /// With one packet more.
+    pub(crate) fn count(self, packet: Packet<'_>, offset: u64) -> Self
+        ensures { result ≡ counted self (record { packet = seen packet.entry; offset = offset }) }
+    {
+        let label = Label::of(self.in_pack, packet);
+        let body = body(packet);
+        Tally {
+            bytes: offset.saturating_add(body.len() as u64 + 4),
+            packets: self.packets.saturating_add(1),
+            requests: self.requests.saturating_add(requests_in(label)),
+            pack: self.pack.saturating_add(pack_in(label, body)),
+            in_pack: goes_on(self.in_pack, packet),
+        }
+    }
+}
+
+/// How many requests begin with a packet.
+fn requests_in(label: Label) -> u64
+    ensures { result ≡ requests_in label }
+{
+    match label {
+        Label::Command => 1,
+        _ => 0,
+    }
+}
+
+/// How many bytes of a pack a payload has.
+fn pack_in(label: Label, payload: &[u8]) -> u64
+    ensures { result ≡ pack_in label payload.now }
+{
+    match label {
+        Label::Pack => payload.len().saturating_sub(1) as u64,
+        _ => 0,
+    }
+}
+
+/// Whether the packfile section goes on after a packet.
+fn goes_on(in_pack: bool, packet: Packet<'_>) -> bool
+    ensures { result ≡ goes_on in_pack (seen packet.entry) }
+{
+    match packet {
+        Packet::Payload(payload) => in_pack || text(payload) == b"packfile".as_slice(),
+        Packet::Flush | Packet::Delim | Packet::RespEnd => false,
+    }
+}
+
+impl View {
+    /// Whether a packet is left out.
+    pub(crate) fn leaves_out(self, label: Label, offset: u64) -> bool
+        ensures { result ≡ leaves_out self label offset }
+    {
+        offset < self.from || (self.no_pack && label == Label::Pack)
+    }
+}
+
+/// Writes a line with what was counted.
+pub fn summarize<W: Write>(tally: Tally, writer: &mut Told<W>) -> Result<(), RunFault>
+    ensures { Sends W.contents writer.old (summary_of tally) result writer.new }
+{
+    let mut line = [0; SUMMARY];
+    let end = write_summary(tally, &mut line);
+    send(writer, &line[..end])
+}
+
+fn write_summary(tally: Tally, out: &mut [u8]) -> usize
+    requires { SUMMARY ≤ length out.old }
+    ensures within { result ≤ SUMMARY }
+    ensures summary { take result out.new ≡ summary_of tally }
+{
+    let at = put_count(tally.bytes, b" bytes, ", out, 0);
+    let at = put_count(tally.packets, b" packets, ", out, at);
+    let at = put_count(tally.requests, b" requests, ", out, at);
+    put_count(tally.pack, b" bytes of packs\n", out, at)
+}
+
+/// Writes a number and what it counts.
+fn put_count(count: u64, what: &[u8], out: &mut [u8], at: usize) -> usize
+    requires short { length what.now ≤ 20 }
+    requires room { at + 40 ≤ length out.old }
+    ensures within { result ≤ at + 40 }
+    ensures put { take result out.new ≡ take at out.old ++ decimal count ++ what.now }
+{
+    let mut digits = Buffer::new();
+    let at = put_at(out, at, digits.format(count).as_bytes());
+    put_at(out, at, what)
+}

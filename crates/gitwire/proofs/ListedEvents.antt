@@ -1,0 +1,237 @@
+-- The events of an array, one call of `feed` after another.
+use Rattle.std.proofs.Common.{arith, ◌≡◌, ◌∙◌, ℕ, ◌+◌, ◌<◌, ◌≤◌, false, true, List, [], ◌∷◌, ◌++◌, length, take, drop, set}
+use borrow.Rule.Slice.PartMut.{put_mid}
+use Rattle.std.proofs.Common.{◌-◌, ◌⊎◌, inl, inr, zero, suc, Bor, sym, ap, refl, subst, length-append, append_assoc, append-nil, take-add, drop-drop}
+use Rattle.std.proofs.Math.ListN.{drop_of_length-le}
+use Rattle.std.proofs.lemmas.List.{take_rest, length-drop, length-take}
+use Rattle.std.specs.Global.{Global}
+use Rattle.git_pkt.specs.Packets.{longest_payload}
+use Rattle.git_client.specs.EventParts.{parts_of}
+use Rattle.git_client.specs.Events.{all_parts_length}
+use Rattle.git_client.specs.Machine.Client.{can_ask}
+use Rattle.git_client.specs.Machine.Turns.{values_of}
+use Rattle.git_client.specs.declared.client.Client.{Client}
+use Rattle.git_client.specs.declared.events.Event.{Event}
+use Rattle.git_client.specs.declared.events.Event.TheVariants as Event
+use Rattle.git_client.specs.declared.events.HeardGot.TheVariants as Got
+use Rattle.gitwire.specs.ClientAnswers.{LieInPiece}
+use Rattle.gitwire.specs.EventLists.{EndsHere, FeedsEach, GivesEvent, GivesNext, ListsEvents, Pauses, copied_of, listed_as, passed_of}
+use Rattle.gitwire.specs.Answers.{answering_packet}
+use Rattle.gitwire.specs.EventAnswers.{bytes_shown, telling_parts}
+use Rattle.gitwire.specs.Rooms.{put_before}
+use Rattle.gitwire.specs.declared.answer.GitwireAnswer.{GitwireAnswer}
+use Rattle.gitwire.specs.declared.answer.What.TheVariants as What
+use Rattle.gitwire.specs.declared.event.GitwireEvent.{GitwireEvent}
+use Rattle.gitwire.specs.declared.event_list.Listed.{Listed}
+use Rattle.gitwire.proofs.FilledArrays.{filled_place}
+use Rattle.gitwire.proofs.FilledRooms.{filled_more}
+use Rattle.gitwire.proofs.ShownLengths.{shown_fits}
+
+-- all other events are listed with their texts in the buffer
+pub copied_others : (event : Event) → ((bytes : Bor (List ℕ)) → event ≡ Event.Pack bytes → ⊥) → ((bytes : Bor (List ℕ)) → event ≡ Event.Progress bytes → ⊥)
+    → copied_of event ≡ bytes_shown (parts_of event)
+copied_others (Event.Pack bytes) no_pack no_progress = absurd (no_pack bytes refl)
+copied_others (Event.Progress bytes) no_pack no_progress = absurd (no_progress bytes refl)
+copied_others event no_pack no_progress = refl
+
+pub listed_others : (event : Event) (end texts : ℕ) → ((bytes : Bor (List ℕ)) → event ≡ Event.Pack bytes → ⊥)
+    → ((bytes : Bor (List ℕ)) → event ≡ Event.Progress bytes → ⊥)
+    → listed_as event end texts ≡ record (telling_parts end (parts_of event)) { offset = texts }
+listed_others (Event.Pack bytes) end texts no_pack no_progress = absurd (no_pack bytes refl)
+listed_others (Event.Progress bytes) end texts no_pack no_progress = absurd (no_progress bytes refl)
+listed_others event end texts no_pack no_progress = refl
+
+-- the bytes that are copied have at most as many bytes as a payload
+pub copied_fits : (event : Event) → length (copied_of event) ≤ all_parts_length (values_of event)
+copied_fits (Event.Pack bytes) = omega arith
+copied_fits (Event.Progress bytes) = omega arith
+copied_fits event = shown_fits event
+
+-- bytes that stay in the chunk are among those used
+in_used : (used : ℕ) (piece bytes front : List ℕ) → take used piece ≡ front ++ bytes → length bytes ≤ used
+in_used used piece bytes front is = omega (arith, ap length is, length-append front bytes, length-take used piece)
+
+pub passed_fits : (event : Event) (used : ℕ) (piece : List ℕ) → LieInPiece (Got.Event event) used piece → length (passed_of event) ≤ used
+passed_fits (Event.Pack bytes) used piece lies = in_used used piece bytes.now lies.0 lies.1
+passed_fits (Event.Progress bytes) used piece lies = in_used used piece bytes.now lies.0 lies.1
+passed_fits event used piece lies = omega arith
+
+lie_after : (from used : ℕ) (piece bytes front : List ℕ) → take used (drop from piece) ≡ front ++ bytes
+    → (whole : List ℕ) × (take (from + used) piece ≡ whole ++ bytes)
+lie_after from used piece bytes front is =
+    (take from piece ++ front, take-add from used piece ∙ ap (λ (l : List ℕ). take from piece ++ l) is ∙ sym (append_assoc (take from piece) front bytes))
+
+pub lies_after : (event : Event) (from used : ℕ) (piece : List ℕ) → LieInPiece (Got.Event event) used (drop from piece)
+    → LieInPiece (Got.Event event) (from + used) piece
+lies_after (Event.Pack bytes) from used piece lies = lie_after from used piece bytes.now lies.0 lies.1
+lies_after (Event.Progress bytes) from used piece lies = lie_after from used piece bytes.now lies.0 lies.1
+lies_after event from used piece lies = tt
+
+-- what a part up to the end has
+pub rest_length : (whole : List ℕ) (at : ℕ) → length (take (length whole - at) (drop at whole)) ≡ length whole - at
+rest_length whole at = ap length (take_rest whole at) ∙ length-drop at whole
+
+-- the bytes are written to the rest of a buffer
+pub placed_after : (room rest bytes : List ℕ) (at : ℕ) → at + length bytes ≤ length room
+    → rest ≡ put_before bytes (take (length room - at) (drop at room))
+    → put_mid at (length room - at) room rest ≡ take at room ++ bytes ++ drop (at + length bytes) room
+placed_after room rest bytes at fits is =
+    let left : drop (length room - at) (drop at room) ≡ [] = drop_of_length-le (drop at room) (omega (arith, length-drop at room)) in
+    let more : drop (length bytes) (take (length room - at) (drop at room)) ≡ drop (at + length bytes) room =
+    ap (drop (length bytes)) (take_rest room at) ∙ drop-drop (length bytes) at room in
+    rw (is, left, more) (
+    ap (λ (l : List ℕ). take at room ++ l) (append-nil (bytes ++ drop (at + length bytes) room))
+    ∙ sym (append_assoc (take at room) bytes (drop (at + length bytes) room))
+    )
+
+-- one call more
+feeds_more : (es : List GitwireEvent) (old mid new : Client Global) (piece : List ℕ) (from end : ℕ) (texts written : List ℕ)
+    → FeedsEach old piece from texts es mid end written
+    → (event : Event) (used : ℕ) (e : GitwireEvent) → GivesNext mid piece end written e event used new
+    → FeedsEach old piece from texts (es ++ e ∷ []) new (end + used) (written ++ copied_of event)
+feeds_more [] old mid new piece from end texts written (same, at, is) event used e gives =
+    let from_old : GivesNext old piece end written e event used new =
+    subst (λ (client : Client Global). GivesNext client piece end written e event used new) same gives in
+    let from_there : GivesNext old piece from written e event used new =
+    subst (λ (n : ℕ). GivesNext old piece n written e event used new) at from_old in
+    let first : GivesNext old piece from texts e event used new =
+    subst (λ (l : List ℕ). GivesNext old piece from l e event used new) is from_there in
+    (event, used, new, first, (refl, ap (λ (n : ℕ). n + used) at, ap (λ (l : List ℕ). l ++ copied_of event) is))
+feeds_more (e0 ∷ es) old mid new piece from end texts written (first, used_first, next, gives_first, more) event used e gives = (
+  first,
+  used_first,
+  next,
+  gives_first,
+  feeds_more es next mid new piece (from + used_first) end (texts ++ copied_of first) written more event used e gives,
+)
+
+-- what has been listed so far, of this chunk, array and buffer
+pub record ListedSoFar (old : Client Global) (piece : List ℕ) (events : List GitwireEvent) (room : List ℕ) (now : Client Global) (used count texts : ℕ)
+    (filled : List GitwireEvent) (written : List ℕ) : Type 0 where
+  pub listed : List GitwireEvent
+  pub bytes : List ℕ
+  pub feeds : FeedsEach old piece 0 [] listed now used bytes
+  pub counts : count ≡ length listed
+  pub long : texts ≡ length bytes
+  pub events_are : filled ≡ listed ++ drop (length listed) events
+  pub room_is : written ≡ put_before bytes room
+
+pub nothing_listed : (old : Client Global) (piece : List ℕ) (events : List GitwireEvent) (room : List ℕ)
+    → ListedSoFar old piece events room old 0 0 0 events room
+nothing_listed old piece events room = record {
+  listed = [];
+  bytes = [];
+  feeds = (refl, refl, refl);
+  counts = refl;
+  long = refl;
+  events_are = refl;
+  room_is = refl;
+}
+
+pub listed_more : (old mid new : Client Global) (piece : List ℕ) (events : List GitwireEvent) (room : List ℕ) (used count texts : ℕ)
+    (filled next : List GitwireEvent) (written : List ℕ) (then : List ℕ) (one : Listed)
+    → ListedSoFar old piece events room mid used count texts filled written → count < length events
+    → GivesEvent mid piece used texts written one then new → next ≡ set filled count one.event
+    → ListedSoFar old piece events room new one.event.used (count + 1) one.texts next then
+listed_more old mid new piece events room used count texts filled next written then one h within gives sets =
+    let end : one.event.used ≡ used + gives.used = ap (λ (e : GitwireEvent). e.used) gives.event_is in
+    let e_is : one.event ≡ listed_as gives.event (used + gives.used) (length h.bytes) =
+    gives.event_is ∙ ap (listed_as gives.event (used + gives.used)) h.long in
+    let more : FeedsEach old piece 0 [] (h.listed ++ one.event ∷ []) new (used + gives.used) (h.bytes ++ copied_of gives.event) =
+    feeds_more h.listed old mid new piece 0 used [] h.bytes h.feeds gives.event gives.used one.event
+    (record { feeds = gives.feeds; lies = gives.lies; listed_is = e_is }) in
+    record {
+      listed = h.listed ++ one.event ∷ [];
+      bytes = h.bytes ++ copied_of gives.event;
+      feeds = subst (λ (n : ℕ). FeedsEach old piece 0 [] (h.listed ++ one.event ∷ []) new n (h.bytes ++ copied_of gives.event)) (sym end) more;
+      counts = omega (arith, h.counts, length-append h.listed (one.event ∷ []));
+      long = omega (arith, gives.texts_are, h.long, length-append h.bytes (copied_of gives.event));
+      events_are = filled_place events h.listed filled next count one.event h.counts within h.events_are sets;
+      room_is = filled_more room h.bytes (copied_of gives.event) written then texts h.long h.room_is gives.room_is;
+    }
+
+-- the calls stop after an event, since a request can be asked
+pub stopped_turn : (old last : Client Global) (piece : List ℕ) (events : List GitwireEvent) (room : List ℕ) (used count texts : ℕ) (answer : GitwireAnswer)
+    (filled : List GitwireEvent) (written : List ℕ) → ListedSoFar old piece events room last used count texts filled written
+    → used ≤ length piece → count ≤ length events → texts ≤ length room → 0 < count → can_ask last ≡ true
+    → answer ≡ answering_packet used 0 count What.CanAsk → ListsEvents old piece events room answer filled written last
+stopped_turn old last piece events room used count texts answer filled written h within places fits some ready is =
+    let pauses : Pauses last used count (length events) texts (length room) answer last = record {
+      some = some;
+      turn = λ _. is;
+      full = λ not. absurd cc;
+      why = λ not. absurd cc;
+      stays = refl;
+    } in
+    record {
+      listed = h.listed;
+      texts = h.bytes;
+      end = used;
+      last = last;
+      feeds = h.feeds;
+      ends = inl (rw (h.counts, h.long) at pauses);
+      within = omega (arith, ap (λ (a : GitwireAnswer). a.used) is, within);
+      count_fits = omega (arith, h.counts, places);
+      texts_fit = omega (arith, h.long, fits);
+      events_are = h.events_are;
+      room_is = h.room_is;
+    }
+
+-- the calls stop after an event, since there is no place for a further one
+pub stopped_full : (old last : Client Global) (piece : List ℕ) (events : List GitwireEvent) (room : List ℕ) (used count texts : ℕ) (answer : GitwireAnswer)
+    (filled : List GitwireEvent) (written : List ℕ) → ListedSoFar old piece events room last used count texts filled written
+    → used ≤ length piece → count ≤ length events → texts ≤ length room → 0 < count → can_ask last ≡ false
+    → (count ≡ length events) ⊎ (length room < texts + longest_payload)
+    → answer ≡ answering_packet used 0 count What.More → ListsEvents old piece events room answer filled written last
+stopped_full old last piece events room used count texts answer filled written h within places fits some ready why is =
+    let pauses : Pauses last used count (length events) texts (length room) answer last = record {
+      some = some;
+      turn = λ can. absurd cc;
+      full = λ _. is;
+      why = λ _. why;
+      stays = refl;
+    } in
+    record {
+      listed = h.listed;
+      texts = h.bytes;
+      end = used;
+      last = last;
+      feeds = h.feeds;
+      ends = inl (rw (h.counts, h.long) at pauses);
+      within = omega (arith, ap (λ (a : GitwireAnswer). a.used) is, within);
+      count_fits = omega (arith, h.counts, places);
+      texts_fit = omega (arith, h.long, fits);
+      events_are = h.events_are;
+      room_is = h.room_is;
+    }
+
+-- one more call gives no event
+pub stopped_none : (old last new : Client Global) (piece : List ℕ) (events : List GitwireEvent) (room : List ℕ) (used count texts : ℕ)
+    (answer : GitwireAnswer) (filled : List GitwireEvent) (written then : List ℕ)
+    → ListedSoFar old piece events room last used count texts filled written
+    → count ≤ length events → texts ≤ length room → EndsHere last piece used count written answer then new
+    → ListsEvents old piece events room answer filled then new
+stopped_none old last new piece events room used count texts answer filled written then h places fits here = record {
+  listed = h.listed;
+  texts = h.bytes;
+  end = used;
+  last = last;
+  feeds = h.feeds;
+  ends = inr (rw h.counts at here.0);
+  within = here.1;
+  count_fits = omega (arith, h.counts, places);
+  texts_fit = omega (arith, h.long, fits);
+  events_are = h.events_are;
+  room_is = here.2 ∙ h.room_is;
+}
+
+-- there are events, where the texts have some bytes
+pub some_listed : (count texts : ℕ) → (count ≡ 0 → texts ≡ 0) → (texts ≡ 0 → ⊥) → 0 < count
+some_listed zero texts begins some = absurd (some (begins refl))
+some_listed (suc count) texts begins some = omega arith
+
+-- an event ends in the chunk
+pub end_within : (old : Client Global) (piece : List ℕ) (from texts : ℕ) (room : List ℕ) (listed : Listed) (written : List ℕ) (new : Client Global)
+    → GivesEvent old piece from texts room listed written new → listed.event.used ≤ length piece
+end_within old piece from texts room listed written new gives =
+    omega (arith, ap (λ (e : GitwireEvent). e.used) gives.event_is, gives.within)

@@ -1,0 +1,124 @@
+-- Several events of one call of C: those that calls of `feed` give one after another.
+use Rattle.std.specs.Prelude.{◌≡◌, ℕ, ◌+◌, ◌-◌, ◌<◌, ◌≤◌, ◌⊎◌, Bool, true, false, List, [], ◌∷◌, ◌++◌, length, take, drop}
+use Rattle.std.specs.Global.{Global}
+use Rattle.git_pkt.specs.Packets.{longest_payload}
+use Rattle.git_client.specs.Machine.Client.{Feeds, can_ask, wants_input}
+use Rattle.git_client.specs.EventParts.{parts_of}
+use Rattle.git_client.specs.declared.client.Client.{Client}
+use Rattle.git_client.specs.declared.events.Event.{Event}
+use Rattle.git_client.specs.declared.events.Event.TheVariants as Event
+use Rattle.git_client.specs.declared.events.HeardGot.{HeardGot}
+use Rattle.git_client.specs.declared.events.HeardGot.TheVariants as Got
+use Rattle.gitwire.specs.Answers.{answering, answering_fault, answering_packet, more_of}
+use Rattle.gitwire.specs.ClientAnswers.{LieInPiece}
+use Rattle.gitwire.specs.EventAnswers.{bytes_shown, telling_parts}
+use Rattle.gitwire.specs.Rooms.{put_before}
+use Rattle.gitwire.specs.declared.answer.GitwireAnswer.{GitwireAnswer}
+use Rattle.gitwire.specs.declared.answer.What.TheVariants as What
+use Rattle.gitwire.specs.declared.event.GitwireEvent.{GitwireEvent}
+use Rattle.gitwire.specs.declared.event_list.Listed.{Listed}
+
+-- the bytes of an event that are written to the buffer: those of the pack and of the progress stay in the chunk
+abbrev pub copied_of : Event → List ℕ
+copied_of (Event.Pack bytes) = []
+copied_of (Event.Progress bytes) = []
+copied_of event = bytes_shown (parts_of event)
+
+-- the bytes of an event that stay in the chunk
+abbrev pub passed_of : Event → List ℕ
+passed_of (Event.Pack bytes) = bytes.now
+passed_of (Event.Progress bytes) = bytes.now
+passed_of event = []
+
+-- where the texts of an event begin: in the chunk, if they stay there, or else in the buffer after those of earlier events
+abbrev pub place_of : Event → ℕ → ℕ → ℕ
+place_of (Event.Pack bytes) end texts = end - length bytes.now
+place_of (Event.Progress bytes) end texts = end - length bytes.now
+place_of event end texts = texts
+
+-- an event in the array: how many bytes of the chunk were used up to its end, and where its texts begin
+abbrev pub listed_as : Event → ℕ → ℕ → GitwireEvent
+listed_as event end texts = record (telling_parts end (parts_of event)) { offset = place_of event end texts }
+
+-- a call of `feed` on the bytes of the chunk from this place on gives this event, which is listed so, after events with these texts in the buffer
+pub record GivesNext (old : Client Global) (piece : List ℕ) (from : ℕ) (texts : List ℕ) (listed : GitwireEvent) (event : Event) (used : ℕ)
+    (new : Client Global) : Type 0 where
+  pub feeds : Feeds old (drop from piece) (record { used = used; got = Got.Event event }) new
+  pub lies : LieInPiece (Got.Event event) (from + used) piece
+  pub listed_is : listed ≡ listed_as event (from + used) (length texts)
+
+-- calls of `feed` one after another, each on the bytes of the chunk that no earlier one used, give these events. The first call begins at the
+-- place `from`, and with these texts in the buffer; the last one ends at the place `end`, with those.
+abbrev pub FeedsEach : Client Global → List ℕ → ℕ → List ℕ → List GitwireEvent → Client Global → ℕ → List ℕ → Type 0
+FeedsEach old piece from texts [] new end written = (new ≡ old) × (end ≡ from) × (written ≡ texts)
+FeedsEach old piece from texts (e ∷ es) new end written =
+    (event : Event) × (used : ℕ) × (next : Client Global)
+    × GivesNext old piece from texts e event used next
+    × FeedsEach next piece (from + used) (texts ++ copied_of event) es new end written
+
+-- what is reported to C for a call that gives no event, after as many events
+abbrev pub EndsAs : Bool → ℕ → ℕ → HeardGot → GitwireAnswer → Type 0
+EndsAs expected used count Got.More answer = answer ≡ answering_packet used 0 count (more_of expected)
+EndsAs expected used count (Got.Failed fault) answer = answer ≡ record (answering_fault used fault) { length = count }
+EndsAs expected used count (Got.Event event) answer = ⊥
+
+-- one more call gives no event; if there were events, the program could not ask after them
+pub record GivesNone (old : Client Global) (piece : List ℕ) (from count : ℕ) (answer : GitwireAnswer) (new : Client Global) : Type 0 where
+  pub used : ℕ
+  pub got : HeardGot
+  pub feeds : Feeds old (drop from piece) (record { used = used; got = got }) new
+  pub answer_is : EndsAs (wants_input old) (from + used) count got answer
+  pub goes_on : 0 < count → can_ask old ≡ false
+
+-- no more calls are made after an event: a request can be asked; or the array is full, or too little of the buffer is left for just any event
+pub record Pauses (old : Client Global) (from count most written size : ℕ) (answer : GitwireAnswer) (new : Client Global) : Type 0 where
+  pub some : 0 < count
+  pub turn : can_ask old ≡ true → answer ≡ answering_packet from 0 count What.CanAsk
+  pub full : can_ask old ≡ false → answer ≡ answering_packet from 0 count What.More
+  pub why : can_ask old ≡ false → (count ≡ most) ⊎ (size < written + longest_payload)
+  pub stays : new ≡ old
+
+-- the array has the events that calls of `feed` give, and the buffer their texts; after them the calls pause, or one more gives no event
+pub record ListsEvents (old : Client Global) (piece : List ℕ) (events : List GitwireEvent) (room : List ℕ) (answer : GitwireAnswer)
+    (filled : List GitwireEvent) (written : List ℕ) (new : Client Global) : Type 0 where
+  pub listed : List GitwireEvent
+  pub texts : List ℕ
+  pub end : ℕ
+  pub last : Client Global
+  pub feeds : FeedsEach old piece 0 [] listed last end texts
+  pub ends : Pauses last end (length listed) (length events) (length texts) (length room) answer new
+      ⊎ GivesNone last piece end (length listed) answer new
+  pub within : answer.used ≤ length piece
+  pub count_fits : length listed ≤ length events
+  pub texts_fit : length texts ≤ length room
+  pub events_are : filled ≡ listed ++ drop (length listed) events
+  pub room_is : written ≡ put_before texts room
+
+-- nothing happens if the array has no place, or the buffer is too small for the texts of some event
+pub record ListsInRoom (old : Client Global) (piece : List ℕ) (events : List GitwireEvent) (room : List ℕ) (answer : GitwireAnswer)
+    (filled : List GitwireEvent) (written : List ℕ) (new : Client Global) : Type 0 where
+  pub small : (length events ≡ 0) ⊎ (length room < longest_payload)
+      → (answer ≡ answering What.RoomTooSmall) × (filled ≡ events) × (written ≡ room) × (new ≡ old)
+  pub large : 0 < length events → longest_payload ≤ length room → ListsEvents old piece events room answer filled written new
+
+-- the handle has nothing: that is reported, and the array and the buffer are unchanged
+abbrev pub ListsNothing : List GitwireEvent → List ℕ → GitwireAnswer → List GitwireEvent → List ℕ → Type 0
+ListsNothing events room answer filled written = (answer ≡ answering What.NoHandle) × (filled ≡ events) × (written ≡ room)
+
+-- one call of `feed` on the bytes of the chunk from this place on gives an event, whose texts are written to the buffer after these many bytes
+pub record GivesEvent (old : Client Global) (piece : List ℕ) (from texts : ℕ) (room : List ℕ) (listed : Listed) (written : List ℕ) (new : Client Global)
+    : Type 0 where
+  pub event : Event
+  pub used : ℕ
+  pub feeds : Feeds old (drop from piece) (record { used = used; got = Got.Event event }) new
+  pub within : from + used ≤ length piece
+  pub lies : LieInPiece (Got.Event event) (from + used) piece
+  pub event_is : listed.event ≡ listed_as event (from + used) texts
+  pub texts_are : listed.texts ≡ texts + length (copied_of event)
+  pub texts_fit : listed.texts ≤ length room
+  pub room_is : written ≡ take texts room ++ copied_of event ++ drop (texts + length (copied_of event)) room
+
+-- the same call gives none, and the buffer is unchanged
+abbrev pub EndsHere : Client Global → List ℕ → ℕ → ℕ → List ℕ → GitwireAnswer → List ℕ → Client Global → Type 0
+EndsHere old piece from count room answer written new =
+    GivesNone old piece from count answer new × (answer.used ≤ length piece) × (written ≡ room)

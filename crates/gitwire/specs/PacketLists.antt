@@ -1,0 +1,105 @@
+-- Several packets of one call of C: those that calls of `feed` give one after another.
+use Rattle.std.specs.Prelude.{◌≡◌, ℕ, ◌+◌, ◌<◌, ◌≤◌, ◌⊎◌, List, [], ◌∷◌, ◌++◌, length, take, drop}
+use Rattle.git_pkt.specs.Packets.{body_of, longest_payload, seen}
+use Rattle.git_pkt.specs.Machine.PacketReader.{Feeds}
+use Rattle.git_pkt.specs.declared.packet.Packet.{Packet}
+use Rattle.git_pkt.specs.declared.packet.Packet.TheVariants.{Payload}
+use Rattle.git_pkt.specs.declared.reader.Got.{Got}
+use Rattle.git_pkt.specs.declared.reader.Got.TheVariants as Got
+use Rattle.git_pkt.specs.declared.reader.PacketReader.{PacketReader}
+use Rattle.gitwire.specs.Answers.{answering, answering_fault, answering_packet}
+use Rattle.gitwire.specs.PacketAnswers.{answer_of}
+use Rattle.gitwire.specs.Rooms.{put_before}
+use Rattle.gitwire.specs.declared.answer.GitwireAnswer.{GitwireAnswer}
+use Rattle.gitwire.specs.declared.answer.What.TheVariants as What
+
+-- a payload is the last of the bytes of the chunk that were used up to its end; or it has more bytes than these, and is at the front of the buffer
+abbrev pub PayloadLies : List ℕ → List ℕ → ℕ → Packet → Type 0
+PayloadLies piece room end (Payload bytes) =
+    (length bytes.now ≤ end → (front : List ℕ) × (take end piece ≡ front ++ bytes.now))
+    × (end < length bytes.now → take (length bytes.now) room ≡ bytes.now)
+PayloadLies piece room end packet = Unit {0}
+
+-- a call of `feed` on the bytes of the chunk from this place on gives this packet, which is listed so, with its payload in the chunk or in this buffer
+pub record GivesNext (old : PacketReader) (piece room : List ℕ) (from : ℕ) (listed : GitwireAnswer) (packet : Packet) (offset used : ℕ)
+    (new : PacketReader) : Type 0 where
+  pub feeds : Feeds old (drop from piece) (record { used = used; got = Got.Packet packet offset }) new
+  pub lies : PayloadLies piece room (from + used) packet
+  pub listed_is : listed ≡ answer_of (from + used) (Got.Packet packet offset)
+
+-- calls of `feed` one after another, each on the bytes of the chunk that no earlier one used, give these packets. The first call begins at the place
+-- `from`, and the last one ends at the place `end`.
+abbrev pub FeedsEach : PacketReader → List ℕ → List ℕ → ℕ → List GitwireAnswer → PacketReader → ℕ → Type 0
+FeedsEach old piece room from [] new end = (new ≡ old) × (end ≡ from)
+FeedsEach old piece room from (p ∷ ps) new end =
+    (packet : Packet) × (offset : ℕ) × (used : ℕ) × (next : PacketReader)
+    × GivesNext old piece room from p packet offset used next
+    × FeedsEach next piece room (from + used) ps new end
+
+-- what is reported to C for a call that gives no packet, after as many packets
+abbrev pub EndsAs : ℕ → ℕ → Got → GitwireAnswer → Type 0
+EndsAs used count Got.More answer = answer ≡ answering_packet used 0 count What.More
+EndsAs used count (Got.Failed fault) answer = answer ≡ record (answering_fault used fault) { length = count }
+EndsAs used count (Got.Packet packet offset) answer = ⊥
+
+-- one more call gives no packet
+pub record GivesNone (old : PacketReader) (piece : List ℕ) (from count : ℕ) (answer : GitwireAnswer) (new : PacketReader) : Type 0 where
+  pub used : ℕ
+  pub got : Got
+  pub feeds : Feeds old (drop from piece) (record { used = used; got = got }) new
+  pub answer_is : EndsAs (from + used) count got answer
+
+-- no more calls are made, since the array is full
+pub record IsFull (old : PacketReader) (from count most : ℕ) (answer : GitwireAnswer) (new : PacketReader) : Type 0 where
+  pub full : count ≡ most
+  pub answer_is : answer ≡ answering_packet from 0 count What.More
+  pub stays : new ≡ old
+
+-- the array has the packets that calls of `feed` give; after them it is full, or one more call gives none. At most one payload is written to the buffer.
+pub record ListsPackets (old : PacketReader) (piece : List ℕ) (packets : List GitwireAnswer) (room : List ℕ) (answer : GitwireAnswer)
+    (filled : List GitwireAnswer) (written : List ℕ) (new : PacketReader) : Type 0 where
+  pub listed : List GitwireAnswer
+  pub end : ℕ
+  pub last : PacketReader
+  pub cut : List ℕ
+  pub feeds : FeedsEach old piece written 0 listed last end
+  pub ends : IsFull last end (length listed) (length packets) answer new ⊎ GivesNone last piece end (length listed) answer new
+  pub within : answer.used ≤ length piece
+  pub count_fits : length listed ≤ length packets
+  pub cut_fits : length cut ≤ length room
+  pub packets_are : filled ≡ listed ++ drop (length listed) packets
+  pub room_is : written ≡ put_before cut room
+
+-- nothing happens if the array has no place, or the buffer is too small for the longest payload
+pub record ListsInRoom (old : PacketReader) (piece : List ℕ) (packets : List GitwireAnswer) (room : List ℕ) (answer : GitwireAnswer)
+    (filled : List GitwireAnswer) (written : List ℕ) (new : PacketReader) : Type 0 where
+  pub small : (length packets ≡ 0) ⊎ (length room < longest_payload)
+      → (answer ≡ answering What.RoomTooSmall) × (filled ≡ packets) × (written ≡ room) × (new ≡ old)
+  pub large : 0 < length packets → longest_payload ≤ length room → ListsPackets old piece packets room answer filled written new
+
+-- the handle has nothing: that is reported, and the array and the buffer are unchanged
+abbrev pub ListsNothing : List GitwireAnswer → List ℕ → GitwireAnswer → List GitwireAnswer → List ℕ → Type 0
+ListsNothing packets room answer filled written = (answer ≡ answering What.NoHandle) × (filled ≡ packets) × (written ≡ room)
+
+-- the buffer after a call that gives this packet: the payload is at its front, if the call used fewer bytes than that has
+abbrev pub IsWritten : Packet → ℕ → List ℕ → List ℕ → Type 0
+IsWritten (Payload bytes) used room written =
+    (length bytes.now ≤ used → written ≡ room) × (used < length bytes.now → written ≡ put_before bytes.now room)
+IsWritten packet used room written = written ≡ room
+
+-- one call of `feed` on the bytes of the chunk from this place on gives a packet
+pub record GivesPacket (old : PacketReader) (piece : List ℕ) (from : ℕ) (room : List ℕ) (listed : GitwireAnswer) (written : List ℕ) (new : PacketReader)
+    : Type 0 where
+  pub packet : Packet
+  pub offset : ℕ
+  pub used : ℕ
+  pub feeds : Feeds old (drop from piece) (record { used = used; got = Got.Packet packet offset }) new
+  pub within : from + used ≤ length piece
+  pub fits : length (body_of (seen packet)) ≤ longest_payload
+  pub packet_is : listed ≡ answer_of (from + used) (Got.Packet packet offset)
+  pub room_is : IsWritten packet used room written
+
+-- the same call gives none, and the buffer is unchanged
+abbrev pub EndsHere : PacketReader → List ℕ → ℕ → ℕ → List ℕ → GitwireAnswer → List ℕ → PacketReader → Type 0
+EndsHere old piece from count room answer written new =
+    GivesNone old piece from count answer new × (answer.used ≤ length piece) × (written ≡ room)

@@ -1,0 +1,117 @@
+//! Several packets of a chunk by one call of C.
+
+ghost use Rattle.std.specs.Prelude.{◌+◌, ◌≤◌, ◌<◌, MatchResult, length};
+ghost use Rattle.git_pkt.specs.Packets.{longest_payload};
+ghost use Rattle.gitwire.specs.Calls.{On};
+ghost use Rattle.gitwire.specs.Handles.{packet_reader_in};
+ghost use Rattle.gitwire.specs.PacketLists.{EndsHere, GivesPacket, ListsInRoom, ListsNothing, ListsPackets};
+
+use crate::answer::{GitwireAnswer, What};
+use crate::gatherer::Gatherer;
+use crate::handles::{GitwirePacketReader, Holds};
+use crate::packets::LONGEST_PAYLOAD;
+use git_names::Steps;
+use git_pkt::{Got, Packet};
+use std::alloc::Global;
+
+/// Fills the array with the packets of the chunk: those that `gitwire_packet_reader_feed` would give, call after call, but for `used`, which is
+/// how many bytes of the chunk are used up to the packet's end. Their payloads stay in the chunk, as the last of these bytes; a payload that has more
+/// bytes than these, which only the first packet can have, is written to the front of the buffer. `length` is how many packets are in the array,
+/// and `used` how many bytes were used. `More`: the chunk is used up, or the array is full; `Failed`; `NoHandle`; and `RoomTooSmall` if
+/// the array has no place, or the buffer has fewer than 65,516 bytes.
+#[unsafe(no_mangle)]
+pub extern "C" fn gitwire_packet_reader_packets(
+    alloc: Global,
+    reader: &mut GitwirePacketReader,
+    piece: &[u8],
+    packets: &mut [GitwireAnswer],
+    room: &mut [u8],
+) -> GitwireAnswer
+    ensures { On (packet_reader_in reader.old) (packet_reader_in reader.new)
+        (λ old new. ListsInRoom old piece.now packets.old room.old result packets.new room.new new)
+        (ListsNothing packets.old room.old result packets.new room.new) }
+{
+    let Some(mut taken) = reader.take(alloc) else {
+        return GitwireAnswer::of(What::NoHandle);
+    };
+    let answer = list_packets(&mut taken.inner, piece, packets, room);
+    reader.put(taken);
+    answer
+}
+
+fn list_packets(
+    gatherer: &mut Gatherer,
+    piece: &[u8],
+    packets: &mut [GitwireAnswer],
+    room: &mut [u8],
+) -> GitwireAnswer
+    ensures { ListsInRoom gatherer.old.reader piece.now packets.old room.old result packets.new room.new gatherer.new.reader }
+{
+    if packets.is_empty() || room.len() < LONGEST_PAYLOAD {
+        return GitwireAnswer::of(What::RoomTooSmall);
+    }
+    fill_packets(gatherer, piece, packets, room)
+}
+
+/// Calls `feed` until it gives no packet, or the array is full.
+fn fill_packets(
+    gatherer: &mut Gatherer,
+    piece: &[u8],
+    packets: &mut [GitwireAnswer],
+    room: &mut [u8],
+) -> GitwireAnswer
+    requires place { 0 < length packets.old }
+    requires suffices { longest_payload ≤ length room.old }
+    ensures { ListsPackets gatherer.old.reader piece.now packets.old room.old result packets.new room.new gatherer.new.reader }
+{
+    let mut used = 0;
+    let mut count = 0;
+    while count < packets.len() {
+        match next(gatherer, piece, used, count, room) {
+            Ok(packet) => {
+                packets[count] = packet;
+                used = packet.used;
+                count += 1;
+            }
+            Err(answer) => return answer,
+        }
+    }
+    GitwireAnswer::of_packet(used, 0, count, What::More)
+}
+
+/// One call of `feed`, on the bytes of the chunk from this place on: the packet, or what is reported after so many packets if there is none. If the
+/// chunk has not all of the packet's payload, that is written to the front of the buffer.
+#[inline(always)]
+fn next(
+    gatherer: &mut Gatherer,
+    piece: &[u8],
+    from: usize,
+    count: usize,
+    room: &mut [u8],
+) -> Result<GitwireAnswer, GitwireAnswer>
+    requires within { from ≤ length piece.now }
+    requires suffices { longest_payload ≤ length room.old }
+    ensures { MatchResult result (λ packet. GivesPacket gatherer.old.reader piece.now from room.old packet room.new gatherer.new.reader)
+        (λ answer. EndsHere gatherer.old.reader piece.now from count room.old answer room.new gatherer.new.reader) }
+{
+    let fed = gatherer.reader.feed(&piece[from..], &mut Steps::new());
+    let used = from + fed.used;
+    match fed.got {
+        Got::More => Err(GitwireAnswer::of_packet(used, 0, count, What::More)),
+        Got::Failed(fault) => Err(GitwireAnswer {
+            length: count,
+            ..GitwireAnswer::of_fault(used, fault)
+        }),
+        Got::Packet(packet, offset) => match packet {
+            Packet::Flush => Ok(GitwireAnswer::of_packet(used, offset, 0, What::Flush)),
+            Packet::Delim => Ok(GitwireAnswer::of_packet(used, offset, 0, What::Delim)),
+            Packet::RespEnd => Ok(GitwireAnswer::of_packet(used, offset, 0, What::ResponseEnd)),
+            Packet::Payload(bytes) => {
+                if fed.used < bytes.len() {
+                    room[..bytes.len()].copy_from_slice(bytes);
+                }
+                Ok(GitwireAnswer::of_packet(used, offset, bytes.len(), What::Payload))
+            }
+        },
+    }
+}

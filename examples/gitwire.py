@@ -1,0 +1,292 @@
+#!/usr/bin/env python3
+"""Bindings of the library's client for Python, through ctypes and the shared library, which `make install` builds:
+
+    from gitwire import Client, requests_of
+
+and a program over them, which judges a recorded conversation as `git2show check` does, and prints its transcript:
+
+    LD_LIBRARY_PATH=PREFIX/lib gitwire.py [--sha256] [--stateless] REQUESTS RESPONSES
+
+LD_LIBRARY_PATH is not needed where the library lies in a folder that the system's loader knows.
+"""
+
+import signal
+import sys
+from ctypes import CDLL, POINTER, Structure, byref, c_bool, c_size_t, c_uint8, c_uint32, c_uint64, c_void_p, create_string_buffer
+from typing import NamedTuple, Optional
+
+# The numbers of gitwire.h.
+DONE, MORE, FAILED, REQUEST, PACKET, NEED_INPUT, CAN_ASK, FINISHED = 0, 1, 2, 13, 15, 16, 19, 20
+CAPABILITY, OFFERED, REFERENCE, ACK, NAK, READY, SHALLOW, UNSHALLOW, WANTED_REF, INFO, PACK, PROGRESS, ENDED = range(21, 34)
+SHA1, SHA256 = 0, 1
+ENDS_BY_FLUSH, ENDS_BY_RESPONSE_END = 0, 1
+COMMANDS = ["ls-refs", "fetch", "object-info"]
+FEATURES_ALL = 127
+USUAL_LIMIT = 16777216
+PAYLOAD_ROOM, PACKET_ROOM, FAULT_TEXT_ROOM, ESCAPE_ROOM = 65516, 65520, 64, 4
+CHUNK = 65536
+EVENTS = 256
+
+
+class Handle(Structure):
+    """One of the library's handles, which begins as zeros."""
+
+    _fields_ = [("at", c_void_p), ("is_made", c_bool)]
+
+
+class Answer(Structure):
+    """What one call returns."""
+
+    _fields_ = [("used", c_size_t), ("offset", c_uint64), ("length", c_size_t), ("kind", c_uint8), ("fault", c_uint8)]
+
+
+class Listed(Structure):
+    """An event in an array of the library."""
+
+    _fields_ = [
+        ("used", c_size_t),
+        ("offset", c_uint64),
+        ("id_length", c_size_t),
+        ("name_length", c_size_t),
+        ("text_length", c_size_t),
+        ("peeled_length", c_size_t),
+        ("size", c_uint64),
+        ("kind", c_uint8),
+        ("fault", c_uint8),
+        ("has_text", c_bool),
+        ("has_size", c_bool),
+    ]
+
+
+class Offer(Structure):
+    """What a server advertises."""
+
+    _fields_ = [("features", c_uint32), ("format", c_uint8)]
+
+
+def load_library():
+    """The library, and what its calls take and return. A text, a buffer and an array are each a pointer and a length."""
+    library = CDLL("libgitwire.so.0")
+    handle, text = POINTER(Handle), [c_void_p, c_size_t]
+    takes = {
+        "request_reader_new": (c_uint8, [handle, Offer, c_uint32]),
+        "request_reader_feed": (Answer, [handle, handle, *text]),
+        "request_reader_clear": (None, [handle]),
+        "request_command": (Answer, [handle]),
+        "request_clear": (None, [handle]),
+        "client_new": (c_uint8, [handle, c_uint8, c_uint8]),
+        "client_events": (Answer, [handle, *text, *text, *text]),
+        "client_pull": (Answer, [handle, *text]),
+        "client_ask": (Answer, [handle, handle]),
+        "client_leave": (c_uint8, [handle]),
+        "client_close": (Answer, [handle]),
+        "client_clear": (None, [handle]),
+        "fault_text": (c_size_t, [c_uint8, c_uint64, *text]),
+        "escape": (Answer, [*text, *text]),
+    }
+    for name, (gives, wants) in takes.items():
+        call = getattr(library, "gitwire_" + name)
+        call.restype, call.argtypes = gives, wants
+    return library
+
+
+LIBRARY = load_library()
+
+
+class Refused(Exception):
+    """An error that the library reports, by name and offset."""
+
+
+def judged(answer):
+    """What was returned, unless it is an error."""
+    if answer.kind == FAILED:
+        text = create_string_buffer(FAULT_TEXT_ROOM)
+        length = LIBRARY.gitwire_fault_text(answer.fault, answer.offset, text, len(text))
+        raise Refused(text[:length].decode())
+    return answer
+
+
+def escaped(text):
+    """Untrusted bytes as a text that may be shown."""
+    room = create_string_buffer(ESCAPE_ROOM * (len(text) + 1))
+    answer = LIBRARY.gitwire_escape(text, len(text), room, len(room))
+    return room[: answer.length].decode()
+
+
+class Event(NamedTuple):
+    """What a server sent. A part that it does not have is empty; a text that it does not have is None, and so is a size."""
+
+    kind: int
+    id: bytes
+    name: bytes
+    text: Optional[bytes]
+    peeled: bytes
+    size: Optional[int]
+
+
+def event_of(listed, chunk, room):
+    """The event, with its texts out of the chunk or the buffer."""
+    place = chunk if listed.kind in (PACK, PROGRESS) else room
+    at, texts = listed.offset, []
+    for length in (listed.id_length, listed.name_length, listed.text_length, listed.peeled_length):
+        texts.append(place[at : at + length])
+        at += length
+    id_, name, text, peeled = texts
+    return Event(listed.kind, id_, name, text if listed.has_text else None, peeled, listed.size if listed.has_size else None)
+
+
+class Request:
+    """A request that was read, and can be asked."""
+
+    def __init__(self):
+        self.handle = Handle()
+
+    def __del__(self):
+        LIBRARY.gitwire_request_clear(byref(self.handle))
+
+    def command(self):
+        """The name of its command."""
+        return COMMANDS[LIBRARY.gitwire_request_command(byref(self.handle)).offset]
+
+
+def requests_of(stream, format_=SHA1):
+    """The requests of a client's bytes, one after another, up to a flush alone or the end."""
+    reader = Handle()
+    if LIBRARY.gitwire_request_reader_new(byref(reader), Offer(FEATURES_ALL, format_), USUAL_LIMIT) != DONE:
+        raise MemoryError
+    try:
+        at = 0
+        while at < len(stream):
+            request = Request()
+            rest = stream[at:]
+            answer = judged(LIBRARY.gitwire_request_reader_feed(byref(reader), byref(request.handle), rest, len(rest)))
+            at += answer.used
+            if answer.kind != REQUEST:
+                return
+            yield request
+    finally:
+        LIBRARY.gitwire_request_reader_clear(byref(reader))
+
+
+class Client:
+    """The client's side of a conversation."""
+
+    def __init__(self, format_=SHA1, ending=ENDS_BY_FLUSH):
+        self.handle = Handle()
+        self.packet = create_string_buffer(PACKET_ROOM)
+        self.room = create_string_buffer(2 * PAYLOAD_ROOM + CHUNK)
+        self.listed = (Listed * EVENTS)()
+        self.used = 0
+        if LIBRARY.gitwire_client_new(byref(self.handle), format_, ending) != DONE:
+            raise MemoryError
+
+    def __del__(self):
+        LIBRARY.gitwire_client_clear(byref(self.handle))
+
+    def pull(self):
+        """What to do next, and the packet to be sent if that is PACKET."""
+        answer = judged(LIBRARY.gitwire_client_pull(byref(self.handle), self.packet, len(self.packet)))
+        return answer.kind, self.packet[: answer.length]
+
+    def ask(self, request):
+        """Asks the request, which the client has from then on."""
+        judged(LIBRARY.gitwire_client_ask(byref(self.handle), byref(request.handle)))
+
+    def leave(self):
+        """Leaves the conversation."""
+        LIBRARY.gitwire_client_leave(byref(self.handle))
+
+    def feed(self, chunk):
+        """The events of the chunk, one after another, up to the first error, which is raised after them, or to where a request can be
+        asked. `used` is then how many bytes of the chunk were used."""
+        self.used = 0
+        while self.used < len(chunk):
+            rest = chunk[self.used : self.used + CHUNK]
+            answer = LIBRARY.gitwire_client_events(
+                byref(self.handle), rest, len(rest), self.listed, EVENTS, self.room, len(self.room)
+            )
+            self.used += answer.used
+            for listed in self.listed[: answer.length]:
+                yield event_of(listed, rest, self.room)
+            if judged(answer).kind != MORE:
+                return
+
+    def close(self):
+        """The input ends here: an error, if more was expected."""
+        judged(LIBRARY.gitwire_client_close(byref(self.handle)))
+
+
+class Transcript:
+    """The lines of a conversation, as `git2show check` prints them."""
+
+    def __init__(self):
+        self.counts = {PACK: 0, PROGRESS: 0}
+
+    def line(self, event):
+        """The line of an event, or nothing."""
+        words = {OFFERED: "offered", NAK: "nak", READY: "ready"}
+        names = {ACK: "ack", SHALLOW: "shallow", UNSHALLOW: "unshallow", WANTED_REF: "wanted-ref", INFO: "info"}
+        id_, name = event.id.decode(), escaped(event.name)
+        if event.kind in self.counts:
+            self.counts[event.kind] += len(event.text)
+            return ""
+        if event.kind == CAPABILITY:
+            return f"capability {name}{'' if event.text is None else '=' + escaped(event.text)}\n"
+        if event.kind == REFERENCE:
+            target = "" if event.text is None else f" symref-target:{escaped(event.text)}"
+            peeled = f" peeled:{event.peeled.decode()}" if event.peeled else ""
+            return f"ref {id_ or 'unborn'} {name}{target}{peeled}\n"
+        if event.kind == ENDED:
+            pack, progress = self.counts[PACK], self.counts[PROGRESS]
+            self.counts = {PACK: 0, PROGRESS: 0}
+            return f"end {pack} {progress}\n"
+        if event.kind == INFO:
+            return f"info {id_} {'-' if event.size is None else event.size}\n"
+        if event.kind == WANTED_REF:
+            return f"wanted-ref {id_} {name}\n"
+        return (words.get(event.kind) or f"{names[event.kind]} {id_}") + "\n"
+
+
+def judge(client, requests, responses):
+    """Prints the transcript of a conversation."""
+    transcript, at = Transcript(), 0
+    while (next_ := client.pull()[0]) != FINISHED:
+        if next_ == CAN_ASK:
+            request = next(requests, None)
+            if request is None:
+                client.leave()
+                continue
+            command = request.command()
+            client.ask(request)
+            sys.stdout.write(f"request {command}\n")
+        elif next_ == NEED_INPUT:
+            if at == len(responses):
+                client.close()
+            for event in client.feed(responses[at:]):
+                sys.stdout.write(transcript.line(event))
+            at += client.used
+
+
+def main(words):
+    """Returns the program's status. Where nobody reads its output it ends, as other programs do."""
+    signal.signal(signal.SIGPIPE, signal.SIG_DFL)
+    options = {word for word in words if word.startswith("--")}
+    files = [word for word in words if not word.startswith("--")]
+    if len(files) != 2 or not options <= {"--sha256", "--stateless"}:
+        print("usage: gitwire.py [--sha256] [--stateless] REQUESTS RESPONSES", file=sys.stderr)
+        return 2
+    format_ = SHA256 if "--sha256" in options else SHA1
+    try:
+        requests, responses = (open(name, "rb").read() for name in files)
+        client = Client(format_, ENDS_BY_RESPONSE_END if "--stateless" in options else ENDS_BY_FLUSH)
+        judge(client, requests_of(requests, format_), responses)
+    except (OSError, Refused) as why:
+        sys.stdout.flush()
+        print(f"gitwire.py: {why}", file=sys.stderr)
+        return 1
+    sys.stdout.flush()
+    return 0
+
+
+if __name__ == "__main__":
+    sys.exit(main(sys.argv[1:]))
