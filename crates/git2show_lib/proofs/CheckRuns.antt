@@ -1,71 +1,55 @@
--- A check so far: what was read of both streams, what was asked and received; and what it results in at each of its ends.
-use Rattle.std.proofs.Common.{arith, ◌≡◌, inl, inr, ◌⊎◌, ℕ, ◌+◌, ◌-◌, ◌<◌, ◌≤◌, min, All, Bool, true, false, List, [], ◌∷◌, ◌++◌, length, Option, None, Some}
-use Rattle.std.proofs.Common.{Result, Ok, Err, IfErr, refl, sym, subst, ap, ◌∙◌, append_assoc, append-nil, length-append}
-use Rattle.std.proofs.KnownBytes.{Consumes-nil, Consumes-trans}
+-- A check so far: what was read of both streams, and what was asked and received.
+use Rattle.std.proofs.Common.{arith, ◌≡◌, inl, inr, ◌⊎◌, ℕ, ◌+◌, ◌-◌, ◌<◌, ◌≤◌, min, Bool, true, false, List, [], ◌∷◌, ◌++◌, length, Option, None, Some}
+use Rattle.std.proofs.Common.{Ok, refl, sym, subst, ap, ◌∙◌, append_assoc, append-nil, length-append}
+use Rattle.std.proofs.KnownBytes.{Consumes-nil}
 use Rattle.std.proofs.lemmas.List.Elements.{All-append, All-cons, All-nil}
 use Rattle.std.specs.Io.KnownBytes.{Consumes}
-use Rattle.git_pkt.specs.Machine.Engine.{FailsAs, IsShownBy, IsSpent}
-use Rattle.git_pkt.specs.Faults.{IsOpen, last_position}
+use Rattle.git_pkt.specs.Faults.{last_position}
 use Rattle.git_pkt.specs.Splits.{Given, Splits}
-use Rattle.git_pkt.specs.Streams.{Flow, flow, Moves, WrittenAs, is_broken}
-use Rattle.git_pkt.specs.declared.fault.Fault.{Fault}
+use Rattle.git_pkt.specs.Streams.{Flow, flow, WrittenAs}
 use Rattle.git_pkt.specs.declared.fault.Kind.{Kind}
-use Rattle.git_pkt.specs.declared.fault.Kind.TheVariants.{UnexpectedPacket}
-use Rattle.git_pkt.specs.declared.fault.RunFault.{RunFault}
-use Rattle.git_pkt.specs.declared.fault.RunFault.TheVariants.{ReadFault, WriteFault, ReadLimit, Refused}
-use Rattle.git_pkt.specs.Machine.Told.{has_ended, has_failed}
-use Rattle.git_pkt.specs.declared.told.Told.{Told}
 use Rattle.git_pkt.proofs.EngineLemmas.{written_nothing, written_then, written_whole}
 use Rattle.git_pkt.proofs.Spelling.{none_begins_nothing}
 use Rattle.git_msg.specs.Advertisement.{noted_offer}
 use Rattle.git_msg.specs.Asked.{Asked}
 use Rattle.git_msg.specs.Machine.HeldRequest.{asked_of}
-use Rattle.git_msg.specs.Requests.{IsStop}
 use Rattle.git_msg.specs.declared.requests.Request.{Request}
 use Rattle.git_client.specs.Machine.Client.{History, Converses, nothing_yet, bytes_used as client_bytes, can_ask, caps_of, spelled}
 use Rattle.git_client.specs.Machine.Client.{wants_input}
 use Rattle.git_client.specs.Parts.{Terms}
 use Rattle.git_client.specs.Conversation.{IsConversation}
 use Rattle.git_client.specs.Events.{EventValue}
-use Rattle.git_client.specs.Machine.RunSteps.{HearsBytes, HearsFrom, HearsTo, HearsWhole, IsOneTurn, no_counts, window_of}
+use Rattle.git_client.specs.Machine.RunSteps.{HearsBytes, HearsFrom, HearsWhole, IsOneTurn, no_counts, window_of}
 use Rattle.git_client.specs.declared.hearing.Counts.{Counts}
 use Rattle.git_client.specs.declared.client.Client.{Client}
 use Rattle.git_client.specs.declared.hearing.Window.{Window}
 use Rattle.git_client.proofs.Alongs.{counts_on}
-use Rattle.git_client.proofs.AskedInTurn.{commands_advertised}
-use Rattle.git_client.proofs.ClientRuns.{Running, ran, anew, begins, asks_on, hears_on, read_on, refused_next}
-use Rattle.git_client.proofs.EventsHeard.{awaits_more, has_events, has_noted, is_whole, position_is}
-use Rattle.git_client.proofs.Faults.{first_fault}
-use Rattle.git2show_lib.specs.Others.{Advertised, HasLines, IsOtherAnswer, judged_of}
-use Rattle.git2show_lib.specs.Machine.JudgedRequests.{HasRead, AreAskedBy, IsBegun, IsRefused, advertised_by, bytes_used, limit_of, offer_of, question_of}
+use Rattle.git_client.proofs.ClientRuns.{Running, anew, begins, asks_on, hears_on, read_on}
+use Rattle.git_client.proofs.EventsHeard.{has_noted, is_whole, position_is}
+use Rattle.git2show_lib.specs.Others.{Advertised, HasLines}
+use Rattle.git2show_lib.specs.Machine.JudgedRequests.{HasRead, AreAskedBy, advertised_by, bytes_used, limit_of, offer_of, question_of}
 use Rattle.git2show_lib.specs.Machine.JudgedRequests.{text_of}
 use Rattle.git2show_lib.specs.Machine.Noting.{AreLost, HasNotedLines, IsLost}
 use Rattle.git2show_lib.specs.declared.judged_requests.JudgedRequests.{JudgedRequests}
 use Rattle.git2show_lib.specs.declared.noting.Noting.{Noting}
-use Rattle.git2show_lib.specs.Machine.CheckFaults.{run_fault, run_result, standing_of}
-use Rattle.git2show_lib.specs.Machine.CheckSteps.{Asking, HearsNoting, ReadsAll, ReadsNoMore, ReadsOn, ReadsRequest, ReadsTo, ReadsWhole, SeesEnd}
-use Rattle.git2show_lib.specs.Machine.CheckedStreams.{AllEnded, AreAllAsked, AreAnswered, AreHeard, AreOver, AreUnread, Begun, Checked, Comes, EndsAs}
-use Rattle.git2show_lib.specs.Machine.CheckedStreams.{Found, IsBadSieved, IsSieved, IsSoFar, Receives, ReceivesAll, SieveBreaksOff, SieveRefuses}
-use Rattle.git2show_lib.specs.Machine.CheckedStreams.{SieveRefusesLater, last_form, place_after}
-use Rattle.git2show_lib.specs.Machine.CheckedStreams.{HasEnded, Heard, IsOffered, IsOtherDue, IsWithinAnswer, IsWithinRequest, MayCome, Turn}
-use Rattle.git2show_lib.specs.Machine.CheckedStreams.{bytes_begun, events_in, events_shown, heard_shown, lines_begun, moved, passed_in, placed}
-use Rattle.git2show_lib.specs.Machine.CheckedStreams.{placed_result, question_shown, questions_in, received_in, turns_shown, whole_of}
-use Rattle.git2show_lib.specs.Machine.TurnSteps.{AnswersBy, AnswersTo, AsksJudged, AsksShown, PassesOtherTo, ReceivesNot, ReceivesWhole}
-use Rattle.git2show_lib.specs.Machine.Sieving.{BreaksOffAt, IsRefusedBefore, IsRefusedBy, Sieves, SievesTo}
+use Rattle.git2show_lib.specs.Machine.CheckSteps.{ReadsOn, ReadsRequest, ReadsWhole}
+use Rattle.git2show_lib.specs.Machine.CheckedStreams.{AllEnded, AreHeard, AreUnread, Comes}
+use Rattle.git2show_lib.specs.Machine.CheckedStreams.{Found, Receives, ReceivesAll}
+use Rattle.git2show_lib.specs.Machine.CheckedStreams.{last_form, place_after}
+use Rattle.git2show_lib.specs.Machine.CheckedStreams.{HasEnded, Heard, IsOffered, MayCome, Turn}
+use Rattle.git2show_lib.specs.Machine.CheckedStreams.{events_in, events_shown, heard_shown, passed_in}
+use Rattle.git2show_lib.specs.Machine.CheckedStreams.{question_shown, questions_in, received_in, whole_of}
+use Rattle.git2show_lib.specs.Machine.TurnSteps.{AnswersBy, AsksShown, ReceivesWhole}
 use Rattle.git2show_lib.specs.Sieve.{sieved}
 use Rattle.git2show_lib.specs.declared.asking.Remaining.{Remaining}
 use Rattle.git2show_lib.specs.declared.sieve.Form.{Form}
 use Rattle.git2show_lib.specs.Machine.KeptLines.{noted_in}
 use Rattle.git2show_lib.specs.OtherLines.{Question, form_asked, other}
 use Rattle.git2show_lib.specs.declared.judged_requests.Judged.{Judged}
-use Rattle.git2show_lib.specs.Machine.OtherAnswers.{PassesOn, PassesTo, PassesWhole, Uses}
+use Rattle.git2show_lib.specs.Machine.OtherAnswers.{PassesWhole, Uses}
 use Rattle.git2show_lib.specs.declared.other_answers.Passed.{Passed}
-use Rattle.git2show_lib.specs.declared.requests_read.Next.{Next}
-use Rattle.git2show_lib.proofs.Turns.{heard_with, moved_by_count, passed_snoc, questions_snoc, shown_with, stops_once, whole_with, with_turn}
+use Rattle.git2show_lib.proofs.Turns.{heard_with, passed_snoc, questions_snoc, shown_with, stops_once, whole_with, with_turn}
 use Rattle.git2show_lib.proofs.Turns.{form_snoc}
-use Rattle.git2show_lib.specs.declared.checking.CheckFault.{CheckFault}
-use Rattle.git2show_lib.specs.declared.checking.CheckFault.TheVariants.{Requests, Responses}
-use Rattle.git2show_lib.specs.declared.checking.CheckFault.TheVariants.{ReadFault as CheckReadFault, WriteFault as CheckWriteFault, ReadLimit as CheckReadLimit}
 
 -- ---- what was read and written
 
@@ -94,7 +78,7 @@ pub still_offered : (t : Terms) {bytes all : List ℕ} {offer other : Advertised
 still_offered t same grown offered = rw (same, grown) offered
 
 -- the same where perhaps no request was read yet
-known_on : (t : Terms) (bytes more all : List ℕ) (offer : Advertised) (found : Found) → all ≡ bytes ++ more → IsOffered t bytes offer ⊎ AreUnread found
+pub known_on : (t : Terms) (bytes more all : List ℕ) (offer : Advertised) (found : Found) → all ≡ bytes ++ more → IsOffered t bytes offer ⊎ AreUnread found
     → IsOffered t all offer ⊎ AreUnread found
 known_on t bytes more all offer found grown (inl offered) =
     inl (rw grown (offered_on t bytes more offer offered))
@@ -223,7 +207,7 @@ module _ {A : Type 0} where
   }
 
   -- of a response that a client receives as it comes these bytes were used
-  abbrev uses_of : {broken : Bool} {old new : Client A} {waiting unused : List ℕ} {reader out packs progress : Flow}
+  abbrev pub uses_of : {broken : Bool} {old new : Client A} {waiting unused : List ℕ} {reader out packs progress : Flow}
       (f : HearsFrom broken old new waiting unused reader out packs progress) → Uses f.used waiting unused reader
   uses_of f = record { came = f.came; read = f.read; parts = f.parts }
 
@@ -253,12 +237,12 @@ module _ {A : Type 0} {t : Terms} where
   module _ {broken : Bool} {h : History} {front : List (Request A)} {old new : Client A} {counts : Counts} {heard : List ℕ} {packs progress : Flow}
       (runs : Running false t h front old no_counts [] silent silent silent silent silent) where
     -- a client received bytes
-    bytes_heard : {out : Flow} → wants_input old ≡ true → (b : HearsBytes broken old new no_counts counts heard out packs progress)
+    pub bytes_heard : {out : Flow} → wants_input old ≡ true → (b : HearsBytes broken old new no_counts counts heard out packs progress)
         → Running false t (record h { used = h.used ++ heard; events = h.events ++ b.events }) front new counts [] silent silent silent silent silent
     bytes_heard due b = hears_on t false front old new heard [] (waits_for heard runs) due (quiet b)
 
     -- their lines were written, as far as no write failed
-    lines_written : (before held after : Option (List ℕ)) (lines : List ℕ) → WrittenAs false (flow before held) lines
+    pub lines_written : (before held after : Option (List ℕ)) (lines : List ℕ) → WrittenAs false (flow before held) lines
         → (b : HearsBytes broken old new no_counts counts heard (flow held after) packs progress)
         → WrittenAs broken (flow before after) (lines ++ events_shown b.events)
     lines_written before held after lines written b =
@@ -394,7 +378,7 @@ module _ {A : Type 0} {t : Terms} {limit : ℕ} where
     begins_at : place_after c.r.opening c.r.turns ≡ length c.h.used + passed_in c.r.turns
     begins_at = ap (λ (used : List ℕ). length used + passed_in c.r.turns) (sym c.received.used_is)
 
-    counted_place : (place : ℕ) → place ≡ min (client_bytes client + count) 18446744073709551615
+    pub counted_place : (place : ℕ) → place ≡ min (client_bytes client + count) 18446744073709551615
         → place ≡ min (place_after c.r.opening c.r.turns) 18446744073709551615
     counted_place place is =
         is ∙ ap (λ (n : ℕ). min (n + count) 18446744073709551615) place_is
@@ -591,669 +575,3 @@ module _ {A : Type 0} where
   -- why a line was not kept
   pub why_lost : {notes : Noting A} {used : List ℕ} {kind : Kind} → HasNotedLines used notes → notes.lost ≡ Some kind → IsLost kind
   why_lost noted is = subst AreLost is noted.why
-
--- ---- how a check ends
-
--- which of its streams failed, and what shows it, is the same of a fault and of what is reported of it
-told_as : (S T : Type 0) (own : RunFault) (place : ℕ) (fault : CheckFault) (read written : Bool) → fault ≡ placed place own
-    → FailsAs {T = S} (run_result (Err fault)) read written → FailsAs {T = T} (Err own) read written
-told_as S T own place fault read written same told =
-    at own (subst (λ (f : CheckFault). FailsAs {T = S} (run_result (Err f)) read written) same told)
-  where
-    at : (own : RunFault) → FailsAs {T = S} (run_result (Err (placed place own))) read written → FailsAs {T = T} (Err own) read written
-    at ReadFault told = told
-    at WriteFault told = told
-    at ReadLimit told = told
-    at (Refused fault) told = told
-
-shown_as : (own : RunFault) (place : ℕ) (fault : CheckFault) (F W S : Type 0) → fault ≡ placed place own → IsShownBy F W S (run_fault fault)
-    → IsShownBy F W S own
-shown_as own place fault F W S same shown = at own (subst (λ (f : CheckFault). IsShownBy F W S (run_fault f)) same shown) where
-  at : (own : RunFault) → IsShownBy F W S (run_fault (placed place own)) → IsShownBy F W S own
-  at ReadFault shown = shown
-  at WriteFault shown = shown
-  at ReadLimit shown = shown
-  at (Refused fault) shown = tt
-
--- of a response that has not begun a client received nothing
-receives_nothing : (form : Option Form) → Receives form [] []
-receives_nothing None = refl
-receives_nothing (Some form) =
-    record { given = []; bad = []; rest = []; beyond = []; splits = record { spelled = refl; ends = none_begins_nothing }; passed = tt; cut = refl }
-
--- what a run over the responses answered that was well
-pub well_placed : {T : Type 0} (before : ℕ) (result : Result T RunFault) (done : T) → placed_result before result ≡ Ok done → result ≡ Ok done
-well_placed before (Ok over) done is = let same : over ≡ done = cc in ap Ok same
-well_placed before (Err fault) done is = absurd (cc)
-
--- nothing came of an answer that passes and is not whole
-begun_nothing : (r : Heard) (unused : List ℕ) → r.begun ≡ None → (whole_of r ++ bytes_begun r.begun) ++ unused ≡ whole_of r ++ unused
-begun_nothing r unused none =
-    ap (λ (l : List ℕ). l ++ unused) (ap (λ (b : Option Begun). whole_of r ++ bytes_begun b) none ∙ append-nil (whole_of r))
-
-module _ (A : Type 0) (t : Terms) (limit : ℕ) {Q R : Type 0} (of_requests : Told Q) (of_responses : Told R) where
-  -- how a check with this answer moved its streams
-  abbrev pub CheckEnds : Result (Unit {0}) CheckFault → Flow → Flow → Flow → Type 0
-  CheckEnds result requests responses out =
-      Moves (is_broken (run_result result)) (Checked A t limit result (standing_of of_requests) (standing_of of_responses))
-      (requests ∷ responses ∷ []) (out ∷ [])
-
-  -- what the run of the client and the requests mean for a check that ends here
-  ends : (result : Result (Unit {0}) CheckFault) (found : Found) (by : Advertised) (h : History) (r : Heard) (front : List (Request A)) (client : Client A)
-      {counts : Counts} (unused : List ℕ) (requests responses out : Flow) → Consumes requests.before requests.after (found.used ++ found.unused)
-      → Consumes responses.before responses.after ((whole_of r ++ bytes_begun r.begun) ++ unused)
-      → WrittenAs (is_broken (run_result result)) out (heard_shown r)
-      → Running false t h front client counts [] silent silent silent silent silent → AreHeard t h.asked h.used h.events r
-      → IsOffered t h.used by ⊎ AreUnread found → AreAskedBy by limit found.used found.asked found.left found.rest
-      → EndsAs A t by limit result (standing_of of_requests) (standing_of of_responses) unused h r found → CheckEnds result requests responses out
-  ends result found by h r front client unused requests responses out read heard told runs received offered asks ended = let at = ran runs in record {
-    used = (found.used ++ found.unused) ∷ ((whole_of r ++ bytes_begun r.begun) ++ unused) ∷ [];
-    given = heard_shown r ∷ [];
-    read = (read, (heard, tt));
-    written = (told, tt);
-    related = record {
-      h = h;
-      unused = unused;
-      found = found;
-      by = by;
-      r = r;
-      were_read = refl;
-      told = refl;
-      received = received;
-      heard = has_events t h client at.stands;
-      may_be = commands_advertised t h.asked h.used h.events front at.in_turn;
-      in_turn = at.in_turn.in_turn;
-      offered = offered;
-      asks = asks;
-      ends = ended;
-    };
-  }
-
-  -- ---- a response, or the advertisement, is due
-
-  -- all bytes then
-  all_of : {broken : Bool} {form : Option Form} {front : List (Request A)} {client : Client A} {waiting : List ℕ} {requests responses out : Flow}
-      (a : Awaiting t limit broken form front client waiting requests responses out) (b c : List ℕ) (e : List EventValue) (unused : List ℕ)
-      → (whole_of (a.grown b c e) ++ bytes_begun (a.grown b c e).begun) ++ unused ≡ (a.whole ++ b) ++ unused
-  all_of a b c e unused =
-      begun_nothing (a.grown b c e) unused (a.nothing_begun b c e) ∙ ap (λ (l : List ℕ). l ++ unused) (a.whole_is b c e)
-
-  module _ {form : Option Form} {front : List (Request A)} {old : Client A} (new : Client A) {waiting : List ℕ} {requests : Flow}
-      {before held out_before out_held : Option (List ℕ)} (after out_after : Option (List ℕ))
-      (a : Awaiting t limit false form front old waiting requests (flow before held) (flow out_before out_held)) (due : wants_input old ≡ true) where
-    -- of its bytes the client received these, and then this was reported
-    heard_up_to : (result : Result (Unit {0}) CheckFault) {counts : Counts} {used heard : List ℕ} (unused : List ℕ)
-        → Uses used waiting unused (flow held after)
-        → (b : HearsBytes (is_broken (run_result result)) old new no_counts counts heard (flow out_held out_after) silent silent) → Receives form used heard
-        → ((h : History) → Converses t h new → AreAllAsked (a.grown used heard b.events) a.found
-        → EndsAs A t a.offer limit result (standing_of of_requests) (standing_of of_responses) unused h (a.grown used heard b.events) a.found)
-        → CheckEnds result requests (flow before after) (flow out_before out_after)
-    heard_up_to result {used = used} {heard} unused uses b receives ended =
-        let on = bytes_heard a.runs due b in
-        ends result a.found a.offer _ (a.grown used heard b.events) front new unused _ _ _ a.read
-        (rw (all_of a used heard b.events unused)
-        (read_on before held after a.whole waiting uses.came used unused a.read_so_far uses.read uses.parts))
-        (rw (a.shown_is used heard b.events) (lines_written a.runs out_before out_held out_after a.lines a.told b)) on
-        (a.received used heard b.events (can_ask new) receives b.one_turn) (known_on t a.h.used heard _ a.offer a.found refl a.offered) a.asks
-        (ended _ on.along.stands (record {
-          asked = a.asked used heard b.events;
-          nothing_left = a.nothing_left;
-          no_rest = a.no_rest;
-          nothing_begun = a.nothing_begun used heard b.events;
-        }))
-
-    module _ (plain : form ≡ None) where
-      receives_plain : (bytes : List ℕ) → Receives form bytes bytes
-      receives_plain bytes = subst (λ (f : Option Form). Receives f bytes bytes) (sym plain) refl
-
-      -- it was not received to its end
-      pub hearing_stopped : (count : ℕ) → count ≡ min a.passed 18446744073709551615 → (fault : RunFault) (piece : List ℕ) (turns : ℕ) (written : Bool)
-          (F W : Type 0) → HearsTo (Err fault) (has_ended of_responses) old new waiting piece (flow held after) (flow out_held out_after) silent silent
-          → FailsAs {T = Window} (Err fault) (has_failed of_responses) written → IsShownBy F W (IsSpent of_responses turns) fault
-          → CheckEnds (Err (placed count fault)) requests (flow before after) (flow out_before out_after)
-      hearing_stopped count is ReadFault piece turns written F W step told shown =
-          let f = step.hears in
-          heard_up_to (Err CheckReadFault) [] (uses_of f) f.bytes (receives_plain f.used) (λ h stands all_asked.
-          inl (
-            inl (record {
-              all_asked = all_asked;
-              so_far = subst (λ (o : Option Form). IsSoFar t (a.grown f.used f.used f.bytes.events) o) (sym (a.form_is f.used f.used f.bytes.events ∙ plain)) tt;
-              all_used = refl;
-              goes_on = awaits_more t h new stands step.due;
-            }),
-            told.0,
-          ))
-      hearing_stopped count is WriteFault piece turns written F W step told shown =
-          let f = step.hears in
-          heard_up_to (Err CheckWriteFault) step.unused (uses_of f) f.bytes (receives_plain f.used) (λ h stands all_asked. inl all_asked)
-      hearing_stopped count is ReadLimit piece turns written F W step told shown =
-          let f = step.hears in
-          heard_up_to (Err CheckReadLimit) [] (uses_of f) f.bytes (receives_plain f.used) (λ h stands all_asked.
-          inl (
-            inl (record {
-              all_asked = all_asked;
-              so_far = subst (λ (o : Option Form). IsSoFar t (a.grown f.used f.used f.bytes.events) o) (sym (a.form_is f.used f.used f.bytes.events ∙ plain)) tt;
-              all_used = refl;
-              goes_on = awaits_more t h new stands step.due;
-            }),
-            shown.open_ended,
-          ))
-      hearing_stopped count is (Refused fault) piece turns written F W step told shown =
-          let f = step.hears in
-          heard_up_to (Err (Responses (moved count fault))) step.unused (uses_of f) f.bytes (receives_plain f.used) (λ h stands all_asked. inl (record {
-            own = fault;
-            is = inl (record {
-              all_asked = all_asked;
-              plain = a.form_is f.used f.used f.bytes.events ∙ plain;
-              malformed = record { first = first_fault t h new fault stands step.told; timely = step.timely };
-            });
-            reported = moved_by_count count (passed_in (a.grown f.used f.used f.bytes.events).turns) fault (
-                is
-                ∙ ap (λ (n : ℕ). min n 18446744073709551615)
-                (none_more a.passed (length f.used) ∙ sym (a.passed_is f.used f.used f.bytes.events (receives_plain f.used)))
-                );
-          }))
-        where
-          none_more : (passed n : ℕ) → passed ≡ passed + (n - n)
-          none_more passed n = omega arith
-
-  -- ---- a sieved response was not received to its end
-
-  module _ {old middle : Client A} (new : Client A) {stream next : JudgedRequests A} {count : ℕ} {judged : Judged A} {ended : Bool}
-      {held later waiting : List ℕ} {before left after heard_before heard out_before out_held out_asked : Option (List ℕ)} (heard_after out_after : Option (List ℕ))
-      (c : Checking t limit old stream count held waiting (flow before left) (flow heard_before heard) (flow out_before out_held))
-      (step : ReadsRequest ended stream next judged held later (flow left after)) (asks : AsksShown false old middle judged (flow out_held out_asked))
-      (due : wants_input middle ≡ true) (form : Form) (is : form_due c step ≡ Some form) where
-    -- what a client received of it
-    abbrev sieved_of : {broken : Bool} {used : List ℕ} {out : Flow} (s : Sieves broken form middle new used out) → IsSieved form used s.received
-    sieved_of s = record {
-      given = s.given;
-      bad = s.bad;
-      rest = s.rest;
-      beyond = s.beyond;
-      splits = s.splits;
-      passed = s.passed;
-      cut = s.cut;
-    }
-
-    sieved_up_to : (result : Result (Unit {0}) CheckFault) {used : List ℕ} (unused : List ℕ) → Uses used waiting unused (flow heard heard_after)
-        → (s : Sieves (is_broken (run_result result)) form middle new used (flow out_asked out_after))
-        → ((h : History) (r : Heard) (found : Found) → Converses t h new → AreAllAsked r found
-        → r.turns ≡ c.r.turns ++ turn_of c step used s.received s.bytes.events ∷ [] → r.opening ≡ c.r.opening
-        → EndsAs A t (advertised_by next) limit result (standing_of of_requests) (standing_of of_responses) unused h r found)
-        → CheckEnds result (flow before after) (flow heard_before heard_after) (flow out_before out_after)
-    sieved_up_to result {used} unused uses s ended =
-        heard_up_to new heard_after out_after (response_due c step asks) due result unused uses s.bytes
-        (subst (λ (f : Option Form). Receives f used s.received) (sym is) (sieved_of s))
-        (λ h stands all_asked. ended h _ _ stands all_asked refl refl)
-
-    -- nothing is wrong with it so far, and more is expected
-    sieved_so_far : (r : Heard) {broken : Bool} {used : List ℕ} {out : Flow} (s : Sieves broken form middle new used out)
-        → r.turns ≡ c.r.turns ++ turn_of c step used s.received s.bytes.events ∷ [] → s.bad ≡ [] → s.beyond ≡ [] → IsOpen s.rest
-        → IsSoFar t r (last_form t.format r.turns)
-    sieved_so_far r {used = used} s turns_are none all still_open =
-        let last = turn_of c step used s.received s.bytes.events in
-        let last_is : last_form t.format r.turns ≡ Some form =
-        ap (last_form t.format) turns_are ∙ form_snoc t.format c.r.turns last ∙ is in
-        subst (λ (f : Option Form). IsSoFar t r f) (sym last_is) (record {
-          earlier = c.r.turns;
-          last = last;
-          turns_are = turns_are;
-          form_is = is;
-          s = sieved_of s;
-          none_bad = none;
-          all = all;
-          still_open = still_open;
-        })
-
-    sieve_stopped : (fault : RunFault) (place : ℕ) → place ≡ min (place_after c.r.opening c.r.turns) 18446744073709551615
-        → (piece : List ℕ) (turns : ℕ) (written : Bool) (F W : Type 0)
-        → SievesTo form (Err fault) (has_ended of_responses) middle new waiting piece (flow heard heard_after) (flow out_asked out_after)
-        → FailsAs {T = Passed} (Err fault) (has_failed of_responses) written → IsShownBy F W (IsSpent of_responses turns) fault
-        → CheckEnds (Err (placed place fault)) (flow before after) (flow heard_before heard_after) (flow out_before out_after)
-    sieve_stopped ReadFault place at piece turns written F W to told shown =
-        sieved_up_to (Err CheckReadFault) [] to.uses to.sieves (λ h r found stands all_asked turns_are opening_is.
-        inl (
-          inl (record {
-            all_asked = all_asked;
-            so_far = sieved_so_far r to.sieves turns_are to.none_bad to.all to.still_open;
-            all_used = refl;
-            goes_on = awaits_more t h new stands to.waits;
-          }),
-          told.0,
-        ))
-    sieve_stopped WriteFault place at piece turns written F W to told shown =
-        sieved_up_to (Err CheckWriteFault) to.unused to.uses to.sieves (λ h r found stands all_asked turns_are opening_is. inl all_asked)
-    sieve_stopped ReadLimit place at piece turns written F W to told shown =
-        sieved_up_to (Err CheckReadLimit) [] to.uses to.sieves (λ h r found stands all_asked turns_are opening_is.
-        inl (
-          inl (record {
-            all_asked = all_asked;
-            so_far = sieved_so_far r to.sieves turns_are to.none_bad to.all to.still_open;
-            all_used = refl;
-            goes_on = awaits_more t h new stands to.waits;
-          }),
-          shown.open_ended,
-        ))
-    sieve_stopped (Refused fault) place at piece turns written F W to told shown =
-        sieved_up_to (Err (Responses (moved place fault))) to.unused to.uses to.sieves (λ h r found stands all_asked turns_are opening_is.
-        inr (inr (
-          c.r.turns,
-          record {
-            own = fault;
-            is = record {
-              all_asked = all_asked;
-              last = turn_of c step to.used to.sieves.received to.sieves.bytes.events;
-              turns_are = turns_are;
-              form = form;
-              form_is = is;
-              s = sieved_of to.sieves;
-              why = why h stands to.why;
-            };
-            reported = moved_by_count place (place_after r.opening c.r.turns) fault
-                (at ∙ ap (λ (opening : List ℕ). min (place_after opening c.r.turns) 18446744073709551615) (sym opening_is));
-          },
-        )))
-      where
-        why : (h : History) → Converses t h new
-            → BreaksOffAt fault (has_ended of_responses) to.unused to.sieves ⊎ (IsRefusedBefore fault to.sieves ⊎ IsRefusedBy fault to.sieves)
-            → SieveBreaksOff t h (has_ended of_responses) to.unused to.used (sieved_of to.sieves) fault
-            ⊎ (SieveRefuses t h (sieved_of to.sieves) fault ⊎ SieveRefusesLater t h (sieved_of to.sieves) fault)
-        why h stands (inl b) = inl (record {
-          none_bad = b.none_bad;
-          all = b.all;
-          goes_on = awaits_more t h new stands b.waits;
-          breaks = b.breaks;
-          timely = b.timely;
-        })
-        why h stands (inr (inl b)) = inr (inl (record {
-          packet = b.packet;
-          bad_is = b.bad_is;
-          no_rest = b.no_rest;
-          all = b.all;
-          goes_on = awaits_more t h new stands b.waits;
-          refused = b.refused;
-          at = b.at;
-        }))
-        why h stands (inr (inr b)) = inr (inr (record {
-          front = b.front;
-          packet = b.packet;
-          given_is = b.given_is;
-          none_bad = b.none_bad;
-          no_rest = b.no_rest;
-          passed_as = b.passed_as;
-          passed_is = b.passed_is;
-          part = b.part;
-          received_is = b.received_is;
-          part_is = b.part_is;
-          own = b.own;
-          first = first_fault t h new b.own stands b.failed;
-          kind_is = b.kind_is;
-          not_the_end = b.not_the_end;
-          at = b.at;
-        }))
-
-  -- ---- a request was not answered
-
-  module _ {old : Client A} (new : Client A) {stream next : JudgedRequests A} {judged : Judged A} {ended : Bool} {held later waiting : List ℕ}
-      (now : Remaining) {before left after heard_before heard out_before out_held : Option (List ℕ)} (heard_after out_after : Option (List ℕ))
-      (c : Checking t limit old stream now.passed held waiting (flow before left) (flow heard_before heard) (flow out_before out_held))
-      (step : ReadsRequest ended stream next judged held later (flow left after)) where
-    receiving_stopped : {middle : Client A} {out_asked : Option (List ℕ)} → AsksShown false old middle judged (flow out_held out_asked)
-        → wants_input middle ≡ true → (form : Option Form) → form_due c step ≡ form → (fault : CheckFault) (piece : List ℕ) (turns : ℕ) (written : Bool)
-        (F W : Type 0)
-        → ReceivesNot form fault (has_ended of_responses) middle new now waiting piece (flow heard heard_after) (flow out_asked out_after)
-        → FailsAs {T = Remaining} (run_result (Err fault)) (has_failed of_responses) written → IsShownBy F W (IsSpent of_responses turns) (run_fault fault)
-        → CheckEnds (Err fault) (flow before after) (flow heard_before heard_after) (flow out_before out_after)
-    receiving_stopped asks due None is fault piece turns written F W to told shown =
-        subst (λ (f : CheckFault). CheckEnds (Err f) (flow before after) (flow heard_before heard_after) (flow out_before out_after)) (sym to.placed_is)
-        (hearing_stopped new heard_after out_after (response_due c step asks) due is now.passed c.counts to.own piece turns written F W to.hears
-        (told_as Remaining Window to.own now.passed fault (has_failed of_responses) written to.placed_is told)
-        (shown_as to.own now.passed fault F W (IsSpent of_responses turns) to.placed_is shown))
-    receiving_stopped {middle} asks due (Some form) is fault piece turns written F W to told shown =
-        let place = min (client_bytes middle + now.passed) 18446744073709551615 in
-        let runs = asks_on t false c.front old middle judged.request no_counts [] c.runs c.ready asks.asks in
-        let same : client_bytes middle ≡ client_bytes old = position_is t _ middle runs.along.stands ∙ sym (place_is c) in
-        subst (λ (f : CheckFault). CheckEnds (Err f) (flow before after) (flow heard_before heard_after) (flow out_before out_after)) (sym to.placed_is)
-        (sieve_stopped new heard_after out_after c step asks due form is to.own place
-        (counted_place c place (ap (λ (n : ℕ). min (n + now.passed) 18446744073709551615) same)) piece turns written F W to.sieves
-        (told_as Remaining Passed to.own place fault (has_failed of_responses) written to.placed_is told)
-        (shown_as to.own place fault F W (IsSpent of_responses turns) to.placed_is shown))
-
-  -- the advertisement was not received to its end
-  pub advertisement_stopped : {old : Client A} (new : Client A) (notes : Noting A) {requests : Flow} {before held out_before out_held : Option (List ℕ)}
-      (after out_after : Option (List ℕ)) (a : Awaiting t limit false None [] old [] requests (flow before held) (flow out_before out_held))
-      → a.passed ≡ 0 → wants_input old ≡ true → (result : Result Window RunFault) (fault : CheckFault) → placed_result 0 result ≡ Err fault
-      → (piece : List ℕ) (turns : ℕ) (written : Bool) (F W : Type 0)
-      → HearsNoting result (has_ended of_responses) old new notes piece (flow held after) (flow out_held out_after)
-      → FailsAs result (has_failed of_responses) written → IfErr result (IsShownBy F W (IsSpent of_responses turns))
-      → CheckEnds (Err fault) requests (flow before after) (flow out_before out_after)
-  advertisement_stopped new notes after out_after a none due (Ok window) fault met piece turns written F W step told shown = absurd (cc)
-  advertisement_stopped new notes {requests} {before} {out_before = out_before} after out_after a none due (Err own) fault met piece turns written F W
-      step told shown =
-      subst (λ (f : CheckFault). CheckEnds (Err f) requests (flow before after) (flow out_before out_after)) (cc)
-      (hearing_stopped new after out_after a due refl 0 (ap (λ (n : ℕ). min n 18446744073709551615) (sym none)) own piece turns written F W step told
-      shown)
-
-  -- the advertisement was received whole, and a line of it was not kept
-  pub not_noted : {old : Client A} (new : Client A) {window : Window} {piece : List ℕ} {requests : Flow}
-      {before held out_before out_held : Option (List ℕ)} (after out_after : Option (List ℕ)) (fault : Fault)
-      → (a : Awaiting t limit false None [] old [] requests (flow before held) (flow out_before out_held))
-      → ((b c : List ℕ) (e : List EventValue) → (a.grown b c e).turns ≡ []) → wants_input old ≡ true
-      → HearsWhole window old new [] piece (flow held after) (flow out_held out_after) silent silent → IsLost fault.kind → fault.offset ≡ client_bytes new
-      → CheckEnds (Err (Responses (moved 0 fault))) requests (flow before after) (flow out_before out_after)
-  not_noted {old} new {window} {piece} {before = before} {held = held} after out_after fault a none due heard lost at =
-      let f = heard.hears in
-      heard_up_to new after out_after a due (Err (Responses (moved 0 fault))) (window_of window piece) (uses_of f) f.bytes refl (λ h stands all_asked.
-      inl (record {
-        own = fault;
-        is = inr (inl (record {
-          answered = record {
-            asked = all_asked.asked;
-            ended = subst (λ (turns : List Turn). AllEnded t turns) (sym (none f.used f.used f.bytes.events))
-                (All-nil (λ turn. HasEnded t turn.question turn.bytes turn.received turn.events));
-            nothing_begun = all_asked.nothing_begun;
-            whole = is_whole t h new stands heard.can_ask_on;
-          };
-          none_asked = none f.used f.used f.bytes.events;
-          why = lost;
-          at = at ∙ position_is t h new stands;
-        }));
-        reported = ap (λ (turns : List Turn). moved (passed_in turns) fault) (sym (none f.used f.used f.bytes.events));
-      }))
-
-  -- ---- a request was not asked
-
-  -- the client refuses it, or a write failed
-  asking_stopped : (fault : RunFault) {old : Client A} (new : Client A) {stream next : JudgedRequests A} {count : ℕ} {judged : Judged A} {ended : Bool}
-      {held later waiting : List ℕ} {responses : Flow} {before left after out_before out_held : Option (List ℕ)} (out_after : Option (List ℕ))
-      → Checking t limit old stream count held waiting (flow before left) responses (flow out_before out_held)
-      → ReadsRequest ended stream next judged held later (flow left after)
-      → AsksJudged (Err fault) old new judged (flow out_held out_after)
-      → CheckEnds (Err (placed count fault)) (flow before after) responses (flow out_before out_after)
-  asking_stopped ReadFault new out_after c step asks = absurd asks
-  asking_stopped ReadLimit new out_after c step asks = absurd asks
-  asking_stopped WriteFault new {judged = judged} {waiting = waiting} {out_before = out_before} out_after c step asks =
-      let a = response_due c step asks in
-      let r = a.grown [] [] [] in
-      let nothing = receives_nothing (form_due c step) in
-      ends (Err CheckWriteFault) a.found a.offer a.h r (c.front ++ judged.request ∷ []) new waiting _ _ _ a.read
-      (rw (all_of a [] [] [] waiting, append-nil a.whole) a.read_so_far)
-      (rw (a.shown_is [] [] [], append-nil a.lines) a.told) a.runs
-      (subst (λ (used : List ℕ). AreHeard t a.h.asked used a.h.events r) (append-nil a.h.used)
-      (subst (λ (events : List EventValue). AreHeard t a.h.asked (a.h.used ++ []) events r) (append-nil a.h.events)
-      (a.received [] [] [] false nothing refl))) a.offered a.asks
-      (inl (record { asked = a.asked [] [] []; nothing_left = a.nothing_left; no_rest = a.no_rest; nothing_begun = a.nothing_begun [] [] [] }))
-  asking_stopped (Refused fault) {old} new {next = next} {count} {judged} {waiting = waiting} {out_before = o0} {out_held = o1} out_after c step asks =
-      let asked = questions_in c.r.turns ++ question_of judged ∷ [] in
-      let reading = reads_on c.reading step.whole.reads in
-      let (remaining, rest, are_asked, (nothing, none)) = step.whole.alone reading.used asked reading.has_read in
-      ends (Err (Responses (moved count fault))) (found_in reading remaining rest) (advertised_by next) c.h c.r c.front old waiting _ _ _ reading.read
-      (rw (begun_nothing c.r waiting c.nothing_begun) c.read_so_far)
-      (subst (WrittenAs false (flow o0 out_after)) (append-nil (heard_shown c.r))
-      (written_then false o0 o1 out_after (heard_shown c.r) [] c.told asks.told)) c.runs c.received
-      (inl (still_offered t step.whole.reads.advertised refl c.offered)) (asks_within reading remaining rest are_asked)
-      (inl (record {
-        own = fault;
-        is = inr (inr (inl (record {
-          request = judged.request;
-          noted = noted_in judged.others;
-          format = step.format;
-          asked = refl;
-          nothing_left = nothing;
-          no_rest = none;
-          nothing_begun = c.nothing_begun;
-          refused = refused_next t c.h [] judged.request old new fault c.runs.along.stands c.ready asks;
-        })));
-        reported = moved_by_count count (passed_in c.r.turns) fault c.counts;
-      }))
-
-  -- or it was, and the response was not received to its end
-  pub answering_stopped : {old : Client A} (new : Client A) {stream next : JudgedRequests A} {judged : Judged A} {ended : Bool} {held later waiting : List ℕ}
-      (now : Remaining) {before left after heard_before heard out_before out_held : Option (List ℕ)} (heard_after out_after : Option (List ℕ))
-      → Checking t limit old stream now.passed held waiting (flow before left) (flow heard_before heard) (flow out_before out_held)
-      → ReadsRequest ended stream next judged held later (flow left after) → (fault : CheckFault) (piece : List ℕ) (turns : ℕ) (written : Bool)
-      (F W : Type 0)
-      → AnswersTo t.format (Err fault) (has_ended of_responses) old new judged now waiting piece (flow heard heard_after) (flow out_held out_after)
-      → FailsAs {T = Remaining} (run_result (Err fault)) (has_failed of_responses) written
-      → IsShownBy F W (IsSpent of_responses turns) (run_fault fault)
-      → CheckEnds (Err fault) (flow before after) (flow heard_before heard_after) (flow out_before out_after)
-  answering_stopped new now {before = before} {after = after} {heard_before = heard_before} {heard} {out_before = out_before} heard_after out_after c step
-      fault piece turns written F W (inl n) told shown =
-      subst (λ (held : Option (List ℕ)). CheckEnds (Err fault) (flow before after) (flow heard_before held) (flow out_before out_after)) (sym n.unread)
-      (subst (λ (f : CheckFault). CheckEnds (Err f) (flow before after) (flow heard_before heard) (flow out_before out_after)) (sym n.placed_is)
-      (asking_stopped n.own new out_after c step n.asks))
-  answering_stopped new now heard_after out_after c step fault piece turns written F W (inr b) told shown =
-      receiving_stopped new now heard_after out_after c step b.asks b.due _ refl fault piece turns written F W b.receives told shown
-
-  -- ---- the answer to another command did not pass
-
-  module _ {client : Client A} {stream next : JudgedRequests A} {count : ℕ} {lines : List ℕ} {ended : Bool} {held later waiting : List ℕ}
-      {before left after heard_before heard out_before out_held : Option (List ℕ)} (heard_after out_after : Option (List ℕ))
-      (c : Checking t limit client stream count held waiting (flow before left) (flow heard_before heard) (flow out_before out_held))
-      (step : ReadsWhole ended stream next (other lines) held later (flow left after)) where
-    -- of the answer these bytes were used, and then this was reported
-    passed_up_to : (result : Result (Unit {0}) CheckFault) → (used unused : List ℕ)
-        → Uses used waiting unused (flow heard heard_after) → WrittenAs (is_broken (run_result result)) (flow out_held out_after) lines
-        → ((r : Heard) (found : Found) → r.turns ≡ c.r.turns → r.opening ≡ c.r.opening
-        → IsOtherDue t c.h r (record { lines = lines; bytes = used }) found
-        → EndsAs A t (advertised_by next) limit result (standing_of of_requests) (standing_of of_responses) unused c.h r found)
-        → CheckEnds result (flow before after) (flow heard_before heard_after) (flow out_before out_after)
-    passed_up_to result used unused uses shown ended =
-        let asked = questions_in c.r.turns ++ other lines ∷ [] in
-        let reading = reads_on c.reading step.reads in
-        let (remaining, rest, are_asked, (nothing, none)) = step.alone reading.used asked reading.has_read in
-        let begun : Begun = record { lines = lines; bytes = used } in
-        let r : Heard = record { opening = c.r.opening; greeting = c.r.greeting; turns = c.r.turns; begun = Some begun } in
-        let received : AreHeard t c.h.asked c.h.used c.h.events r =
-        record {
-          asked_is = c.received.asked_is;
-          used_is = c.received.used_is;
-          events_are = c.received.events_are;
-          one_turn = c.received.one_turn;
-          in_turn = c.received.in_turn;
-        } in
-        ends result (found_in reading remaining rest) (advertised_by next) c.h r c.front client unused _ _ _ reading.read
-        (read_on heard_before heard heard_after (whole_of c.r) waiting uses.came used unused c.read_so_far uses.read uses.parts)
-        (subst (WrittenAs (is_broken (run_result result)) (flow out_before out_after))
-        (ap (λ (l : List ℕ). l ++ lines)
-        (ap (λ (b : Option Begun). (events_shown c.r.greeting ++ turns_shown c.r.turns) ++ lines_begun b) c.nothing_begun
-        ∙ append-nil (events_shown c.r.greeting ++ turns_shown c.r.turns)))
-        (written_then (is_broken (run_result result)) out_before out_held out_after (heard_shown c.r) lines c.told shown)) c.runs received
-        (inl (still_offered t step.reads.advertised refl c.offered)) (asks_within reading remaining rest are_asked)
-        (ended r (found_in reading remaining rest) refl refl (record {
-          asked = refl;
-          is_begun = refl;
-          nothing_left = nothing;
-          no_rest = none;
-          whole = is_whole t c.h client c.runs.along.stands c.ready;
-        }))
-
-    module _ (shown : WrittenAs false (flow out_held out_after) lines) where
-      answer_goes_on : (result : Result (Unit {0}) CheckFault) → is_broken (run_result result) ≡ false
-          → (P : Type 0) → P → PassesOn t.ending waiting (flow heard heard_after)
-          → ((r : Heard) (found : Found) → IsWithinAnswer t [] c.h r found × P
-          → EndsAs A t (advertised_by next) limit result (standing_of of_requests) (standing_of of_responses) [] c.h r found)
-          → CheckEnds result (flow before after) (flow heard_before heard_after) (flow out_before out_after)
-      answer_goes_on result sound P p goes ended =
-          passed_up_to result goes.used [] goes.uses (rw sound shown) (λ r found same opening_is due. ended r found (
-            record {
-              begun = record { lines = lines; bytes = goes.used };
-              due = due;
-              all_used = refl;
-              rest = goes.rest;
-              begins = goes.begun;
-              still_open = goes.still_open;
-            },
-            p,
-          ))
-
-      answer_stopped : (fault : RunFault) (place : ℕ) (piece : List ℕ) (turns : ℕ) (written : Bool) (F W : Type 0)
-          → place ≡ min (client_bytes client + count) 18446744073709551615
-          → PassesTo t.ending (Err fault) (has_ended of_responses) waiting piece (flow heard heard_after)
-          → FailsAs {T = Passed} (Err fault) (has_failed of_responses) written → IsShownBy F W (IsSpent of_responses turns) fault
-          → CheckEnds (Err (placed place fault)) (flow before after) (flow heard_before heard_after) (flow out_before out_after)
-      answer_stopped ReadFault place piece turns written F W at passes told shows =
-          answer_goes_on (Err CheckReadFault) refl (has_failed of_responses ≡ true) told.0 passes (λ r found (within, failed). inl (inr within, failed))
-      answer_stopped WriteFault place piece turns written F W at passes told shows = absurd passes
-      answer_stopped ReadLimit place piece turns written F W at passes told shows =
-          answer_goes_on (Err CheckReadLimit) refl (has_ended of_responses ≡ false) shows.open_ended passes
-          (λ r found (within, open_ended). inl (inr within, open_ended))
-      answer_stopped (Refused fault) place piece turns written F W at passes told shows =
-          passed_up_to (Err (Responses (moved place fault))) passes.used passes.unused passes.uses shown (λ r found same opening_is due.
-          inr (inl (record {
-            own = fault;
-            is = record {
-              begun = record { lines = lines; bytes = passes.used };
-              due = due;
-              rest = passes.breaks.rest;
-              begins = passes.breaks.begun;
-              breaks = passes.breaks.breaks;
-              timely = passes.timely;
-            };
-            reported = moved_by_count place (place_after r.opening r.turns) fault (
-                counted_place c place at ∙ ap (λ (opening : List ℕ). min (place_after opening c.r.turns) 18446744073709551615) (sym opening_is)
-                ∙ ap (λ (turns : List Turn). min (place_after r.opening turns) 18446744073709551615) (sym same)
-                );
-          })))
-
-  -- its line was not written, or the answer did not pass
-  pub passing_stopped : {client : Client A} {stream next : JudgedRequests A} {lines : List ℕ} {ended : Bool} {held later waiting : List ℕ} (now : Remaining)
-      {before left after heard_before heard out_before out_held : Option (List ℕ)} (heard_after out_after : Option (List ℕ))
-      → Checking t limit client stream now.passed held waiting (flow before left) (flow heard_before heard) (flow out_before out_held)
-      → ReadsWhole ended stream next (other lines) held later (flow left after) → (fault : CheckFault) (place : ℕ)
-      → place ≡ min (client_bytes client + now.passed) 18446744073709551615 → (piece : List ℕ) (turns : ℕ) (written : Bool) (F W : Type 0)
-      → PassesOtherTo t.ending place (Err fault) (has_ended of_responses) lines now waiting piece (flow heard heard_after) (flow out_held out_after)
-      → FailsAs {T = Remaining} (run_result (Err fault)) (has_failed of_responses) written
-      → IsShownBy F W (IsSpent of_responses turns) (run_fault fault)
-      → CheckEnds (Err fault) (flow before after) (flow heard_before heard_after) (flow out_before out_after)
-  passing_stopped {lines = lines} {waiting = waiting} now {before = before} {after = after} {heard_before = heard_before} {heard} {out_before} heard_after
-      out_after c step fault place at piece turns written F W (inl n) told shown =
-      subst (λ (held : Option (List ℕ)). CheckEnds (Err fault) (flow before after) (flow heard_before held) (flow out_before out_after)) (sym n.unread)
-      (subst (λ (f : CheckFault). CheckEnds (Err f) (flow before after) (flow heard_before heard) (flow out_before out_after)) (sym n.placed_is)
-      (passed_up_to heard out_after c step (Err CheckWriteFault) [] waiting
-      (record { came = []; read = Consumes-nil heard; parts = append-nil waiting }) n.shown
-      (λ r found same opening_is due. inr (record { begun = record { lines = lines; bytes = [] }; due = due; none_came = refl }))))
-  passing_stopped now {before = before} {after = after} {heard_before = heard_before} {out_before = out_before} heard_after out_after c step fault place at
-      piece turns written F W (inr n) told shown =
-      subst (λ (f : CheckFault). CheckEnds (Err f) (flow before after) (flow heard_before heard_after) (flow out_before out_after)) (sym n.placed_is)
-      (answer_stopped heard_after out_after c step n.shown n.own place piece turns written F W at n.passes
-      (told_as Remaining Passed n.own place fault (has_failed of_responses) written n.placed_is told)
-      (shown_as n.own place fault F W (IsSpent of_responses turns) n.placed_is shown))
-
-  -- ---- no further request was read
-
-  module _ {client : Client A} {stream : JudgedRequests A} (next : JudgedRequests A) {count : ℕ} {held waiting : List ℕ}
-      {before left heard_before heard : Option (List ℕ)} {out : Flow} (after : Option (List ℕ))
-      (c : Checking t limit client stream count held waiting (flow before left) (flow heard_before heard) out) where
-    -- what is found in the requests: those that came in turn, and this after them
-    abbrev pub found_after : (used unused : List ℕ) → List Given → List ℕ → Found
-    found_after used unused remaining rest = record { used = used; unused = unused; asked = questions_in c.r.turns; left = remaining; rest = rest }
-
-    -- the requests were read on, and bytes of what is left over of the responses, or none; then this was reported
-    told_then : (result : Result (Unit {0}) CheckFault) → is_broken (run_result result) ≡ false → (came : List ℕ) (heard_after : Option (List ℕ))
-        → Consumes heard heard_after came → (unused : List ℕ) → ReadsOn stream next [] held unused (flow left after)
-        → (Stands : List ℕ → List Given → List ℕ → Type 0) → Asking next Stands
-        → ((used : List ℕ) (remaining : List Given) (rest : List ℕ) → Stands used remaining rest
-        → AreAnswered t c.h c.r (found_after used unused remaining rest)
-        → EndsAs A t (advertised_by next) limit result (standing_of of_requests) (standing_of of_responses) (waiting ++ came) c.h c.r
-        (found_after used unused remaining rest)) → CheckEnds result (flow before after) (flow heard_before heard_after) out
-    told_then result sound came heard_after read unused step Stands asking ended =
-        let asked = questions_in c.r.turns in
-        let reading : Reading t limit asked next unused (flow before after) = rw (append-nil asked) at (reads_on c.reading step) in
-        let (remaining, rest, are_asked, stands) = asking reading.used asked reading.has_read in
-        let all : Consumes heard_before heard_after (whole_of c.r ++ (waiting ++ came)) =
-        rw (append_assoc (whole_of c.r) waiting came) at
-        (Consumes-trans heard_before heard heard_after (whole_of c.r ++ waiting) came c.read_so_far read) in
-        ends result (found_after reading.used unused remaining rest) (advertised_by next) c.h c.r c.front client (waiting ++ came) _ _ _ reading.read
-        (rw (begun_nothing c.r (waiting ++ came) c.nothing_begun) all) (rw sound c.told) c.runs c.received
-        (inl (still_offered t step.advertised refl c.offered)) (asks_within reading remaining rest are_asked)
-        (ended reading.used remaining rest stands
-        (record {
-          asked = refl;
-          ended = c.ended;
-          nothing_begun = c.nothing_begun;
-          whole = is_whole t c.h client c.runs.along.stands c.ready;
-        }))
-
-    -- all bytes of the requests were read, and more can come
-    all_read : (result : Result (Unit {0}) CheckFault) → is_broken (run_result result) ≡ false → has_ended of_responses ≡ false
-        → ReadsAll (has_ended of_requests) stream next held (flow left after)
-        → ((found : Found) → IsWithinRequest t (advertised_by next) limit (standing_of of_requests) (standing_of of_responses) c.h c.r found
-        → EndsAs A t (advertised_by next) limit result (standing_of of_requests) (standing_of of_responses) (waiting ++ []) c.h c.r found)
-        → CheckEnds result (flow before after) (flow heard_before heard) out
-    all_read result sound more step ended =
-        told_then result sound [] heard (Consumes-nil heard) [] step.reads
-        (λ used remaining rest. IsBegun (advertised_by next) (limit_of next) remaining × IsOpen rest) step.begun
-        (λ used remaining rest (begun, still_open) answered. ended (found_after used [] remaining rest) (record {
-          answered = answered;
-          begun = rw (step.reads.limit ∙ c.reading.limit_is) at begun;
-          still_open = still_open;
-          all_used = refl;
-          can_come = step.can_come;
-          more_can_come = more;
-        }))
-
-    -- the next request was not read whole
-    pub reading_stopped : (fault : CheckFault) (window : Window) (piece : List ℕ) → has_ended of_responses ≡ false
-        → ReadsTo (Err fault) (has_ended of_requests) stream next held window piece (flow left after)
-        → FailsAs {T = Next A} (run_result (Err fault)) (has_failed of_requests) false
-        → CheckEnds (Err fault) (flow before after) (flow heard_before heard) out
-    reading_stopped (Requests fault) window piece more step told =
-        told_then (Err (Requests fault)) refl [] heard (Consumes-nil heard) step.unused step.reads
-        (λ used remaining rest. IsRefused (advertised_by next) (limit_of next) remaining rest (length used) fault) step.refused
-        (λ used remaining rest refused answered. record {
-          answered = answered;
-          refused = rw (step.reads.limit ∙ c.reading.limit_is) at refused;
-          timely = step.timely;
-          more_can_come = more;
-        })
-    reading_stopped (Responses fault) window piece more step told = absurd step
-    reading_stopped CheckReadFault window piece more step told = all_read (Err CheckReadFault) refl more step (λ found within. inr (inl (within, told.0)))
-    reading_stopped CheckWriteFault window piece more step told = absurd step
-    reading_stopped CheckReadLimit window piece more step told = all_read (Err CheckReadLimit) refl more step (λ found within. inr (inl (within, tt)))
-
-    -- no request came any more: what is left over of the responses was seen
-    module _ (step : ReadsNoMore (has_ended of_requests) stream next held (flow left after)) where
-      -- these bytes of it, and then this was reported
-      seen_then : (result : Result (Unit {0}) CheckFault) → is_broken (run_result result) ≡ false → (came : List ℕ) (heard_after : Option (List ℕ))
-          → Consumes heard heard_after came
-          → ((found : Found) → AreAnswered t c.h c.r found → AreOver (text_of next) (has_ended of_requests) found
-          → EndsAs A t (advertised_by next) limit result (standing_of of_requests) (standing_of of_responses) (waiting ++ came) c.h c.r found)
-          → CheckEnds result (flow before after) (flow heard_before heard_after) out
-      seen_then result sound came heard_after read ended =
-          told_then result sound came heard_after read step.unused step.reads
-          (λ used remaining rest.
-          (rest ≡ []) × (IsStop (judged_of (text_of next) remaining) ⊎ ((remaining ≡ []) × (step.unused ≡ []) × (has_ended of_requests ≡ true))))
-          step.over (λ used remaining rest over answered. ended (found_after used step.unused remaining rest) answered over)
-
-      pub seen_the_end : (result : Result (Unit {0}) CheckFault) (position turns : ℕ) (F W : Type 0) (heard_after : Option (List ℕ))
-          → position ≡ min (client_bytes client + count) 18446744073709551615
-          → SeesEnd result (has_ended of_responses) position waiting (flow heard heard_after)
-          → FailsAs (run_result result) (has_failed of_responses) false
-          → IfErr result (λ fault. IsShownBy F W (IsSpent of_responses turns) (run_fault fault))
-          → CheckEnds result (flow before after) (flow heard_before heard_after) out
-      seen_the_end (Ok done) position turns F W heard_after place (seen, ended) told shown =
-          seen_then (Ok done) refl [] heard_after seen.read
-          (λ found answered over. record { answered = answered; over = over; nothing_left = append-nil waiting ∙ seen.none_waits; ended = ended })
-      seen_the_end (Err (Requests fault)) position turns F W heard_after place seen told shown = absurd seen
-      seen_the_end (Err (Responses fault)) position turns F W heard_after place (seen, fault_is) told shown =
-          seen_then (Err (Responses fault)) refl seen.came heard_after seen.read (λ found answered over. inl (record {
-            own = record { kind = UnexpectedPacket; offset = length c.h.used };
-            is = inr (inr (inr (record { answered = answered; over = over; more = seen.some; fault_is = refl })));
-            reported = fault_is ∙ ap (λ (n : ℕ). record { kind = UnexpectedPacket; offset = n }) (
-                place ∙ ap (λ (n : ℕ). min (n + count) 18446744073709551615) (position_is t c.h client c.runs.along.stands)
-                ∙ ap (λ (n : ℕ). min (length c.h.used + n) 18446744073709551615) c.counts
-                ∙ stops_once (length c.h.used) (passed_in c.r.turns) 18446744073709551615
-                );
-          }))
-      seen_the_end (Err CheckReadFault) position turns F W heard_after place seen told shown =
-          seen_then (Err CheckReadFault) refl [] heard_after seen.read
-          (λ found answered over. inr (inr (record { answered = answered; over = over; nothing_left = append-nil waiting ∙ seen.none_waits }, told.0)))
-      seen_the_end (Err CheckWriteFault) position turns F W heard_after place seen told shown = absurd seen
-      seen_the_end (Err CheckReadLimit) position turns F W heard_after place seen told shown =
-          seen_then (Err CheckReadLimit) refl [] heard_after seen.read
-          (λ found answered over. inr (inr (
-            record { answered = answered; over = over; nothing_left = append-nil waiting ∙ seen.none_waits },
-            shown.open_ended,
-          )))

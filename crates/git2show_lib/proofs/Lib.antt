@@ -1,4 +1,5 @@
 pub mod CheckRuns
+pub mod CheckEnds
 pub mod OtherLines
 pub mod LinesEscaped
 pub mod KnownTurns

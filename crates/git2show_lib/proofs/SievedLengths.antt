@@ -10,8 +10,8 @@ use Rattle.git_pkt.proofs.Spelling.{spelled_length}
 use Rattle.git_client.specs.Machine.Client.{spelled}
 use Rattle.git_client.specs.declared.client.Client.{Client}
 use Rattle.git_pkt.specs.Streams.{Flow}
-use Rattle.git2show_lib.specs.Sieve.{is_error_line, is_on_band, passed_by, passed_delim, passed_of, passed_packet, passes_line, received_as, sieved, sieved_from}
-use Rattle.git2show_lib.specs.Sieve.{sieved_packet, spot_next, unbanded, unbanded_line}
+use Rattle.git2show_lib.specs.Sieve.{is_error_line, is_on_band, passed_by, passed_delim, passed_of, passed_packet, passes_line, received_as, sieved}
+use Rattle.git2show_lib.specs.Sieve.{sieved_from, sieved_packet, spot_next, unbanded, unbanded_line}
 use Rattle.git2show_lib.specs.Machine.Sieving.{Sieves}
 use Rattle.git2show_lib.specs.declared.sieve.Form.{Form}
 use Rattle.git2show_lib.specs.declared.sieve.Spot.{Spot}

@@ -26,8 +26,8 @@ pub fn ends_meet_call_by_call<R: Repo, A: Memory + Copy>()
         → Running R.state (setting_of (terms_with format) limit before true) [] false [] server → Converses (terms_with format) nothing_yet client
         → HaveMet R.state A.refuses format limit before [] (record { server = server; client = client; to_server = []; to_client = [] }) }
     ensures more { (format : Format) (limit : ℕ) (before : RepoState) (calls : List (EitherCall A)) (call : EitherCall A) (now next : BothEnds R A)
-        → HaveMet R.state A.refuses format limit before calls now → Moves R.state A.refuses call now next → All (HasValues format) (history_of (calls ++ call ∷ [])).asked
-        → HaveMet R.state A.refuses format limit before (calls ++ call ∷ []) next }
+        → HaveMet R.state A.refuses format limit before calls now → Moves R.state A.refuses call now next
+        → All (HasValues format) (history_of (calls ++ call ∷ [])).asked → HaveMet R.state A.refuses format limit before (calls ++ call ∷ []) next }
 {}
 
 /// Neither side waits for the other. Take any calls of a server and a client, with any chunks and in any order. Unless a pack was lost, the

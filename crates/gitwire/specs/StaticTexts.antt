@@ -10,7 +10,8 @@ version_text = codes "0.2.0" ++ 0 ∷ []
 
 -- the meaning of an error, and what to look at
 abbrev pub kind_sentence : Kind → List ℕ
-kind_sentence Kind.BadDigit = codes "a byte of a packet's length is no hexadecimal digit: look at the byte at the offset, and whether the peer sends packets at all"
+kind_sentence Kind.BadDigit =
+    codes "a byte of a packet's length is no hexadecimal digit: look at the byte at the offset, and whether the peer sends packets at all"
 kind_sentence Kind.BadLength = codes "the length of a packet is 0003, which no packet has: look at the packet at the offset"
 kind_sentence Kind.TooLong = codes "a packet, or a payload that is to be written, is longer than a packet can be, which is 65,520 bytes: look at its length"
 kind_sentence Kind.Truncated = codes "the input ended inside a packet, or before all that was expected had come: look at why the peer or the connection ended"
@@ -21,7 +22,8 @@ kind_sentence Kind.BadCapability = codes "a line is no capability, which is a ke
 kind_sentence Kind.UnknownCommand = codes "the request has a command other than ls-refs, fetch and object-info: look at its line 'command='"
 kind_sentence Kind.TwoCommands = codes "the request has a second line 'command=': look at the packet at the offset"
 kind_sentence Kind.NoCommand = codes "the request has no line 'command=': look at the packets before the offset"
-kind_sentence Kind.NotAdvertised = codes "a command, a capability or an argument was used that the server did not advertise: compare the request with the advertisement"
+kind_sentence Kind.NotAdvertised =
+    codes "a command, a capability or an argument was used that the server did not advertise: compare the request with the advertisement"
 kind_sentence Kind.BadObjectName = codes "a text is no object name of the object format, 40 digits for SHA-1 and 64 for SHA-256: look at the line"
 kind_sentence Kind.BadRefName = codes "a text is no reference name, by the rules of git check-ref-format: look at the line"
 kind_sentence Kind.BadNumber = codes "a text is no decimal number, or one out of its range: look at the line"
@@ -31,7 +33,8 @@ kind_sentence Kind.NoSize = codes "the object-info request has no 'size': add it
 kind_sentence Kind.WrongFormat = codes "the object format is not the one of this side: choose the format that the peer has"
 kind_sentence Kind.UnknownArgument = codes "the command of the request has no such argument: look at the line"
 kind_sentence Kind.TooMuchKept = codes "the argument lines of the request have more bytes than the limit allows: raise the limit, or refuse such requests"
-kind_sentence Kind.UnexpectedPacket = codes "a packet of this kind may not come here, as a flush in a section or bytes after the end: look at the packet at the offset"
+kind_sentence Kind.UnexpectedPacket =
+    codes "a packet of this kind may not come here, as a flush in a section or bytes after the end: look at the packet at the offset"
 kind_sentence Kind.RemoteError = codes "the peer sent an error packet: its message says why"
 kind_sentence Kind.UnknownRef = codes "a 'want-ref' names a reference that the repository does not have: list the references again"
 kind_sentence Kind.NotOurs = codes "a 'want' names an object that the repository does not have, or the host refused the request: list the references again"

@@ -1,6 +1,6 @@
 use Rattle.std.proofs.Common.{refl, sym, inl}
 use Rattle.std.proofs.lemmas.Result.{err_from_is_err_and}
-use Rattle.git2show_lib.proofs.CheckRuns.{well_placed}
+use Rattle.git2show_lib.proofs.CheckEnds.{well_placed}
 use Rattle.git2show_lib.proofs.TurnsTaken.{answered, not_asked}
 use Rattle.git2show_lib.proofs.asking.answer.Goals as goal
 

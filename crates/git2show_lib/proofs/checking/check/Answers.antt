@@ -4,8 +4,9 @@ use Rattle.git_msg.specs.Advertisement.{noted_offer}
 use Rattle.git_msg.specs.declared.offers.Caps.{Caps}
 use Rattle.git_client.specs.Machine.Client.{bytes_used, caps_of}
 use Rattle.git2show_lib.specs.Others.{Advertised}
-use Rattle.git2show_lib.proofs.CheckRuns.{advertisement_due, advertisement_stopped, advertised, answer_passed, answering_stopped, comes_nearer, lines_noted}
-use Rattle.git2show_lib.proofs.CheckRuns.{not_noted, nothing_run, passing_stopped, reading_stopped, response_heard, seen_the_end, still_within, well_placed, why_lost}
+use Rattle.git2show_lib.proofs.CheckRuns.{advertisement_due, advertised, answer_passed, comes_nearer, lines_noted, nothing_run, response_heard, still_within}
+use Rattle.git2show_lib.proofs.CheckRuns.{why_lost}
+use Rattle.git2show_lib.proofs.CheckEnds.{advertisement_stopped, answering_stopped, not_noted, passing_stopped, reading_stopped, seen_the_end, well_placed}
 use Rattle.git2show_lib.proofs.checking.check.Goals as goal
 
 pub returns-in_err-left-clause-checked : goal.returns-in_err-left-clause-checked

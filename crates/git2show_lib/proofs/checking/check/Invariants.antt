@@ -13,7 +13,8 @@ use Rattle.git2show_lib.proofs.checking.check.Given as goal
 -- and not used
 abbrev pub invariant-requests : goal.invariant-requests
 invariant-requests g l = record {
-  checking : Checking (terms_of l.fn.format l.fn.ending) USUAL l.client l.asking l.over.passed (window_of l.waiting l.piece) (window_of l.over.left l.other_piece)
+  checking : Checking (terms_of l.fn.format l.fn.ending) USUAL l.client l.asking l.over.passed
+      (window_of l.waiting l.piece) (window_of l.over.left l.other_piece)
       (flow (g.Q.Read.remaining (inner_of l.fn.requests)) (g.Q.Read.remaining (inner_of l.requests)))
       (flow (g.R.Read.remaining (inner_of l.fn.responses)) (g.R.Read.remaining (inner_of l.responses)))
       (flow (g.O.Write.contents (inner_of l.fn.out)) (g.O.Write.contents (inner_of l.out)));
