@@ -34,11 +34,7 @@ UNCLEAN = """
 crates/git2show/src/main.rt
 crates/git2show_lib
 crates/git_host
-crates/git_loop
-crates/git_repository
-crates/git_server
 crates/gitwire
-include
 """
 
 # Comments that may have such a word: a file, some of the words around it, and the reason.

@@ -25,7 +25,7 @@ pub read_nothing : (before after : Option (List ℕ)) (n : ℕ) (buffer : List �
     → Consumes before after []
 read_nothing before after n buffer none read = subst (λ (k : ℕ). Consumes before after (take k buffer)) none read
 
--- the laws of a machine by which its calls join
+-- the laws of a machine that join its calls
 abbrev pub ReachesItself : {M : Type 0} → StateRelation M → Type 0
 ReachesItself {M} Reaches = (m : M) → Reaches m [] [] m
 
@@ -88,7 +88,7 @@ module _ {M : Type 0} {Reaches : StateRelation M} (further : ReachesFurther Reac
     reaches = further old middle new u so_far.given v h so_far.reaches reaches;
   }
 
-  -- a front of the chunk was used, and what was given for a further part of it was written, as far as that went
+  -- a front of the chunk was used, and what the machine sent for a further part of it was written, as far as that went
   module _ {old middle fed new : M} {before held after : Option (List ℕ)} (bytes : List ℕ) (done used : ℕ) (within : done ≤ length bytes)
       (so_far : Writes Reaches false old middle (take done bytes) (flow before held))
       (feeds : Reaches middle (take used (take (length bytes - done) (drop done bytes))) [] fed) where
@@ -136,7 +136,7 @@ module _ {M : Type 0} {Reaches : StateRelation M} (further : ReachesFurther Reac
         (λ used given at. (further old old new used given [] all.given at.0 all.reaches, omega arith))
         (at_once old left held) (Consumes-nil left) all.written
 
-  -- one more read was used, and what was given for it was written
+  -- one more read was used, and what the machine sent for it was written
   pub turns_on : (count n : ℕ) (buffer : List ℕ) (first old new : M) {left_before left left_after before held kept after : Option (List ℕ)}
       → Moved false (After Reaches count first old) (flow left_before left) (flow before held) → Keeps held kept
       → Consumes left left_after (take n buffer) → Writes Reaches false old new (take n buffer) (flow kept after) → n ≤ length buffer → 0 < n

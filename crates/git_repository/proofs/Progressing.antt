@@ -1,4 +1,4 @@
--- How far the lines of a text are read, and what a further piece changes.
+-- How far the lines of a text are read, and what a further chunk changes.
 use Rattle.std.proofs.Common.{true, false, ◌==◌, ◌≢◌, ◌<◌, ◌≤◌, ◌⊎◌, Bor, Option, Some, None, ◌≡◌, ℕ, List, [], ◌∷◌, ◌++◌}
 use Rattle.std.proofs.Common.{refl, ap, sym, ◌∙◌, subst, append_assoc, length, length-append, arith, inl, inr}
 use Rattle.std.proofs.lemmas.List.{append-nil}
@@ -143,12 +143,12 @@ module _ (refuses : ℕ → Type 0) where
       → lines ≡ h.ended ++ held ∷ []
   held_of progress held lines f h = h.whole ∙ ap (λ (l : List ℕ). h.ended ++ l ∷ []) (sym (begun_of progress held h.begun f h.is_begun))
 
-  -- a piece at the start of a line
+  -- a chunk at the start of a line
   pub piece_behind : (progress : Progress) (held text piece : List ℕ) (lines : List (List ℕ)) → parts_of 10 text ≡ lines ++ [] ∷ []
       → Stands refuses progress held (lines ++ parts_of 10 piece) → Stands refuses progress held (parts_of 10 (text ++ piece))
   piece_behind progress held text piece lines parts h = subst (Stands refuses progress held) (sym (parts_behind text piece lines parts)) h
 
-  -- a piece in the line that has begun
+  -- a chunk in the line that has begun
   pub piece_within : (progress : Progress) (held text piece line rest : List ℕ) (lines : List (List ℕ)) (begun : List ℕ)
       → parts_of 10 text ≡ lines ++ begun ∷ [] → parts_of 10 piece ≡ line ∷ parts_of 10 rest
       → Stands refuses progress held ((lines ++ (begun ++ line) ∷ []) ++ parts_of 10 rest)
@@ -157,7 +157,7 @@ module _ (refuses : ℕ → Type 0) where
       subst (Stands refuses progress held) (append_assoc lines ((begun ++ line) ∷ []) (parts_of 10 rest)
       ∙ sym (parts_joined text piece lines begun line (parts_of 10 rest) parts cut)) h
 
-  -- the end of a text of which no line has ended
+  -- the end of a text without a whole line
   pub end_at_start : (text held : List ℕ) → Stands refuses Start held (parts_of 10 text) → held ∷ [] ≡ lines_of text
   end_at_start text held h =
       let none : h.ended ≡ [] = h.read in
@@ -223,7 +223,7 @@ module _ (refuses : ℕ → Type 0) where
       subst (Stands refuses progress held) (append_assoc lines h.more (line ∷ []) ∙ ap (λ (ls : List (List ℕ)). lines ++ ls) (sym h.whole))
       (stands (lines ++ h.more) h.told)
 
-  -- a piece that ends no line
+  -- a chunk that ends no line
   pub piece_alone : (progress : Progress) (held text piece line : List ℕ) (lines : List (List ℕ)) (begun : List ℕ) → parts_of 10 text ≡ lines ++ begun ∷ []
       → parts_of 10 piece ≡ line ∷ [] → held ≡ begun ++ line → HasRead refuses progress lines → Stands refuses progress held (parts_of 10 (text ++ piece))
   piece_alone progress held text piece line lines begun parts cut is h =

@@ -115,7 +115,7 @@ no_object format line text e fault (boundary (Unshallow id)) is = let h = byte_a
 bytes_two : List ℕ → ℕ
 bytes_two line = get_or line 0 0 * 256 + get_or line 2 0
 
--- two bytes of the first word, by which it differs from the others
+-- two bytes of the first word, in which it differs from the others
 mark : Said → ℕ
 mark (reference entry) = 29286
 mark (unborn target) = 29286

@@ -1,4 +1,4 @@
--- The lines of a text that comes in pieces.
+-- The lines of a text that comes in chunks.
 use Rattle.std.specs.Prelude.{◌==◌}
 use Rattle.std.proofs.Common.{arith, ◌≡◌, ℕ, ◌<◌, Bool, true, false, List, [], ◌∷◌, ◌++◌, refl, ap, sym, ◌∙◌, append_assoc, length, length-append, inl, inr}
 use Rattle.std.specs.List.{onto_first, join_with_byte}

@@ -141,7 +141,7 @@ TakesMemory (object id size) = Unit {0}
 TakesMemory (ready count) = ⊥
 TakesMemory (boundary line) = Unit {0}
 
--- the maximum number of bytes of a list that stores the contents of a line after so many lines, the first of which names the format. The list of the
+-- the maximum number of bytes of a list that stores the contents of a line after so many lines. Of these the first names the format. The list of the
 -- references, of the objects or of the boundaries has at most one item for each of the lines after the first; each name has a list of its own
 abbrev pub list_bytes : ℕ → Said → ℕ
 list_bytes before (reference entry) = 152 * before + (length entry.name + name_bytes entry.target)

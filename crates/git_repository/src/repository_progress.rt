@@ -200,7 +200,7 @@ impl Progress {
     }
 }
 
-/// Appends bytes. There must be room for them.
+/// Appends bytes. The buffer must have space for them.
 fn append(begun: &mut Vec<u8>, bytes: &[u8])
     requires { length begun.old.items + length bytes.now ≤ vec_capacity begun.old }
     ensures items { begun.new.items ≡ begun.old.items ++ bytes.now }

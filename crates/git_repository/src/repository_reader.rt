@@ -42,7 +42,7 @@ impl<M: RepoMemory + Copy> RepositoryReader<M> {
 
     /// Takes another chunk of the text.
     ///
-    /// First it makes room for the chunk after the open line: if memory for that runs out, the reader stays unchanged. After a line
+    /// First it reserves memory for the chunk after the open line: if memory for that runs out, the reader stays unchanged. After a line
     /// that was refused, a chunk is skipped.
     pub fn feed(&mut self, piece: &[u8]) -> Result<(), AllocError>
         ensures open { open_bytes self.new ≤ longest_line }

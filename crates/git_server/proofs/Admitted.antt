@@ -1,4 +1,4 @@
--- What follows of requests of which the repository refuses an argument, or none.
+-- What follows of requests if the repository refuses one of their arguments, or none.
 use Rattle.std.proofs.Common.{◌≡◌, ◌≢◌, ℕ, Bool, true, false, if◌then◌else◌, All, IfSome, Option, Some, None, List, [], ◌∷◌, ◌++◌}
 use Rattle.std.proofs.Common.{refl, sym, ap, ◌∙◌, subst, inl, inr}
 use Rattle.std.proofs.lemmas.List.Elements.{All-weaker}
@@ -30,7 +30,7 @@ found_by : (found : Option ObjectName) → barred_ref found ≡ None → found �
 found_by (Some id) h none = cc
 found_by None h none = cc
 
--- not one of the names by which a repository refuses an argument
+-- not one of the errors that a repository refuses an argument with
 pub record NotOfRepository (kind : Kind) : Type 0 where
   pub not_ours : kind ≢ NotOurs
   pub not_unknown : kind ≢ UnknownRef

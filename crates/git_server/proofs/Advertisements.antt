@@ -79,7 +79,7 @@ module _ (offer : Offer) (line : AdvertisementLine) (written : List ℕ)
       append_assoc written (spelling_of (advertisement_packet offer line)) (spelled (advertisement_after offer (advertisement_line_after offer line)))
       ∙ ap (λ (l : List Pkt). written ++ spelled l) (sym (one_line offer line)) ∙ whole
 
-  -- there is room for it
+  -- there is space for it
   pub line_fits : length written + length (spelling_of (advertisement_packet offer line)) < 200
   line_fits =
       omega (

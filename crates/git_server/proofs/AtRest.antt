@@ -1,4 +1,4 @@
--- A server to which whole requests were sent, and which gave as many messages as they are: it used all of them, owes nothing, and waits.
+-- A server to which whole requests were sent, and which sent as many messages as they are: it used all of them, has nothing to send, and waits.
 use Rattle.std.proofs.Common.{arith, ◌≡◌, ◌≢◌, ℕ, ◌+◌, ◌/◌, ◌≤◌, ◌<◌, true, false, length, map, List, [], ◌∷◌, ◌++◌, Option, Some, None, refl, sym, ap, ◌∙◌}
 use Rattle.std.proofs.Common.{append_assoc, append-nil, subst, length-append, slice_index, inl, inr}
 use Rattle.std.proofs.lemmas.List.{get_or_append_left, get_or_past, map-append}

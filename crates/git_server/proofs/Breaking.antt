@@ -106,7 +106,7 @@ module _ {R A : Type 0} (state : R → RepoState) (old new : Server R A) (packet
   nothing_owed : OwesNow state new []
   nothing_owed = subst (λ (p : Phase A). Owes new.offer (state new.repo).answers p []) (sym is) refl
 
-  -- the packet that reports it is given, and the session has ended
+  -- the packet that reports it is sent, and the session has ended
   pub gives_broken : Gives state old new
   gives_broken =
       record {

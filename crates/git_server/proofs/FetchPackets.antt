@@ -30,7 +30,7 @@ use Rattle.git_server.specs.declared.sections.SectionPlace.TheVariants.{Header, 
 use Rattle.git_server.proofs.Flushes.{flushes-append}
 use Rattle.git_server.proofs.PackPackets.{broken_packfile_has_none, packfile_ends_later, some_packfile}
 
--- Of an answer of which nothing was given.
+-- Of an answer that was not begun.
 
 pub whole_fetch : (manner : Manner) (repo : Repository) (q : FetchAsked) (b : Bool) (later : List Pkt)
     → IsFetchFrom manner repo q (place_by b) later → IsFetchAnswerBy b manner repo q later

@@ -71,7 +71,7 @@ module _ (Is Also : Pkt → Type 0) (then : (packet : Pkt) → length (body_of p
     filled_so (Refusing fault) h = tt
     filled_so (Ended outcome) h = tt
 
--- nothing is owed of a pack where the session has ended
+-- nothing is pending of a pack where the session has ended
 pub ended_fills : {A : Type 0} (gives : FetchAsked → ℕ → ℕ → ℕ → Type 0) (Is : Pkt → Type 0) (phase : Phase A) (outcome : Outcome)
     → turn_in phase ≡ Finished outcome → FillsPhase gives phase Is
 ended_fills gives Is (Advertising line) outcome h = tt

@@ -27,7 +27,7 @@ module _ {R A : Type 0} (state : R → RepoState) (old new : Server R A) (packet
     (left_stays : (left : List Given) → LeftIn old.phase left → LeftIn new.phase left)
     (flush_stays : (packets : List Given) → FlushIsAt old.phase packets → FlushIsAt new.phase packets) (no_more : kept_in new.phase ≤ kept_in old.phase)
     (covered : stored_in old.phase ≤ kept_in old.phase → stored_in new.phase ≤ kept_in new.phase) where
-  -- what is owed, as the session's repository has it
+  -- what is pending, as the session's repository has it
   owed_here : (s : Setting) (later : List Pkt) → (state old.repo).answers ≡ s.repo → Owes new.offer s.repo new.phase later
       → Owes old.offer s.repo old.phase (packet ∷ later)
   owed_here s later repo owes =
@@ -101,7 +101,7 @@ module _ {R A : Type 0} (state : R → RepoState) (old new : Server R A) (packet
             (subst (λ (l : List ℕ). StandsBy (outcome_of old) s l over (before ++ spelling_of packet) new) (sym (append-nil so_far)) stands);
       }
 
-  -- what is owed, as the repository is now
+  -- what is pending, as the repository is now
   pub comes_before : ComesBefore state packet old new
   comes_before later owes = owed later (subst (λ (r : RepoState). Owes new.offer r.answers new.phase later) keeps.repo owes)
 
@@ -118,7 +118,7 @@ module _ {R A : Type 0} (state : R → RepoState) (old new : Server R A) (packet
   fewer : most_left state new < most_left state old
   fewer = omega (arith, less, ap (λ (r : RepoState). most_owed new.offer r.answers new.phase) keeps.repo)
 
-  -- the same with any packs, where none of their bytes is owed
+  -- the same with any packs, where none of their bytes is pending
   gives_unread : OwesNoPack state old → GivesUnread state old (spelling_of packet) new
   gives_unread none =
       let repo = (state old.repo).answers in

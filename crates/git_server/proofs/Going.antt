@@ -50,7 +50,7 @@ use Rattle.git_server.proofs.Outcomes.{failures_as, failures_end, other_lost}
 use Rattle.git_server.proofs.FetchPackets.{some_fetch, whole_fetch}
 use Rattle.git_server.proofs.Sent.{all_sent, one_more_asked}
 
--- an answer of which nothing was given is the answer
+-- an answer that was not begun is pending whole
 whole_answer : {A : Type 0} (manner : Manner) (repo : Repository) (request : Request A) (later : List Pkt)
     → IsAnswerFrom manner repo (answer_to request) later → IsAnswerAs manner repo (asked_of request) later
 whole_answer whole repo (OfLsRefs request) later h = h
@@ -92,7 +92,7 @@ module _ {A : Type 0} where
   pub is_within : (phase : Phase A) → reads_in phase ≡ true → (phase ≡ Between → ⊥) → phase ≡ Within
   is_within = waiting (λ (p : Phase A). (p ≡ Between → ⊥) → p ≡ Within) (λ not. absurd (not refl)) (λ not. refl)
 
-  -- it has no outcome, keeps no request to answer, and owes nothing
+  -- it has no outcome, keeps no request to answer, and has nothing to send
   pub no_outcome : (phase : Phase A) → reads_in phase ≡ true → outcome_in phase ≡ None
   no_outcome = waiting (λ (p : Phase A). outcome_in p ≡ None) refl refl
 
@@ -244,7 +244,7 @@ module _ {R A : Type 0} (state : R → RepoState) (old new : Server R A) (u : Li
             );
       }
 
-  -- with this packet the session ends, and nothing of its end was given yet
+  -- with this packet the session ends, and no packet of its end was sent yet
   ended_at : (s : Setting) (so_far : List ℕ) (over : Bool) (before : List ℕ) (left : List Given) (packets : List Given) (rest : List ℕ) (outcome : Outcome)
       → wants_input old ≡ true → (h : Serves s so_far before old)
       → Reads new.reader 0 (so_far ++ u) packets rest → AreRequests (IsRequest s) packets h.asked left
@@ -272,7 +272,7 @@ module _ {R A : Type 0} (state : R → RepoState) (old new : Server R A) (u : Li
   no_rest bytes packets rest sound shut stream =
       none_between new.reader rest (sound_rest new.reader 0 bytes packets rest sound stream).0 shut
 
-  -- what is owed, in the phase that was reached
+  -- what is pending, in the phase that was reached
   pub owes_at : (s : Setting) (phase : Phase A) (owed : List Pkt) → new.phase ≡ phase → Owes new.offer s.repo new.phase owed → Owes new.offer s.repo phase owed
   owes_at s phase owed is owes = subst (λ (p : Phase A). Owes new.offer s.repo p owed) is owes
 
@@ -384,7 +384,7 @@ module _ {R A : Type 0} (state : R → RepoState) (old new : Server R A) (u : Li
             (packet_stands s so_far over before g brought wants not_over h rest stream sound shut offer limit brings_here phase_is);
       }
 
-  -- the session ends with this fault, of which nothing was given yet
+  -- the session ends with this fault, which was not sent yet
   ends_refused : (s : Setting) (so_far : List ℕ) (over : Bool) (before : List ℕ) (left packets : List Given) (rest : List ℕ) (fault : Fault)
       → wants_input old ≡ true → (h : Serves s so_far before old)
       → Reads new.reader 0 (so_far ++ u) packets rest → AreRequests (IsRequest s) packets h.asked left

@@ -1,4 +1,4 @@
--- What a server does that owes no byte of a pack is the same whatever the packs are.
+-- What a server does that has no byte of a pack to send is the same whatever the packs are.
 use Rattle.std.proofs.Common.{arith, ◌≡◌, ℕ, Bool, true, false, Option, Some, None, List, refl, sym, ap, subst, ◌∙◌}
 use mathlib.Core.Path.{fun_ext}
 use Rattle.git_pkt.specs.Packets.{Pkt}

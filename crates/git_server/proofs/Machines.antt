@@ -27,7 +27,7 @@ reads_now (Answering answer offset) turn = absurd (cc)
 reads_now (Refusing fault) turn = absurd (cc)
 reads_now (Ended outcome) turn = absurd (cc)
 
--- a session that has an outcome keeps one while packets are given
+-- a session that has an outcome keeps one while packets are sent
 pub stays_ended : (old now : Option Outcome) → IsAfterPull old now → IsSome old → IsSome now
 stays_ended (Some outcome) now after some = subst IsSome (sym after) refl
 stays_ended None now after some = absurd (cc)

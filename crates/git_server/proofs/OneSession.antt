@@ -1,5 +1,5 @@
 -- What was asked by the bytes that a server used, and how it is answered, is one thing: so a server that has given all
--- of it owes nothing.
+-- of it has nothing to send.
 use Rattle.std.proofs.Common.{◌≡◌, ℕ, drop, map, codes, Bool, true, false, if◌then◌else◌, Option, Some, List, [], ◌∷◌}
 use Rattle.std.proofs.Common.{◌↔◌, IsTrue, ◌++◌, length, length-append, None, refl, sym, ap, ◌∙◌, subst, arith}
 use Rattle.git_pkt.specs.Digits.{digits_of}
@@ -106,7 +106,7 @@ one_spelling (p ∷ ps) (q ∷ qs) h k e =
     let same = same_start p q (spelling_of p) (spelling_of q) (spelled ps) (spelled qs) (spells_written p h.0) (spells_written q k.0) e in
     ap (λ (x : Pkt). x ∷ ps) same.packet ∙ ap (λ (xs : List Pkt). q ∷ xs) (one_spelling ps qs h.1 k.1 same.rest)
 
--- where something is owed, a flush is
+-- where something is pending, a flush is
 info_owes : (b : Bool) → flushes (offered_line b (codes "object-info") ++ flush ∷ []) ≡ 1
 info_owes true = refl
 info_owes false = refl
@@ -139,7 +139,7 @@ owes_flush offer repo (Answering (Sizes request place) offset) owed none owes ze
 owes_flush offer repo (Refusing fault) owed none owes zero = absurd (cc)
 owes_flush offer repo (Ended outcome) owed none owes zero = absurd (cc)
 
--- so a server waits for bytes exactly where it has no outcome and nothing is owed
+-- so a server waits for bytes exactly where it has no outcome and nothing is pending
 pub waits_where_none_owed : {A : Type 0} (offer : Offer) (repo : Repository) (phase : Phase A)
     → IsTrue (reads_in phase) ↔ ((outcome_in phase ≡ None) × Owes offer repo phase [])
 waits_where_none_owed offer repo phase = (

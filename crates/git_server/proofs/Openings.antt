@@ -14,7 +14,7 @@ use Rattle.git_server.proofs.Outcomes.{none_lost}
 use Rattle.git_server.proofs.Readers.{fresh_has_no_fault}
 
 module _ {R A : Type 0} (state : R → RepoState) (s : Setting) (repo : R) (phase : Phase A) (server : Server R A) where
-  -- nothing was used and nothing given, and the advertisement is owed, if there is one
+  -- nothing was used and nothing sent, and the advertisement is pending, if there is one
   pub opens : IsFresh repo s.offer s.limit phase server
       → (state repo).answers ≡ s.repo → outcome_in phase ≡ None → LeftIn phase [] → FlushIsAt phase [] → kept_in phase ≡ 0 → stored_in phase ≡ 0
       → ((owed : List Pkt) → Owes s.offer s.repo phase owed → owed ≡ advertised s)

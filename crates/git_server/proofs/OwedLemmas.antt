@@ -1,4 +1,4 @@
--- What a server owes is written, one packet after another, and flushed.
+-- What a server has to send is written, one packet after another, and flushed.
 use Rattle.std.proofs.Common.{◌≡◌, ℕ, Bool, true, false, List, [], ◌++◌, Option, Some, None, Result, OnErr, IsErrAnd}
 use Rattle.std.proofs.Common.{refl, sym, ap, ◌∙◌, append-nil, subst}
 use Rattle.std.specs.Io.KnownBytes.{Keeps}
@@ -64,7 +64,7 @@ module _ {R A : Type 0} (state : R → RepoState) where
             absurd (cc);
       }
 
--- the same where no byte of a pack is owed, whatever the packs are
+-- the same where no byte of a pack is pending, whatever the packs are
 module _ {R A : Type 0} (state : R → RepoState) where
   pub unread_nothing : (server : Server R A) (held : Option (List ℕ)) → OwesNoPack state server → WritesUnread false state server server (flow held held)
   unread_nothing server held none =

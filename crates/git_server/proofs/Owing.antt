@@ -1,4 +1,4 @@
--- What is owed, by the phase that a server is in.
+-- What a server has to send, by its phase.
 use Rattle.std.proofs.Common.{arith, ◌≡◌, ◌<◌, length, length-append, ℕ, Bool, true, false, if◌then◌else◌, List}
 use Rattle.std.proofs.Common.{drop, map, [], ◌∷◌, ◌++◌, Option, Some, None, codes, refl, sym, ap, ◌∙◌, subst}
 use Rattle.git_pkt.specs.Packets.{Pkt, flush}
@@ -84,7 +84,7 @@ module _ {A : Type 0} where
   none_owed_in_advertising (Some line) phase repo is = subst (OwesNoPackIn repo) (sym is) tt
   none_owed_in_advertising None phase repo is = subst (OwesNoPackIn repo) (sym is) tt
 
-  -- after a line of the advertisement the other lines are owed
+  -- after a line of the advertisement the other lines are pending
   pub line_behind : (offer : Offer) (repo : Repository) (old new : Phase A) (line : AdvertisementLine) (next : Option AdvertisementLine) (packet : Pkt)
       → old ≡ Advertising line → packet ≡ advertisement_packet offer line
       → next ≡ advertisement_line_after offer line → new ≡ advertising_phase next
@@ -179,7 +179,7 @@ module _ {A : Type 0} where
   flush_unasked (Some line) phase is packets = subst (λ (p : Phase A). FlushIsAt p packets) (sym is) tt
   flush_unasked None phase is packets = subst (λ (p : Phase A). FlushIsAt p packets) (sym is) tt
 
-  -- after the packet of a fault nothing is owed
+  -- after the packet of a fault nothing is pending
   pub refusal_behind : (offer : Offer) (repo : Repository) (old : Phase A) (fault : Fault) (packet : Pkt) → old ≡ Refusing fault → packet ≡ error_packet fault
       → (later : List Pkt) → later ≡ [] → Owes offer repo old (packet ∷ later)
   refusal_behind offer repo old fault packet was is later nothing = subst (λ (p : Phase A). Owes offer repo p (packet ∷ later)) (sym was)

@@ -23,7 +23,7 @@ use Rattle.git_server.proofs.SessionLaws.{all_answered, ending, ends_now, every_
 use Rattle.git_server.proofs.TooLong.{refused_too_long}
 
 module _ {R A : Type 0} (state : R → RepoState) (old new : Server R A) (ended : Bool) (turns : ℕ) where
-  -- what a run's clauses say of the server
+  -- what a run's clauses state of the server
   abbrev pub run_states : RunStates
   run_states = record {
     needs_input = wants_input new ≡ true;
@@ -80,7 +80,7 @@ module _ {R A : Type 0} (state : R → RepoState) (old new : Server R A) (ended 
           };
         }
 
-    -- if it needs input, all answers were given
+    -- if it needs input, all answers were sent
     waits : (used unused : List ℕ) (over : Bool) (said : List ℕ) → Running state s (before ++ used) over (given ++ said) new
         → IsWaiting run_states unused over → Waits s (before ++ used) unused over (given ++ said)
     waits used unused over said stands rests = record {

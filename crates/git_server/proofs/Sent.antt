@@ -27,7 +27,7 @@ answers_more repo [] packets q answer none is =
 answers_more repo (p ∷ ps) packets q answer (first, more, parts, is_first, rest) is =
     (first, more ++ answer, ap (λ (l : List Pkt). l ++ answer) parts ∙ append_assoc first more answer, is_first, answers_more repo ps more q answer rest is)
 
--- one packet of what is owed of an answer was sent
+-- one packet of the pending answer was sent
 pub answering_one : (manner : Manner) (s : Setting) (asked : List Asked) (sent owed : List Pkt) (packet : Pkt)
     → IsAnswering manner s asked sent (packet ∷ owed) → IsAnswering manner s asked (sent ++ packet ∷ []) owed
 answering_one manner s asked sent owed packet h =
@@ -42,13 +42,13 @@ answering_one manner s asked sent owed packet h =
       sent_is = ap (λ (l : List Pkt). l ++ packet ∷ []) h.sent_is ∙ append_assoc (advertised s ++ h.answers) h.front (packet ∷ []);
     }
 
--- one packet of what is owed was sent
+-- one pending packet was sent
 pub sent_one : (s : Setting) (asked : List Asked) (sent owed : List Pkt) (packet : Pkt)
     → IsSent s asked sent (packet ∷ owed) → IsSent s asked (sent ++ packet ∷ []) owed
 sent_one s asked sent owed packet (inl h) = inl (record { none = h.none; parts = append_assoc sent (packet ∷ []) owed ∙ h.parts })
 sent_one s asked sent owed packet (inr h) = inr (answering_one whole s asked sent owed packet h)
 
--- what was sent and what is owed are the advertisement and an answer to each request
+-- what was sent and what is pending are the advertisement and an answer to each request
 pub record IsWhole (s : Setting) (asked : List Asked) (sent owed : List Pkt) : Type 0 where
   pub answers : List Pkt
   pub answered : AreAnswers s.repo asked answers
@@ -81,7 +81,7 @@ all_sent s asked sent h =
     let whole = is_whole s asked sent [] h in
     record { answers = whole.answers; answered = whole.answered; sent_is = sym (append-nil sent) ∙ whole.parts }
 
--- a further request was asked, and its answer is owed
+-- a further request was asked, and its answer is pending
 pub one_more_asked : (manner : Manner) (s : Setting) (asked : List Asked) (sent owed : List Pkt) (q : Asked) → IsSent s asked sent []
     → IsAnswerAs manner s.repo q owed → IsAnswering manner s (asked ++ q ∷ []) sent owed
 one_more_asked manner s asked sent owed q before is =

@@ -21,7 +21,7 @@ use Rattle.git_server.proofs.Sent.{all_sent}
 use Rattle.git_server.proofs.Outcomes.{stays_as}
 use Rattle.git_server.proofs.Going.{goes_nowhere, goes_on, no_outcome, owes_nothing, owes_some}
 
--- a server without an outcome that does not wait for bytes owes something, and has begun no request
+-- a server without an outcome that does not wait for bytes has something to send, and has begun no request
 owes_now : {A : Type 0} (phase : Phase A) (left : List Given) → outcome_in phase ≡ None → reads_in phase ≡ false → LeftIn phase left
     → (owes_in phase ≡ true) × (left ≡ [])
 owes_now Between left none waits_not h = absurd (cc)
@@ -118,7 +118,7 @@ module _ {R A : Type 0} (state : R → RepoState) (server : Server R A) (s : Set
         fit = subst AllFit all.sent_is h.fit;
       }
 
--- a phase whose turn is an end has that outcome, and owes nothing
+-- a phase whose turn is an end has that outcome, and has nothing to send
 turn_ends : {A : Type 0} (phase : Phase A) (outcome : Outcome) → turn_in phase ≡ Finished outcome → phase ≡ Ended outcome
 turn_ends Between outcome h = absurd (cc)
 turn_ends Within outcome h = absurd (cc)

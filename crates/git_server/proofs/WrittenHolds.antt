@@ -1,4 +1,4 @@
--- The packet that was written at a hold's front, and what of the hold is given.
+-- The packet that was written at a hold's front, and what of the hold is sent.
 use Rattle.std.proofs.Common.{arith, ◌≡◌, ◌<◌, ◌≤◌, ℕ, Bool, true, false, List, [], ◌∷◌, length, length-append, refl, ap, sym, subst}
 use Rattle.std.proofs.Transfers.{starts_with_of_eq}
 use Rattle.std.proofs.lemmas.Grind.{common_steps}
@@ -25,7 +25,7 @@ use Rattle.git_server.specs.declared.packfile.PartRead.TheVariants.{Bytes, End, 
 use Rattle.git_server.specs.declared.server.Pulled.TheVariants.{Packet}
 use Rattle.git_server.specs.declared.server.Server.{Server}
 
--- a packet has room for what was read
+-- a packet has space for what was read
 pub part_fits : (room : List ℕ) → length room ≡ 65515 → (part : PartRead) → length (body_of (part_packet room part)) ≤ longest_payload
 part_fits room full (Bytes count) = grind (arith, common_steps)
 part_fits room full End = omega arith
@@ -70,7 +70,7 @@ module _ {R A : Type 0} (state : R → RepoState) (old new : Server R A) (gives 
     starts = gives.held;
   }
 
-  -- what is at the hold's front is the packet that is owed
+  -- what is at the hold's front is the packet that is pending
   pub pulls_front : (bytes : Bor (List ℕ)) → length bytes.now ≤ 65520 → bytes.now ≡ spelling_of gives.packet → Pulls state old (Packet bytes) new
   pulls_front bytes short is = record {
     goes = subst (λ (l : List ℕ). Goes state [] l old new) (sym is) gives.goes;

@@ -12,13 +12,13 @@ abbrev pub barred_ref : Option ObjectName → Option Kind
 barred_ref (Some id) = None
 barred_ref None = Some UnknownRef
 
--- the name of the error by which the repository refuses the value of a word
+-- the error with which the repository refuses the value of a word
 abbrev pub barred_value : Repository → Word → Value → Option Kind
 barred_value repo want (id_value id) = if repo.has id then None else Some NotOurs
 barred_value repo want_ref (text_value name) = barred_ref (found_ref repo.refs name)
 barred_value repo _ _ = None
 
--- the name of the error by which it refuses an argument
+-- the error with which it refuses an argument
 abbrev pub barred : Repository → Arg → Option Kind
 barred repo arg = barred_value repo arg.word arg.value
 

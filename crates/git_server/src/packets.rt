@@ -31,7 +31,7 @@ pub(crate) fn write_line(reader: &mut PacketReader, word: &[u8], value: &[u8])
     let _ = reader.hold();
 }
 
-/// Appends the packet's spelling. The buffer must have room for it.
+/// Appends the packet's spelling. The buffer must have space for it.
 pub(crate) fn append_packet(hold: &mut Hold, packet: Packet<'_>)
     requires { length hold.old.items + length (spelling_of (seen packet)) ≤ 65520 }
     ensures { hold.new.items ≡ hold.old.items ++ spelling_of (seen packet.entry) }

@@ -9,7 +9,7 @@ module _ {M : Type 0} where
   abbrev pub HasRefusedLine : RepositoryReader M → Type 0
   HasRefusedLine reader = HasFailed reader.progress
 
-  -- there is no room for so many bytes after the line that is open
+  -- there is no space for so many bytes after the line that is open
   abbrev pub LacksRoom : RepositoryReader M → ℕ → Type 0
   LacksRoom reader bytes = vec_capacity reader.begun < length reader.begun.items + bytes
 

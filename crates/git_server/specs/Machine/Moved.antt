@@ -1,4 +1,4 @@
--- The states of a server in a run, and the laws by which its calls join.
+-- The states of a server in a run, and the laws that join its calls.
 use Rattle.std.specs.Prelude.{◌≡◌, ℕ, Bool, true, List, [], ◌++◌, Option, Some, IsSome}
 use Rattle.std.proofs.Common.{sym, append_assoc, append-nil, subst}
 use Rattle.std.specs.Io.{StartsWith}

@@ -20,7 +20,7 @@ answered_by (Bytes count) = Part
 answered_by End = Whole
 answered_by Failed = Broken
 
--- the packet that reports it: the bytes at the front of the room, or that there are no more, or that the source failed
+-- the packet that reports it: the bytes at the front of the buffer, or that there are no more, or that the source failed
 abbrev pub part_packet : List ℕ → PartRead → Pkt
 part_packet room (Bytes count) = band_packet PackBand (take count room)
 part_packet room End = flush
@@ -32,19 +32,19 @@ FitsRoom (Bytes count) = count ≤ 65515
 FitsRoom End = Unit {0}
 FitsRoom Failed = Unit {0}
 
--- the part read from the pack from an offset on, to the front of the room
+-- the part read from the pack from an offset on, to the front of the buffer
 abbrev pub IsPartRead : List ℕ → ℕ → List ℕ → PartRead → Type 0
 IsPartRead pack offset room (Bytes count) = (0 < count) × IsPackPart pack offset count room
 IsPartRead pack offset room End = length pack ≤ offset
 IsPartRead pack offset room Failed = Unit {0}
 
--- a read into all of the room may return it
+-- a read into all of the buffer may return it
 abbrev pub IsGiven : (ℕ → ℕ → Type 0) → PartRead → Type 0
 IsGiven gives (Bytes count) = gives 65515 count
 IsGiven gives End = Unit {0}
 IsGiven gives Failed = Unit {0}
 
--- a part was read into the room
+-- a part was read into the buffer
 pub record ReadsPart (gives : ℕ → ℕ → Type 0) (pack : List ℕ) (offset : ℕ)
     (repo_old : RepoState) (part : PartRead) (repo_new : RepoState) (room : List ℕ) : Type 0 where
   pub is_read : IsPartRead pack offset room part

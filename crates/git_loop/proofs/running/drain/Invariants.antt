@@ -1,4 +1,4 @@
--- What was given was written, and nothing has failed since the call began.
+-- What the machine sent was written, and nothing has failed since the call began.
 use Rattle.std.proofs.Common.{◌≡◌, false, []}
 use Rattle.git_pkt.specs.Machine.Told.{inner_of, has_failed}
 use Rattle.git_pkt.specs.Streams.{flow}

@@ -1,4 +1,4 @@
--- The bytes up to `used` were used, what was given for them was written, and nothing has failed since the call began.
+-- The bytes up to `used` were used, what the machine sent for them was written, and nothing has failed since the call began.
 use Rattle.std.proofs.Common.{◌≡◌, ◌-◌, ◌≤◌, false, length, take}
 use Rattle.git_pkt.specs.Machine.Told.{inner_of, has_failed}
 use Rattle.git_pkt.specs.Streams.{flow}
