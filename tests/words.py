@@ -31,10 +31,7 @@ what is had|that is had|which it has: its, those of
 
 # Places that are not clean yet. Take one off once it is.
 UNCLEAN = """
-crates/git2show/src/main.rt
 crates/git2show_lib
-crates/git_host
-crates/gitwire
 """
 
 # Comments that may have such a word: a file, some of the words around it, and the reason.

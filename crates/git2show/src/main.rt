@@ -342,7 +342,7 @@ fn run_serve(rt: &HostRuntime, matches: &ArgMatches<'_>) -> Result<(), Failure> 
     done.map_err(|failure| failure.with_pack_call(pack.failed_call().or(filtered_call)))
 }
 
-/// Serves a repository as the command line says.
+/// Serves a repository as the command line asks.
 fn serve_repository(
     rt: &HostRuntime,
     matches: &ArgMatches<'_>,
@@ -679,7 +679,7 @@ fn tell(rt: &HostRuntime, error: NotTaken) -> u8 {
     }
 }
 
-/// Reports a failure: by its error line and, if standard error is a terminal, by a second line that says more. The words are those after
+/// Reports a failure: by its error line and, if standard error is a terminal, by a second line with the details. The words are those after
 /// the command, if the command line was accepted. Returns the exit status.
 fn tell_failure(rt: &HostRuntime, words: Option<&ArgMatches<'_>>, failure: &Failure) -> u8 {
     let status = tell_fault(rt, failure.fault);

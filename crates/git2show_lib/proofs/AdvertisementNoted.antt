@@ -1,4 +1,4 @@
--- An advertisement that is received and noted, a piece at a time.
+-- An advertisement that is received and noted, a chunk at a time.
 use Rattle.std.proofs.Common.{◌≡◌, ◌≤◌, ◌-◌, ◌+◌, ℕ, true, List, [], ◌∷◌, ◌++◌, length}
 use Rattle.std.proofs.Common.{take, drop, Option, None, refl, sym, ap, ◌∙◌, subst, append_assoc, append-nil}
 use Rattle.std.proofs.Common.{take-append-drop, Bool, false, Result, Err, IsErrAnd}
@@ -59,7 +59,7 @@ module _ {A : Type 0} where
     why = keeps.why h.why;
   }
 
-  -- the same over what is left of a piece
+  -- the same over what is left of a chunk
   pub noted_further : (new : Noting A) (piece : List ℕ) (done more : ℕ) (within : done ≤ length piece) (used : List ℕ)
       → HasNotedLines ((used ++ take done piece) ++ take more (take (length piece - done) (drop done piece))) new
       → HasNotedLines (used ++ take (done + more) piece) new
@@ -88,7 +88,7 @@ module _ {A : Type 0} where
     noted = noted;
   }
 
-  -- one more piece was received and noted
+  -- one more chunk was received and noted
   pub noted_on : {old middle new : Client A} {notes after : Noting A} {counts counts_after : Counts}
       {left_before left left_after told_before told told_flushed told_after : Option (List ℕ)} (window : Window) (piece came rest : List ℕ) (used : ℕ)
       → NotedSoFar old middle notes counts (window_of window piece) (flow left_before left) (flow told_before told) → wants_input middle ≡ true

@@ -139,7 +139,7 @@ module _ (A : Type 0) (t : Terms) (limit : ℕ) {Q R : Type 0} (of_requests : To
     };
   }
 
-  -- ---- a response, or the advertisement, is due
+  -- ---- a response, or the advertisement, is expected
 
   -- all bytes then
   all_of : {broken : Bool} {form : Option Form} {front : List (Request A)} {client : Client A} {waiting : List ℕ} {requests responses out : Flow}

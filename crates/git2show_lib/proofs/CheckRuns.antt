@@ -139,7 +139,7 @@ module _ {A : Type 0} (t : Terms) where
       pub read : Consumes requests.before requests.after (used ++ waiting)
       pub limit_is : limit_of stream ≡ limit
 
-    -- a response is due, in this form: the advertisement, or that to the last of the requests that were read. Whatever comes of it, of which a
+    -- a response is expected, in this form: the advertisement, or that to the last of the requests that were read. Whatever comes of it, of which a
     -- client receives this, these are all bytes of the responses then, and all lines.
     pub record Awaiting (broken : Bool) (form : Option Form) (front : List (Request A)) (client : Client A) (waiting : List ℕ)
         (requests responses out : Flow) : Type 0 where
@@ -555,7 +555,7 @@ module _ {A : Type 0} {t : Terms} {limit : ℕ} where
       }
 
 module _ {A : Type 0} where
-  -- what waits after a response lies in the piece
+  -- what waits after a response lies in the chunk
   receives_within : (old new : Client A) (now then : Remaining) (waiting piece : List ℕ) (reader out : Flow) (form : Option Form)
       → ReceivesWhole form old new now then waiting piece reader out → (then.left.start ≤ then.left.end) × (then.left.end ≤ length piece)
   receives_within old new now then waiting piece reader out None (heard, same) = (heard.ordered, heard.within)

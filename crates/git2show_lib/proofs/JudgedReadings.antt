@@ -48,7 +48,7 @@ module _ {A : Type 0} {used : List ℕ} {asked : List Question} {s : JudgedReque
   pub asked_so_far : AreAskedBy (advertised_by s) (limit_of s) used asked h.left h.rest
   asked_so_far = record { packets = h.packets; splits = h.reads.splits; requests = h.requests }
 
-  -- where more is read, that begins a request, and bytes of which a packet may come
+  -- where more is read, that begins a request, and bytes that a packet may begin with
   pub begun_so_far : IsReady s
       → IsBegun (advertised_by s) (limit_of s) h.left × IsOpen h.rest
   begun_so_far ready = (

@@ -736,7 +736,7 @@ packet_news old new g Stop (Some kind) text place packet kept limit before after
 packet_news old new g (Failed told) (Some kind) text place packet kept limit before after offset others keeps ready brings fault used piece is =
     fault_news old new g ready told brings fault used piece (cc)
 
--- ---- a step over what is left of a piece
+-- ---- a step over what is left of a chunk
 
 module _ {A : Type 0} (old mid new : JudgedRequests A) (piece : List ℕ) (done : ℕ) (within : done ≤ length piece)
     (more : ℕ) (got : JudgedGot A) where
@@ -750,7 +750,7 @@ module _ {A : Type 0} (old mid new : JudgedRequests A) (piece : List ℕ) (done 
       subst (λ (bytes : List ℕ). HasRead bytes (asked ++ asked_by got) new) (joined used piece done more within)
       (steps.reads (used ++ take done piece) asked (before used asked h))
 
-  -- a fault that what is left of the piece shows, the piece shows
+  -- a fault that what is left of the chunk shows, the chunk shows
   pub shows_further : Stepping → (fault : Fault) → got ≡ Got.Failed fault → ShownByFeed fault (done + more) piece
   shows_further steps fault is =
       let shown = steps.news fault is in

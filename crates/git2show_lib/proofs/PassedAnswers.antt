@@ -1,4 +1,4 @@
--- An answer that passes, a piece at a time.
+-- An answer that passes, a chunk at a time.
 use Rattle.std.proofs.Common.{arith, ◌≡◌, ◌≢◌, ℕ, ◌+◌, ◌-◌, ◌≤◌, Bool, true, false, List, [], ◌∷◌, ◌++◌, length, take, drop, Option, None, Some, Result, Ok}
 use Rattle.std.proofs.Common.{IsErrAnd, inl, inr, refl, sym, ap, ◌∙◌, subst, append_assoc, append-nil, length-drop, take-append-drop}
 use Rattle.std.proofs.lemmas.List.{take_all}
@@ -49,7 +49,7 @@ not_last ResponseEnd delim e same = cc
 not_last ResponseEnd resp_end e same = cc
 not_last ResponseEnd (payload bytes) e same = cc
 
--- ---- a piece
+-- ---- a chunk
 
 module _ (ending : Ending) (old new : PacketReader) (used u : List ℕ) (h : Passes ending used old) where
   -- bytes that end no packet
@@ -121,7 +121,7 @@ cut_between old used given rest fault reads sound kind shut at =
       at = omega (arith, at, ap length none, reads.position);
     }
 
--- ---- a piece of which some is used
+-- ---- a chunk of which some is used
 
 module _ (ending : Ending) (first mid : PacketReader) (piece : List ℕ) (done : ℕ) (within : done ≤ length piece)
     (so_far : (bytes : List ℕ) → Passes ending bytes first → Passes ending (bytes ++ take done piece) mid) where
@@ -146,7 +146,7 @@ module _ (ending : Ending) (first mid : PacketReader) (piece : List ℕ) (done :
   breaks_further fault more on bytes h =
       subst (λ (l : List ℕ). BreaksOff ending l fault) (joined bytes piece done more within) (on (bytes ++ take done piece) (so_far bytes h))
 
-  -- what is left of the piece shows a fault, and so the piece does
+  -- what is left of the chunk shows a fault, and so the chunk does
   pub shown_further : (fault : Fault) (more : ℕ) → ShownByFeed fault more left_bytes → ShownByFeed fault (done + more) piece
   shown_further fault more shown = record {
     not_the_end = shown.not_the_end;
@@ -161,7 +161,7 @@ module _ (ending : Ending) (first mid : PacketReader) (piece : List ℕ) (done :
       let end : done + more ≡ length piece = omega (arith, all, within, ap length (left_of piece done within), length-drop done piece) in
       subst (λ (l : List ℕ). Passes ending (bytes ++ l) new) (take_all (done + more) piece (omega (arith, end))) (passes_further new more on bytes h)
 
--- a piece passed with this answer
+-- a chunk passed with this answer
 pub piece_passed : (ending : Ending) (old new : PacketReader) (piece : List ℕ) (end other : Option ℕ) → end ≡ other
     → PassesPiece ending (Ok end) old new piece → PassesPiece ending (Ok other) old new piece
 piece_passed ending old new piece end other same passes = subst (λ (o : Option ℕ). PassesPiece ending (Ok o) old new piece) same passes
@@ -263,7 +263,7 @@ module _ {ending : Ending} {r : PacketReader} {waiting : List ℕ} {before left 
     passes = s.passes;
   }
 
--- more is due
+-- more is expected
 pub goes_on : {ending : Ending} {r : PacketReader} {waiting : List ℕ} {reader : Flow} → PassingSoFar ending r waiting [] reader → fault_of r ≡ None
     → PassesOn ending waiting reader
 goes_on {ending} {r} s sound = record {

@@ -1,4 +1,4 @@
--- What a client owes is sent to a server, one packet after another.
+-- What a client has to send goes to a server, one packet after another.
 use Rattle.std.proofs.Common.{◌≡◌, ℕ, false, List, [], ◌++◌, None, ◌∙◌, append_assoc, append-nil, refl}
 use Rattle.git_pkt.specs.Streams.{Flow, WrittenAs}
 use Rattle.git_msg.specs.Asked.{command_asked}
@@ -24,7 +24,7 @@ module _ {R A : Type 0} (state : R → RepoState) where
   stands_then old middle new u v g k first second s said given h =
       rw (append_assoc given g k, append_assoc said u v) at (second s (said ++ u) (given ++ g) (first s said given h))
 
-  -- some of the packets that were owed were sent
+  -- some of the pending packets were sent
   pub record TellsSome (old new : Client A) (server after : Server R A) : Type 0 where
     pub given : List ℕ
     pub says : SaysOn old given new

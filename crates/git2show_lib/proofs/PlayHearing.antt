@@ -1,4 +1,4 @@
--- A packet received by a client, piece by piece.
+-- A packet received by a client, chunk by chunk.
 use Rattle.std.proofs.Common.{arith, ◌≡◌, ℕ, ◌+◌, ◌≤◌, Bool, true, false, length, take, min, List, Option}
 use Rattle.std.proofs.Common.{Err, ap, length-drop}
 use Rattle.std.proofs.lemmas.List.{length-take, take_min}
@@ -27,7 +27,7 @@ module _ {A : Type 0} where
     heard_on {out_after} {pack_after} broken u few step =
         rw (piece_joined packet done k u within few) at (heard_then (not_ready_where_due (phase_of b) waits) so_far step)
 
-    -- a fault that a piece shows is one that the packet shows
+    -- a fault that a chunk shows is one that the packet shows
     shown_on : (fault : Fault) (u : ℕ) → ShownByFeed fault u (next_piece packet done k)
         → ShownByFeed fault (done + min u (length (next_piece packet done k))) packet
     shown_on fault u shown = record {
@@ -41,7 +41,7 @@ module _ {A : Type 0} where
       );
     }
 
-    -- the receiving of a piece stopped
+    -- the receiving of a chunk stopped
     pub hearing_stopped : (out_after pack_after : Option (List ℕ)) (fault : RunFault)
         → HearsPieceTo (Err fault) b c now after (next_piece packet done k) (flow out out_after) (flow pack pack_after) silent
         → HearsPieceTo (Err fault) old c counts after packet (flow out_before out_after) (flow pack_before pack_after) silent

@@ -51,7 +51,7 @@ module _ {R A : Type 0} (state : R → RepoState) where
 
   -- ---- both
 
-  -- all that was given was received, and then some of these bytes, which the server gave, or which come after all that it gave
+  -- all that was sent was received, and then some of these bytes, which the server sent, or which come after all that it sent
   module _ {old b : Client A} {counts now : Counts} {server middle : Server R A} (new : Server R A)
       {told_before told sent_before sent : Option (List ℕ)} {unheard : List ℕ}
       (hears : Hears state false old b counts now server middle [] unheard (flow told_before told) (flow sent_before sent)) (waits : wants_input b ≡ true)
@@ -115,7 +115,7 @@ module _ {R A : Type 0} (state : R → RepoState) where
     given_on : GivesOn state server (so_far.hears.given ++ bytes.now) new
     given_on = gives_then server middle new so_far.hears.given bytes.now so_far.hears.server_goes (gives_packet middle new pulled bytes pulls is)
 
-    -- a packet was received, or as much of it as was due
+    -- a packet was received, or as much of it as was expected
     pub hearing_on : {c : Client A} {after : Counts} {told_after sent_after : Option (List ℕ)} (u : ℕ)
         → HearsInPiece b c now after bytes.now u (flow told told_after) (flow sent sent_after) silent
         → Hearing old c counts after server new (flow told_before told_after) (flow sent_before sent_after)

@@ -56,7 +56,7 @@ module _ {R A : Type 0} {state : R → RepoState} {t : Terms} {limit : ℕ} {s0 
   advertised_alone {old} {server = server} {o1 = o1} {p1 = p1} due stands st step =
       heard_alone (first_turn server st) due (begun t old o1 p1 due stands) step
 
-  -- what was given is settled, so the server's relation holds of it
+  -- what was sent is settled, so the server's relation holds of it
   still_stands : (h : History) (server : Server R A) → Alone state t limit s0 h server → Stands state (setting_of t limit s0 true) h.given h.used server
   still_stands h server a = record {
     used = a.settled.used;

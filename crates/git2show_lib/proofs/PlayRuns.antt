@@ -1,4 +1,4 @@
--- A play so far: what the client asked and received, and the servers, from one of which it receives.
+-- A play so far: what the client asked and received, and the servers, one of which sends to it.
 use Rattle.std.proofs.Common.{arith, ◌≡◌, inl, inr, ℕ, suc, ◌+◌, ◌≤◌, ◌<◌, Bool, true, false, flat_map, List, [], ◌∷◌, ◌++◌, length, Option, None}
 use Rattle.std.proofs.Common.{Result, Err, refl, sym, ap, ◌∙◌, subst, append_assoc, append-nil}
 use Rattle.std.proofs.lemmas.List.Elements.{All-nil}
@@ -50,7 +50,7 @@ module _ {A : Type 0} (t : Terms) where
       → Runs false nothing_yet [] client no_counts (flow out out) (flow pack pack)
   begun client out pack due stands = begins t client None None None out pack None due stands tt
 
-  -- a client that owes nothing has sent all requests
+  -- a client with nothing to send has sent all requests
   pub given_is : (h : History) (client : Client A) → Converses t h client → is_quiet (phase_of client) ≡ true
       → h.given ≡ spelled (questions_of t.format (caps_of client) h.asked)
   given_is h client stands quietly =
@@ -97,7 +97,7 @@ pub record AtRest (t : Terms) (limit : ℕ) (s0 : RepoState) (h : History) : Typ
   pub packets_are : h.used ≡ spelled packets
   pub counted : flushes packets ≡ suc (length h.asked)
 
--- what comes after the message that is due: nothing, or a response end where others gave a message before
+-- what comes after the expected message: nothing, or a response end if others sent a message before
 abbrev pub IsTail : Terms → (tail before asks : List Pkt) → Type 0
 IsTail t [] before asks = Closes before
 IsTail t (p ∷ ps) before asks = (p ∷ ps ≡ resp_end ∷ []) × (0 < flushes before) × (0 < flushes asks) × (t.ending ≡ ResponseEnd)
@@ -108,7 +108,7 @@ no_questions FlushOnly given = (refl, refl)
 no_questions ResponseEnd given = (refl, refl)
 
 module _ {R A : Type 0} (state : R → RepoState) (t : Terms) (limit : ℕ) (s0 : RepoState) where
-  -- a message of this server is due, and after it this comes: it was sent this, and gave something before; others before it gave these
+  -- a message of this server is expected, and after it this comes: it was sent this, and sent something before; others before it sent these
   -- packets. Where it gives all this, these are the sessions.
   pub record Turn (advertise : Bool) (before tail : List Pkt) (said : List ℕ) (h : History) (server : Server R A) : Type 0 where
     pub asks : List Pkt
@@ -152,7 +152,7 @@ module _ {R A : Type 0} {state : R → RepoState} {t : Terms} where
       (record { came = hears.used; used = hears.used; counts = counts; read = tt; parts = sym (append-nil hears.used); bytes = hears.heard })
 
 module _ {R A : Type 0} {state : R → RepoState} {t : Terms} {limit : ℕ} {s0 : RepoState} where
-  -- a message of the first server is due, and no other answered before
+  -- a message of the first server is expected, and no other answered before
   pub sole_turn : (h : History) (asks : List Pkt) (server : Server R A) → Closes asks → h.given ≡ spelled asks → flushes asks ≡ length h.asked
       → Stands state (setting_of t limit s0 true) h.given h.used server → ((ps : List Pkt) → h.used ≡ spelled ps → length h.asked ≤ flushes ps)
       → ((all : List ℕ) (caps : Caps) → AreSaid t.ending (talk_of h.given all) [] h.given (said_each t caps h.asked))
@@ -204,7 +204,7 @@ module _ {R A : Type 0} {state : R → RepoState} {t : Terms} {limit : ℕ} {s0 
           sessions = turn.talks (failed_in state after) all (talk turn.closes settled turn.said_is);
         }
 
-    -- nothing more is given
+    -- nothing more is sent
     all_done : IsSpent state after
         → AreAll (IsDone (failed_in state after)) t limit s0 (turn.first (turn.given ++ hears.given)) (turn.later (turn.given ++ hears.given))
     all_done spent = turn.done (failed_in state after) (turn.given ++ hears.given) (done turn.closes settled turn.said_is spent)

@@ -31,7 +31,7 @@ timely_more kind unheard more some = tt
 module _ {R A : Type 0} (state : R → RepoState) where
   -- ---- what comes after a message
 
-  -- bytes that come after all that was given are unheard
+  -- bytes that come after all that was sent are not received yet
   hears_with : {broken : Bool} {old new : Client A} {counts : Counts} {server after : Server R A} {unheard : List ℕ} {out packs : Flow} (end : List ℕ)
       → Hears state broken old new no_counts counts server after [] unheard out packs
       → Hears state broken old new no_counts counts server after end (unheard ++ end) out packs

@@ -34,7 +34,7 @@ talk_of said given = record { said = said; given = given }
 abbrev pub failed_in : {R A : Type 0} → (R → RepoState) → Server R A → ℕ
 failed_in state server = (state (repo_of server)).failures
 
--- all was given that is due for what was sent
+-- all that is expected for what was sent has come
 pub record Rests (s : Setting) (count : ℕ) (said given : List ℕ) : Type 0 where
   pub talk : (failed : ℕ) → IsTalk failed s (talk_of said given)
   pub gave_all : (failed : ℕ) → IsDone failed s (talk_of said given)
@@ -44,7 +44,7 @@ pub record Rests (s : Setting) (count : ℕ) (said given : List ℕ) : Type 0 wh
   pub closed : Closes packets
   pub counted : flushes packets ≡ count
 
--- of the messages that are due for these packets all were given
+-- all messages that these packets call for were sent
 abbrev pub Enough : Setting → List Pkt → List ℕ → Type 0
 Enough s qs given = (ps : List Pkt) → AllFit ps → given ≡ spelled ps → flushes qs + flushes (advertised s) ≤ flushes ps
 
@@ -113,7 +113,7 @@ module _ {R A : Type 0} {state : R → RepoState} {s : Setting} {qs : List Pkt} 
     done = inr (outcome, ends s st.used false given st.runs, lost_for outcome some);
   }
 
-  -- where all messages were given it waits for more, and nothing is due
+  -- if all messages were sent it waits for more, and nothing is expected
   pub waits_on : Enough s qs given → waits_for_input server ≡ true
   waits_on enough =
       (at_rest state server s qs st.used st.unused given st.runs (sym is ∙ st.parts) (ends_closed qs closes) enough st.in_time).waits
@@ -148,7 +148,7 @@ module _ {R A : Type 0} {state : R → RepoState} {s : Setting} {qs : List Pkt} 
     in_all : (ps : List Pkt) → given ≡ spelled ps → heard ++ unheard ≡ spelled (before ++ (ps ++ tail))
     in_all ps given_is = parts ∙ simp (spelled-append, given_is)
 
-    -- what is unheard is packets, with as many flushes as were given too many
+    -- what was not received is packets, with as many flushes as were sent too many
     pub unheard_packets : (ps : List Pkt) → given ≡ spelled ps
         → (more : List Pkt) × (before ++ (ps ++ tail) ≡ packets_of gs ++ more) × (unheard ≡ spelled more)
         × (flushes ps ≡ flushes qs + flushes (advertised s) + flushes more)

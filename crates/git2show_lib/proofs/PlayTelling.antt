@@ -1,4 +1,4 @@
--- A packet sent to a server, piece by piece.
+-- A packet sent to a server, chunk by chunk.
 use Rattle.std.proofs.Common.{arith, ◌≡◌, ◌≢◌, ℕ, suc, ◌+◌, ◌-◌, ◌<◌, ◌≤◌, Bool, true, false}
 use Rattle.std.proofs.Common.{cond, length, take, drop, min, List, [], ◌∷◌, ◌++◌, Some}
 use Rattle.std.proofs.Common.{refl, sym, ap, ◌∙◌, append_assoc, append-nil, length-drop, take-append-drop, inl, inr}
@@ -16,9 +16,9 @@ use Rattle.git_server.specs.declared.outcome.Outcome.TheVariants.{Refused}
 use Rattle.git_server.specs.declared.server.Server.{Server}
 use Rattle.git2show_lib.specs.Machine.PlaySteps.{Stands}
 
--- ---- the next piece of a packet
+-- ---- the next chunk of a packet
 
--- what is left of a packet after so many bytes, and the next piece of it
+-- what is left of a packet after so many bytes, and the next chunk of it
 abbrev pub left_after : List ℕ → ℕ → List ℕ
 left_after packet done = take (length packet - done) (drop done packet)
 
@@ -35,7 +35,7 @@ module _ (packet : List ℕ) (done k u : ℕ) (within : done ≤ length packet) 
       ap (λ (l : List ℕ). take done packet ++ l) (front ∙ ap (take u) (left_of packet done within))
       ∙ sym (take-add done u packet)
 
--- a piece of some bytes is there while some are left
+-- a chunk of some bytes is there while some are left
 pub piece_some : (packet : List ℕ) (done k cut : ℕ) → done < length packet → 0 < cut → k ≡ min cut (length (left_after packet done))
     → 0 < length (next_piece packet done k)
 piece_some packet done k cut less some is =
@@ -54,7 +54,7 @@ some_left [] ys some none = some refl
 some_left (x ∷ xs) ys some none = cc
 
 module _ {R A : Type 0} (state : R → RepoState) where
-  -- what holds of a server while a packet is sent to it, of which this is left
+  -- what holds of a server while a packet is sent to it, with this left to send
   pub record Telling (s : Setting) (said given left : List ℕ) (server : Server R A) : Type 0 where
     pub used : List ℕ
     pub unused : List ℕ

@@ -1,4 +1,4 @@
--- The next request, read a piece at a time: what all pieces so far result in, and what each end of the reading states of them.
+-- The next request, read a chunk at a time: what all chunks so far result in, and what each end of the reading states of them.
 use Rattle.std.proofs.Common.{arith, ◌≡◌, ℕ, ◌-◌, ◌≤◌, Bool, true, false, List, [], ◌∷◌, ◌++◌, length, take, drop, Option, None, Result, Ok, Err}
 use Rattle.std.proofs.Common.{IsErrAnd, inl, inr, refl, sym, ap, subst, ◌∙◌, append_assoc, append-nil, length-append, length-drop, take-append-drop}
 use Rattle.std.proofs.Math.Seq.{drop-length}
@@ -26,7 +26,7 @@ use Rattle.git2show_lib.specs.declared.judged_requests.JudgedRequests.{JudgedReq
 use Rattle.git2show_lib.proofs.JudgedReadings.{asked_so_far, begun_so_far, nothing_begun, refused_as, stopped_at}
 use Rattle.git2show_lib.specs.Machine.CheckSteps.{ReadsAll, ReadsFault, ReadsNoMore, ReadsOn, ReadsRequest, ReadsTo, ReadsWhole}
 
--- the bytes at the front of a piece are a window of it
+-- the bytes at the front of a chunk are a window of it
 pub front_window : (end : ℕ) (piece : List ℕ) → take end piece ≡ window_of (record { start = 0; end = end }) piece
 front_window end piece = let same : end ≡ end - 0 = omega arith in ap (λ (n : ℕ). take n piece) same
 
@@ -164,7 +164,7 @@ module _ {A : Type 0} where
       can_come = open_ended;
     }
 
-    -- bytes came, at the front of a piece
+    -- bytes came, at the front of a chunk
     pub came_in_front : {after : Option (List ℕ)} (end : ℕ) (piece : List ℕ) → Consumes left after (take end piece)
         → ReadsOn old middle [] waiting (window_of (record { start = 0; end = end }) piece) (flow before after)
     came_in_front {after = after} end piece read =

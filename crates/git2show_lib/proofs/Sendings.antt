@@ -23,7 +23,7 @@ module _ {W : Type 0} {contents : W → Option (List ℕ)} where
       → Puts contents a s ((json_start g ++ payload_coded g.packet) ++ json_end g.packet) result c t → Puts contents a s (json_line g) result c t
   as_json {a = a} {c = c} {s = s} {t = t} {result = result} g puts = subst (λ (l : List ℕ). Puts contents a s l result c t) (json_parts g) puts
 
--- ---- a loop over the pieces of bytes: what those that came so far become has gone through the buffer, and the rest has not
+-- ---- a loop over the chunks of bytes: what those that came so far become has gone through the buffer, and the rest has not
 
 pub record CodesTo (code : ℕ → List ℕ) {W : Type 0} (contents : W → Option (List ℕ)) (old new : Told W) (before bytes after rest : List ℕ) : Type 0 where
   pub done : List ℕ

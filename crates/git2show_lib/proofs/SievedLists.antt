@@ -1,4 +1,4 @@
--- The packets that a client receives for those of a response, one list after another; and those of a response in the usual form, which are all of
+-- The packets that a client receives for those of a response, one list after another; and those of a response in the ordinary form, which are all of
 -- them.
 use Rattle.std.proofs.Common.{◌≡◌, Bool, true, false, List, [], ◌∷◌, ◌++◌, map, codes, if◌then◌else◌, Option, Some, Result, Ok}
 use Rattle.std.proofs.Common.{refl, sym, ap, ◌∙◌, append_assoc}
@@ -33,9 +33,9 @@ pub passed_then : (form : Form) (spot : Spot) (gs hs : List Given) → ArePassed
 passed_then form spot [] hs first later = later
 passed_then form spot (g ∷ gs) hs first later = (first.0, passed_then form (spot_next form spot g.packet) gs hs first.1 later)
 
--- ---- the usual form
+-- ---- the ordinary form
 
--- the places of a response in the usual form
+-- the places of a response in the ordinary form
 abbrev is_usual : Spot → Bool
 is_usual Header = true
 is_usual Lines = true

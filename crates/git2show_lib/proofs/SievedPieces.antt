@@ -1,4 +1,4 @@
--- What a client receives of a piece whose packets are sieved.
+-- What a client receives of a chunk whose packets are sieved.
 use Rattle.std.proofs.Common.{arith, ◌≡◌, ℕ, ◌+◌, ◌-◌, ◌≤◌, true, false, List, [], ◌∷◌, length, take, drop, Option, Some, None, Err}
 use Rattle.std.proofs.Common.{inr, sym, ap, ◌∙◌, subst, length-drop}
 use Rattle.git_pkt.specs.Packets.{Pkt}
@@ -28,7 +28,7 @@ module _ {A : Type 0} where
     at None (stays, waits) = absurd (cc)
     at (Some p) (used, hears) = hears.whole ready
 
-  -- the fault of a packet is that of its piece
+  -- the fault of a packet is that of its chunk
   pub ends_at : (fault : RunFault) (form : Form) (old new : Stage A) (piece : List ℕ) (out : Flow) → EndsInPiece (Err fault) form old new piece out
       → SievesPieceTo (Err fault) form old new piece out
   ends_at (Refused fault) form old new piece out ends = inr ends
@@ -41,7 +41,7 @@ module _ {A : Type 0} where
     abbrev pub left_bytes : List ℕ
     left_bytes = take (length piece - done) (drop done piece)
 
-    -- some more of the piece was used
+    -- some more of the chunk was used
     sieves_further : {new : Stage A} {after : Option (List ℕ)} (more : ℕ) → SievesOn form middle new (take more left_bytes) (flow held after)
         → SievesOn form first new (take (done + more) piece) (flow before after)
     sieves_further {new} {after} more step =
@@ -89,7 +89,7 @@ module _ {A : Type 0} where
         (spot_is ∙ ap (λ (f : Form). spot_next f middle.spot g.packet) same)
         (subst (λ (f : Form). ReceivesPacket f middle.spot g.packet middle.client new.client middle.counts new.counts (flow held after)) same step))
 
-    -- or ended the piece
+    -- or ended the chunk
     pub packet_ends : (other : Form) (fault : RunFault) (new : Stage A) (after : Option (List ℕ)) (g : Given) (more : ℕ) → other ≡ form
         → ReadsOn middle.packets (take more left_bytes) (g ∷ []) new.packets → reader_fault_of new.packets ≡ None → is_open new.packets ≡ false
         → ReceivesTo (Err fault) other middle.spot g middle.client new.client middle.counts new.counts (flow held after)

@@ -217,7 +217,7 @@ module _ {A : Type 0} where
         bytes = heard_then (not_ready_where_due (phase_of middle.client) waits) front.bytes stays;
       }
 
-      -- or of which the client received this
+      -- or the client received this of it
       module _ (passed_as : Pkt) (is : sieved_packet form middle.spot g.packet ≡ Ok (Some passed_as)) (count : ℕ) where
         at_spot : sieved_packet form (spot_after form Header front.more) g.packet ≡ Ok (Some passed_as)
         at_spot = subst (λ (s : Spot). sieved_packet form s g.packet ≡ Ok (Some passed_as)) front.spot_is is
@@ -470,7 +470,7 @@ module _ {A : Type 0} where
         sieves = with_last so_far.begins front e.waits e.reads e.sound e.shut r.passed_as r.is r.hears.used r.hears.hears;
       }
 
-    -- what a piece failed with
+    -- what a chunk failed with
     pub piece_failed : (fault : RunFault) (ended : Bool) (piece : List ℕ) → SievesPieceTo (Err fault) form middle new unused (flow held after)
         → SievesTo form (Err fault) ended old new.client waiting piece reader (flow before after)
     piece_failed (Refused fault) ended piece (inl b) = broken_off fault ended b
@@ -483,7 +483,7 @@ module _ {A : Type 0} where
     piece_failed ReadFault ended piece e = absurd e.ends
     piece_failed ReadLimit ended piece e = absurd e.ends
 
-  -- a flush failed, whatever came of the piece
+  -- a flush failed, whatever came of the chunk
   fault_broken : {fault : Fault} {form : Form} {ended : Bool} {old new : Client A} {waiting : List ℕ} {reader : Flow} {before after : Option (List ℕ)}
       → SievesFault fault form ended old new waiting reader (flow before after) → SievesBroken form old new waiting reader (flow before after)
   fault_broken f = record { used = f.used; unused = f.unused; uses = f.uses; sieves = sieves_broken f.sieves }
@@ -501,12 +501,12 @@ module _ {A : Type 0} where
   piece_broken (Err ReadFault) new after so_far waits s = absurd s.ends
   piece_broken (Err ReadLimit) new after so_far waits s = absurd s.ends
 
-  -- ---- a piece, and a flush after it
+  -- ---- a chunk, and a flush after it
 
   module _ {form : Form} {old : Client A} {middle : Stage A} {waiting unused : List ℕ} {reader : Flow} {before held : Option (List ℕ)}
       (so_far : SievedSoFar form old middle waiting unused reader (flow before held)) (waits : wants_input middle.client ≡ true)
       (other : Form) (same : other ≡ form) (new : Stage A) (written after : Option (List ℕ)) (kept : Keeps written after) where
-    -- the piece was passed on
+    -- the chunk was passed on
     pub piece_passed : (used : ℕ) (rest : List ℕ) → drop used unused ≡ rest → SievesInPiece other middle new unused used (flow held written)
         → SievedSoFar form old new waiting rest reader (flow before after)
     piece_passed used rest is step =

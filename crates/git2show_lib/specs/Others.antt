@@ -35,7 +35,7 @@ is_feature word =
     (length word == 0) || bytes_eq word (codes "filter") || bytes_eq word (codes "ref-in-want") || bytes_eq word (codes "shallow")
     || bytes_eq word (codes "unborn") || bytes_eq word (codes "wait-for-done")
 
--- what an argument of theirs begins with that says which objects are wanted
+-- what an argument of theirs that selects the wanted objects begins with
 unfoldable pub is_word_of_objects : List ℕ → Bool
 is_word_of_objects word =
     bytes_eq word (codes "deepen") || bytes_eq word (codes "deepen-not") || bytes_eq word (codes "deepen-relative")
@@ -255,7 +255,7 @@ pub record AreNoPacket (rest : List ℕ) (end : ℕ) (fault : Fault) : Type 0 wh
   pub stops : StopsBy (end - length rest) rest end fault.kind fault.offset
   pub not_the_end : fault.kind ≢ Truncated
 
--- the input ended where a packet was due: reported at the end of the last whole packet
+-- the input ended where a packet was expected: reported at the end of the last whole packet
 pub record AreCutOff (rest : List ℕ) (end : ℕ) (fault : Fault) : Type 0 where
   pub still_open : IsOpen rest
   pub kind : fault.kind ≡ Truncated

@@ -29,7 +29,7 @@ kept_after (blank ∷ before) = 0
 kept_after (command c ∷ before) = 0
 kept_after (argument arg ∷ before) = kept_after before + length (written_text arg)
 
--- the text is this argument of the request that is open, no longer than a line may be, and the limit has room for it
+-- the text is this argument of the request that is open, no longer than a line may be, and within the limit
 pub record IsArgumentAfter (offer : Offer) (limit : ℕ) (before : List ScriptLine) (text : List ℕ) (arg : Arg) : Type 0 where
   pub of : Command
   pub is_open : open_after before ≡ Some of
@@ -43,7 +43,7 @@ MayFollow offer limit before text blank = text ≡ []
 MayFollow offer limit before text (command c) = (open_after before ≡ None) × (text ≡ name_of c)
 MayFollow offer limit before text (argument arg) = IsArgumentAfter offer limit before text arg
 
--- the texts are these lines, each of which may follow those before it
+-- the texts are these lines, and each may follow those before it
 abbrev pub FollowAll : Offer → ℕ → List ScriptLine → List (List ℕ) → List ScriptLine → Type 0
 FollowAll offer limit before [] [] = Unit {0}
 FollowAll offer limit before (text ∷ texts) (line ∷ lines) =
@@ -96,7 +96,7 @@ TakesMemory blank = ⊥
 TakesMemory (command c) = Unit {0}
 TakesMemory (argument arg) = TakesMemoryFor arg
 
--- the maximum number of bytes of a list that the line makes longer, after so many lines: that of the requests, each of which has `each` bytes, has at
+-- the maximum number of bytes of a list that the line makes longer, after so many lines: that of the requests, with `each` bytes each, has at
 -- most one for each line, and a list of an argument has at most the limit
 abbrev pub list_bytes : ℕ → ℕ → ℕ → ScriptLine → ℕ
 list_bytes each limit before (command c) = (before + 1) * each

@@ -15,7 +15,7 @@ use std::alloc::Allocator;
 use std::io::{Read, Write};
 
 /// Receives the advertisement, up to where the client can ask, and notes it. The transcript's lines are written to `out`, which is flushed
-/// before each read and at the end. Answers what of the piece was not used.
+/// before each read and at the end. Answers what of the chunk was not used.
 ///
 /// `Refused` with the first fault of what was received; `ReadFault` where a read fails, `WriteFault` where a write or a flush
 /// does, and `ReadLimit` where the reader has made as many reads as `turns` and needs one more.

@@ -25,7 +25,7 @@ use std::io::{Read, Write};
 /// What a step leaves of the responses.
 #[derive(Clone, Copy, Debug)]
 pub(crate) struct Remaining {
-    /// The bytes of the piece that wait.
+    /// The bytes of the chunk that wait.
     pub(crate) left: Window,
     /// How many bytes passed by the client so far.
     pub(crate) passed: u64,

@@ -59,8 +59,8 @@ impl From<RunFault> for CheckFault {
 /// Checks a recorded conversation: `requests` is what the client sent, and `responses` what the server did, which begins with its
 /// advertisement. Each request is read against what that offers, and has to be one that a client may ask; then the whole response
 /// to it is read. After the last request, which is before a flush alone or at the end of the requests, no byte of the responses may
-/// be left. `ending` is how each response ends. The pieces are where the bytes that are read go, that of the requests first; they
-/// may not be empty. Arguments are kept in memory from `alloc`, up to the usual limit for each request.
+/// be left. `ending` is how each response ends. The chunks are where the bytes that are read go, that of the requests first; they
+/// may not be empty. Arguments are kept in memory from `alloc`, up to the default limit for each request.
 ///
 /// The transcript is written to `out`: a line for each event and for each request. It is flushed before each read and at the end.
 ///
@@ -72,7 +72,7 @@ impl From<RunFault> for CheckFault {
 ///
 /// `Requests` and `Responses` with the first fault that is met in this order: a byte left over is `UnexpectedPacket` at its offset, and
 /// what [`Client::ask`] refuses of a request is a fault of the responses, at the offset where its response would begin. What an
-/// advertisement has beside what is known is kept up to the usual limit: `TooMuchKept`, or `OutOfMemory`, of the responses, at its end. `ReadFault`
+/// advertisement has beside what is known is kept up to the default limit: `TooMuchKept`, or `OutOfMemory`, of the responses, at its end. `ReadFault`
 /// where a read of either stream fails, `WriteFault` where a write or a flush does, and `ReadLimit` where a further read than the
 /// `turns` that are allowed to both would be needed.
 pub fn check<Q: Read, R: Read, O: Write, A: Allocator + Copy>(

@@ -1,4 +1,4 @@
-//! Requests of another client, read from bytes that come in pieces, against all that its server advertised.
+//! Requests of another client, read from bytes that come in chunks, against all that its server advertised.
 
 ghost use Rattle.std.specs.Prelude.{◌≡◌, ◌<◌, ◌≤◌, [], length, true, false};
 ghost use Rattle.git_pkt.specs.Packets.{seen};
@@ -36,10 +36,10 @@ pub(crate) struct Judged<A: Allocator + Copy> {
     pub(crate) others: OtherLines<A>,
 }
 
-/// What came of some bytes of a piece.
+/// What came of some bytes of a chunk.
 #[derive(Drop)]
 pub(crate) struct JudgedRead<A: Allocator + Copy> {
-    /// How many bytes of the piece were used.
+    /// How many bytes of the chunk were used.
     pub(crate) used: usize,
     /// What they brought.
     pub(crate) got: JudgedGot<A>,
@@ -48,13 +48,13 @@ pub(crate) struct JudgedRead<A: Allocator + Copy> {
 /// What the bytes used brought.
 #[derive(Drop)]
 pub(crate) enum JudgedGot<A: Allocator + Copy> {
-    /// Nothing whole yet: all of the piece was used.
+    /// Nothing whole yet: all of the chunk was used.
     More,
     /// A whole request.
     Request(Judged<A>),
     /// A whole request for a command that is not known, and was advertised, with its line.
     Other(OtherLines<A>),
-    /// A flush with nothing before it, by which the other end leaves. Nothing after it is read.
+    /// A flush with nothing before it: the other end leaves. Nothing after it is read.
     Stop,
     /// The first fault of the bytes.
     Failed(Fault),
@@ -125,7 +125,7 @@ impl<A: Allocator + Copy> JudgedRequests<A> {
         }
     }
 
-    /// Reads on. It returns after a whole request, at a flush instead of one, with the whole piece used, or at the first
+    /// Reads on. It returns after a whole request, at a flush instead of one, with the whole chunk used, or at the first
     /// fault. Call it again with the bytes that it did not use.
     pub(crate) fn feed(&mut self, piece: &[u8]) -> JudgedRead<A>
         requires { IsReady self.old }

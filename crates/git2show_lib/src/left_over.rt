@@ -13,7 +13,7 @@ use git_client::Window;
 use git_pkt::{Fault, Kind, Told, receive};
 use std::io::Read;
 
-/// Sees that nothing is left of the responses, after so many bytes of them: nothing waits of the piece, and one more read gives nothing.
+/// Sees that nothing is left of the responses, after so many bytes of them: nothing of the chunk is left, and one more read brings nothing.
 ///
 /// `Responses` with the first byte that is left over, as `UnexpectedPacket`, `ReadFault` where the read fails, and `ReadLimit` where
 /// the reader has made as many reads as `turns`.

@@ -18,13 +18,13 @@ use std::io::Read;
 /// What an answer that passed has left.
 #[derive(Clone, Copy, Debug)]
 pub(crate) struct Passed {
-    /// The bytes of the piece after it.
+    /// The bytes of the chunk after it.
     pub(crate) left: Window,
     /// How many bytes it has.
     pub(crate) count: u64,
 }
 
-/// Passes over an answer: packets up to the one that ends each response, a flush or a response end. What waits of the piece is used first,
+/// Passes over an answer: packets up to the one that ends each response, a flush or a response end. What waits of the chunk is used first,
 /// and then what is read into it.
 ///
 /// `Refused` with what is no packet, at its offset in the answer; `ReadFault` where a read fails, and `ReadLimit` where the reader has made
@@ -75,7 +75,7 @@ pub(crate) fn pass_answer<R: Read>(
     }
 }
 
-/// Passes over what the piece has of an answer. Answers where its last packet ends in the piece, if it does.
+/// Passes over what the chunk has of an answer. Answers where its last packet ends in the chunk, if it does.
 fn pass_piece(
     packets: &mut PacketReader,
     ending: Ending,

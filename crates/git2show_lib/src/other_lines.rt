@@ -37,7 +37,7 @@ impl Asks {
         }
     }
 
-    /// The same with an argument more, of which this is the first word.
+    /// The same with one more argument. This is its first word.
     #[tactic(auto, unfolding(crate::specs::OtherLines::asks_word))]
     fn with_word(self, word: &[u8]) -> Asks
         ensures { result ≡ asks_word self word.now }

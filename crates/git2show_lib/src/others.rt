@@ -310,7 +310,7 @@ fn is_own_word(word: &[u8]) -> bool
     is_feature(word) || is_word_of_objects(word) || is_word_of_answers(word)
 }
 
-/// Whether an argument begins so that says which objects are wanted.
+/// Whether an argument that selects the wanted objects begins so.
 #[tactic(auto, unfolding(crate::specs::Others::is_word_of_objects))]
 fn is_word_of_objects(word: &[u8]) -> bool
     ensures { result ≡ is_word_of_objects word.now }
@@ -325,7 +325,7 @@ fn is_word_of_objects(word: &[u8]) -> bool
         || is_word(word, b"want-ref")
 }
 
-/// Whether an argument begins so that says how the answer is to be.
+/// Whether an argument that changes the form of the answer begins so.
 #[tactic(auto, unfolding(crate::specs::Others::is_word_of_answers))]
 fn is_word_of_answers(word: &[u8]) -> bool
     ensures { result ≡ is_word_of_answers word.now }

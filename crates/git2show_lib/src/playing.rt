@@ -21,7 +21,7 @@ use git_server::{Pulled, Repo, Server};
 use std::alloc::Allocator;
 use std::io::Write;
 
-/// Hears one whole packet, or nothing, in pieces of at most `cut` bytes, up to where the client can ask. The progress is dropped. Answers
+/// Receives one whole packet, or nothing, in chunks of at most `cut` bytes, up to where the client can ask. The progress is dropped. Answers
 /// how many bytes were used.
 fn hear_packet<O: Write, P: Output, A: Allocator + Copy>(
     client: &mut Client<A>,
@@ -84,7 +84,7 @@ fn hear_server<R: Repo, O: Write, P: Output, A: Allocator + Copy>(
 /// Hears a message of a server, the advertisement or a response, and what comes after it: a response end, or nothing. Both writers are
 /// flushed.
 ///
-/// `Refused` with the first fault of what was received, truncated where the server gives nothing more and more is due; `WriteFault` where a
+/// `Refused` with the first fault of what was received, truncated if the server sends nothing more and more is expected; `WriteFault` where a
 /// write or a flush fails.
 fn hear_message<R: Repo, O: Write, P: Output, A: Allocator + Copy>(
     client: &mut Client<A>,
@@ -115,9 +115,9 @@ fn hear_message<R: Repo, O: Write, P: Output, A: Allocator + Copy>(
     end_message(client, out, pack)
 }
 
-/// Flushes both writers after a message of which nothing more comes.
+/// Flushes both writers after the end of a message.
 ///
-/// `Refused`, truncated, where more of it is due; `WriteFault` where a flush fails.
+/// `Refused`, truncated, if more of it is expected; `WriteFault` if a flush fails.
 fn end_message<O: Write, P: Output, A: Allocator + Copy>(
     client: &mut Client<A>,
     out: &mut Told<O>,
@@ -139,7 +139,7 @@ fn end_message<O: Write, P: Output, A: Allocator + Copy>(
     Ok(())
 }
 
-/// Sends one packet to a server, in pieces of at most `cut` bytes. Bytes for which the server does not wait any more are dropped.
+/// Sends one packet to a server, in chunks of at most `cut` bytes. Bytes for which the server does not wait any more are dropped.
 fn tell_packet<R: Repo, A: Allocator + Copy>(server: &mut Server<R, A>, packet: &[u8], cut: usize)
     requires cut { 0 < cut }
     ensures told { StandsOn R.state server.old packet.now [] server.new }
@@ -152,7 +152,7 @@ fn tell_packet<R: Repo, A: Allocator + Copy>(server: &mut Server<R, A>, packet: 
     }
 }
 
-/// Sends all that the client owes to a server.
+/// Sends all that the client has for a server.
 fn tell_all<R: Repo, A: Allocator + Copy>(
     client: &mut Client<A>,
     server: &mut Server<R, A>,
@@ -218,15 +218,15 @@ fn answer_request<R: Repo, O: Write, P: Output, A: Allocator + Copy>(
 }
 
 /// Plays both ends against each other in memory: a client of the repository's format asks the requests in their order of a server of the
-/// repository that offers everything, by gitprotocol-v2(5), and each receives from the other in pieces of at most `cut` bytes. Where each
+/// repository that offers everything, by gitprotocol-v2(5), and each receives from the other in chunks of at most `cut` bytes. Where each
 /// response ends with its flush alone one server answers all requests, and the client leaves it after the last. Where a response end comes
 /// after each, the first server only advertises, and each request is answered by one that does not, and then the client gets the response
-/// end. A server keeps arguments in memory from `alloc`, up to the usual limit for each request.
+/// end. A server keeps arguments in memory from `alloc`, up to the default limit for each request.
 ///
 /// The client's transcript is written to `out`, and what came of packs, in order, to `pack`. Both are flushed after each response. The
 /// repository is handed back: a pack breaks off only where more of its reads have failed since.
 ///
-/// `Refused` with the first fault of what the client received, truncated where the server gives nothing more and more is due, or with
+/// `Refused` with the first fault of what the client received, truncated if the server sends nothing more and more is expected, or with
 /// what [`Client::ask`] refused of a request; `WriteFault` where a write or a flush fails. No other fault is met.
 pub fn play<R: Repo + Drop, O: Write, P: Output, A: Allocator + Copy>(
     alloc: A,

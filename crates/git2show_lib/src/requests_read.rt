@@ -28,7 +28,7 @@ pub(crate) enum Next<A: Allocator + Copy> {
     Nothing,
 }
 
-/// Reads the next request. What waits of the piece is read first, and then what is read into it; afterwards that of the piece waits
+/// Reads the next request. What waits of the chunk is read first, and then what is read into it; afterwards that of the chunk waits
 /// which was not used.
 ///
 /// `Requests` with the first fault of the requests, `ReadFault` where a read fails, and `ReadLimit` where the reader has made as many

@@ -14,7 +14,7 @@ use git_repository::{LineFault, TextFault};
 /// A request is a line that names its command (`ls-refs`, `fetch` or `object-info`) and then a line for each of its
 /// arguments, as gitprotocol-v2(5) spells them and as one who offers everything reads them. An empty line or the end of
 /// the text ends it, and further empty lines are passed over. Lines are parted by LF, which the last may lack, and have at most
-/// [`git_repository::LONGEST_LINE`] bytes. The first line that is none of these, or whose argument has no room within the limit, is
+/// [`git_repository::LONGEST_LINE`] bytes. The first line that is none of these, or whose argument exceeds the limit, is
 /// `Bad`. `OutOfMemory` is reported at a line that is allowed there, of a command or of an argument that takes memory, and only where
 /// `alloc` refused a list: that of the requests, or one of an argument that was to have at most the bytes of the limit. All memory
 /// comes from `alloc`. What is judged at the end of a request, as that a fetch wants nothing, is not judged here.

@@ -21,8 +21,8 @@ use git_pkt::{
 use std::alloc::Allocator;
 use std::io::{Read, Write};
 
-/// Receives the expected response, in this form, until the client can ask. It first uses what waits of the piece, and then what is read into it. The
-/// transcript's lines are written to `out`, which is flushed before each read and at the end. Answers what of the piece was not used, and how many
+/// Receives the expected response, in this form, until the client can ask. It first uses what waits of the chunk, and then what is read into it. The
+/// transcript's lines are written to `out`, which is flushed before each read and at the end. Answers what of the chunk was not used, and how many
 /// bytes the response has.
 ///
 /// `Refused` with the first fault of the response, at the offset in it of the packet that has it; `ReadFault` where a read fails, `WriteFault` where a
@@ -88,7 +88,7 @@ pub(crate) fn receive_sieved<R: Read, O: Write, A: Allocator + Copy>(
     }
 }
 
-/// Passes on the packets of a piece, until the client can ask. Answers how many bytes of the piece were used.
+/// Passes on the packets of a chunk, until the client can ask. Answers how many bytes of the chunk were used.
 fn receive_packets<O: Write, A: Allocator + Copy>(
     client: &mut Client<A>,
     counts: &mut Counts,

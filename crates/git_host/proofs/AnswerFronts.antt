@@ -1,4 +1,4 @@
--- What was given of an answer, of whichever command, is the front of a whole one.
+-- What was sent of an answer, of whichever command, is the front of a whole one.
 use Rattle.std.proofs.Common.{arith, ◌≡◌, ℕ, zero, suc, ◌+◌, ◌-◌, ◌<◌, ◌≤◌, Bool, true, false, ◌||◌, All, List, [], ◌∷◌, ◌++◌, length, map, take, drop}
 use Rattle.std.proofs.Common.{replicate}
 use Rattle.std.proofs.Common.{Option, Some, None, codes, refl, sym, ap, ◌∙◌, append_assoc, append-nil, length-append, subst, ◌⊎◌, inl, inr}

@@ -1,4 +1,4 @@
--- What was given of an answer to a fetch is the front of a whole one.
+-- What was sent of an answer to a fetch is the front of a whole one.
 use Rattle.std.proofs.Common.{arith, ◌≡◌, ℕ, zero, suc, ◌+◌, ◌-◌, ◌≤◌, Bool, true, false, List, [], ◌∷◌, ◌++◌, length, map}
 use Rattle.std.proofs.Common.{refl, sym, ap, append_assoc, append-nil, length-append, subst}
 use Rattle.git_names.specs.ObjectName.{ObjectName}
@@ -139,7 +139,7 @@ completes Pack q t given all unlost h = from_pack q t all given h
 completes AtEnd q t given all unlost h = completed q t given h
 completes AtLoss q t given all unlost h = absurd (unlost refl)
 
--- ---- no more was given than what comes before the pack
+-- ---- no more was sent than what comes before the pack
 
 acks_fit : (ids : List ObjectName) → length (map ack_packet ids) ≤ length (nak_or_acks ids)
 acks_fit [] = omega arith

@@ -117,7 +117,7 @@ module _ {A : Type 0} where
   pub no_progress_goes : (old : HostAnswer A) (bytes : List ℕ) → bytes ≡ [] → GoesOn (on_fetch (with_progress (part_of bytes))) old old
   no_progress_goes old bytes none m q f front h = subst (λ (x : Facts). IsAnswering m old q x front) (sym (no_progress bytes none f)) h
 
-  -- what no fact tells apart
+  -- what no fact distinguishes
   pub gives_same : (old new : HostAnswer A) (bytes : List ℕ) → GivesOn (on_fetch (λ t. t)) old bytes new → GivesOn (λ f. f) old bytes new
   gives_same old new bytes gives m q f front h =
       let (packet, held, is) = gives m q f front h in
@@ -182,7 +182,7 @@ module _ {A : Type 0} where
     taken_by report with bytes true asks goes taken done = (goes done, taken)
     taken_by report with bytes false asks goes taken same = (fetch_same same, λ is_wanted. absurd (let is = asks is_wanted in cc))
 
-    -- a report for which a packet is given, if it was asked for
+    -- a report for which a packet is sent, if it was asked for
     pub fetch_packet : (old : HostAnswer A) (report : Report) (with : FetchFacts → FetchFacts) (r : HostReported) (bytes : List ℕ) (asked : Bool)
         → old ≡ Fetch a → r ≡ packet_where asked → (IsAskedFor report (Fetch a) → asked ≡ true)
         → (ReportsAndGives with a bytes b → GivesOn (with_report report) (Fetch a) bytes (Fetch b)) → (asked ≡ true → EndsAs report (Fetch b))
@@ -191,7 +191,7 @@ module _ {A : Type 0} where
         subst (λ (o : HostAnswer A). ReportsBy report o r bytes (Fetch b)) (sym was)
         (subst (λ (x : HostReported). ReportsBy report (Fetch a) x bytes (Fetch b)) (sym is) (packet_by report with bytes asked asks gives ends done))
 
-    -- and one for which none is given
+    -- and one for which none is sent
     pub fetch_taken : (old : HostAnswer A) (report : Report) (with : FetchFacts → FetchFacts) (r : HostReported) (bytes : List ℕ) (asked : Bool)
         → old ≡ Fetch a → r ≡ taken_where asked → (IsAskedFor report (Fetch a) → asked ≡ true)
         → (ReportsAlone with a b → GoesOn (with_report report) (Fetch a) (Fetch b)) → IsTaken report (Fetch b)

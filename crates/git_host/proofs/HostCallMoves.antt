@@ -83,7 +83,7 @@ module _ {A : Type 0} (refuses : ℕ → Type 0) where
   one_call s nothing before old after new made used over facts given h =
       more_used s used over facts (given ++ []) new (more_given s used over facts given [] new refl (made.0 s used over facts given h))
 
-  -- a packet that is given has bytes
+  -- a packet that is sent has bytes
   one_packet : (s : HostSetting) (call : HostCall) (before : ℕ) (old : HostServer A) (after : ℕ) (new : HostServer A) → Makes refuses call before old after new
       → (used : List ℕ) (over : Bool) (facts : List Facts) (given : List ℕ) → Hosts s used over facts given old → HandsOut call
   one_packet s (feed piece count begun) before old after new made used over facts given h = tt

@@ -1,4 +1,4 @@
--- The fault by which a session of a host's server ends: the host's own, or want of memory where memory refused a list.
+-- The fault that ends a session of a host's server: the host's own, or lack of memory if memory refused a list.
 use Rattle.std.proofs.Common.{arith, ◌≡◌, ◌≢◌, ℕ, ◌-◌, Bool, true, false, List, [], ◌++◌, length, Option, Some, None, refl, sym, ap, ◌∙◌, subst, inl, inr}
 use Rattle.git_pkt.specs.Splits.{Given, SpellsAll}
 use Rattle.git_pkt.specs.Faults.{StopsBy as StopsAt}

@@ -218,7 +218,7 @@ module _ {A : Type 0} (s : HostSetting) (used : List ℕ) (over : Bool) (reporte
             (record { same = refl; bounded = bounded; nothing = refl; none = refl });
       }
 
-  -- the advertisement was given
+  -- the advertisement was sent
   pub advertised_now : (old : RequestStream A) (hold : ArrayVec ℕ) → IsLent old hold stream → length hold.items ≤ 65520
       → hold.items ≡ spelled (advertisement_of s.offer) → IsAdvertising s used over reported given old
       → IsReading s used over reported (given ++ hold_of stream) stream × AreHandedOut (hold_of stream)
@@ -239,7 +239,7 @@ module _ {A : Type 0} (s : HostSetting) (used : List ℕ) (over : Bool) (reporte
     lent_handed old hold stream lent (omega (arith, ap length written, some_packets (advertisement_of s.offer) (some_advertised s.offer))) fits,
   )
 
-  -- the error packet of a fault of the input was given
+  -- the error packet of a fault of the input was sent
   pub fault_reported : (old : RequestStream A) (hold : ArrayVec ℕ) (fault : Fault) → IsLent old hold stream → length hold.items ≤ 65520
       → hold.items ≡ spelling_of (error_packet fault) → IsRefusing s used over reported given old fault
       → IsHosted s used over reported (given ++ hold_of stream) (Refused fault) × AreHandedOut (hold_of stream)
@@ -388,7 +388,7 @@ module _ {A : Type 0} (s : HostSetting) (used : List ℕ) (over : Bool) (facts :
         },
       )
 
-  -- what is asked cannot be had, and nothing of a pack was given
+  -- the store cannot answer, and nothing of a pack was sent
   pub cut_done : IsCut a → hold.items ≡ spelling_of (error_packet (record { kind = PackSource; offset = flush }))
       → IsHosted s used over facts (given ++ hold_of new) (ended_by PackSource flush)
   cut_done cut written =

@@ -36,7 +36,7 @@ use Rattle.git_host.proofs.HostedAnswers.{all_answers, as_answers, as_requests, 
 use Rattle.git_host.proofs.RepositoryFacts.{reported_answers}
 
 module _ (offer : Offer) (limit : ℕ) (bars : Arg → Option Kind) where
-  -- of lines of which no front ends with an argument that is refused, no argument is
+  -- if no front of lines ends with an argument that is refused, no argument is
   admitted_from : (done gs : List Given) (before lines : List Line) → AreLines offer limit [] done before → AreAdmitted bars before
       → AreLines offer limit before gs lines → ((front more : List Given) → done ++ gs ≡ front ++ more → IsUnbarred offer limit bars front)
       → AreAdmitted bars (before ++ lines)

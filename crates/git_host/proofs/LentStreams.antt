@@ -1,4 +1,4 @@
--- What was given for the last request of a session, and a stream whose hold was lent.
+-- What was sent for the last request of a session, and a stream whose hold was lent.
 use Rattle.std.proofs.Common.{arith, ◌≡◌, ◌≢◌, ℕ, ◌≤◌, Bool, true, false, List, [], ◌∷◌, ◌++◌, length}
 use Rattle.std.proofs.Common.{refl, sym, ap, ◌∙◌, subst}
 use Rattle.std.proofs.Common.{append_assoc, append-nil, length-append}

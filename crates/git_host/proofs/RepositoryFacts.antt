@@ -1,4 +1,4 @@
--- What is given by what was reported is an answer of each repository that answers so.
+-- What is sent for what was reported is an answer of each repository that answers so.
 use Rattle.std.proofs.Common.{arith, ◌≡◌, ℕ, ◌<◌, Bool, true, false, not, ◌&&◌, List, [], ◌∷◌, ◌++◌}
 use Rattle.std.proofs.Common.{length, map, codes, if◌then◌else◌, refl, sym, ap, ◌∙◌, append_assoc, subst, inl, inr}
 use Rattle.std.specs.List.{filter, filter_map}

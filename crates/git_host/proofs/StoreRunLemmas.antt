@@ -136,7 +136,7 @@ module _ {S A : Type 0} (begins : S → Asked → S → Type 0) (replies : S →
             };
           }
 
-      -- if it needs input, all answers were given
+      -- if it needs input, all answers were sent
       waits : (moves : List Move) (unused : List ℕ)
           → Hosts s (before ++ used_in moves) (over_after false moves) (facts_after facts moves) (given ++ given_in moves) (server_of new)
           → RunWaits hosted_states unused (over_after false moves)

@@ -41,7 +41,7 @@ same_refused HeadTwice report facts refused = same_last facts
 same_refused NotShallow report facts refused = same_last facts
 same_refused OutOfMemory report facts refused = same_last facts
 
--- no bytes are given for a report that was refused
+-- no bytes are sent for a report that was refused
 none_given : {A : Type 0} (why : HostReported) (server : HostServer A) → is_taken why ≡ false → given_with why server.stream ≡ []
 none_given Packet server refused = absurd (cc)
 none_given Taken server refused = absurd (cc)

@@ -8,7 +8,7 @@ use Rattle.git_host.specs.declared.admission.Admission.{Admission}
 use Rattle.git_host.specs.declared.fetch_answer.FetchAnswer.{FetchAnswer}
 
 module _ {A : Type 0} where
-  -- the answer to the request that was admitted, of which nothing was given
+  -- the answer to the request that was admitted, before its first packet
   pub record BecomesAnswer (old : Admission A) (answer : FetchAnswer A) : Type 0 where
     pub request : fetch_request answer ≡ request_of old
     pub format : fetch_format answer ≡ format_of old

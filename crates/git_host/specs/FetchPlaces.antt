@@ -1,4 +1,4 @@
--- How far an answer to `fetch` has come, by what was reported and what was given.
+-- How far an answer to `fetch` has come, by what was reported and what was sent.
 use Rattle.std.specs.Prelude.{◌≡◌, ◌≢◌, ℕ, ◌<◌, ◌≤◌, Bool, true, false, not, List, [], ◌∷◌, ◌++◌, length, map, take, codes}
 use Rattle.git_names.specs.declared.object_format.Format.{Format}
 use Rattle.git_pkt.specs.Packets.{Pkt, body_of, longest_payload, spelling_of}
@@ -113,7 +113,7 @@ pub record AtWantedHeader (q : FetchAsked) (t : FetchFacts) (given : List Pkt) :
   pub given_is : given ≡ opening q t ++ shallow_info t.boundary
   pub no_pack : NoPack t
 
--- the lines of the wanted references were given up to this place
+-- the lines of the wanted references were sent up to this place
 pub record AtWanted (next : ℕ) (q : FetchAsked) (t : FetchFacts) (given : List Pkt) : Type 0 where
   pub opened : IsOpened q t
   pub some : is_empty q.want_refs ≡ false
@@ -131,7 +131,7 @@ pub record AtPack (q : FetchAsked) (t : FetchFacts) (given : List Pkt) : Type 0 
   pub are_parts : AreParts t.pack t.progress parts
   pub given_is : given ≡ before_pack q t ++ (packfile_header ∷ parts)
 
--- by the place, what was reported and what was given
+-- by the place, what was reported and what was sent
 abbrev pub StandsAt : Place → FetchAsked → FetchFacts → List Pkt → Type 0
 StandsAt Header q t given = AtHeader q t given
 StandsAt (Have next any) q t given = AtHave next any q t given
@@ -193,7 +193,7 @@ module _ {A : Type 0} where
   abbrev pub step_of : FetchAnswer A → Step
   step_of answer = step_at (only_negotiates (asked_of answer)) answer.place
 
-  -- these facts were reported, and these packets were given
+  -- these facts were reported, and these packets were sent
   pub record Represents (t : FetchFacts) (given : List Pkt) (answer : FetchAnswer A) : Type 0 where
     pub wanted : t.wanted ≡ answer.wanted.items
     pub all : length t.wanted ≡ length (asked_of answer).want_refs
@@ -206,7 +206,7 @@ module _ {A : Type 0} where
     pub format : new.format ≡ old.format
     pub wanted : new.wanted ≡ old.wanted
 
-  -- these bytes are the next packet, and P holds of all that was given with it
+  -- these bytes are the next packet, and P holds of all that was sent with it
   pub record Gives (given : List Pkt) (bytes : List ℕ) (old new : FetchAnswer A) (P : List Pkt → Type 0) : Type 0 where
     pub packet : Pkt
     pub held : Holds bytes packet
@@ -218,7 +218,7 @@ module _ {A : Type 0} where
   ReportsAndGives with old bytes new = (t : FetchFacts) (given : List Pkt) → Represents t given old
       → Gives given bytes old new (λ packets. Represents (with t) packets new)
 
-  -- the facts become these, and no packet is given
+  -- the facts become these, and no packet is sent
   abbrev pub ReportsAlone : (FetchFacts → FetchFacts) → FetchAnswer A → FetchAnswer A → Type 0
   ReportsAlone with old new =
       (t : FetchFacts) (given : List Pkt) → Represents t given old → IsToTheSame old new × Represents (with t) given new

@@ -1,4 +1,4 @@
--- How far the answer to the request at hand has come, by what was reported and what was given; and what a report does.
+-- How far the answer to the request at hand has come, by what was reported and what was sent; and what a report does.
 use Rattle.std.specs.Prelude.{◌≡◌, ◌≢◌, ℕ, ◌≤◌, Bool, true, false, ◌||◌, List, [], ◌∷◌, ◌++◌, take, Option, Some, None}
 use Rattle.git_names.specs.ObjectName.{ObjectName}
 use Rattle.git_names.specs.declared.object_format.Format.{Format}
@@ -124,7 +124,7 @@ with_reported Taken report f = with_report report f
 with_reported Hidden report f = with_hidden report f
 with_reported _ report f = f
 
--- what came of a report whose packet was given, if it was asked for
+-- what came of a report whose packet was sent, if it was asked for
 abbrev pub packet_where : Bool → HostReported
 packet_where true = Packet
 packet_where false = NotAsked
@@ -205,7 +205,7 @@ pub record IsWithinLimit {Q : Type 0} (limit : ℕ) (request : Kept Q) : Type 0 
   pub within : request.kept ≤ limit
 
 module _ {A : Type 0} where
-  -- an admission stands so: it is not through, nothing was reported for the answer but the objects of wanted references, and no packet was given
+  -- an admission stands so: it is not through, nothing was reported for the answer but the objects of wanted references, and no packet was sent
   pub record IsAdmitting (m : Terms) (q : FetchAsked) (a : AdmissionFacts) (t : FetchFacts) (front : List Pkt)
       (admission : AdmissionMachine A) : Type 0 where
     pub asked : asked_of admission ≡ q
@@ -235,7 +235,7 @@ module _ {A : Type 0} where
     pub bounded : IsWithinLimit m.limit answer.request
     pub represents : RepresentsSizes sizes front answer
 
-  -- for the request this was reported, and these packets were given
+  -- for the request this was reported, and these packets were sent
   abbrev pub IsAnswering : Terms → HostAnswer A → Asked → Facts → List Pkt → Type 0
   IsAnswering m (Admission admission) (fetch q) (of_fetch a t) front = IsAdmitting m q a t front admission
   IsAnswering m (Fetch answer) (fetch q) (of_fetch a t) front = IsFetching m q a t front answer
@@ -244,7 +244,7 @@ module _ {A : Type 0} where
   IsAnswering m Whole q f front = IsAnswerBy whole m.format q f front
   IsAnswering m _ _ _ _ = ⊥
 
-  -- an answer to the request begins, of which nothing was reported or given
+  -- an answer to the request begins, and nothing was reported or sent for it
   abbrev pub IsBegun : Format → Request A → HostAnswer A → Type 0
   IsBegun format request answer = (m : Terms) → m.format ≡ format → IsWithinLimit m.limit (holding_of request)
       → IsAnswering m answer (request_asked request) (nothing_for (request_asked request)) []
@@ -263,16 +263,16 @@ module _ {A : Type 0} where
   GivesOn with old bytes new = (m : Terms) (q : Asked) (f : Facts) (front : List Pkt) → IsAnswering m old q f front
       → (packet : Pkt) × (bytes ≡ spelling_of packet) × IsAnswering m new q (with f) (front ++ packet ∷ [])
 
-  -- what was reported becomes this, and no packet is given
+  -- what was reported becomes this, and no packet is sent
   abbrev pub GoesOn : (Facts → Facts) → HostAnswer A → HostAnswer A → Type 0
   GoesOn with old new = (m : Terms) (q : Asked) (f : Facts) (front : List Pkt) → IsAnswering m old q f front
       → IsAnswering m new q (with f) front
 
-  -- what was given is an answer, whole or broken off
+  -- what was sent is an answer, whole or broken off
   abbrev pub IsGiven : Manner → HostAnswer A → Type 0
   IsGiven manner old = (m : Terms) (q : Asked) (f : Facts) (front : List Pkt) → IsAnswering m old q f front → IsAnswerBy manner m.format q f front
 
-  -- the store lacks what is asked for, and nothing was given
+  -- the store lacks what is asked for, and nothing was sent
   abbrev pub LacksIt : Kind → HostAnswer A → Type 0
   LacksIt kind old = (m : Terms) (q : Asked) (f : Facts) (front : List Pkt) → IsAnswering m old q f front → IsLacking kind q f × (front ≡ [])
 
@@ -336,7 +336,7 @@ module _ {A : Type 0} where
   IsUnwanted (Unborn target) answer = Unit {0}
   IsUnwanted report answer = ⊥
 
-  -- for what was reported no packet is given: what the store has of what is asked for, that a boundary has no line, and no bytes at all
+  -- for what was reported no packet is sent: what the store has of what is asked for, that a boundary has no line, and no bytes at all
   abbrev pub IsTaken : Report → HostAnswer A → Type 0
   IsTaken (Want has) answer = Unit {0}
   IsTaken (WantRef id) answer = Unit {0}
@@ -353,7 +353,7 @@ module _ {A : Type 0} where
   EndsAs Failed answer = ⊥
   EndsAs report answer = Unit {0}
 
-  -- what was given is the front of an answer, before its pack
+  -- what was sent is the front of an answer, before its pack
   abbrev pub IsCut : HostAnswer A → Type 0
   IsCut old = (m : Terms) (q : Asked) (f : Facts) (front : List Pkt) → IsAnswering m old q f front
       → IsFrontBy m.format q f front × IsBeforePack q f front

@@ -17,7 +17,7 @@ use Rattle.git_host.specs.declared.report.HostStep.{HostStep}
 use Rattle.git_host.specs.declared.report.HostStep.TheVariants.{Packet}
 use Rattle.git_host.specs.declared.report.Report.{Report}
 
--- a call that changed a server: `feed` of a piece, of which so many bytes were used, and what it adds to what was reported, where a request came;
+-- a call that changed a server: `feed` of a chunk, with how many bytes of it were used, and what it adds to what was reported, where a request came;
 -- `close`; `next` with what it returned, and the bytes that it gave; `report` with what came of it, and the bytes that it gave; `accept`;
 -- `refuse` with its text, and the bytes that it gave; or one of these that returned that it may not be made then
 pub data HostCall : Type 0 where
@@ -106,7 +106,7 @@ module _ {A : Type 0} where
   given_at step new = []
 
 module _ {A : Type 0} (refuses : ℕ → Type 0) where
-  -- what `feed` ensures of this piece, of which it used so many bytes: the counter of steps rose from `before` to `after`
+  -- what `feed` ensures of this chunk, if it used so many bytes: the counter of steps rose from `before` to `after`
   pub record Feeds (piece : List ℕ) (used : ℕ) (begun : List Facts) (before : ℕ) (old : HostServer A) (after : ℕ) (new : HostServer A) : Type 0 where
     pub within : used ≤ length piece
     pub begun_is : begun ≡ begun_in old.phase new.phase
@@ -149,10 +149,10 @@ module _ {A : Type 0} (refuses : ℕ → Type 0) where
     -- only where it refused one
     pub memory : FaultNeedsRefusal refuses s.limit (fault_of server)
     pub reports : Each (LacksMemory refuses) calls
-    -- if the session has ended, what was given is what the input calls for by what was reported of each request, and it ended so
+    -- if the session has ended, what was sent is what the input calls for by what was reported of each request, and it ended so
     pub ends : (outcome : Outcome) → outcome_of server ≡ Some outcome
         → IsHosted s (used_in calls) (over_after false calls) (reported_after [] calls) (given_in calls) outcome
-    -- while a request is asked about or answered, each one before it was answered, and for it the front of an answer was given; or as much as
+    -- while a request is asked about or answered, each one before it was answered, and for it the front of an answer was sent; or as much as
     -- could be had of its pack; or nothing, since the store lacks what it asks for
     pub answers : (asked : Asked) → request_of server ≡ Some asked
         → IsUnderWay s (used_in calls) (over_after false calls) (reported_after [] calls) (given_in calls)

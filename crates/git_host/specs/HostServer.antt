@@ -93,13 +93,13 @@ module _ {A : Type 0} where
     pub none_reported : reported ≡ []
     pub none_given : given ≡ []
 
-  -- all was given
+  -- all was sent
   pub record IsReading (s : HostSetting) (used : List ℕ) (over : Bool) (reported : List Facts) (given : List ℕ) (stream : RequestStream A) : Type 0 where
     pub asked : List Asked
     pub reads : ReadsOn s used over asked stream
     pub all : AllAnswered s asked reported given
 
-  -- a whole request came, the last, whose flush is at this offset, and P holds of it, of what was reported for it and of what was given for it
+  -- a whole request came, the last, whose flush is at this offset, and P holds of it, of what was reported for it and of what was sent for it
   pub record IsAtRequest (s : HostSetting) (used : List ℕ) (over : Bool) (reported : List Facts) (given : List ℕ) (stream : RequestStream A) (flush : ℕ)
       (P : Asked → Facts → List Pkt → Type 0) : Type 0 where
     pub asked : List Asked
@@ -127,14 +127,14 @@ module _ {A : Type 0} where
   HostsIn (Refusing fault) s used over reported given stream flush = IsRefusing s used over reported given stream fault
   HostsIn (Ended outcome) s used over reported given stream flush = IsHosted s used over reported given outcome
 
-  -- the server has used these bytes, with which the input has ended or not, this was reported for their requests, and those bytes were given
+  -- the server has used these bytes, with which the input has ended or not, this was reported for their requests, and those bytes were sent
   pub record Hosts (s : HostSetting) (used : List ℕ) (over : Bool) (reported : List Facts) (given : List ℕ) (server : HostServer A) : Type 0 where
     pub offer : server.offer ≡ s.offer
     pub limit : server.limits.args ≡ s.limit
     pub reads_within : limit_of server.stream ≡ s.limit
     pub stands : HostsIn server.phase s used over reported given server.stream server.flush
 
-  -- the bytes of the packet that was given last
+  -- the bytes of the packet that was sent last
   abbrev pub bytes_of : HostServer A → List ℕ
   bytes_of server = hold_of server.stream
 
@@ -192,7 +192,7 @@ module _ {A : Type 0} where
   abbrev pub fault_of : HostServer A → Option Fault
   fault_of server = fault_in server.phase
 
-  -- of a piece with bytes a server that waits for some uses one at least, or the input is refused
+  -- of a chunk with bytes a server that waits for some uses one at least, or the input is refused
   abbrev pub MovesHost : HostServer A → List ℕ → ℕ → HostServer A → Type 0
   MovesHost old piece used new =
       (s : HostSetting) (so_far : List ℕ) (over : Bool) (reported : List Facts) (given : List ℕ) → Hosts s so_far over reported given old
@@ -239,7 +239,7 @@ module _ {A : Type 0} where
   WaitsFor (HasEnded outcome) (Ended same) = outcome ≡ same
   WaitsFor step phase = ⊥
 
-  -- what `next` does: it gives a packet, or says what the server waits for
+  -- what `next` does: it gives a packet, or states what the server waits for
   abbrev pub StepsHost : HostServer A → HostStep → HostServer A → Type 0
   StepsHost old GivesPacket new = (s : HostSetting) (used : List ℕ) (over : Bool) (reported : List Facts) (given : List ℕ)
       → Hosts s used over reported given old
@@ -252,7 +252,7 @@ module _ {A : Type 0} where
   given_with WasGiven stream = hold_of stream
   given_with reported stream = []
 
-  -- a report whose packet was given has one
+  -- a report whose packet was sent has one
   abbrev pub IsGivenWith : HostReported → RequestStream A → Type 0
   IsGivenWith WasGiven stream = AreHandedOut (hold_of stream)
   IsGivenWith reported stream = Unit {0}
@@ -265,7 +265,7 @@ module _ {A : Type 0} where
   HasReason report (Answering answer) reported = IsReason report answer reported
   HasReason report phase reported = reported ≡ NotAsked
 
-  -- what a report leads to: the end of a pack, and that what is asked cannot be had, by which the session ends, or does so once that is looked at
+  -- what a report leads to: the end of a pack, and that the store cannot answer, which ends the session at once, or as soon as that is looked at
   abbrev pub EndsHost : Report → HostReported → Phase A → Type 0
   EndsHost report WasGiven (Answering answer) = EndsAs report answer
   EndsHost report Taken (Answering answer) = IsTaken report answer

@@ -1,4 +1,4 @@
--- Sessions over a host's own store: what is given for the bytes used, by what was reported for each request. No machine is named here.
+-- Sessions over a host's own store: what is sent for the bytes used, by what was reported for each request. No machine is named here.
 use Rattle.std.specs.Prelude.{◌≡◌, ◌≢◌, ◌⊎◌, ℕ, ◌+◌, ◌≤◌, Bool, true, false, if◌then◌else◌, List, [], ◌∷◌, ◌++◌, length, Option, Some, codes}
 use Rattle.std.specs.Option.{ForSome}
 use Rattle.git_names.specs.declared.object_format.Format.{Format}
@@ -55,7 +55,7 @@ pub record HostSetting : Type 0 where
   pub limit : ℕ
   pub advertise : Bool
 
--- what is given before the first answer
+-- what is sent before the first answer
 abbrev pub advertised : HostSetting → List Pkt
 advertised s = if s.advertise then advertisement_of s.offer else []
 
@@ -94,13 +94,13 @@ EndsBy s over left rest end Flush = (over ≡ false) × IsStop left × (rest ≡
 EndsBy s over left rest end Closed = (over ≡ true) × (left ≡ []) × (rest ≡ [])
 EndsBy s over left rest end (Refused fault) = ShowsWhere over fault.kind × IsRefusedAs s.offer s.limit left rest end fault
 
--- what is given at the end: an error packet, if the client sent something that is refused and no error packet
+-- what is sent at the end: an error packet, if the client sent something that is refused and no error packet
 abbrev pub tail_of : Outcome → List Pkt
 tail_of Flush = []
 tail_of Closed = []
 tail_of (Refused fault) = refusal_by fault.kind fault
 
--- the bytes end the session, and each whole request before that was answered: those bytes were given, but for the tail
+-- the bytes end the session, and each whole request before that was answered: those bytes were sent, but for the tail
 pub record StopsBy (s : HostSetting) (used : List ℕ) (over : Bool) (reported : List Facts) (given : List ℕ) (outcome : Outcome) : Type 0 where
   pub asked : List Asked
   pub left : List Given
@@ -118,7 +118,7 @@ abbrev pub IsLacking : Kind → Asked → Facts → Type 0
 IsLacking kind (fetch q) (of_fetch a t) = IsRefusedBy kind q a
 IsLacking kind q f = ⊥
 
--- ---- what is given before an answer is whole
+-- ---- what is sent before an answer is whole
 
 -- the one list is the front of the other
 abbrev pub IsFront : {X : Type 0} → List X → List X → Type 0
@@ -154,7 +154,7 @@ pub record IsFrontBy (format : Format) (q : Asked) (f : Facts) (front : List Pkt
   pub more : List Pkt
   pub answer : IsAnswerBy whole format q later (front ++ more)
 
--- no more was given than what comes before the section of the pack
+-- no more was sent than what comes before the section of the pack
 abbrev pub IsBeforePack : Asked → Facts → List Pkt → Type 0
 IsBeforePack (fetch q) (of_fetch a t) front = length front ≤ length (before_pack q t)
 IsBeforePack q f front = Unit {0}
@@ -166,13 +166,13 @@ pub record IsCutShort (format : Format) (fault : Fault) (q : Asked) (f : Facts) 
   pub before : IsBeforePack q f front
   pub packets_are : packets ≡ front ++ error_packet fault ∷ []
 
--- what is given while a request is answered: the front of an answer; or the answer as far as its pack could be had; or nothing, since the store
+-- what is sent while a request is answered: the front of an answer; or the answer as far as its pack could be had; or nothing, since the store
 -- lacks what is asked for
 abbrev pub IsSoFar : Format → Asked → Facts → List Pkt → Type 0
 IsSoFar format q f front =
     IsFrontBy format q f front ⊎ (IsAnswerBy broken format q f front ⊎ ((kind : Kind) × IsLacking kind q f × (front ≡ [])))
 
--- what is given for a request that the host refuses, by the name that it is refused by: an error packet, for the store lacks what is asked for or
+-- what is sent for a request that the host refuses, by the name of the refusal: an error packet, for the store lacks what is asked for or
 -- by a text of the host's; or the answer as far as the pack could be had, or what comes before it
 abbrev pub IsTailBy : Kind → Format → Fault → Asked → Facts → List Pkt → Type 0
 IsTailBy NotOurs format fault q f tail =
@@ -189,7 +189,7 @@ pub record RefusesLast (s : HostSetting) (used : List ℕ) (reported : List Fact
   pub at : fault.offset + 4 ≡ length used
   pub last : AtLast s asked reported given (IsTailBy fault.kind s.offer.format fault)
 
--- the session ended so, by its bytes: just these were given
+-- the session ended so, by its bytes: just these were sent
 pub record EndsByBytes (s : HostSetting) (used : List ℕ) (over : Bool) (reported : List Facts) (given : List ℕ) (outcome : Outcome) : Type 0 where
   pub before : List ℕ
   pub stops : StopsBy s used over reported before outcome
@@ -201,7 +201,7 @@ abbrev pub EndsByHost : HostSetting → List ℕ → Bool → List Facts → Lis
 EndsByHost s used over reported given (Refused fault) = (over ≡ false) × RefusesLast s used reported given fault
 EndsByHost s used over reported given outcome = ⊥
 
--- the session ended so: for the bytes used, and by what was reported, just these were given
+-- the session ended so: for the bytes used, and by what was reported, just these were sent
 abbrev pub IsHosted : HostSetting → List ℕ → Bool → List Facts → List ℕ → Outcome → Type 0
 IsHosted s used over reported given outcome = EndsByBytes s used over reported given outcome ⊎ EndsByHost s used over reported given outcome
 
@@ -216,7 +216,7 @@ pub record IsWaiting (s : HostSetting) (used : List ℕ) (over : Bool) (reported
   pub unrefused : IsOpen rest
   pub all : AllAnswered s asked reported given
 
--- the last whole request is answered: each one before it was, and so much was given for it
+-- the last whole request is answered: each one before it was, and so much was sent for it
 pub record IsUnderWay (s : HostSetting) (used : List ℕ) (over : Bool) (reported : List Facts) (given : List ℕ) : Type 0 where
   pub asked : List Asked
   pub goes_on : over ≡ false

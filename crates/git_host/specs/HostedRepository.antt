@@ -90,7 +90,7 @@ over_repository s repo failures =
     record { offer = s.offer; limit = s.limit; advertise = s.advertise; repo = repo; failures = failures }
 
 -- a server in this setting refuses a line of the last of these requests, by the same name or as one of a reference that its repository lacks, and
--- gives what was given here, but for the fault in the error packet
+-- gives what was sent here, but for the fault in the error packet
 pub record RefusesAtItsLine (s : Setting) (used given : List ℕ) (fault : Fault) : Type 0 where
   pub before : List ℕ
   pub given_is : given ≡ before ++ spelling_of (error_packet fault)

@@ -96,7 +96,7 @@ listed_in buffer (Lists.Reference e) = entry e
 listed_in buffer (Lists.Unborn count) = unborn (take count buffer)
 listed_in buffer Lists.End = references_end
 
--- no more bytes are said to be there than a buffer of this length has
+-- no more bytes are stated to be there than a buffer of this length has
 abbrev pub IsPartWithin : ℕ → Part → Type 0
 IsPartWithin room (Parts.Pack count) = count ≤ room
 IsPartWithin room (Parts.Progress count) = count ≤ room

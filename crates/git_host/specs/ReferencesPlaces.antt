@@ -1,4 +1,4 @@
--- How far an answer for references has come, by what was reported and what was given.
+-- How far an answer for references has come, by what was reported and what was sent.
 use Rattle.std.specs.Prelude.{◌≡◌, ◌≢◌, ℕ, ◌≤◌, Bool, true, false, All, List, [], ◌∷◌, ◌++◌, codes, map, Option, Some, None, IsSome}
 use Rattle.std.specs.Option.{ForSome}
 use Rattle.std.specs.Str.{bytes_eq}
@@ -112,7 +112,7 @@ module _ {A : Type 0} where
   abbrev pub HasBegun : ReferencesAnswer A → Type 0
   HasBegun answer = answer.place ≢ First
 
-  -- these facts were reported for a request, and these packets were given
+  -- these facts were reported for a request, and these packets were sent
   pub record RepresentsReferences (q : LsRefsAsked) (t : ReferencesFacts) (given : List Pkt) (answer : ReferencesAnswer A) : Type 0 where
     pub alike : IsAlike q answer.listing.asked
     pub stands : StandsAtReferences answer.place answer.format q t answer.last given
@@ -136,7 +136,7 @@ module _ {A : Type 0} where
   ReportsOn with old bytes new = (q : LsRefsAsked) (t : ReferencesFacts) (given : List Pkt) → RepresentsReferences q t given old
       → (packet : Pkt) × Holds bytes packet × RepresentsReferences q (with t) (given ++ packet ∷ []) new
 
-  -- the facts become these, and no packet is given
+  -- the facts become these, and no packet is sent
   abbrev pub ReportsHidden : (ReferencesFacts → ReferencesFacts) → ReferencesAnswer A → ReferencesAnswer A → Type 0
   ReportsHidden with old new =
       (q : LsRefsAsked) (t : ReferencesFacts) (given : List Pkt) → RepresentsReferences q t given old → RepresentsReferences q (with t) given new

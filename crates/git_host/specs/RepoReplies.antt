@@ -6,8 +6,8 @@ use Rattle.git_host.specs.Questions.{Question, Reply, ask_boundary, ask_have, as
 use Rattle.git_host.specs.Questions.{found, has, line, ready, references_end, size_is, unborn}
 use Rattle.git_host.specs.declared.repo_store.RepoStore.{RepoStore}
 
--- what the repository answers, of which so many lines or references were given for the request at hand, and what an unborn `HEAD` points to or
--- not. Of a pack it says nothing; a pack that cannot be read fails, and so does a reference for which there is no room.
+-- what the repository answers, after so many lines or references for the request at hand, and what an unborn `HEAD` points to or
+-- not. Of a pack it states nothing; a pack that cannot be read fails, and so does a reference that does not fit.
 abbrev pub IsReplyOf : Repository → ℕ → Bool → Question → Reply → Type 0
 IsReplyOf repo at named (ask_want id) (has b) = b ≡ repo.has id
 IsReplyOf repo at named (ask_want_ref name) (found id) = IsFound repo.refs name id
@@ -26,7 +26,7 @@ module _ {R P : Type 0} (state : R → RepoState) where
   abbrev pub answers_of : RepoStore R P → Repository
   answers_of store = (state store.repo).answers
 
-  -- nothing was given for a request that begins
+  -- nothing was sent for a request that begins
   pub record BeginsAnew (old new : RepoStore R P) : Type 0 where
     pub same : answers_of new ≡ answers_of old
     pub at : new.at ≡ 0

@@ -1,4 +1,4 @@
--- How far an answer about sizes has come, by what was reported and what was given.
+-- How far an answer about sizes has come, by what was reported and what was sent.
 use Rattle.std.specs.Prelude.{◌≡◌, ℕ, ◌<◌, ◌≤◌, Bool, true, false, List, [], ◌∷◌, ◌++◌, length, Option, codes}
 use Rattle.git_names.specs.ObjectName.{ObjectName}
 use Rattle.git_pkt.specs.Packets.{Pkt, flush}
@@ -44,7 +44,7 @@ module _ {A : Type 0} where
   abbrev pub sizes_asked : SizesAnswer A → ObjectInfoAsked
   sizes_asked answer = answer.request.asked
 
-  -- these sizes were reported, and these packets were given
+  -- these sizes were reported, and these packets were sent
   abbrev pub RepresentsSizes : List (Option ℕ) → List Pkt → SizesAnswer A → Type 0
   RepresentsSizes sizes given answer = StandsAtSizes answer.place (sizes_asked answer) sizes given
 

@@ -1,4 +1,4 @@
--- What a host's server and its store do in a session, one after the other: what the store was asked and replied, and what was given for it.
+-- What a host's server and its store do in a session, one after the other: what the store was asked and replied, and what was sent for it.
 use Rattle.std.specs.Prelude.{◌≡◌, ℕ, Bool, true, false, List, [], ◌∷◌, ◌++◌, length, take, flat_map, Option, Some, None, IsSome, Result, Ok, Err}
 use Rattle.std.proofs.Common.{refl, sym, ◌∙◌, ap, subst}
 use Rattle.std.proofs.lemmas.Grind.{flat_map-append}
@@ -27,8 +27,8 @@ pub data Outturn : Type 0 where
   was_none : HostReported → Outturn
   was_refused : Report → HostReported → HostReported → Outturn
 
--- bytes of the input were used, which began these; the input ended; a packet of these bytes was given without a question; nothing was given, since
--- the server waits or its session is over; a request began; or the store was asked and replied, and these bytes were given
+-- bytes of the input were used, which began these; the input ended; a packet of these bytes was sent without a question; nothing was sent, since
+-- the server waits or its session is over; a request began; or the store was asked and replied, and these bytes were sent
 pub data Move : Type 0 where
   fed : List ℕ → List Facts → Move
   closed : Move
@@ -90,7 +90,7 @@ is_taken Taken = true
 is_taken Hidden = true
 is_taken reported = false
 
--- a packet was given for it
+-- a packet was sent for it
 abbrev pub is_given : HostReported → Bool
 is_given WasGiven = true
 is_given reported = false
@@ -106,7 +106,7 @@ abbrev pub question_by : Option Asked → Need → Option Question
 question_by None need = None
 question_by (Some q) need = question_of q need
 
--- nothing is given: the server waits for input, or the session has ended
+-- nothing is sent: the server waits for input, or the session has ended
 abbrev pub IsRest : HostStep → Type 0
 IsRest NeedInput = Unit {0}
 IsRest (HasEnded outcome) = Unit {0}
@@ -123,7 +123,7 @@ module _ {A : Type 0} where
   TurnsOut need reply (was_refused report why what) old new = (refusing : HostServer A) × IsReportOf need reply report × (is_taken why ≡ false)
       × ReportsHost report old why refusing × ReportsHost Failed refusing what new
 
-  -- the failure of the store was reported, and a packet was given for it, or none
+  -- the failure of the store was reported, and a packet was sent for it, or none
   abbrev pub FailsNow : Bool → HostServer A → HostServer A → Type 0
   FailsNow given old new = (what : HostReported) × (given ≡ is_given what) × ReportsHost Failed old what new
 
@@ -132,7 +132,7 @@ module _ {A : Type 0} where
   Settles true reported given old new = (given ≡ is_given reported) × (new ≡ old)
   Settles false reported given old new = FailsNow given old new
 
-  -- the store was told of the request at hand, which was accepted
+  -- the store received the request at hand, which was accepted
   pub record Begins {S : Type 0} (begins : S → Asked → S → Type 0) (old : HostServer A) (store : S) (new : HostServer A) (left : S) : Type 0 where
     pub asked : Asked
     pub at_hand : request_of old ≡ Some asked
@@ -170,7 +170,7 @@ module _ {A : Type 0} where
       pub replied : replies store question reply left
       pub turns_out : TurnsOut need reply outturn old new
 
-    -- and a packet was given for it, or none
+    -- and a packet was sent for it, or none
     pub record AnswersNeed (need : Need) (given : Bool) (old : HostServer A) (store : S) (new : HostServer A) (left : S) : Type 0 where
       pub question : Question
       pub reply : Reply
@@ -195,7 +195,7 @@ module _ {A : Type 0} where
     AllMade (move ∷ moves) old store new left =
         (next : HostServer A) × (then : S) × Made move old store next then × AllMade moves next then new left
 
-    -- moves, none of which is the end of the input, lead from the one state to the other, use these bytes and give these
+    -- moves without the end of the input lead from the one state to the other, use these bytes and send these
     pub record Reaches (used given : List ℕ) (old : HostServer A) (store : S) (new : HostServer A) (left : S) : Type 0 where
       pub moves : List Move
       pub made : AllMade moves old store new left

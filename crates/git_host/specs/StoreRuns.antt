@@ -25,7 +25,7 @@ EndsStoreRun s (Err ReadLimit) turns before used unused over facts given =
 EndsStoreRun s (Err WriteFault) turns before used unused over facts given = Unit {0}
 EndsStoreRun s (Err (RefusedRun fault)) turns before used unused over facts given = ⊥
 
--- the relation between a server and its store, of which this was used, reported and given before, and the bytes of their run: by these moves the
+-- the relation between a server and its store, which used, reported and sent this before, and the bytes of their run: by these moves the
 -- store was asked and replied, a prefix of the bytes read was used, and exactly the bytes of the moves were sent, which the session calls for by what
 -- was reported. If the session ended with the input, all was used, and the reader reported its end.
 pub record ServedStore {S A : Type 0} (begins : S → Asked → S → Type 0) (replies : S → Question → Reply → S → Type 0) (s : HostSetting)

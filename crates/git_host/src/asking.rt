@@ -17,7 +17,7 @@ use git_names::{Oid, RefName, Steps};
 use std::alloc::Allocator;
 
 /// Asks the store for what is needed, and reports its reply. If it has failed, or its report is refused, that is reported in its place.
-/// Returns whether a packet was given.
+/// Returns whether there is a packet to send.
 pub(crate) fn answer_need<S: Store, A: Allocator + Copy>(
     server: &mut HostServer<A>,
     store: &mut S,
@@ -34,7 +34,7 @@ pub(crate) fn answer_need<S: Store, A: Allocator + Copy>(
     }
 }
 
-// If a report was refused, the store has failed. Returns whether a packet was given.
+// If a report was refused, the store has failed. Returns whether there is a packet to send.
 fn settle<A: Allocator + Copy>(server: &mut HostServer<A>, reported: HostReported) -> bool
     ensures { Settles (is_taken reported) reported result server.old server.new }
 {
@@ -44,7 +44,7 @@ fn settle<A: Allocator + Copy>(server: &mut HostServer<A>, reported: HostReporte
     fail(server)
 }
 
-// Reports that the store has failed. Returns whether a packet was given.
+// Reports that the store has failed. Returns whether there is a packet to send.
 fn fail<A: Allocator + Copy>(server: &mut HostServer<A>) -> bool
     ensures { FailsNow result server.old server.new }
 {
@@ -250,14 +250,14 @@ fn is_taken(reported: HostReported) -> bool
     )
 }
 
-// Whether a packet was given for a report.
+// Whether there is a packet to send for a report.
 fn is_given(reported: HostReported) -> bool
     ensures { result ≡ is_given reported }
 {
     matches!(reported, HostReported::Packet)
 }
 
-/// The request that came is accepted, and the store is told of it before.
+/// The request that came is accepted, after the store has received it.
 pub(crate) fn begin<S: Store, A: Allocator + Copy>(server: &mut HostServer<A>, store: &mut S)
     requires { is_asked server.old.phase ≡ true }
     ensures { Begins S.begins server.old store.old server.new store.new }

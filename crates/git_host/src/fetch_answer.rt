@@ -1,4 +1,4 @@
-//! The answer to one `fetch`, gitprotocol-v2(5), over a store that is asked one question at a time: each packet is given as soon as the
+//! The answer to one `fetch`, gitprotocol-v2(5), over a store that is asked one question at a time: each packet is sent as soon as the
 //! reports so far decide it.
 //!
 //! ```text
@@ -25,7 +25,7 @@ use git_names::{Format, Oid};
 use git_pkt::{Band, Hold, Packet, put, put_band};
 use std::alloc::Allocator;
 
-/// How far the answer has come: what is given or asked next.
+/// How far the answer has come: what is sent or asked next.
 #[derive(Clone, Copy, Debug)]
 enum Place {
     // The header of the acknowledgments.
@@ -59,7 +59,7 @@ enum Place {
 /// What is to be done next for an answer.
 #[derive(Clone, Copy, Debug)]
 pub enum Step {
-    /// A packet was given, which is to be sent.
+    /// There is a packet to send.
     Packet,
     /// Whether the store has the object of the `have` line at this place.
     AskHave(usize),
@@ -78,7 +78,7 @@ pub enum Step {
 /// What came of a line of the shallow boundary.
 #[derive(Clone, Copy, Debug)]
 pub enum BoundaryReported {
-    /// A packet was given.
+    /// There is a packet to send.
     Packet,
     /// It was not asked for. Nothing changed.
     NotAsked,
@@ -93,20 +93,20 @@ pub enum BoundaryReported {
 pub enum BoundaryEnd {
     /// It was not asked, and nothing changed.
     NotAsked,
-    /// The boundary has no line, and no packet was given.
+    /// The boundary has no line, and there is no packet to send.
     Absent,
-    /// The delimiter of its section was given.
+    /// The delimiter of its section is to be sent.
     Packet,
 }
 
 /// What came of bytes of the progress.
 #[derive(Clone, Copy, Debug)]
 pub enum ProgressReported {
-    /// Their packet was given.
+    /// Their packet is to be sent.
     Packet,
     /// They were not asked for. Nothing changed.
     NotAsked,
-    /// The request wants no progress: no packet was given, and nothing changed.
+    /// The request wants no progress: there is no packet to send, and nothing changed.
     Hidden,
 }
 
@@ -127,7 +127,7 @@ impl<A: Allocator + Copy> FetchAnswer<A> {
     ghost use Rattle.git_host.specs.FetchPlaces.{with_have, with_pack, with_ready};
     ghost use Rattle.git_host.specs.FetchFacts.{no_facts};
 
-    /// The answer to this request, of which nothing was given, and whose object names have this format. Each of its wanted references
+    /// The answer to this request, before its first packet. Its object names have this format. Each of its wanted references
     /// points to the object at the same place.
     pub fn new(request: Fetch<A>, wanted: Vec<Oid, A>, format: Format) -> FetchAnswer<A>
         requires { length wanted.items ≡ length request.asked.want_refs }
@@ -230,7 +230,7 @@ impl<A: Allocator + Copy> FetchAnswer<A> {
         }
     }
 
-    /// The store has the object of the `have` line that is asked about: its `ACK` is given. Returns whether that was asked.
+    /// The store has the object of the `have` line that is asked about: its `ACK` is sent. Returns whether that was asked.
     pub fn common(&mut self, hold: &mut Hold) -> bool
         ensures asked { result ≡ is_have (step_of self.old) }
         ensures reported { WhereAsked result (ReportsAndGives (with_have true) self.old hold.new.items self.new) self.old self.new }
@@ -243,7 +243,7 @@ impl<A: Allocator + Copy> FetchAnswer<A> {
         true
     }
 
-    /// The store does not have it. No packet is given. Returns whether that was asked.
+    /// The store does not have it. There is no packet to send. Returns whether that was asked.
     pub fn not_common(&mut self) -> bool
         ensures asked { result ≡ is_have (step_of self.old) }
         ensures reported { WhereAsked result (ReportsAlone (with_have false) self.old self.new) self.old self.new }
@@ -255,7 +255,7 @@ impl<A: Allocator + Copy> FetchAnswer<A> {
         true
     }
 
-    /// The store is ready to send a pack: `ready` is given. Returns whether that was asked.
+    /// The store is ready to send a pack: `ready` is sent. Returns whether that was asked.
     pub fn ready(&mut self, hold: &mut Hold) -> bool
         ensures asked { result ≡ is_ready_asked (step_of self.old) }
         ensures reported { WhereAsked result (ReportsAndGives with_ready self.old hold.new.items self.new) self.old self.new }
@@ -268,7 +268,7 @@ impl<A: Allocator + Copy> FetchAnswer<A> {
         true
     }
 
-    /// The store is not ready: the flush is given that ends the answer. Returns whether that was asked.
+    /// The store is not ready: the flush that ends the answer is sent. Returns whether that was asked.
     pub fn not_ready(&mut self, hold: &mut Hold) -> bool
         ensures asked { result ≡ is_ready_asked (step_of self.old) }
         ensures reported { WhereAsked result (ReportsAndGives (λ t. t) self.old hold.new.items self.new) self.old self.new }
@@ -281,7 +281,7 @@ impl<A: Allocator + Copy> FetchAnswer<A> {
         true
     }
 
-    /// A line of the shallow boundary. It is given at once, but for the first: the header of the section is given, and `next` gives the line.
+    /// A line of the shallow boundary. It is sent at once, but for the first: the header of the section is sent, and `next` gives the line.
     /// A line that no sound repository has for the request is refused.
     pub fn boundary(&mut self, line: Boundary, hold: &mut Hold) -> BoundaryReported
         ensures asked { is_line_asked result ≡ is_boundary (step_of self.old) }
@@ -305,7 +305,7 @@ impl<A: Allocator + Copy> FetchAnswer<A> {
         BoundaryReported::Packet
     }
 
-    /// The boundary has no more lines. Returns whether that was asked, and whether a packet was given.
+    /// The boundary has no more lines. Returns whether that was asked, and whether there is a packet to send.
     pub fn boundary_end(&mut self, hold: &mut Hold) -> BoundaryEnd
         ensures asked { is_asked result ≡ is_boundary (step_of self.old) }
         ensures reported { EndsBoundary result self.old hold.new.items self.new }
@@ -321,7 +321,7 @@ impl<A: Allocator + Copy> FetchAnswer<A> {
         BoundaryEnd::Packet
     }
 
-    /// Bytes of the pack, one at least and at most as many as a packet has room for: their packet is given. Returns whether that was asked.
+    /// Bytes of the pack, one at least and at most as many as fit into a packet: their packet is sent. Returns whether that was asked.
     pub fn pack(&mut self, bytes: &[u8], hold: &mut Hold) -> bool
         requires some { 0 < length bytes.now }
         requires fits { length bytes.now < longest_payload }
@@ -335,7 +335,7 @@ impl<A: Allocator + Copy> FetchAnswer<A> {
         true
     }
 
-    /// Bytes of the progress, a text for the client's user, as many as of the pack: their packet is given, unless the request wants no
+    /// Bytes of the progress, a text for the client's user, as many as of the pack: their packet is sent, unless the request wants no
     /// progress.
     pub fn progress(&mut self, bytes: &[u8], hold: &mut Hold) -> ProgressReported
         requires some { 0 < length bytes.now }
@@ -353,7 +353,7 @@ impl<A: Allocator + Copy> FetchAnswer<A> {
         ProgressReported::Packet
     }
 
-    /// The pack has no more bytes: the flush is given that ends the answer. Returns whether that was asked.
+    /// The pack has no more bytes: the flush that ends the answer is sent. Returns whether that was asked.
     pub fn pack_end(&mut self, hold: &mut Hold) -> bool
         ensures asked { result ≡ is_pack (step_of self.old) }
         ensures reported { WhereAsked result (ReportsAndGives (λ t. t) self.old hold.new.items self.new) self.old self.new }
@@ -367,7 +367,7 @@ impl<A: Allocator + Copy> FetchAnswer<A> {
         true
     }
 
-    /// The rest of the pack cannot be had: a fatal error is given, and the answer breaks off. Returns whether that was asked.
+    /// The rest of the pack cannot be had: a fatal error is sent, and the answer breaks off. Returns whether that was asked.
     pub fn pack_failed(&mut self, hold: &mut Hold) -> bool
         ensures asked { result ≡ is_pack (step_of self.old) }
         ensures reported { WhereAsked result (ReportsAndGives (λ t. t) self.old hold.new.items self.new) self.old self.new }

@@ -19,12 +19,12 @@ use std::mem;
 /// The answer to the request at hand.
 #[derive(Drop)]
 pub(crate) enum HostAnswer<A: Allocator + Copy> {
-    // A fetch, of which it is not known yet that the store has what it asks for.
+    // A fetch before it is known that the store has what it asks for.
     Admission(Admission<A>),
     Fetch(FetchAnswer<A>),
     References(ReferencesAnswer<A>),
     Sizes(SizesAnswer<A>),
-    // All was given.
+    // All was sent.
     Whole,
 }
 
@@ -45,7 +45,7 @@ pub(crate) enum AnswerStep {
 pub(crate) enum Failing {
     // Nothing was asked. Nothing changed.
     NotAsked,
-    // The packet was given that breaks the pack off.
+    // The packet that breaks the pack off was sent.
     Packet,
     // The answer ends before its pack, by an error packet that is to be given. Nothing changed.
     CutShort,
@@ -54,7 +54,7 @@ pub(crate) enum Failing {
 impl<A: Allocator + Copy> HostAnswer<A> {
     ghost use Rattle.git_host.specs.HostAnswers.{FailsBy, IsBegun, ReportsBy, StepsAnswer};
 
-    /// The answer to this request, of which nothing was reported or given.
+    /// The answer to this request, before anything was reported or sent for it.
     pub(crate) fn new(alloc: A, request: Request<A>, format: Format) -> HostAnswer<A>
         ensures { IsBegun format request result }
     {
@@ -195,7 +195,7 @@ impl<A: Allocator + Copy> HostAnswer<A> {
         packet_where(answer.pack_end(hold))
     }
 
-    /// What is asked cannot be had: the packet that breaks a pack off is given. Where something else is asked, the answer is cut short.
+    /// The store cannot answer: the packet that breaks a pack off is sent. If something else is asked, the answer is cut short.
     pub(crate) fn fail(&mut self, hold: &mut Hold) -> Failing
         ensures { FailsBy self.old result hold.new.items self.new }
     {
@@ -407,7 +407,7 @@ fn reported_as(reported: Reported) -> HostReported
     }
 }
 
-// As many of the bytes as one packet has room for.
+// As many of the bytes as fit into one packet.
 fn first_part(bytes: &[u8]) -> &[u8]
     ensures { result.now ≡ part_of bytes.now }
 {

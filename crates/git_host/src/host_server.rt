@@ -1,4 +1,4 @@
-//! The server's end of a session over a store of the host's own: it takes bytes in pieces, asks what each request needs of the store, and
+//! The server's end of a session over a store of the host's own: it takes bytes in chunks, asks what each request needs of the store, and
 //! gives packets.
 //!
 //! ```text
@@ -32,7 +32,7 @@ pub const LONGEST_REFUSAL: usize = 65_511;
 enum Phase<A: Allocator + Copy> {
     // The advertisement is to be given.
     Advertising,
-    // All was given, and bytes are read up to the end of a request.
+    // All was sent, and bytes are read up to the end of a request.
     Reading,
     // A whole request came, which the host has not accepted yet.
     Asked(Request<A>),
@@ -48,7 +48,7 @@ pub struct HostServer<A: Allocator + Copy> {
     alloc: A,
     offer: Offer,
     limits: Limits,
-    // Its buffer has the packet that was given last.
+    // Its buffer has the packet that was sent last.
     stream: RequestStream<A>,
     // The offset of the flush of the last request.
     flush: u64,
@@ -77,14 +77,14 @@ impl<A: Allocator + Copy> HostServer<A> {
         }
     }
 
-    /// Whether bytes of the client are wanted: all was given that can be.
+    /// Whether bytes of the client are wanted: all was sent that can be.
     pub fn wants_input(&self) -> bool
         ensures { result ≡ reads_on self.now }
     {
         matches!(self.phase, Phase::Reading)
     }
 
-    /// How the session ended, if it has, and all was given.
+    /// How the session ended, if it has, and all was sent.
     pub fn outcome(&self) -> Option<Outcome>
         ensures { result ≡ outcome_of self.now }
     {
@@ -220,7 +220,7 @@ impl<A: Allocator + Copy> HostServer<A> {
         HostStep::Packet
     }
 
-    // What is asked cannot be had: a packet of the pack's failure is given, or the error packet, which ends the session.
+    // The store cannot answer: a packet that reports the pack's failure is sent, or the error packet, which ends the session.
     fn fail(&mut self) -> HostReported
         ensures reports { ReportsHost Report.Failed self.old result self.new }
         ensures memory { result ≢ HostReported.OutOfMemory }
@@ -268,7 +268,7 @@ impl<A: Allocator + Copy> HostServer<A> {
         true
     }
 
-    /// The request that came is refused: an error packet with this text is given, and the session is over. Returns whether one was asked about,
+    /// The request that came is refused: an error packet with this text is sent, and the session is over. Returns whether one was asked about,
     /// and the text has at most [`LONGEST_REFUSAL`] bytes; else nothing changed.
     pub fn refuse(&mut self, text: &[u8]) -> bool
         ensures refuses { RefusesHost text.now self.old result self.new }
@@ -367,7 +367,7 @@ impl<A: Allocator + Copy> HostServer<A> {
     ghost use Rattle.git_host.specs.HostServer.{bytes_of};
     ghost use Rattle.git_host.specs.HostLookups.{asked_in, format_of, request_of};
 
-    /// The bytes of the packet that was given last, until more of the client are fed.
+    /// The bytes of the packet that was sent last, until more of the client are fed.
     pub fn packet(&self) -> &[u8]
         ensures value { result.now ≡ bytes_of self.now }
         ensures fits { length result.now ≤ 65520 }
@@ -394,7 +394,7 @@ impl<A: Allocator + Copy> HostServer<A> {
     }
 }
 
-// The most that a `HostServer` is with the usual allocator, beside what lies behind its pointers: 65 KiB. Its buffer is 65,520 bytes of it.
+// The most that a `HostServer` is with the default allocator, without what its pointers refer to: 65 KiB. Its buffer is 65,520 bytes of it.
 const MOST_SIZE: usize = 66_560;
 
 const _: () = prove!(size_of::<HostServer<Global>>() <= MOST_SIZE);

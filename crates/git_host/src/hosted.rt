@@ -56,21 +56,21 @@ impl<S: Store, A: Allocator + Copy> Hosted<S, A> {
         &self.store
     }
 
-    /// Whether bytes of the client are wanted: all was given that can be.
+    /// Whether bytes of the client are wanted: all was sent that can be.
     pub fn wants_input(&self) -> bool
         ensures { result ≡ reads_on (server_of self.now) }
     {
         self.server.wants_input()
     }
 
-    /// How the session ended, if it has, and all was given.
+    /// How the session ended, if it has, and all was sent.
     pub fn outcome(&self) -> Option<Outcome>
         ensures { result ≡ outcome_of (server_of self.now) }
     {
         self.server.outcome()
     }
 
-    // The bytes of the packet that was given last.
+    // The bytes of the packet that was sent last.
     pub(crate) fn given(&self) -> &[u8]
         ensures { result.now ≡ bytes_of (server_of self.now) }
     {

@@ -34,7 +34,7 @@ use crate::host_server::HostServer;
 use git_msg::Memory;
 use std::alloc::Allocator;
 
-/// If what was reported for a fetch is what a repository answers, what is given is an answer of the repository, whole or broken off.
+/// If what was reported for a fetch is what a repository answers, what is sent is an answer of the repository, whole or broken off.
 pub fn fetch_answer_is_a_repositorys()
     ensures { (manner : Manner) (repo : Repository) (q : FetchAsked) (t : FetchFacts) (packets : List Pkt) → AreOfRepository manner repo q t
         → IsFetchAnswerOf manner q t packets → IsAnswerAs manner repo (fetch q) packets }
@@ -52,7 +52,7 @@ pub fn sizes_answer_is_a_repositorys()
         → IsSizesAnswerOf q sizes packets → IsAnswerAs whole repo (object_info q) packets }
 {}
 
-/// Where a request wants no progress, what is given after the header of the pack has bytes of the pack alone, on its band.
+/// If a request wants no progress, what is sent after the header of the pack has bytes of the pack alone, on its band.
 pub fn no_progress_is_given()
     ensures { (manner : Manner) (format : Format) (q : FetchAsked) (t : FetchFacts) (packets : List Pkt) → IsSoundFetchAnswer manner format q t packets
         → no_progress_of (fetch q) ≡ true → (pack : HasPack manner q t packets) → AreBands Band.Pack t.pack pack.parts }
@@ -104,7 +104,7 @@ pub fn methods_make_calls<A: Memory + Copy>()
         → MakesAll (Makes A.refuses) (call ∷ calls) before first after last }
 {}
 
-/// If what was reported for each request of a session is what one repository answers, what was given for them are answers of that repository,
+/// If what was reported for each request of a session is what one repository answers, what was sent for them are answers of that repository,
 /// in their order: as a server over the repository gives them.
 pub fn session_answers_are_a_repositorys()
     ensures { (format : Format) (repo : Repository) (asked : List Asked) (reported : List Facts) (packets : List Pkt)

@@ -1,5 +1,5 @@
 //! The answer to one `ls-refs`, gitprotocol-v2(5), over a store that is asked: its references are reported one after another, in the
-//! order of their names, and the line of each that the request asks for is given at once. None is kept but the last.
+//! order of their names, and the line of each that the request asks for is sent at once. Only the last one is kept.
 
 ghost use Rattle.std.specs.Prelude.{◌≡◌};
 ghost use Rattle.git_names.specs.RefName.{IsRefName};
@@ -30,9 +30,9 @@ enum ReferencesPlace {
 /// What came of a report.
 #[derive(Clone, Copy, Debug, PartialEq, Eq)]
 pub enum Reported {
-    /// Its packet was given.
+    /// Its packet is to be sent.
     Packet,
-    /// The request does not ask for it: no packet was given.
+    /// The request does not ask for it: there is no packet to send.
     Hidden,
     /// It does not come after the reference that was reported before it. Nothing changed.
     Unsorted,
@@ -58,7 +58,7 @@ impl<A: Allocator + Copy> ReferencesAnswer<A> {
     ghost use Rattle.git_host.specs.HostLookups.{references_asked};
     ghost use Rattle.git_host.specs.ReferencesPlaces.{Ends, KeepsAs, Reports, ReportsUnborn, Starts, format_of, last_reported, refuses_head};
 
-    /// The answer to this request, of which nothing was reported.
+    /// The answer to this request, before anything was reported for it.
     pub fn new(request: LsRefs<A>, format: Format) -> ReferencesAnswer<A>
         ensures starts { Starts request.asked result }
         ensures keeps { KeepsAs request result }
@@ -125,7 +125,7 @@ impl<A: Allocator + Copy> ReferencesAnswer<A> {
         Reported::Packet
     }
 
-    /// There are no more references: the flush is given that ends the answer. Returns whether that was asked.
+    /// There are no more references: the flush that ends the answer is sent. Returns whether that was asked.
     pub fn end(&mut self, hold: &mut Hold) -> bool
         ensures { Ends self.old result hold.new.items self.new }
     {

@@ -115,7 +115,7 @@ pub struct RepoStore<R, P> {
     repo: R,
     pack: PackFile<P>,
     filtered: Option<PackFile<P>>,
-    // What was given for the request at hand: so many references or lines of its boundary, and what an unborn `HEAD` points to.
+    // What was sent for the request at hand: so many references or lines of its boundary, and what an unborn `HEAD` points to.
     at: usize,
     named_unborn: bool,
     // Its pack has begun.

@@ -46,11 +46,11 @@ pub enum Report<'a> {
 /// What came of a report.
 #[derive(Clone, Copy, Debug, PartialEq, Eq)]
 pub enum HostReported {
-    /// A packet was given, which is to be sent.
+    /// There is a packet to send.
     Packet,
-    /// It was taken, and no packet was given.
+    /// It was taken, and there is no packet to send.
     Taken,
-    /// The request does not ask for it: no packet was given.
+    /// The request does not ask for it: there is no packet to send.
     Hidden,
     /// It was not asked for. Nothing changed.
     NotAsked,
@@ -90,7 +90,7 @@ pub enum Need {
 /// What is to be done next in a session.
 #[derive(Clone, Copy, Debug, PartialEq, Eq)]
 pub enum HostStep {
-    /// A packet was given, which is to be sent.
+    /// There is a packet to send.
     Packet,
     /// More bytes of the client are to be fed, or the input is to be closed.
     NeedInput,
@@ -98,11 +98,11 @@ pub enum HostStep {
     Asked,
     /// Something of the store is to be reported.
     Need(Need),
-    /// The session ended so, and all was given.
+    /// The session ended so, and all was sent.
     Ended(Outcome),
 }
 
-// A report whose packet was given, if it was asked for.
+// A report whose packet is to be sent, if it was asked for.
 pub(crate) fn packet_where(asked: bool) -> HostReported
     ensures { result ≡ packet_where asked }
 {

@@ -10,7 +10,7 @@ use git_names::Oid;
 use git_pkt::{Hold, Packet, put};
 use std::alloc::Allocator;
 
-/// How far the answer has come: what is given or asked next.
+/// How far the answer has come: what is sent or asked next.
 #[derive(Clone, Copy, Debug)]
 enum SizesPlace {
     // The line that names the attribute that each object's line has.
@@ -23,7 +23,7 @@ enum SizesPlace {
 /// What is to be done next for an answer about sizes.
 #[derive(Clone, Copy, Debug)]
 pub enum SizesStep {
-    /// A packet was given, which is to be sent.
+    /// There is a packet to send.
     Packet,
     /// The size of the object at this place of the request.
     AskSize(usize),
@@ -41,7 +41,7 @@ pub struct SizesAnswer<A: Allocator + Copy> {
 impl<A: Allocator + Copy> SizesAnswer<A> {
     ghost use Rattle.git_host.specs.SizesPlaces.{Asks, IsAsking, Sizes, StepsSizes, RepresentsSizes, sizes_asked, sizes_request};
 
-    /// The answer to this request, of which nothing was given.
+    /// The answer to this request, before its first packet.
     pub fn new(request: ObjectInfo<A>) -> SizesAnswer<A>
         ensures request { sizes_request result ≡ request }
         ensures represents { RepresentsSizes [] [] result }
@@ -91,7 +91,7 @@ impl<A: Allocator + Copy> SizesAnswer<A> {
         }
     }
 
-    /// The size of the object that is asked about, or that the store does not have it: its line is given. Returns whether that was asked.
+    /// The size of the object that is asked about, or that the store does not have it: its line is sent. Returns whether that was asked.
     pub fn size(&mut self, size: Option<u64>, hold: &mut Hold) -> bool
         ensures { Sizes size self.old result hold.new.items self.new }
     {

@@ -1,4 +1,4 @@
-//! A host's own store, as a session asks it: one question after another, each of which it answers, or fails.
+//! A host's own store, as a session asks it: one question after another. It answers each one, or fails.
 
 ghost use Rattle.std.specs.Prelude.{◌≡◌, ◌<◌, IfOk, Some, codes, length};
 ghost use Rattle.git_msg.specs.Asked.{Asked, FetchAsked};
@@ -58,7 +58,7 @@ pub enum Listed {
 /// the store replies that there are no more; `begin` is called before the first question about each request.
 ///
 /// Nothing has to hold of the replies: one that no sound repository gives ends the session as a failure does. By its two relations an
-/// implementation says as much of its replies as it likes, and a run states which of them it got.
+/// implementation states as much of its replies as it likes, and a run states which of them it got.
 pub trait Store {
     /// A request begins, and leads the store from the one state to the other.
     ghost begins: { Self → Asked → Self → Type 0 } = { λ old asked new. Unit {0} };

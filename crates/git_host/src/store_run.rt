@@ -18,7 +18,7 @@ use git_server::Outcome;
 use std::io::{Read, Write};
 
 /// Runs a host's server over its store, from its present state, over a reader of requests and a writer of answers, to the end of the
-/// session. The bytes that are read go to the `piece`, which must not be empty. The writer is flushed before each read and at the end.
+/// session. The bytes that are read go to `piece`, which must not be empty. The writer is flushed before each read and at the end.
 ///
 /// The error is `ReadFault` if a read fails, `WriteFault` if a write or a flush fails, and `ReadLimit` if another read would
 /// exceed the number `turns` of reads that are allowed. After `ReadFault` and `ReadLimit` the session goes on: the server waits for

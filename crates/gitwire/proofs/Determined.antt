@@ -1,4 +1,4 @@
--- What a writer for C reports, and what it leaves in the room, is determined by the values that C gives and the room.
+-- What a writer for C reports, and what it leaves in the buffer, is determined by the values that C passes and the buffer.
 use Rattle.std.proofs.Common.{◌≡◌, ℕ, ◌≤◌, List, [], ◌∷◌, length, length-append, Option, Some, None, Ok, Err, slice_get}
 use Rattle.std.proofs.Common.{sym, ◌∙◌, ap, refl, subst, inl, inr, arith}
 use Rattle.std.proofs.lemmas.Bool.Decides.{leb_tells}

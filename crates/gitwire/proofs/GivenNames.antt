@@ -7,14 +7,14 @@ use Rattle.git_msg.specs.References.{IsMaybeObjectName, reference_of, reference_
 use Rattle.git_msg.specs.WrittenRequest.{text_line}
 use Rattle.gitwire.specs.WrittenForC.{given}
 
--- a name that is given is a reference name where the text is one
+-- a name that was passed is a reference name if the text is one
 pub given_name : (text name : List ℕ) → given text ≡ Some name → (text ≢ [] → IsRefName text) → IsRefName name
 given_name [] name same is_name = absurd cc
 given_name (byte ∷ bytes) name same is_name =
     let bytes_are : byte ∷ bytes ≡ name = cc in
     subst IsRefName bytes_are (is_name (λ none. cc))
 
--- an object name that is given has its format
+-- an object name that was passed has its format
 pub given_format : (format : Format) (digits : Option (List ℕ)) (named : Option ObjectName) (id : ObjectName)
     → IsMaybeObjectName format digits named → named ≡ Some id → id.format ≡ format
 given_format format None named id none same = absurd cc
@@ -22,7 +22,7 @@ given_format format (Some digits) named id (other, is_id, found) same =
     let ids_are : other ≡ id = cc in
     subst (λ (id : ObjectName). id.format ≡ format) ids_are is_id.of_format
 
--- what is given passes, where it names an object or there is nothing
+-- what C passes is accepted if it names an object or there is nothing
 pub maybe_passes : (format : Format) (digits : List ℕ) (named : Option ObjectName)
     → IsMaybeObjectName format (given digits) named → digits ≢ [] → (id : ObjectName) × IsObjectName format digits id
 maybe_passes format [] named names some = absurd (some refl)

@@ -1,4 +1,4 @@
--- What is reported of texts of C, where the room is large enough.
+-- What is reported of texts of C, if the buffer is large enough.
 use Rattle.std.proofs.Common.{arith, ◌≤◌, ℕ, List, length}
 use Rattle.std.specs.Global.{Global}
 use Rattle.git_host.specs.declared.host_server.HostServer.{HostServer}

@@ -11,7 +11,7 @@ use Rattle.gitwire.specs.declared.answer.What.TheVariants.{EndedByClose, CanAsk,
 use Rattle.gitwire.specs.declared.answer.What.TheVariants.{Asked, NeedWant, NeedWantRef, NeedHave, NeedReady, NeedBoundary, NeedPack, NeedReference, NeedSize}
 use Rattle.gitwire.specs.declared.answer.What.TheVariants.{OutOfOrder, NotShallow}
 
--- the number by which C knows it
+-- its number in C
 abbrev pub what_number : What → ℕ
 what_number Done = 0
 what_number More = 1

@@ -105,7 +105,7 @@ impl What {
         }
     }
 
-    /// The number by which C knows it, from 0 to 44.
+    /// Its number in C, from 0 to 44.
     pub fn number(self) -> u8
         ensures { result ≡ what_number self }
     {

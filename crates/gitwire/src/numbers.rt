@@ -17,7 +17,7 @@ pub(crate) fn format_numbered(number: u8) -> Option<Format>
     }
 }
 
-/// The number by which C knows a format.
+/// The number of a format in C.
 pub(crate) fn number_of_format(format: Format) -> u64
     ensures value { result ≡ format_number format }
     ensures place { slice_get formats result ≡ Some format }
@@ -40,7 +40,7 @@ pub(crate) fn command_numbered(number: u8) -> Option<Command>
     }
 }
 
-/// The number by which C knows a command.
+/// The number of a command in C.
 pub(crate) fn number_of_command(command: Command) -> u64
     ensures value { result ≡ command_number command }
     ensures place { slice_get commands result ≡ Some command }

@@ -66,7 +66,7 @@ pub record Found : Type 0 where
   pub left : List Given
   pub rest : List ℕ
 
--- a request, and what came for it: these bytes, of which a client received those, which have these events
+-- a request, and what came for it: these bytes, those that a client received of them, and their events
 pub record Turn : Type 0 where
   pub question : Question
   pub bytes : List ℕ
@@ -393,7 +393,7 @@ abbrev pub IsSoFar : Terms → Heard → Option Form → Type 0
 IsSoFar t r None = Unit {0}
 IsSoFar t r (Some form) = IsSievedSoFar t r form
 
--- more is due of the advertisement or of a response
+-- more is expected of the advertisement or of a response
 pub record IsWithinResponse (t : Terms) (unused : List ℕ) (h : History) (r : Heard) (found : Found) : Type 0 where
   pub all_asked : AreAllAsked r found
   pub so_far : IsSoFar t r (last_form t.format r.turns)
@@ -424,7 +424,7 @@ pub record IsAtTheEnd (t : Terms) (by : Advertised) (requests : Standing) (unuse
   pub over : AreOver by.text requests.ended found
   pub nothing_left : unused ≡ []
 
--- nothing is wrong so far, and a read is due: of the responses, of the requests, or of what is left over
+-- nothing is wrong so far, and a read is next: of the responses, of the requests, or of what is left over
 abbrev pub IsCutOff : Terms → Advertised → ℕ → (of_requests of_responses : Type 0) → Standing → Standing → List ℕ → History → Heard → Found → Type 0
 IsCutOff t by limit of_requests of_responses requests responses unused h r found =
     ((IsWithinResponse t unused h r found ⊎ IsWithinAnswer t unused h r found) × of_responses)

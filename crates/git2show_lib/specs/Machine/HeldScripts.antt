@@ -67,7 +67,7 @@ module _ {A : Type 0} where
   IsBeginFault refuses each old text Refused = (of : Command) → ¬ (text ≡ name_of of)
   IsBeginFault refuses each old text OutOfMemory = (of : Command) × (text ≡ name_of of) × HasRefused refuses ((length old.requests + 1) * each)
 
-  -- the text is an argument of the request, no longer than a line may be, and its limit has room for it
+  -- the text is an argument of the request, no longer than a line may be, and within its limit
   pub record FitsIn (offer : Offer) (last : Request A) (text : List ℕ) (arg : Arg) : Type 0 where
     pub reads : ReadsAs (command_of last) offer text arg
     pub short : length text ≤ longest_line

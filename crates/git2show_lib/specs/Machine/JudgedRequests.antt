@@ -29,7 +29,7 @@ use Rattle.git2show_lib.specs.declared.judged_requests.JudgedRequests.{JudgedReq
 use Rattle.git2show_lib.specs.declared.judged_requests.Stage.{Stage}
 use Rattle.git2show_lib.specs.declared.judged_requests.Stage.TheVariants.{Between, Within, Passing, Stopped, Failed}
 
--- the packets are a whole request: one that asks for this, where each packet is read as what was advertised has it, and of which no more
+-- the packets are a whole request: one that asks for this, if each packet is read as what was advertised has it, and no more of it
 -- counts as kept than the limit; or one for a command that is not known. All of it that is not known is noted.
 abbrev pub IsQuestion : Advertised → ℕ → List Given → Question → Type 0
 IsQuestion by limit packets (known q noted) =
@@ -272,7 +272,7 @@ module _ {A : Type 0} where
   StepLeaves More used new = (0 < used) × IsReady new
   StepLeaves got used new = LeavesAt got used new
 
-  -- a fault is none of the input's end, and that the stream is too long is reported only where the piece has a further byte
+  -- a fault is none of the input's end, and that the stream is too long is reported only where the chunk has a further byte
   abbrev pub IsNews : List ℕ → JudgedRead A → Type 0
   IsNews piece read = (fault : Fault) → read.got ≡ FailedGot fault → ShownByFeed fault read.used piece
 

@@ -17,7 +17,7 @@ use Rattle.git2show_lib.specs.declared.other_answers.Passed.{Passed}
 
 -- ---- the reader
 
--- it has packets of an answer, of which none is the last
+-- it has packets of an answer, and none is the last
 pub record Passes (ending : Ending) (used : List ℕ) (r : PacketReader) : Type 0 where
   pub given : List Given
   pub rest : List ℕ
@@ -35,13 +35,13 @@ pub record BreaksOff (ending : Ending) (used : List ℕ) (fault : Fault) : Type 
   pub begun : IsAnswerBegun ending used rest
   pub breaks : BreakOff rest (length used) fault
 
--- all of the piece was used, and more is due
+-- all of the chunk was used, and more is expected
 pub record PassesAll (ending : Ending) (old new : PacketReader) (piece : List ℕ) : Type 0 where
   pub sound : fault_of new ≡ None
   pub gathers : passes_of new ≡ false
   pub passes : (used : List ℕ) → Passes ending used old → Passes ending (used ++ piece) new
 
--- the answer ends in the piece
+-- the answer ends in the chunk
 pub record PassesUpTo (ending : Ending) (used : ℕ) (old new : PacketReader) (piece : List ℕ) : Type 0 where
   pub within : used ≤ length piece
   pub passes : (bytes : List ℕ) → Passes ending bytes old → HasPassed ending (bytes ++ take used piece) new
@@ -52,7 +52,7 @@ pub record BreaksIn (ending : Ending) (fault : Fault) (old : PacketReader) (piec
   pub breaks : (bytes : List ℕ) → Passes ending bytes old → BreaksOff ending (bytes ++ take used piece) fault
   pub shown : ShownByFeed fault used piece
 
--- how a piece passed
+-- how a chunk passed
 abbrev pub PassesPiece : Ending → Result (Option ℕ) Fault → PacketReader → PacketReader → List ℕ → Type 0
 PassesPiece ending (Ok None) old new piece = PassesAll ending old new piece
 PassesPiece ending (Ok (Some used)) old new piece = PassesUpTo ending used old new piece

@@ -31,7 +31,7 @@ EndsMessageTo (Err (RefusedRun fault)) old new =
 EndsMessageTo (Err fault) old new = ⊥
 
 module _ {R A : Type 0} (state : R → RepoState) where
-  -- what holds of a server, of what was sent to it, of which it used a front, and of what it gave; it throws bytes away only where it waits for none
+  -- what holds of a server, of what was sent to it, of the front that it used, and of what it sent; it throws bytes away only where it waits for none
   pub record Stands (s : Setting) (said given : List ℕ) (server : Server R A) : Type 0 where
     pub used : List ℕ
     pub unused : List ℕ
@@ -63,7 +63,7 @@ module _ {R A : Type 0} (state : R → RepoState) where
   abbrev pub IsSpent : Server R A → Type 0
   IsSpent server = (waits_for_input server ≡ true) ⊎ ((outcome : Outcome) × (outcome_of server ≡ Some outcome) × EndsServer state server outcome)
 
-  -- a server gave these bytes, of which the client received a front
+  -- a server sent these bytes, and the client received a front of them
   pub record Hears (broken : Bool) (old new : Client A) (counts counts_after : Counts) (server after : Server R A) (end unheard : List ℕ)
       (out packs : Flow) : Type 0 where
     pub given : List ℕ
@@ -114,7 +114,7 @@ module _ {R A : Type 0} (state : R → RepoState) where
   HearsMessageTo (Err fault) end old new server after out packs =
       (ended : Bool) × (counts : Counts) × StopsAt fault ended old new no_counts counts server after end out packs
 
-  -- all that a client owes was sent to the server
+  -- all that a client has to send was sent to the server
   pub record TellsAll (old new : Client A) (server after : Server R A) : Type 0 where
     pub says : Says false old new silent
     pub server_goes : StandsOn server says.given [] after

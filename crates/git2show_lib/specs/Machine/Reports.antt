@@ -1,4 +1,4 @@
--- The line by which the program reports a fault.
+-- The line with which the program reports a fault.
 use Rattle.std.specs.Prelude.{ℕ, List, ◌++◌, codes, decimal}
 use Rattle.git_pkt.specs.FaultNames.{fault_text, run_fault_text}
 use Rattle.git2show_lib.specs.declared.reports.ProgramFault.{ProgramFault}

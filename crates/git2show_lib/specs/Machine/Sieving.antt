@@ -1,4 +1,4 @@
--- What a client receives of a response that is sieved: packet by packet, of a piece, and over a reader of bytes.
+-- What a client receives of a response that is sieved: packet by packet, of a chunk, and over a reader of bytes.
 use Rattle.std.specs.Prelude.{◌≡◌, ◌≢◌, ◌⊎◌, ℕ, ◌≤◌, Bool, true, false, List, [], ◌∷◌, ◌++◌, length, take, Option, Some, None, Result, Ok, Err}
 use Rattle.git_pkt.specs.Faults.{IsOpen}
 use Rattle.git_pkt.specs.Packets.{Pkt, body_of, longest_payload, spelling_of}
@@ -36,7 +36,7 @@ AreFitting [] = Unit {0}
 AreFitting (packet ∷ packets) = (length (body_of packet) ≤ longest_payload) × AreFitting packets
 
 module _ {A : Type 0} where
-  -- nothing is left of what a client was given, if no packet was begun before it
+  -- nothing is left of what a client received, if no packet was begun before it
   abbrev pub IsAllReceived : Client A → List ℕ → Type 0
   IsAllReceived old beyond = (t : Terms) (h : History) → Converses t h old → ArePackets h.used → beyond ≡ []
 
@@ -86,7 +86,7 @@ module _ {A : Type 0} where
   ReceivesTo (Err WriteFault) form spot g old new counts counts_after out = ReceivesBroken form spot g.packet old new counts counts_after out
   ReceivesTo (Err fault) form spot g old new counts counts_after out = ⊥
 
--- ---- a piece
+-- ---- a chunk
 
 -- between two packets: the client and its counts, where the next packet is, and the reader of packets
 pub record Stage (A : Type 0) : Type 0 where
@@ -99,7 +99,7 @@ abbrev pub stage : {A : Type 0} → Client A → Counts → Sieve → PacketRead
 stage client counts sieve packets = record { client = client; counts = counts; spot = sieve.spot; packets = packets }
 
 module _ {A : Type 0} where
-  -- These bytes are packets, which were passed on, and perhaps the beginning of another. The client received all that it is given for them, unless it
+  -- These bytes are packets, which were passed on, and perhaps the beginning of another. The client received all that they pass on to it, unless it
   -- can ask before, which it does not where no packet was begun before it.
   pub record SievesOn (form : Form) (old new : Stage A) (used : List ℕ) (out : Flow) : Type 0 where
     pub more : List Given
@@ -114,7 +114,7 @@ module _ {A : Type 0} where
     pub whole : IsAllReceived old.client beyond
     pub bytes : HearsBytes false old.client new.client old.counts new.counts received out nowhere nowhere
 
-  -- all of the piece was used, or the client can ask
+  -- all of the chunk was used, or the client can ask
   pub record SievesInPiece (form : Form) (old new : Stage A) (piece : List ℕ) (used : ℕ) (out : Flow) : Type 0 where
     pub sieves : SievesOn form old new (take used piece) out
     pub within : used ≤ length piece
@@ -123,7 +123,7 @@ module _ {A : Type 0} where
     pub gathers : passes_of new.packets ≡ false
     pub ends : wants_input new.client ≡ false → (can_ask new.client ≡ true) × (is_open new.packets ≡ false)
 
-  -- the piece has bytes that are no packet
+  -- the chunk has bytes that are no packet
   pub record BreaksInPiece (fault : Fault) (form : Form) (old new : Stage A) (piece : List ℕ) (out : Flow) : Type 0 where
     pub used : ℕ
     pub sieves : SievesOn form old new (take used piece) out
@@ -147,7 +147,7 @@ module _ {A : Type 0} where
     pub shut : is_open new.packets ≡ false
     pub ends : ReceivesTo result form middle.spot packet middle.client new.client middle.counts new.counts (flow held out.after)
 
-  -- how a piece was passed on
+  -- how a chunk was passed on
   abbrev pub SievesPieceTo : Result ℕ RunFault → Form → (old new : Stage A) (piece : List ℕ) (out : Flow) → Type 0
   SievesPieceTo (Ok used) form old new piece out = SievesInPiece form old new piece used out
   SievesPieceTo (Err (Refused fault)) form old new piece out =
@@ -157,7 +157,7 @@ module _ {A : Type 0} where
   -- ---- a response over a reader of bytes
 
   -- these bytes of a response were used: packets that were passed on, perhaps one after them that was refused before the client received it, and this
-  -- rest. The client received the beginning of what it is given for those that were passed on.
+  -- rest. The client received the beginning of what was passed on to it for them.
   pub record Sieves (broken : Bool) (form : Form) (old new : Client A) (used : List ℕ) (out : Flow) : Type 0 where
     pub given : List Given
     pub bad : List Given

@@ -9,7 +9,7 @@ use Rattle.git_client.specs.Machine.RunSteps.{window_of}
 use Rattle.git2show_lib.proofs.CheckRuns.{Checking}
 use Rattle.git2show_lib.proofs.checking.check.Given as goal
 
--- the requests that were read came in turn, and what came for each is whole: what waits of both pieces is all that was read
+-- the requests that were read came in turn, and what came for each is whole: what waits of both chunks is all that was read
 -- and not used
 abbrev pub invariant-requests : goal.invariant-requests
 invariant-requests g l = record {

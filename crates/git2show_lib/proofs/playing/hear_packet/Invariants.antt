@@ -20,6 +20,6 @@ invariant-loop-used g l = record {
       (flow (g.P.Output.contents l.fn.pack) (g.P.Output.contents l.pack)) silent;
 }
 
--- each piece of some bytes takes some
+-- each chunk of some bytes takes some
 abbrev pub decreases-loop-used : goal.decreases-loop-used
 decreases-loop-used g l = length l.packet - l.used

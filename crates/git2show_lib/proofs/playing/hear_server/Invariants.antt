@@ -15,6 +15,6 @@ invariant-loop-server g l = record {
       (flow (g.P.Output.contents l.fn.pack) (g.P.Output.contents l.pack));
 }
 
--- each packet that is given leaves fewer
+-- each packet that is sent leaves fewer
 abbrev pub decreases-loop-server : goal.decreases-loop-server
 decreases-loop-server g l = most_left g.R.Repo.state l.server

@@ -13,6 +13,6 @@ invariant-loop-used g l = record {
       → Telling g.R.Repo.state s (said ++ take l.used l.packet) given (drop l.used l.packet) l.server;
 }
 
--- each piece takes some bytes, or the server wants no more
+-- each chunk takes some bytes, or the server wants no more
 abbrev pub decreases-loop-used : goal.decreases-loop-used
 decreases-loop-used g l = turns_left (wants_input l.server) (length l.packet - l.used)
