@@ -44,18 +44,24 @@ differs() {
 }
 
 # The case runs in a shell of its own, so that it leaves nothing behind. That shell is not run under `if` or `||`, since bash would not stop
-# it there at a command that fails.
+# it there at a command that fails. It has a process group of its own, which is ended if it is not done after ten minutes: a case that hangs
+# fails, and the others still run.
 run_case() {
-    local status
-    set +e
+    local status case_group watch_group
+    set +e -m
     (
         set -e
         well=yes
         "$1"
         [ $well = yes ]
-    ) < /dev/null > told 2>&1
+    ) < /dev/null > told 2>&1 &
+    case_group=$!
+    (sleep 600 && echo 'ended, since it was not done after ten minutes' > told && kill -KILL -- -$case_group) > /dev/null 2>&1 &
+    watch_group=$!
+    wait $case_group 2> /dev/null
     status=$?
-    set -e
+    { kill -KILL -- -$watch_group; wait $watch_group; } 2> /dev/null
+    set -e +m
     if [ $status = 0 ]; then
         passed=$((passed + 1))
         return
