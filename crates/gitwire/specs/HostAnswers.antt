@@ -129,9 +129,10 @@ pub record PullsInRoom (old : HostServer Global) (room : List ℕ) (answer : Git
 
 -- ---- the request at hand
 
-abbrev pub telling_command : Option Asked → GitwireAnswer
-telling_command None = answering What.Nothing
-telling_command (Some asked) = telling_number (command_number (command_asked asked))
+-- the number of its command, or 0 if there is none
+abbrev pub command_shown : Option Asked → ℕ
+command_shown None = 0
+command_shown (Some asked) = command_number (command_asked asked)
 
 abbrev pub has_flag_at : ℕ → Option Asked → Bool
 has_flag_at number None = false
