@@ -4,7 +4,7 @@ use crate::failures::{Failure, Stream, Watched};
 use crate::{PIECE, TURNS, flag_argument};
 use clap::{Arg, ArgMatches, Command, value_parser};
 use git_pkt::{Retries, Told};
-use git2show_lib::{Form, Look, Tally, View, show_view, summarize};
+use git2show_lib::{Form, Look, Tally, View, show, show_view, summarize};
 use std::alloc::{AllocError, Global};
 use std::env::{self, VarError};
 use std::io::IsTerminal;
@@ -54,14 +54,12 @@ pub(crate) fn run_show(rt: &HostRuntime, matches: &ArgMatches<'_>) -> Result<(),
     let mut output = Watched::new(Stream::Output, rt.stdout());
     let mut piece = [0; PIECE];
     let mut tally = Tally::START;
-    let done = show_view(
-        &mut Told::new(&mut input),
-        &mut Told::new(&mut output),
-        &mut piece,
-        TURNS,
-        view_of(rt, matches),
-        &mut tally,
-    );
+    let reader = &mut Told::new(&mut input);
+    let writer = &mut Told::new(&mut output);
+    let done = match view_of(rt, matches) {
+        Some(view) => show_view(reader, writer, &mut piece, TURNS, view, &mut tally),
+        None => show(reader, writer, &mut piece, TURNS),
+    };
     let done = match done {
         Ok(()) if matches.get_flag("pretty") => summarize(tally, &mut Told::new(&mut output)),
         _ => done,

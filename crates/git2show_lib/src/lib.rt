@@ -15,6 +15,7 @@ mod other_lines;
 mod others;
 mod playing;
 mod pretty;
+mod renderers;
 mod reports;
 mod requests_read;
 pub mod script_laws;
