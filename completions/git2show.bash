@@ -19,7 +19,7 @@ _git2show() {
             ;;
         *)
             case ${COMP_WORDS[1]} in
-            show) options='--pretty --json --width --no-pack --from --help' ;;
+            show) options='--pretty --json --plain --width --no-pack --from --help' ;;
             check) options='--format --stateless --help' ;;
             serve) options='--repo --pack --filtered --limit --stateless-rpc --http-backend-info-refs --advertise-refs --help' ;;
             fetch) options='--script --pack --transcript --progress --format --stateless --help' ;;

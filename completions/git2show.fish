@@ -11,6 +11,7 @@ function __git2show_option
 end
 __git2show_option show -l pretty -d 'Lines of columns'
 __git2show_option show -l json -d 'A JSON object for each packet'
+__git2show_option show -l plain -d 'Lines of text on a terminal too'
 __git2show_option show -l width -x -d 'Columns of a line of --pretty'
 __git2show_option show -l no-pack -d 'Leave out bytes of packs'
 __git2show_option show -l from -x -d 'Leave out packets before this offset'

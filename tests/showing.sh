@@ -142,24 +142,44 @@ case_packets_are_left_out() {
         expect_same "what is reported with $option" <(fault 'BadDigit at 12') err
     done
     expect_refused show --pretty --json
+    expect_refused show --plain --pretty
+    expect_refused show --plain --json
     expect_refused show --width 39
     expect_refused show --width 201
     expect_refused show --from x
 }
 
-# There are colours on a terminal alone, and none where NO_COLOR forbids them.
+# A terminal gets columns with colours, where NO_COLOR does not forbid these, unless another form is chosen.
 case_columns_have_colours_on_a_terminal() {
+    local words coloured=$'       0    14  \e[1;36mcommand\e[0m   command=fetch'
     command -v script > /dev/null || return 0
     packet command=fetch > shown
-    on_terminal 'git2show show --pretty < shown'
-    expect_status 0
-    expect_line 'the terminal' $'       0    14  \e[1;36mcommand\e[0m   command=fetch' terminal
-    on_terminal 'NO_COLOR=1 git2show show --pretty < shown'
+    for words in --pretty '' '--width 80' '--from 0 --no-pack'; do
+        on_terminal "git2show show $words < shown"
+        expect_status 0
+        expect_line "the terminal with '$words'" "$coloured" terminal
+        expect_line "the terminal with '$words'" '18 bytes, 1 packets, 1 requests, 0 bytes of packs' terminal
+    done
+    on_terminal 'NO_COLOR=1 git2show show < shown'
     expect_line 'the terminal' '       0    14  command   command=fetch' terminal
-    on_terminal 'NO_COLOR= git2show show --pretty < shown'
-    expect_line 'the terminal' $'       0    14  \e[1;36mcommand\e[0m   command=fetch' terminal
-    on_terminal 'git2show show < shown'
-    expect_line 'the terminal' '0 data 14 command=fetch\n' terminal
+    on_terminal 'NO_COLOR= git2show show < shown'
+    expect_line 'the terminal' "$coloured" terminal
+    on_terminal 'git2show show --plain < shown'
+    expect_same 'the plain lines' <(echo '0 data 14 command=fetch\n') terminal
+    on_terminal 'git2show show --json < shown'
+    expect_same 'the JSON lines' <(echo '{"offset":0,"kind":"data","length":14,"payload":"command=fetch\n"}') terminal
+}
+
+# Without a terminal --plain changes nothing.
+case_plain_lines_are_the_default_elsewhere() {
+    local stream
+    for stream in "$sessions"/*.pkt; do
+        git2show show < "$stream" > whole
+        run git2show show --plain < "$stream"
+        expect 0 whole /dev/null
+    done
+    run git2show show --plain --from 1 < <(packet a; packet b)
+    expect 0 <(echo '6 data 2 b\n') /dev/null
 }
 
 # A conversation of the real Git that is recorded is one that `check` accepts, and that can be looked at.

@@ -24,12 +24,18 @@ pub(crate) fn show_command<'a>(alloc: Global) -> Result<Command<'a>, AllocError>
             "Prints a line for each packet on standard input: its offset, kind, length and payload",
         )
         .arg(flag_argument(alloc, "pretty").help(
-            "Lines of columns for a reader, with a summary below them; on a terminal with colours",
+            "Lines of columns for a reader, with a summary below them: what a terminal gets, with colours",
         ))?
         .arg(
             flag_argument(alloc, "json")
                 .conflicts_with("pretty")?
                 .help("A JSON object for each packet"),
+        )?
+        .arg(
+            flag_argument(alloc, "plain")
+                .conflicts_with("pretty")?
+                .conflicts_with("json")?
+                .help("Lines of text, also on a terminal"),
         )?
         .arg(
             Arg::new(alloc, "width")
@@ -54,23 +60,26 @@ pub(crate) fn run_show(rt: &HostRuntime, matches: &ArgMatches<'_>) -> Result<(),
     let mut output = Watched::new(Stream::Output, rt.stdout());
     let mut piece = [0; PIECE];
     let mut tally = Tally::START;
+    let form = form_of(rt, matches);
     let reader = &mut Told::new(&mut input);
     let writer = &mut Told::new(&mut output);
-    let done = match view_of(rt, matches) {
+    let done = match view_of(matches, form) {
         Some(view) => show_view(reader, writer, &mut piece, TURNS, view, &mut tally),
         None => show(reader, writer, &mut piece, TURNS),
     };
     let done = match done {
-        Ok(()) if matches.get_flag("pretty") => summarize(tally, &mut Told::new(&mut output)),
+        Ok(()) if matches!(form, Form::Columns(_)) => {
+            summarize(tally, &mut Told::new(&mut output))
+        }
         _ => done,
     };
     done.map_err(|fault| Failure::of_run(fault, input.failed_call().or(output.failed_call())))
 }
 
-/// How packets are shown, by the command line. Without options their lines are the plain ones.
-fn view_of(rt: &HostRuntime, matches: &ArgMatches<'_>) -> Option<View> {
+/// How packets are shown in this form, by the command line. Without options their lines are the plain ones.
+fn view_of(matches: &ArgMatches<'_>, form: Form) -> Option<View> {
     let view = View {
-        form: form_of(rt, matches),
+        form,
         from: matches.get_one::<u64>("from").unwrap_or(0),
         no_pack: matches.get_flag("no-pack"),
     };
@@ -80,18 +89,19 @@ fn view_of(rt: &HostRuntime, matches: &ArgMatches<'_>) -> Option<View> {
     Some(view)
 }
 
-/// What the line of a packet is, by the command line.
+/// What the line of a packet is, by the command line. A terminal gets columns if no other form is chosen.
 fn form_of(rt: &HostRuntime, matches: &ArgMatches<'_>) -> Form {
+    let on_terminal = rt.stdout().is_terminal();
     if matches.get_flag("json") {
         return Form::Json;
     }
-    match matches.get_flag("pretty") {
-        true => Form::Columns(Look {
-            colours: rt.stdout().is_terminal() && !forbids_colours(rt),
-            width: matches.get_one::<u32>("width").unwrap_or(COLUMNS),
-        }),
-        false => Form::Lines,
+    if matches.get_flag("plain") || !(on_terminal || matches.get_flag("pretty")) {
+        return Form::Lines;
     }
+    Form::Columns(Look {
+        colours: on_terminal && !forbids_colours(rt),
+        width: matches.get_one::<u32>("width").unwrap_or(COLUMNS),
+    })
 }
 
 /// Whether the environment forbids colours: it has a `NO_COLOR` that is not empty.
