@@ -51,6 +51,14 @@ pub(crate) fn show_command<'a>(alloc: Global) -> Result<Command<'a>, AllocError>
                 .value_name("OFFSET")
                 .value_parser(value_parser!(u64))
                 .help("Leaves out packets before this offset"),
+        )?
+        .arg(
+            Arg::new(alloc, "only")
+                .long("only")
+                .value_name("COMMAND")
+                .help(
+                    "Only the requests with this command, as fetch or ls-refs, of what a client sent",
+                ),
         )
 }
 
@@ -68,22 +76,30 @@ pub(crate) fn run_show(rt: &HostRuntime, matches: &ArgMatches<'_>) -> Result<(),
         None => show(reader, writer, &mut piece, TURNS),
     };
     let done = match done {
-        Ok(()) if matches!(form, Form::Columns(_)) => {
+        Ok(()) if matches!(form, Form::Columns(_)) && tally.stray.is_none() => {
             summarize(tally, &mut Told::new(&mut output))
         }
         _ => done,
     };
-    done.map_err(|fault| Failure::of_run(fault, input.failed_call().or(output.failed_call())))
+    match (done, tally.stray) {
+        (Ok(()), None) => Ok(()),
+        (Ok(()), Some(offset)) => Err(Failure::of_stray(offset)),
+        (Err(fault), _) => Err(Failure::of_run(
+            fault,
+            input.failed_call().or(output.failed_call()),
+        )),
+    }
 }
 
 /// How packets are shown in this form, by the command line. Without options their lines are the plain ones.
-fn view_of(matches: &ArgMatches<'_>, form: Form) -> Option<View> {
+fn view_of<'a>(matches: &'a ArgMatches<'_>, form: Form) -> Option<View<'a>> {
     let view = View {
         form,
         from: matches.get_one::<u64>("from").unwrap_or(0),
         no_pack: matches.get_flag("no-pack"),
+        only: matches.get_str("only").map(|command| command.as_bytes()),
     };
-    if view.form == Form::Lines && view.from == 0 && !view.no_pack {
+    if view.form == Form::Lines && view.from == 0 && !view.no_pack && view.only.is_none() {
         return None;
     }
     Some(view)

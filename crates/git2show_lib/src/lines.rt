@@ -10,8 +10,8 @@ ghost use Rattle.git2show_lib.specs.PrettyLines.{pretty_line};
 ghost use Rattle.git2show_lib.specs.JsonLines.{coded, json_line, json_start};
 
 use crate::json_lines::{Coding, json_end, write_json_start};
-use crate::pretty::{LINE, Label, Look, body, write_pretty};
-use crate::views::{Form, View};
+use crate::pretty::{LINE, Look, body, write_pretty};
+use crate::views::{Form, Tally, View};
 use git_pkt::{Packet, RunFault, Told, escape_into, flush, is_plain, put_at, send};
 use itoa::Buffer;
 use std::io::Write;
@@ -92,24 +92,24 @@ impl Lines {
         self.emit(writer, b"\n")
     }
 
-    /// Puts what a view shows of a packet after the others.
+    /// Puts what a view shows of a packet, after those that were counted, behind the others.
     pub(crate) fn put_viewed<W: Write>(
         &mut self,
         writer: &mut Told<W>,
-        view: View,
-        in_pack: bool,
+        view: View<'_>,
+        before: Tally,
         packet: Packet<'_>,
         offset: u64,
     ) -> Result<(), RunFault>
-        ensures { Puts W.contents writer.old self.old (view_line view in_pack (record { packet = seen packet.entry; offset = offset })) result
+        ensures { Puts W.contents writer.old self.old (view_line view.entry before (record { packet = seen packet.entry; offset = offset })) result
             writer.new self.new }
     {
-        if view.leaves_out(Label::of(in_pack, packet), offset) {
+        if view.leaves_out(before, packet, offset) {
             return Ok(());
         }
         match view.form {
             Form::Lines => self.put(writer, packet, offset),
-            Form::Columns(look) => self.put_pretty(writer, look, in_pack, packet, offset),
+            Form::Columns(look) => self.put_pretty(writer, look, before.in_pack, packet, offset),
             Form::Json => self.put_json(writer, packet, offset),
         }
     }

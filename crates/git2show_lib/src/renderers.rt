@@ -50,7 +50,7 @@ impl Renderer for Plain {
     }
 }
 
-impl Renderer for View {
+impl Renderer for View<'_> {
     ghost view = { λ view. Some view };
 
     fn put<W: Write>(
@@ -62,7 +62,7 @@ impl Renderer for View {
         offset: u64,
     ) -> Result<(), RunFault> {
         let before = *tally;
-        *tally = before.count(packet, offset);
-        lines.put_viewed(writer, self, before.in_pack, packet, offset)
+        *tally = before.count(self.only, packet, offset);
+        lines.put_viewed(writer, self, before, packet, offset)
     }
 }

@@ -51,7 +51,7 @@ pub fn show_view<R: Read, W: Write>(
     writer: &mut Told<W>,
     piece: &mut [u8],
     turns: u64,
-    view: View,
+    view: View<'_>,
     tally: &mut Tally,
 ) -> Result<(), RunFault>
     requires room { 0 < length piece.old }
@@ -64,7 +64,7 @@ pub fn show_view<R: Read, W: Write>(
     ensures end { OnOk result (IsAtEnd (R.remaining (inner_of reader.new))) }
     ensures fault { IfErr result (IsShownBy (IsTrue (has_failed reader.new)) (IsTrue (has_failed writer.new)) (IsSpent reader.new turns)) }
     ensures told { FailsAs result (has_failed reader.new) (has_failed writer.new) }
-    ensures shown { Moves (is_broken result) (ShowsView (Some view) tally.old tally.new result (has_ended reader.new) turns)
+    ensures shown { Moves (is_broken result) (ShowsView (Some view.entry) tally.old tally.new result (has_ended reader.new) turns)
         (flow (R.remaining (inner_of reader.old)) (R.remaining (inner_of reader.new)) ∷ [])
         (flow (W.contents (inner_of writer.old)) (W.contents (inner_of writer.new)) ∷ []) }
 {
