@@ -39,7 +39,7 @@ program:
 library:
 	$(call prove,gitwire,lib)
 
-# Installs the program with its manual page and completions for shells, and the library with its own, its header, what that names (the pages
+# Installs the program with its manual pages and completions for shells, and the library with its own, its header, what that names (the pages
 # on the protocol and on what is promised, the script that writes a repository text, the examples), and what pkg-config prints for it: a C
 # program is then built with `pkg-config --cflags --libs gitwire` and nothing of this folder. It has the library twice: as an archive, and
 # as a shared library of the same objects, which shows the calls of the header alone. What was built is taken as it is; what was not is
@@ -53,6 +53,7 @@ install: $(PROGRAM) $(LIBRARY)
 	done
 	@install -D -m 755 "$(PROGRAM)" "$(to)/bin/git2show"
 	@install -D -m 644 docs/git2show.1 "$(to)/share/man/man1/git2show.1"
+	@install -D -m 644 docs/git2show.5 "$(to)/share/man/man5/git2show.5"
 	@install -D -m 644 completions/git2show.bash "$(to)/share/bash-completion/completions/git2show"
 	@install -D -m 644 -t "$(to)/share/zsh/site-functions" completions/_git2show
 	@install -D -m 644 -t "$(to)/share/fish/vendor_completions.d" completions/git2show.fish

@@ -10,6 +10,9 @@ _git2show() {
         --format)
             options='sha1 sha256'
             ;;
+        --only)
+            options='fetch ls-refs object-info bundle-uri'
+            ;;
         --repo | --pack | --filtered | --script | --transcript)
             mapfile -t COMPREPLY < <(compgen -f -- "$word")
             return
@@ -19,7 +22,7 @@ _git2show() {
             ;;
         *)
             case ${COMP_WORDS[1]} in
-            show) options='--pretty --json --width --no-pack --from --help' ;;
+            show) options='--pretty --json --plain --width --no-pack --from --only --help' ;;
             check) options='--format --stateless --help' ;;
             serve) options='--repo --pack --filtered --limit --stateless-rpc --http-backend-info-refs --advertise-refs --help' ;;
             fetch) options='--script --pack --transcript --progress --format --stateless --help' ;;

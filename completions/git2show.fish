@@ -11,9 +11,11 @@ function __git2show_option
 end
 __git2show_option show -l pretty -d 'Lines of columns'
 __git2show_option show -l json -d 'A JSON object for each packet'
+__git2show_option show -l plain -d 'Lines of text on a terminal too'
 __git2show_option show -l width -x -d 'Columns of a line of --pretty'
 __git2show_option show -l no-pack -d 'Leave out bytes of packs'
 __git2show_option show -l from -x -d 'Leave out packets before this offset'
+__git2show_option show -l only -x -a 'fetch ls-refs object-info bundle-uri' -d 'Requests with this command'
 for command in check fetch
     __git2show_option $command -l format -x -a 'sha1 sha256' -d 'Object format'
 end

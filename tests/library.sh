@@ -58,7 +58,7 @@ under_valgrind() {
 case_library_is_installed_whole() {
     local file line
     for file in bin/git2show lib/libgitwire.a lib/libgitwire.so include/gitwire.h lib/pkgconfig/gitwire.pc share/man/man1/git2show.1 \
-        share/man/man3/gitwire.3 share/bash-completion/completions/git2show share/zsh/site-functions/_git2show \
+        share/man/man5/git2show.5 share/man/man3/gitwire.3 share/bash-completion/completions/git2show share/zsh/site-functions/_git2show \
         share/fish/vendor_completions.d/git2show.fish share/doc/gitwire/{PROTOCOL,PROMISES,STEPS}.md share/doc/gitwire/repository-text.sh \
         $(cd "$top" && printf 'share/doc/gitwire/%s ' examples/*); do
         [ -s "$installed/$file" ] || differs "no $file"

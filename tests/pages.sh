@@ -39,6 +39,47 @@ case_each_name_that_the_promises_and_decisions_cite_is_in_the_sources() {
     expect_same 'the names that no source has' /dev/null page_matches
 }
 
+# part_of_the_page SECTION: a section of git2show(5), as it is read.
+part_of_the_page() {
+    sed -n "/^\.SH $1/,/^\.SH/p" "$top/docs/git2show.5" | sed 's/\\-/-/g'
+}
+
+# words_of_the_page SECTION: the words by which the lines begin that a section of git2show(5) describes.
+words_of_the_page() {
+    part_of_the_page "$1" | grep -A 1 -x -F .TP | grep -o -E '\\fB[a-z-]+\\fR( |$|,|\[)|, \\fB[a-z-]+\\fR' | sed -E 's/.*\\fB([a-z-]+)\\fR.*/\1/' | sort -u
+}
+
+# rows_of_the_table HEADING COLUMN: a column of the table of PROTOCOL.md with this heading.
+rows_of_the_table() {
+    sed -n "/^| $1 |/,/^\$/p" "$top/docs/PROTOCOL.md" | tail -n +3 | cut -d '|' -f "$2"
+}
+
+# The words in backticks by which what stands there begins.
+quoted_words() {
+    grep -o -E '`[a-z][a-z-]*' | tr -d '`' | sort -u
+}
+
+# The page on texts, scripts and transcripts has the lines that the sources and PROTOCOL.md have, and no others.
+case_the_page_on_texts_has_their_lines() {
+    expect_same 'the lines of a repository text' \
+        <(grep -o -E 'after\(line, b"[a-z]+ "' "$top/crates/git_repository/src/repository_lines.rt" | sed 's/.*b"//; s/ "//' | sort -u) \
+        <(words_of_the_page 'REPOSITORY TEXTS')
+    expect_same 'the commands of a script' <(rows_of_the_table 'Command | Arguments' 2 | sed 's/,.*//' | quoted_words) <(words_of_the_page SCRIPTS)
+    expect_same 'the arguments of a script' \
+        <(rows_of_the_table 'Command | Arguments' 3 | quoted_words) \
+        <(part_of_the_page SCRIPTS | sed -n -E 's/^\.BI? ([a-z-]+).*/\1/p; s/^\.BR ([a-z-]+) [,.]$/\1/p' | grep -v -x -e gitprotocol-v2 | sort -u)
+    expect_same 'the lines of a transcript' <(rows_of_the_table 'Line | Of' 2 | quoted_words) <(words_of_the_page TRANSCRIPTS)
+    is_well_written man5/git2show.5
+}
+
+# Its examples go together.
+case_the_examples_of_the_page_on_texts_play() {
+    part_of_the_page EXAMPLES > examples
+    awk '/^\.EX$/ { at++; inside = 1; next } /^\.EE$/ { inside = 0 } inside { print > ("example" at) }' examples
+    run git2show play --repo example1 --pack /dev/null --script example2
+    expect 0 example3 /dev/null
+}
+
 case_each_link_of_a_page_leads_to_a_file() {
     local page link
     while read -r page; do

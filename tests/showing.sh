@@ -142,24 +142,123 @@ case_packets_are_left_out() {
         expect_same "what is reported with $option" <(fault 'BadDigit at 12') err
     done
     expect_refused show --pretty --json
+    expect_refused show --plain --pretty
+    expect_refused show --plain --json
     expect_refused show --width 39
     expect_refused show --width 201
     expect_refused show --from x
 }
 
-# There are colours on a terminal alone, and none where NO_COLOR forbids them.
+# Of what a client sent, the requests with one command alone are shown: all of each, and its flush.
+case_requests_with_one_command_are_shown() {
+    local stream=$sessions/clone-requests.pkt word
+    {
+        packet command=ls-refs
+        printf 0001
+        packet peel
+        printf 0000
+        packet command=fetch
+        packet agent=a
+        printf 0001
+        packet "want $one"
+        printf 0000
+        printf '0011command=fetch'
+        printf 00000000
+    } > asked
+    run git2show show --only fetch < asked
+    expect 0 <(cat << END
+37 data 14 command=fetch\\n
+55 data 8 agent=a\\n
+67 delim
+71 data 46 want $one\\n
+121 flush
+125 data 13 command=fetch
+142 flush
+END
+    ) /dev/null
+    run git2show show --only ls-refs --json < asked
+    expect 0 <(cat << 'END'
+{"offset":0,"kind":"data","length":16,"payload":"command=ls-refs\n"}
+{"offset":20,"kind":"delim"}
+{"offset":24,"kind":"data","length":5,"payload":"peel\n"}
+{"offset":33,"kind":"flush"}
+END
+    ) /dev/null
+    run git2show show --only fetch --from 121 --pretty < asked
+    expect 0 <(cat << 'END'
+     121        flush
+     125    13  command   command=fetch
+     142        flush
+150 bytes, 12 packets, 3 requests, 0 bytes of packs
+END
+    ) /dev/null
+    run git2show show --only fet < asked
+    expect 0 /dev/null /dev/null
+    # A request that is cut off.
+    run git2show show --only fetch < <(packet command=fetch; printf 000)
+    expect 1 <(echo '0 data 14 command=fetch\n') <(fault 'Truncated at 18')
+    # The requests of a clone, which ends with a flush alone.
+    git2show show < "$stream" > whole
+    for word in ls-refs fetch; do
+        git2show show --only $word < "$stream"
+    done > both
+    expect_same 'both requests' <(head -n -1 whole) both
+}
+
+# What is not a client's has no requests, and is refused at the first packet that begins none.
+case_what_a_server_sent_has_no_requests() {
+    run git2show show --only fetch < "$sessions/clone-responses.pkt"
+    expect 1 /dev/null <(fault 'NoCommand at 0')
+    run git2show show --only fetch --pretty < <(packet command=fetch; printf 0000; packet 'version 2'; printf 0000; packet command=fetch)
+    expect 1 <(cat << 'END'
+       0    14  command   command=fetch
+      18        flush
+      40    14  command   command=fetch
+END
+    ) <(fault 'NoCommand at 22')
+    run git2show show --only fetch < <(packet agent=a; packet command=fetch; printf 0000)
+    expect 1 /dev/null <(fault 'NoCommand at 0')
+    run git2show show --only fetch < <(printf 00000001)
+    expect 1 /dev/null <(fault 'NoCommand at 4')
+    run git2show show --only fetch < <(packet 'version 2'; printf 00g0)
+    expect 1 /dev/null <(fault 'BadDigit at 16')
+    command -v script > /dev/null || return 0
+    packet 'version 2' > shown
+    on_terminal 'git2show show --only fetch < shown > out'
+    explained 'NoCommand at 0' 'not what a client sent: no request begins there'
+}
+
+# A terminal gets columns with colours, where NO_COLOR does not forbid these, unless another form is chosen.
 case_columns_have_colours_on_a_terminal() {
+    local words coloured=$'       0    14  \e[1;36mcommand\e[0m   command=fetch'
     command -v script > /dev/null || return 0
     packet command=fetch > shown
-    on_terminal 'git2show show --pretty < shown'
-    expect_status 0
-    expect_line 'the terminal' $'       0    14  \e[1;36mcommand\e[0m   command=fetch' terminal
-    on_terminal 'NO_COLOR=1 git2show show --pretty < shown'
+    for words in --pretty '' '--width 80' '--from 0 --no-pack'; do
+        on_terminal "git2show show $words < shown"
+        expect_status 0
+        expect_line "the terminal with '$words'" "$coloured" terminal
+        expect_line "the terminal with '$words'" '18 bytes, 1 packets, 1 requests, 0 bytes of packs' terminal
+    done
+    on_terminal 'NO_COLOR=1 git2show show < shown'
     expect_line 'the terminal' '       0    14  command   command=fetch' terminal
-    on_terminal 'NO_COLOR= git2show show --pretty < shown'
-    expect_line 'the terminal' $'       0    14  \e[1;36mcommand\e[0m   command=fetch' terminal
-    on_terminal 'git2show show < shown'
-    expect_line 'the terminal' '0 data 14 command=fetch\n' terminal
+    on_terminal 'NO_COLOR= git2show show < shown'
+    expect_line 'the terminal' "$coloured" terminal
+    on_terminal 'git2show show --plain < shown'
+    expect_same 'the plain lines' <(echo '0 data 14 command=fetch\n') terminal
+    on_terminal 'git2show show --json < shown'
+    expect_same 'the JSON lines' <(echo '{"offset":0,"kind":"data","length":14,"payload":"command=fetch\n"}') terminal
+}
+
+# Without a terminal --plain changes nothing.
+case_plain_lines_are_the_default_elsewhere() {
+    local stream
+    for stream in "$sessions"/*.pkt; do
+        git2show show < "$stream" > whole
+        run git2show show --plain < "$stream"
+        expect 0 whole /dev/null
+    done
+    run git2show show --plain --from 1 < <(packet a; packet b)
+    expect 0 <(echo '6 data 2 b\n') /dev/null
 }
 
 # A conversation of the real Git that is recorded is one that `check` accepts, and that can be looked at.

@@ -37,6 +37,7 @@ pub(crate) fn explain(
             explain_line(rt, path_of(words, "script"), number, Text::Script(format))
         }
         (_, Cause::Call(call)) => explain_call(rt, words, call),
+        (_, Cause::Stray) => eprintln!(rt; "not what a client sent: no request begins there"),
         _ => Ok(()),
     }
 }

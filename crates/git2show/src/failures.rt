@@ -1,7 +1,7 @@
 //! Why a command failed, and what is known of it beside the error that is reported.
 
 use git_names::Format;
-use git_pkt::{Kind, RunFault};
+use git_pkt::{Fault, Kind, RunFault};
 use git2show_lib::{CheckFault, ProgramFault};
 use std::io::{self, Read, Write};
 
@@ -23,6 +23,8 @@ pub(crate) enum Cause {
     Call(FailedCall),
     /// A line of a script for this object format is refused.
     ScriptLine(Format),
+    /// A packet begins no request, where requests are looked for.
+    Stray,
 }
 
 /// A call on a file or a stream that failed, with what the system reported.
@@ -70,6 +72,15 @@ impl Failure {
             _ => Cause::Unknown,
         };
         Failure { fault, cause }
+    }
+
+    /// The failure of a stream of which requests are to be shown, and in which a packet at this offset begins none.
+    pub(crate) fn of_stray(offset: u64) -> Failure {
+        let kind = Kind::NoCommand;
+        Failure {
+            fault: ProgramFault::Run(RunFault::Refused(Fault { kind, offset })),
+            cause: Cause::Stray,
+        }
     }
 
     /// The same failure, with the call that failed if the error is that a pack could not be read.

@@ -4,7 +4,7 @@ use crate::failures::{Failure, Stream, Watched};
 use crate::{PIECE, TURNS, flag_argument};
 use clap::{Arg, ArgMatches, Command, value_parser};
 use git_pkt::{Retries, Told};
-use git2show_lib::{Form, Look, Tally, View, show_view, summarize};
+use git2show_lib::{Form, Look, Tally, View, show, show_view, summarize};
 use std::alloc::{AllocError, Global};
 use std::env::{self, VarError};
 use std::io::IsTerminal;
@@ -24,12 +24,18 @@ pub(crate) fn show_command<'a>(alloc: Global) -> Result<Command<'a>, AllocError>
             "Prints a line for each packet on standard input: its offset, kind, length and payload",
         )
         .arg(flag_argument(alloc, "pretty").help(
-            "Lines of columns for a reader, with a summary below them; on a terminal with colours",
+            "Lines of columns for a reader, with a summary below them: what a terminal gets, with colours",
         ))?
         .arg(
             flag_argument(alloc, "json")
                 .conflicts_with("pretty")?
                 .help("A JSON object for each packet"),
+        )?
+        .arg(
+            flag_argument(alloc, "plain")
+                .conflicts_with("pretty")?
+                .conflicts_with("json")?
+                .help("Lines of text, also on a terminal"),
         )?
         .arg(
             Arg::new(alloc, "width")
@@ -45,6 +51,14 @@ pub(crate) fn show_command<'a>(alloc: Global) -> Result<Command<'a>, AllocError>
                 .value_name("OFFSET")
                 .value_parser(value_parser!(u64))
                 .help("Leaves out packets before this offset"),
+        )?
+        .arg(
+            Arg::new(alloc, "only")
+                .long("only")
+                .value_name("COMMAND")
+                .help(
+                    "Only the requests with this command, as fetch or ls-refs, of what a client sent",
+                ),
         )
 }
 
@@ -54,46 +68,56 @@ pub(crate) fn run_show(rt: &HostRuntime, matches: &ArgMatches<'_>) -> Result<(),
     let mut output = Watched::new(Stream::Output, rt.stdout());
     let mut piece = [0; PIECE];
     let mut tally = Tally::START;
-    let done = show_view(
-        &mut Told::new(&mut input),
-        &mut Told::new(&mut output),
-        &mut piece,
-        TURNS,
-        view_of(rt, matches),
-        &mut tally,
-    );
+    let form = form_of(rt, matches);
+    let reader = &mut Told::new(&mut input);
+    let writer = &mut Told::new(&mut output);
+    let done = match view_of(matches, form) {
+        Some(view) => show_view(reader, writer, &mut piece, TURNS, view, &mut tally),
+        None => show(reader, writer, &mut piece, TURNS),
+    };
     let done = match done {
-        Ok(()) if matches.get_flag("pretty") => summarize(tally, &mut Told::new(&mut output)),
+        Ok(()) if matches!(form, Form::Columns(_)) && tally.stray.is_none() => {
+            summarize(tally, &mut Told::new(&mut output))
+        }
         _ => done,
     };
-    done.map_err(|fault| Failure::of_run(fault, input.failed_call().or(output.failed_call())))
+    match (done, tally.stray) {
+        (Ok(()), None) => Ok(()),
+        (Ok(()), Some(offset)) => Err(Failure::of_stray(offset)),
+        (Err(fault), _) => Err(Failure::of_run(
+            fault,
+            input.failed_call().or(output.failed_call()),
+        )),
+    }
 }
 
-/// How packets are shown, by the command line. Without options their lines are the plain ones.
-fn view_of(rt: &HostRuntime, matches: &ArgMatches<'_>) -> Option<View> {
+/// How packets are shown in this form, by the command line. Without options their lines are the plain ones.
+fn view_of<'a>(matches: &'a ArgMatches<'_>, form: Form) -> Option<View<'a>> {
     let view = View {
-        form: form_of(rt, matches),
+        form,
         from: matches.get_one::<u64>("from").unwrap_or(0),
         no_pack: matches.get_flag("no-pack"),
+        only: matches.get_str("only").map(|command| command.as_bytes()),
     };
-    if view.form == Form::Lines && view.from == 0 && !view.no_pack {
+    if view.form == Form::Lines && view.from == 0 && !view.no_pack && view.only.is_none() {
         return None;
     }
     Some(view)
 }
 
-/// What the line of a packet is, by the command line.
+/// What the line of a packet is, by the command line. A terminal gets columns if no other form is chosen.
 fn form_of(rt: &HostRuntime, matches: &ArgMatches<'_>) -> Form {
+    let on_terminal = rt.stdout().is_terminal();
     if matches.get_flag("json") {
         return Form::Json;
     }
-    match matches.get_flag("pretty") {
-        true => Form::Columns(Look {
-            colours: rt.stdout().is_terminal() && !forbids_colours(rt),
-            width: matches.get_one::<u32>("width").unwrap_or(COLUMNS),
-        }),
-        false => Form::Lines,
+    if matches.get_flag("plain") || !(on_terminal || matches.get_flag("pretty")) {
+        return Form::Lines;
     }
+    Form::Columns(Look {
+        colours: on_terminal && !forbids_colours(rt),
+        width: matches.get_one::<u32>("width").unwrap_or(COLUMNS),
+    })
 }
 
 /// Whether the environment forbids colours: it has a `NO_COLOR` that is not empty.

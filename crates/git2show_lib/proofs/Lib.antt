@@ -16,6 +16,7 @@ pub mod Sendings
 pub mod PrettyTexts
 pub mod JsonTexts
 pub mod Printing
+pub mod OnlyRequests
 pub mod ScriptLists
 pub mod Scripting
 pub mod ScriptReading

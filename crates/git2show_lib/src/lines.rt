@@ -5,12 +5,12 @@ ghost use Rattle.git_pkt.specs.Packets.{seen};
 ghost use Rattle.git_pkt.specs.Escape.{escaped_of};
 ghost use Rattle.git_pkt.specs.Machine.Sends.{Puts, Sends};
 ghost use Rattle.git2show_lib.specs.PacketLines.{kind_shown, line_of};
-ghost use Rattle.git2show_lib.specs.PacketViews.{after, view_line, viewed};
+ghost use Rattle.git2show_lib.specs.PacketViews.{view_line};
 ghost use Rattle.git2show_lib.specs.PrettyLines.{pretty_line};
 ghost use Rattle.git2show_lib.specs.JsonLines.{coded, json_line, json_start};
 
 use crate::json_lines::{Coding, json_end, write_json_start};
-use crate::pretty::{LINE, Label, Look, body, write_pretty};
+use crate::pretty::{LINE, Look, body, write_pretty};
 use crate::views::{Form, Tally, View};
 use git_pkt::{Packet, RunFault, Told, escape_into, flush, is_plain, put_at, send};
 use itoa::Buffer;
@@ -77,6 +77,8 @@ impl Lines {
     }
 
     /// Puts the line of a packet after the others, and sends them where there is no room.
+    // Inlined, as all that it does once a packet: LLVM leaves what has two callers, a run with a view and one without, as calls.
+    #[inline(always)]
     pub(crate) fn put<W: Write>(
         &mut self,
         writer: &mut Told<W>,
@@ -90,45 +92,24 @@ impl Lines {
         self.emit(writer, b"\n")
     }
 
-    /// Puts what is shown of a packet, after those that were counted, behind the others, and counts it.
+    /// Puts what a view shows of a packet, after those that were counted, behind the others.
     pub(crate) fn put_viewed<W: Write>(
         &mut self,
         writer: &mut Told<W>,
-        view: Option<View>,
-        tally: &mut Tally,
+        view: View<'_>,
+        before: Tally,
         packet: Packet<'_>,
         offset: u64,
     ) -> Result<(), RunFault>
-        ensures puts { Puts W.contents writer.old self.old (viewed view tally.old (record { packet = seen packet.entry; offset = offset })) result
-            writer.new self.new }
-        ensures tally { tally.new ≡ after view tally.old (record { packet = seen packet.entry; offset = offset }) }
-    {
-        let Some(view) = view else {
-            return self.put(writer, packet, offset);
-        };
-        let before = *tally;
-        *tally = before.count(packet, offset);
-        self.put_formed(writer, view, before.in_pack, packet, offset)
-    }
-
-    /// Puts what a view shows of a packet after the others.
-    fn put_formed<W: Write>(
-        &mut self,
-        writer: &mut Told<W>,
-        view: View,
-        in_pack: bool,
-        packet: Packet<'_>,
-        offset: u64,
-    ) -> Result<(), RunFault>
-        ensures { Puts W.contents writer.old self.old (view_line view in_pack (record { packet = seen packet.entry; offset = offset })) result
+        ensures { Puts W.contents writer.old self.old (view_line view.entry before (record { packet = seen packet.entry; offset = offset })) result
             writer.new self.new }
     {
-        if view.leaves_out(Label::of(in_pack, packet), offset) {
+        if view.leaves_out(before, packet, offset) {
             return Ok(());
         }
         match view.form {
             Form::Lines => self.put(writer, packet, offset),
-            Form::Columns(look) => self.put_pretty(writer, look, in_pack, packet, offset),
+            Form::Columns(look) => self.put_pretty(writer, look, before.in_pack, packet, offset),
             Form::Json => self.put_json(writer, packet, offset),
         }
     }
@@ -209,6 +190,7 @@ impl Lines {
     }
 
     /// Puts what a packet's line has before the payload after the others.
+    #[inline(always)]
     fn emit_head<W: Write>(
         &mut self,
         writer: &mut Told<W>,
@@ -233,6 +215,7 @@ impl Lines {
     }
 
     /// Puts the escapes of bytes after the others, a run at a time.
+    #[inline(always)]
     fn emit_escaped<W: Write>(&mut self, writer: &mut Told<W>, bytes: &[u8]) -> Result<(), RunFault>
         ensures { Puts W.contents writer.old self.old (escaped_of bytes.now) result writer.new self.new }
     {
@@ -243,6 +226,7 @@ impl Lines {
     }
 
     /// Puts the escapes of a run after the others: at once where each byte is its own escape.
+    #[inline(always)]
     fn emit_run<W: Write>(&mut self, writer: &mut Told<W>, bytes: &[u8]) -> Result<(), RunFault>
         requires { length bytes.now ≤ RUN }
         ensures { Puts W.contents writer.old self.old (escaped_of bytes.now) result writer.new self.new }
@@ -290,6 +274,7 @@ impl Lines {
 }
 
 /// Writes what a packet's line has before the payload to a place, over what is there, and answers where it ends.
+#[inline(always)]
 fn write_head(packet: Packet<'_>, offset: u64, out: &mut [u8], at: usize) -> usize
     requires { at + HEAD ≤ length out.old }
     ensures within { result ≤ at + HEAD }

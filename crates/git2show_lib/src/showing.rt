@@ -1,6 +1,6 @@
 //! Packets shown as lines.
 
-ghost use Rattle.std.specs.Prelude.{◌≡◌, ◌<◌, ◌≤◌, [], ◌∷◌, ◌||◌, None, false, length, IsTrue, OnOk, OnErr, IfErr, IfOk, is_err};
+ghost use Rattle.std.specs.Prelude.{◌≡◌, ◌<◌, ◌≤◌, [], ◌∷◌, ◌||◌, None, Some, false, length, IsTrue, OnOk, OnErr, IfErr, IfOk, is_err};
 ghost use Rattle.std.specs.Io.KnownBytes.{IsAtEnd};
 ghost use Rattle.git_pkt.specs.Machine.Told.{inner_of, reads_of, has_failed, has_ended, has_wasted, IsNew};
 ghost use Rattle.git_pkt.specs.Machine.Engine.{FailsAs, IsShownBy, IsSpent};
@@ -9,6 +9,7 @@ ghost use Rattle.git_pkt.specs.Machine.PacketReader.{fault_of, passes_of};
 ghost use Rattle.git2show_lib.specs.Machine.ShownStream.{Shows, ShowsView, ShowsPiece, PrintsPiece, WritesFront};
 
 use crate::lines::Lines;
+use crate::renderers::{Plain, Renderer};
 use crate::views::{Tally, View};
 use git_names::Steps;
 use git_pkt::{Fault, Got, PacketReader, RunFault, Told, receive};
@@ -40,17 +41,17 @@ pub fn show<R: Read, W: Write>(
         (flow (R.remaining (inner_of reader.old)) (R.remaining (inner_of reader.new)) ∷ [])
         (flow (W.contents (inner_of writer.old)) (W.contents (inner_of writer.new)) ∷ []) }
 {
-    show_view(reader, writer, piece, turns, None, &mut Tally::START)
+    show_by(reader, writer, piece, turns, Plain, &mut Tally::START)
 }
 
 /// Shows the packets that a reader gives as [`show`] does, by a view, and counts those that it read. What is left out is counted too, and
-/// a malformed packet is refused wherever it is. Without a view each line is that of `show`, and nothing is counted.
+/// a malformed packet is refused wherever it is.
 pub fn show_view<R: Read, W: Write>(
     reader: &mut Told<R>,
     writer: &mut Told<W>,
     piece: &mut [u8],
     turns: u64,
-    view: Option<View>,
+    view: View<'_>,
     tally: &mut Tally,
 ) -> Result<(), RunFault>
     requires room { 0 < length piece.old }
@@ -63,7 +64,33 @@ pub fn show_view<R: Read, W: Write>(
     ensures end { OnOk result (IsAtEnd (R.remaining (inner_of reader.new))) }
     ensures fault { IfErr result (IsShownBy (IsTrue (has_failed reader.new)) (IsTrue (has_failed writer.new)) (IsSpent reader.new turns)) }
     ensures told { FailsAs result (has_failed reader.new) (has_failed writer.new) }
-    ensures shown { Moves (is_broken result) (ShowsView view tally.old tally.new result (has_ended reader.new) turns)
+    ensures shown { Moves (is_broken result) (ShowsView (Some view.entry) tally.old tally.new result (has_ended reader.new) turns)
+        (flow (R.remaining (inner_of reader.old)) (R.remaining (inner_of reader.new)) ∷ [])
+        (flow (W.contents (inner_of writer.old)) (W.contents (inner_of writer.new)) ∷ []) }
+{
+    show_by(reader, writer, piece, turns, view, tally)
+}
+
+/// Shows the packets that a reader gives by a renderer.
+fn show_by<R: Read, W: Write, V: Renderer>(
+    reader: &mut Told<R>,
+    writer: &mut Told<W>,
+    piece: &mut [u8],
+    turns: u64,
+    renderer: V,
+    tally: &mut Tally,
+) -> Result<(), RunFault>
+    requires room { 0 < length piece.old }
+    requires new_reader { IsNew reader.old }
+    requires sound_writer { has_failed writer.old ≡ false }
+
+    ensures reads { reads_of reader.new ≤ turns }
+    ensures useful { has_wasted reader.new ≡ false }
+    ensures ok { OnOk result (IsTrue (has_ended reader.new)) }
+    ensures end { OnOk result (IsAtEnd (R.remaining (inner_of reader.new))) }
+    ensures fault { IfErr result (IsShownBy (IsTrue (has_failed reader.new)) (IsTrue (has_failed writer.new)) (IsSpent reader.new turns)) }
+    ensures told { FailsAs result (has_failed reader.new) (has_failed writer.new) }
+    ensures shown { Moves (is_broken result) (ShowsView (V.view renderer) tally.old tally.new result (has_ended reader.new) turns)
         (flow (R.remaining (inner_of reader.old)) (R.remaining (inner_of reader.new)) ∷ [])
         (flow (W.contents (inner_of writer.old)) (W.contents (inner_of writer.new)) ∷ []) }
 {
@@ -77,7 +104,7 @@ pub fn show_view<R: Read, W: Write>(
         show_piece(
             &mut packets,
             &piece[..count],
-            view,
+            renderer,
             tally,
             &mut lines,
             writer,
@@ -87,10 +114,10 @@ pub fn show_view<R: Read, W: Write>(
 }
 
 /// Shows the packets of a piece, and sends their lines.
-fn show_piece<W: Write>(
+fn show_piece<W: Write, V: Renderer>(
     packets: &mut PacketReader,
     piece: &[u8],
-    view: Option<View>,
+    renderer: V,
     tally: &mut Tally,
     lines: &mut Lines,
     writer: &mut Told<W>,
@@ -99,14 +126,14 @@ fn show_piece<W: Write>(
     requires gathers { passes_of packets.old ≡ false }
     requires empty { lines.old ≡ [] }
     requires sound_writer { has_failed writer.old ≡ false }
-    ensures shown { ShowsPiece view tally.old tally.new result packets.old packets.new piece.now
+    ensures shown { ShowsPiece (V.view renderer) tally.old tally.new result packets.old packets.new piece.now
         (flow (W.contents (inner_of writer.old)) (W.contents (inner_of writer.new))) }
     ensures gathers { passes_of packets.new ≡ false }
     ensures sent { OnOk result (lines.new ≡ []) }
     ensures told { FailsAs result false (has_failed writer.new) }
     ensures fault { IfErr result (IsShownBy ⊥ (IsTrue (has_failed writer.new)) ⊥) }
 {
-    let stopped = print_piece(packets, piece, view, tally, lines, writer)?;
+    let stopped = print_piece(packets, piece, renderer, tally, lines, writer)?;
     lines.send_all(writer)?;
     match stopped {
         Some(fault) => Err(RunFault::Refused(fault)),
@@ -115,10 +142,10 @@ fn show_piece<W: Write>(
 }
 
 /// Prints the packets of a piece into the buffer of lines, up to the first fault, which is the answer.
-fn print_piece<W: Write>(
+fn print_piece<W: Write, V: Renderer>(
     packets: &mut PacketReader,
     piece: &[u8],
-    view: Option<View>,
+    renderer: V,
     tally: &mut Tally,
     lines: &mut Lines,
     writer: &mut Told<W>,
@@ -126,10 +153,10 @@ fn print_piece<W: Write>(
     requires sound { fault_of packets.old ≡ None }
     requires gathers { passes_of packets.old ≡ false }
     requires empty { lines.old ≡ [] }
-    ensures ok { IfOk result (λ stopped. PrintsPiece view tally.old tally.new stopped packets.old packets.new piece.now lines.new
+    ensures ok { IfOk result (λ stopped. PrintsPiece (V.view renderer) tally.old tally.new stopped packets.old packets.new piece.now lines.new
         (flow (W.contents (inner_of writer.old)) (W.contents (inner_of writer.new)))) }
     ensures gathers { passes_of packets.new ≡ false }
-    ensures front { OnErr result (WritesFront view tally.old tally.new packets.old packets.new piece.now
+    ensures front { OnErr result (WritesFront (V.view renderer) tally.old tally.new packets.old packets.new piece.now
         (flow (W.contents (inner_of writer.old)) (W.contents (inner_of writer.new)))) }
     ensures fault { IfErr result (λ fault. fault ≡ RunFault.WriteFault) }
     ensures failed { has_failed writer.new ≡ (has_failed writer.old || is_err result) }
@@ -140,7 +167,7 @@ fn print_piece<W: Write>(
         match fed.got {
             Got::More => return Ok(None),
             Got::Failed(fault) => return Ok(Some(fault)),
-            Got::Packet(packet, offset) => lines.put_viewed(writer, view, tally, packet, offset)?,
+            Got::Packet(packet, offset) => renderer.put(lines, writer, tally, packet, offset)?,
         }
         done += fed.used;
     }

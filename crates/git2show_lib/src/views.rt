@@ -3,7 +3,8 @@
 ghost use Rattle.std.specs.Prelude.{◌≡◌, ◌≤◌, ◌+◌, ◌++◌, decimal, length, take};
 ghost use Rattle.git_pkt.specs.Machine.Sends.{Sends};
 ghost use Rattle.git_pkt.specs.Packets.{seen};
-ghost use Rattle.git2show_lib.specs.PacketViews.{counted, goes_on, leaves_out, pack_in, requests_in, summary_of};
+ghost use Rattle.git2show_lib.specs.PacketViews.{begins_request, counted, goes_on, is_asked, is_command, is_flush, leaves_out, pack_in, requests_in};
+ghost use Rattle.git2show_lib.specs.PacketViews.{request_after, request_at, stray_after, summary_of};
 
 use crate::pretty::{Label, Look, body};
 use git_pkt::{Packet, RunFault, Told, put_at, send, text};
@@ -15,13 +16,15 @@ const SUMMARY: usize = 160;
 
 /// How packets are shown.
 #[derive(Clone, Copy, Debug, PartialEq, Eq)]
-pub struct View {
+pub struct View<'a> {
     /// What the line of a packet is.
     pub form: Form,
     /// Packets before this offset are left out.
     pub from: u64,
     /// Whether packets with bytes of a pack are left out.
     pub no_pack: bool,
+    /// The command whose requests alone are shown, as `fetch`. Only a client's stream has requests.
+    pub only: Option<&'a [u8]>,
 }
 
 /// What the line of a packet is.
@@ -48,6 +51,21 @@ pub struct Tally {
     pub pack: u64,
     /// Whether the packfile section goes on.
     pub in_pack: bool,
+    /// Where the stream stands, if the requests with one command are looked for.
+    pub request: RequestState,
+    /// The offset of the first packet that begins no request where one has to begin, if requests are looked for. A client sends none.
+    pub stray: Option<u64>,
+}
+
+/// Where a client's stream stands.
+#[derive(Clone, Copy, Debug, PartialEq, Eq)]
+pub enum RequestState {
+    /// Between two requests: the next packet begins one.
+    Between,
+    /// In a request with the command that is looked for.
+    Wanted,
+    /// In any other request.
+    Unwanted,
 }
 
 impl Tally {
@@ -58,11 +76,13 @@ impl Tally {
         requests: 0,
         pack: 0,
         in_pack: false,
+        request: RequestState::Between,
+        stray: None,
     };
 
     /// With one packet more.
-    pub(crate) fn count(self, packet: Packet<'_>, offset: u64) -> Self
-        ensures { result ≡ counted self (record { packet = seen packet.entry; offset = offset }) }
+    pub(crate) fn count(self, only: Option<&[u8]>, packet: Packet<'_>, offset: u64) -> Self
+        ensures { result ≡ counted only.entry self (record { packet = seen packet.entry; offset = offset }) }
     {
         let label = Label::of(self.in_pack, packet);
         let body = body(packet);
@@ -72,7 +92,83 @@ impl Tally {
             requests: self.requests.saturating_add(requests_in(label)),
             pack: self.pack.saturating_add(pack_in(label, body)),
             in_pack: goes_on(self.in_pack, packet),
+            request: self.request.after(only, packet),
+            stray: self.stray_after(only, packet, offset),
         }
+    }
+
+    /// The first packet that begins no request, with one packet more.
+    fn stray_after(self, only: Option<&[u8]>, packet: Packet<'_>, offset: u64) -> Option<u64>
+        ensures { result ≡ stray_after only.entry self.stray self.request (record { packet = seen packet.entry; offset = offset }) }
+    {
+        match (self.stray, only, self.request) {
+            (None, Some(_), RequestState::Between) if !begins_request(packet) => Some(offset),
+            _ => self.stray,
+        }
+    }
+}
+
+impl RequestState {
+    /// Where the stream stands with a packet.
+    fn at(self, only: Option<&[u8]>, packet: Packet<'_>) -> Self
+        ensures { result ≡ request_at only.entry self (seen packet.entry) }
+    {
+        match (only, self) {
+            (Some(command), RequestState::Between) if is_command(command, packet) =>
+                RequestState::Wanted,
+            (Some(_), RequestState::Between) => RequestState::Unwanted,
+            _ => self,
+        }
+    }
+
+    /// Where the stream stands after a packet.
+    fn after(self, only: Option<&[u8]>, packet: Packet<'_>) -> Self
+        ensures { result ≡ request_after only.entry self (seen packet.entry) }
+    {
+        match is_flush(packet) {
+            true => RequestState::Between,
+            false => self.at(only, packet),
+        }
+    }
+
+    /// Whether a packet is one of those that are looked for.
+    fn asks(self, only: Option<&[u8]>, packet: Packet<'_>) -> bool
+        ensures { result ≡ is_asked only.entry self (seen packet.entry) }
+    {
+        only.is_none() || self.at(only, packet) == RequestState::Wanted
+    }
+}
+
+fn is_flush(packet: Packet<'_>) -> bool
+    ensures { result ≡ is_flush (seen packet.entry) }
+{
+    match packet {
+        Packet::Flush => true,
+        Packet::Delim | Packet::RespEnd | Packet::Payload(_) => false,
+    }
+}
+
+/// Whether a packet is the line of a request that names this command.
+fn is_command(command: &[u8], packet: Packet<'_>) -> bool
+    ensures { result ≡ is_command command.now (seen packet.entry) }
+{
+    match packet {
+        Packet::Payload(payload) => match text(payload).strip_prefix(b"command=") {
+            Some(word) => word == command,
+            None => false,
+        },
+        Packet::Flush | Packet::Delim | Packet::RespEnd => false,
+    }
+}
+
+/// Whether a request begins with a packet.
+fn begins_request(packet: Packet<'_>) -> bool
+    ensures { result ≡ begins_request (seen packet.entry) }
+{
+    match packet {
+        Packet::Payload(payload) => text(payload).starts_with(b"command="),
+        Packet::Flush => true,
+        Packet::Delim | Packet::RespEnd => false,
     }
 }
 
@@ -106,12 +202,14 @@ fn goes_on(in_pack: bool, packet: Packet<'_>) -> bool
     }
 }
 
-impl View {
-    /// Whether a packet is left out.
-    pub(crate) fn leaves_out(self, label: Label, offset: u64) -> bool
-        ensures { result ≡ leaves_out self label offset }
+impl View<'_> {
+    /// Whether a packet is left out, after those that were counted.
+    pub(crate) fn leaves_out(self, before: Tally, packet: Packet<'_>, offset: u64) -> bool
+        ensures { result ≡ leaves_out self.entry before (record { packet = seen packet.entry; offset = offset }) }
     {
-        offset < self.from || (self.no_pack && label == Label::Pack)
+        offset < self.from
+            || (self.no_pack && Label::of(before.in_pack, packet) == Label::Pack)
+            || !before.request.asks(self.only, packet)
     }
 }
 

@@ -4,6 +4,7 @@ use Rattle.git_names.specs.declared.object_format.Format.TheVariants.{Sha1}
 use Rattle.git_server.specs.Repository.{Repository, RepoState}
 use Rattle.git2show_lib.specs.Machine.CheckFaults.{Standing}
 use Rattle.git2show_lib.specs.declared.views.Form.TheVariants.{Json, Lines}
+use Rattle.git2show_lib.specs.declared.views.RequestState.TheVariants.{Between}
 use Rattle.git2show_lib.specs.declared.views.Tally.{Tally}
 use Rattle.git2show_lib.specs.declared.views.View.{View}
 use Rattle.git_rows.specs.WorkedSessions.{repo}
@@ -40,12 +41,12 @@ offer_transcript =
 
 -- a view that leaves packs out
 abbrev pub without_packs : View
-without_packs = record { form = Lines; from = 0; no_pack = true }
+without_packs = record { form = Lines; from = 0; no_pack = true; only = None }
 
 -- a view that shows JSON from an offset on
 abbrev pub from_eight : View
-from_eight = record { form = Json; from = 8; no_pack = false }
+from_eight = record { form = Json; from = 8; no_pack = false; only = None }
 
 -- what was counted up to a packfile section
 abbrev pub tally_before : Tally
-tally_before = record { bytes = 9; packets = 1; requests = 0; pack = 0; in_pack = true }
+tally_before = record { bytes = 9; packets = 1; requests = 0; pack = 0; in_pack = true; request = Between; stray = None }

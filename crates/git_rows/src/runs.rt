@@ -11,7 +11,7 @@ ghost use Rattle.git_msg.specs.declared.requests.Request.{Request};
 ghost use Rattle.git_client.specs.declared.events.Ending.TheVariants.{FlushOnly};
 ghost use Rattle.git_pkt.specs.Packets.{delim, flush, payload};
 ghost use Rattle.git2show_lib.specs.JsonLines.{json_line};
-ghost use Rattle.git2show_lib.specs.PacketViews.{counted, viewed};
+ghost use Rattle.git2show_lib.specs.PacketViews.{counted, requests_with, strays, viewed};
 ghost use Rattle.git2show_lib.specs.PrettyLines.{pretty_line};
 ghost use Rattle.git_pkt.specs.Streams.{AreRead, AreWritten, IsTimely, flow};
 ghost use Rattle.git_pkt.specs.declared.fault.Kind.TheVariants.{BadLength, StreamTooLong, Truncated};
@@ -55,11 +55,24 @@ pub fn packets_viewed()
     ensures band { pretty_line false 80 true (at 9 (payload (2 ∷ codes "half\n"))) ≡ codes "       9     6  progress  half\n" }
     ensures no_band { pretty_line false 80 false (at 9 (payload (2 ∷ []))) ≡ codes "       9     1  data      \\x02\n" }
     ensures json { json_line (at 18 delim) ≡ codes "{\"offset\":18,\"kind\":\"delim\"}\n" }
-    ensures counted { (counted tally_before (at 9 (payload (1 ∷ codes "PACK")))).pack ≡ 4 }
+    ensures counted { (counted None tally_before (at 9 (payload (1 ∷ codes "PACK")))).pack ≡ 4 }
     ensures left_out { viewed (Some without_packs) tally_before (at 9 (payload (1 ∷ codes "PACK"))) ≡ [] }
     ensures not_left_out { viewed (Some without_packs) tally_before (at 8 flush) ≡ codes "8 flush\n" }
     ensures before { viewed (Some from_eight) tally_before (at 7 flush) ≡ [] }
     ensures not_before { viewed (Some from_eight) tally_before (at 8 delim) ≡ codes "{\"offset\":8,\"kind\":\"delim\"}\n" }
+{}
+
+/// The requests with one command, of what a client sent, and what begins no request.
+pub fn requests_with_a_command()
+    ensures whole { requests_with (codes "fetch") (at 0 (payload (codes "command=ls-refs\n")) ∷ at 20 flush ∷ at 24 (payload (codes "command=fetch\n"))
+        ∷ at 42 delim ∷ at 46 flush ∷ []) ≡ at 24 (payload (codes "command=fetch\n")) ∷ at 42 delim ∷ at 46 flush ∷ [] }
+    ensures cut_off { requests_with (codes "fetch") (at 0 (payload (codes "command=fetch")) ∷ at 17 delim ∷ [])
+        ≡ at 0 (payload (codes "command=fetch")) ∷ at 17 delim ∷ [] }
+    ensures not_a_longer_word { requests_with (codes "fetch") (at 0 (payload (codes "command=fetches\n")) ∷ at 20 flush ∷ []) ≡ [] }
+    ensures not_behind_another_line { requests_with (codes "fetch") (at 0 (payload (codes "agent=a\n")) ∷ at 12 (payload (codes "command=fetch\n"))
+        ∷ at 30 flush ∷ []) ≡ [] }
+    ensures stray { strays (at 0 flush ∷ at 4 (payload (codes "version 2\n")) ∷ at 18 delim ∷ []) ≡ 4 ∷ [] }
+    ensures not_stray { strays (at 0 flush ∷ at 4 (payload (codes "command=other\n")) ∷ []) ≡ [] }
 {}
 
 /// No requests, and responses that are an advertisement alone.

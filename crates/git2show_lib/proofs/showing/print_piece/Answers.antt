@@ -12,13 +12,13 @@ returns-in-Failed-clause-ok g c =
     let at = c.loop-done.invariant in
     fed_failed _ c.loop-done.done at.within at.prints c.feed-fed.follows.holds-at-none _ at.sound c.in-Failed.is
 
-pub returns-in_err-put_viewed-in-Packet-clause-front : goal.returns-in_err-put_viewed-in-Packet-clause-front
-returns-in_err-put_viewed-in-Packet-clause-front g c =
-    let front : WritesFront c.args.view c.args.tally.now _ c.args.packets.now c.feed-fed.follows.lender-at-none c.args.piece.now
-    (flow (g.W.Write.contents (inner_of c.args.writer.now)) (g.W.Write.contents (inner_of c.put_viewed.new.writer))) =
+pub returns-in_err-put-in-Packet-clause-front : goal.returns-in_err-put-in-Packet-clause-front
+returns-in_err-put-in-Packet-clause-front g c =
+    let front : WritesFront (g.V.Renderer.view c.args.renderer) c.args.tally.now _ c.args.packets.now c.feed-fed.follows.lender-at-none c.args.piece.now
+    (flow (g.W.Write.contents (inner_of c.args.writer.now)) (g.W.Write.contents (inner_of c.put.new.writer))) =
     fed_packet_front _ c.loop-done.done c.loop-done.invariant.within c.loop-done.invariant.prints c.feed-fed.follows.holds-at-none _ _ c.in-Packet.is
-    (broken_by {T = Option Fault} refl c.in_err-put_viewed-in-Packet.ensures.puts.sends.fault (put_by (Err _) c.in_err-put_viewed-in-Packet.ensures.puts))
-    c.in_err-put_viewed-in-Packet.ensures.tally in
+    (broken_by {T = Option Fault} refl c.in_err-put-in-Packet.ensures.puts.sends.fault (put_by (Err _) c.in_err-put-in-Packet.ensures.puts))
+    c.in_err-put-in-Packet.ensures.tally in
     search rules
 
 pub loop-done-init : goal.loop-done-init
@@ -41,6 +41,6 @@ loop-done-preserved g c =
       sound = tells.1;
       gathers = feeds.gathers;
       writer_sound = search rules;
-      prints = fed_packet _ c.loop-done.done at.within at.prints feeds _ _ c.in-Packet.is (put_by (Ok _) c.in_ok-put_viewed-in-Packet.ensures.puts)
-          c.in_ok-put_viewed-in-Packet.ensures.tally;
+      prints = fed_packet _ c.loop-done.done at.within at.prints feeds _ _ c.in-Packet.is (put_by (Ok _) c.in_ok-put-in-Packet.ensures.puts)
+          c.in_ok-put-in-Packet.ensures.tally;
     }

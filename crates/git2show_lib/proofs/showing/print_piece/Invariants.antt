@@ -12,7 +12,7 @@ invariant-loop-done g l = record {
   sound : fault_of l.packets ≡ None;
   gathers : passes_of l.packets ≡ false;
   writer_sound : has_failed l.writer ≡ has_failed l.fn.writer;
-  prints : Prints l.view l.fn.tally l.tally l.fn.packets l.packets (take l.done l.piece) l.lines
+  prints : Prints (g.V.Renderer.view l.renderer) l.fn.tally l.tally l.fn.packets l.packets (take l.done l.piece) l.lines
       (flow (g.W.Write.contents (inner_of l.fn.writer)) (g.W.Write.contents (inner_of l.writer)));
 }
 

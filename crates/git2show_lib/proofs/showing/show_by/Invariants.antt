@@ -5,7 +5,7 @@ use Rattle.git_pkt.specs.Machine.PacketReader.{fault_of, passes_of}
 use Rattle.git_pkt.specs.Streams.{flow}
 use Rattle.git_pkt.proofs.EngineLemmas.{Moved}
 use Rattle.git2show_lib.proofs.Printing.{ShowsSoFar}
-use Rattle.git2show_lib.proofs.showing.show_view.Given as goal
+use Rattle.git2show_lib.proofs.showing.show_by.Given as goal
 
 abbrev pub invariant-loop : goal.invariant-loop
 invariant-loop g l = record {
@@ -17,7 +17,7 @@ invariant-loop g l = record {
   sound : fault_of l.packets ≡ None;
   gathers : passes_of l.packets ≡ false;
   empty : l.lines ≡ [];
-  shows : Moved false (ShowsSoFar l.view l.fn.tally l.tally l.packets l.counter)
+  shows : Moved false (ShowsSoFar (g.V.Renderer.view l.renderer) l.fn.tally l.tally l.packets l.counter)
       (flow (g.R.Read.remaining (inner_of l.fn.reader)) (g.R.Read.remaining (inner_of l.reader)))
       (flow (g.W.Write.contents (inner_of l.fn.writer)) (g.W.Write.contents (inner_of l.writer)));
 }

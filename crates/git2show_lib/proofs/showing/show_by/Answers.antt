@@ -4,7 +4,7 @@ use Rattle.std.proofs.lemmas.Result.{err_from_is_err_and}
 use Rattle.std.specs.Io.KnownBytes.{Consumes}
 use Rattle.git_pkt.specs.Machine.Told.{inner_of}
 use Rattle.git2show_lib.proofs.Printing.{shows_more, stops_by, ends_unread, ends_spent, ends_closed}
-use Rattle.git2show_lib.proofs.showing.show_view.Goals as goal
+use Rattle.git2show_lib.proofs.showing.show_by.Goals as goal
 
 pub returns-in_err-count-clause-shown : goal.returns-in_err-count-clause-shown
 returns-in_err-count-clause-shown g c =
