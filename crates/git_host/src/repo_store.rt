@@ -1,10 +1,11 @@
 //! A store that answers as a repository does, and whose packs pass part by part from readers that can seek.
 
 ghost use Rattle.std.specs.Prelude.{◌≡◌, ◌<◌, ◌≤◌, IfOk, length};
+ghost use Rattle.std.specs.Option.{option_copied};
 ghost use Rattle.git_host.specs.HostLookups.{asked_in};
 ghost use Rattle.git_host.specs.Questions.{IsListedWithin, IsPartWithin, found, has, line, listed_in, part_in, ready, replied, size_is};
 ghost use Rattle.git_host.specs.Questions.{ask_boundary, ask_have, ask_pack, ask_reference, ask_size, ask_want, ask_want_ref};
-ghost use Rattle.git_host.specs.RepoReplies.{BeginsAnew, RepliesAs, answers_of};
+ghost use Rattle.git_host.specs.RepoReplies.{BeginsAnew, IsLeftUnborn, RepliesAs, answers_of};
 
 use crate::request_at_hand::RequestAtHand;
 use crate::store::{Listed, Part, Store, StoreFault};
@@ -143,6 +144,18 @@ impl<R: Repo, P: Read + Seek> RepoStore<R, P> {
     }
 }
 
+impl<R: Repo, P> RepoStore<R, P> {
+    // What an unborn `HEAD` points to, if it was not sent yet.
+    fn unborn_left(&self) -> Option<&[u8]>
+        ensures { IsLeftUnborn (answers_of R.state self.now) self.now.named_unborn (option_copied result) }
+    {
+        if self.named_unborn {
+            return None;
+        }
+        self.repo.unborn_head()
+    }
+}
+
 impl<R: Repo, P: Read + Seek> Store for RepoStore<R, P> {
     ghost begins = { λ old asked new. BeginsAnew R.state old new };
 
@@ -200,16 +213,14 @@ impl<R: Repo, P: Read + Seek> Store for RepoStore<R, P> {
     }
 
     fn reference(&mut self, out: &mut [u8]) -> Result<Listed, StoreFault> {
-        if !self.named_unborn {
-            if let Some(target) = self.repo.unborn_head() {
-                let count = target.len();
-                if count > out.len() {
-                    return Err(StoreFault);
-                }
-                out[..count].copy_from_slice(target);
-                self.named_unborn = true;
-                return Ok(Listed::Unborn(count));
+        if let Some(target) = self.unborn_left() {
+            let count = target.len();
+            if count > out.len() {
+                return Err(StoreFault);
             }
+            out[..count].copy_from_slice(target);
+            self.named_unborn = true;
+            return Ok(Listed::Unborn(count));
         }
         let Some(entry) = self.repo.refs().get(self.at) else {
             return Ok(Listed::End);
