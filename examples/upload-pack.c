@@ -3,10 +3,10 @@
  *
  *     upload-pack [--stateless-rpc] [--http-backend-info-refs] [--timeout=N] [--strict] FOLDER
  *
- * The library reads the requests and makes the answers; what it asks for is looked up by commands of Git: references by `git show-ref` and
- * `git for-each-ref`, objects by one `git cat-file --batch-command` that runs as long as the session, the ends of a shallow history by `git
- * rev-list`, and packs by `git pack-objects --revs --stdout`, whose bytes pass on as they come. If one of them fails, the client receives
- * an error. It speaks version 2 alone, whatever version its client asks for.
+ * The library reads the requests and makes the answers; what it asks for is looked up by commands of Git: references by `git show-ref` or
+ * `git for-each-ref` or both, objects by one `git cat-file --batch-command` that runs as long as the session, the ends of a shallow history
+ * by `git rev-list`, and packs by `git pack-objects --revs --stdout`, whose bytes pass on as they come. If one of them fails, the client
+ * receives an error. It speaks version 2 alone, whatever version its client asks for.
  *
  *     git clone --upload-pack=.../upload-pack REPOSITORY CLONE
  */
@@ -244,10 +244,12 @@ static void start_pack(struct command *pack, bool is_cut)
 	start(pack, gitwire_host_flag(&host, GITWIRE_FLAG_NO_PROGRESS) ? TO_ERRORS : TO_PIPE, words);
 }
 
-/* Passes on what can be read: false at the end. */
-static bool pass_on(int from, gitwire_answer (*call)(gitwire_host *, const uint8_t *, size_t, uint8_t *, size_t))
+enum { MOST_PASSED = GITWIRE_PAYLOAD_ROOM - 1 }; /* as much as a packet has after its band */
+
+/* Passes on what can be read, and returns how much that was: 0 at the end, and -1 if it was interrupted. */
+static ssize_t pass_on(int from, gitwire_answer (*call)(gitwire_host *, const uint8_t *, size_t, uint8_t *, size_t))
 {
-	static uint8_t bytes[GITWIRE_PAYLOAD_ROOM - 1]; /* as much as a packet has after its band */
+	static uint8_t bytes[MOST_PASSED];
 	ssize_t length = read(from, bytes, sizeof bytes);
 	gitwire_answer answer;
 
@@ -257,33 +259,52 @@ static bool pass_on(int from, gitwire_answer (*call)(gitwire_host *, const uint8
 	}
 	if (length < 0 && errno != EINTR)
 		fail("the output of git pack-objects cannot be read");
-	return length != 0;
+	return length;
 }
 
-/* The pack as it comes, and the messages of pack-objects as progress. Progress goes first, so that it is seen in time. */
-static void answer_pack(void)
+/*
+ * The pack as it comes, and the messages of pack-objects as progress. Progress goes first, so that it is seen in time. The pack comes in pieces
+ * of a few kilobytes: once all that came is passed on, the next are awaited for a moment, so that they go into one packet.
+ */
+static void pass_on_pack(struct command *pack, bool is_wide)
 {
-	bool is_cut = shallows.length + client_boundary.length > 0, is_open[2] = { true, true };
-	struct command pack;
+	bool is_open[2] = { true, pack->messages >= 0 }, waits = false;
 
-	start_pack(&pack, is_cut);
-	is_open[1] = pack.messages >= 0;
-	write_revisions(pack.input, is_cut);
-	end_input(&pack);
 	while (is_open[0] || is_open[1]) {
-		struct pollfd ready[3] = { { is_open[0] ? fileno(pack.output) : -1, POLLIN, 0 }, { is_open[1] ? pack.messages : -1, POLLIN, 0 },
-			{ STDOUT_FILENO, 0, 0 } };
+		struct pollfd ready[3] = { { is_open[0] ? fileno(pack->output) : -1, waits ? 0 : POLLIN, 0 },
+			{ is_open[1] ? pack->messages : -1, POLLIN, 0 }, { STDOUT_FILENO, 0, 0 } };
+		int count;
 
 		flush_output();
-		if (poll(ready, 3, -1) < 0 && errno != EINTR)
+		count = poll(ready, 3, waits ? 1 : -1);
+		if (count < 0 && errno != EINTR)
 			fail("poll");
 		if (ready[2].revents != 0)
 			stop("the client is gone");
-		if (ready[1].revents != 0)
-			is_open[1] = pass_on(pack.messages, gitwire_host_progress);
-		else if (ready[0].revents != 0)
-			is_open[0] = pass_on(fileno(pack.output), gitwire_host_pack);
+		if (count <= 0) {
+			waits = false;
+		} else if (ready[1].revents != 0) {
+			is_open[1] = pass_on(pack->messages, gitwire_host_progress) != 0;
+		} else {
+			ssize_t length = pass_on(fileno(pack->output), gitwire_host_pack);
+
+			is_open[0] = length != 0;
+			waits = is_wide && length < MOST_PASSED;
+		}
 	}
+}
+
+static void answer_pack(void)
+{
+	bool is_cut = shallows.length + client_boundary.length > 0, is_wide;
+	struct command pack;
+
+	start_pack(&pack, is_cut);
+	widen(fileno(pack.input), 1 << 20);
+	is_wide = widen(fileno(pack.output), 1 << 18);
+	write_revisions(pack.input, is_cut);
+	end_input(&pack);
+	pass_on_pack(&pack, is_wide);
 	if (end(&pack) != 0)
 		fail("git pack-objects failed");
 	give(gitwire_host_pack_end(&host, room(), GITWIRE_PACKET_ROOM));
