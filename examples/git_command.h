@@ -98,7 +98,7 @@ static bool widen(int pipe, int bytes)
 }
 
 /*
- * Reads its output up to so many bytes, all of them if there are fewer, and returns how many it read. Commands print in small pieces: this
+ * Reads its output up to so many bytes, all of them if there are fewer, and returns how many it read. Commands print in small chunks: this
  * waits for their end, for a moment at a time, so that it is not woken up for each.
  */
 static size_t read_output(struct command *command, char *text, size_t room)

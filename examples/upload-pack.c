@@ -263,7 +263,7 @@ static ssize_t pass_on(int from, gitwire_answer (*call)(gitwire_host *, const ui
 }
 
 /*
- * The pack as it comes, and the messages of pack-objects as progress. Progress goes first, so that it is seen in time. The pack comes in pieces
+ * The pack as it comes, and the messages of pack-objects as progress. Progress goes first, so that it is seen in time. The pack comes in chunks
  * of a few kilobytes: once all that came is passed on, the next are awaited for a moment, so that they go into one packet.
  */
 static void pass_on_pack(struct command *pack, bool is_wide)
