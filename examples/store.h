@@ -118,8 +118,8 @@ static bool is_hidden(const char *name)
 enum { MOST_FILES = 256 };
 static size_t files_seen;
 
-/* Whether this file below `refs` is a symbolic reference, or may be one. Returns 1 to end the search, and 0 to go on. */
-static int is_symbolic(const char *path, const struct stat *state, int kind, struct FTW *place)
+/* Whether this file below `refs` is, or may be, a symbolic reference. Returns 1 to end the search, and 0 to go on. */
+static int may_be_symbolic(const char *path, const struct stat *state, int kind, struct FTW *place)
 {
 	char beginning[4];
 	int file;
@@ -149,7 +149,7 @@ static bool has_symbolic(const char *folder)
 	files_seen = 0;
 	if (is_worktree || strcmp(setting("extensions.refstorage", "files"), "files") != 0)
 		return true;
-	result = nftw(folder, is_symbolic, 16, FTW_PHYS);
+	result = nftw(folder, may_be_symbolic, 16, FTW_PHYS);
 	return result > 0 || (result < 0 && (access(folder, F_OK) == 0 || errno != ENOENT)); /* there may be no such folder */
 }
 
