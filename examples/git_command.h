@@ -104,7 +104,7 @@ static bool widen(int pipe, int bytes)
 static size_t read_output(struct command *command, char *text, size_t room)
 {
 	struct pollfd output = { .fd = fileno(command->output) };
-	int moment = widen(output.fd, 1 << 20) ? 10 : 0; /* milliseconds */
+	int moment = widen(output.fd, 1 << 20) ? 5 : 0; /* milliseconds */
 	ssize_t got = 1;
 	size_t length;
 

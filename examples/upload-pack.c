@@ -244,12 +244,10 @@ static void start_pack(struct command *pack, bool is_cut)
 	start(pack, gitwire_host_flag(&host, GITWIRE_FLAG_NO_PROGRESS) ? TO_ERRORS : TO_PIPE, words);
 }
 
-enum { MOST_PASSED = GITWIRE_PAYLOAD_ROOM - 1 }; /* as much as a packet has after its band */
-
-/* Passes on what can be read, and returns how much that was: 0 at the end, and -1 if it was interrupted. */
-static ssize_t pass_on(int from, gitwire_answer (*call)(gitwire_host *, const uint8_t *, size_t, uint8_t *, size_t))
+/* Passes on what can be read: false at the end. */
+static bool pass_on(int from, gitwire_answer (*call)(gitwire_host *, const uint8_t *, size_t, uint8_t *, size_t))
 {
-	static uint8_t bytes[MOST_PASSED];
+	static uint8_t bytes[GITWIRE_PAYLOAD_ROOM - 1]; /* as much as a packet has after its band */
 	ssize_t length = read(from, bytes, sizeof bytes);
 	gitwire_answer answer;
 
@@ -259,52 +257,34 @@ static ssize_t pass_on(int from, gitwire_answer (*call)(gitwire_host *, const ui
 	}
 	if (length < 0 && errno != EINTR)
 		fail("the output of git pack-objects cannot be read");
-	return length;
+	return length != 0;
 }
 
-/*
- * The pack as it comes, and the messages of pack-objects as progress. Progress goes first, so that it is seen in time. The pack comes in chunks
- * of a few kilobytes: once all that came is passed on, the next are awaited for a moment, so that they go into one packet.
- */
-static void pass_on_pack(struct command *pack, bool is_wide)
-{
-	bool is_open[2] = { true, pack->messages >= 0 }, waits = false;
-
-	while (is_open[0] || is_open[1]) {
-		struct pollfd ready[3] = { { is_open[0] ? fileno(pack->output) : -1, waits ? 0 : POLLIN, 0 },
-			{ is_open[1] ? pack->messages : -1, POLLIN, 0 }, { STDOUT_FILENO, 0, 0 } };
-		int count;
-
-		flush_output();
-		count = poll(ready, 3, waits ? 1 : -1);
-		if (count < 0 && errno != EINTR)
-			fail("poll");
-		if (ready[2].revents != 0)
-			stop("the client is gone");
-		if (count <= 0) {
-			waits = false;
-		} else if (ready[1].revents != 0) {
-			is_open[1] = pass_on(pack->messages, gitwire_host_progress) != 0;
-		} else {
-			ssize_t length = pass_on(fileno(pack->output), gitwire_host_pack);
-
-			is_open[0] = length != 0;
-			waits = is_wide && length < MOST_PASSED;
-		}
-	}
-}
-
+/* The pack as it comes, and the messages of pack-objects as progress. Progress goes first, so that it is seen in time. */
 static void answer_pack(void)
 {
-	bool is_cut = shallows.length + client_boundary.length > 0, is_wide;
+	bool is_cut = shallows.length + client_boundary.length > 0, is_open[2] = { true, true };
 	struct command pack;
 
 	start_pack(&pack, is_cut);
+	is_open[1] = pack.messages >= 0;
 	widen(fileno(pack.input), 1 << 20);
-	is_wide = widen(fileno(pack.output), 1 << 18);
 	write_revisions(pack.input, is_cut);
 	end_input(&pack);
-	pass_on_pack(&pack, is_wide);
+	while (is_open[0] || is_open[1]) {
+		struct pollfd ready[3] = { { is_open[0] ? fileno(pack.output) : -1, POLLIN, 0 }, { is_open[1] ? pack.messages : -1, POLLIN, 0 },
+			{ STDOUT_FILENO, 0, 0 } };
+
+		flush_output();
+		if (poll(ready, 3, -1) < 0 && errno != EINTR)
+			fail("poll");
+		if (ready[2].revents != 0)
+			stop("the client is gone");
+		if (ready[1].revents != 0)
+			is_open[1] = pass_on(pack.messages, gitwire_host_progress);
+		else if (ready[0].revents != 0)
+			is_open[0] = pass_on(fileno(pack.output), gitwire_host_pack);
+	}
 	if (end(&pack) != 0)
 		fail("git pack-objects failed");
 	give(gitwire_host_pack_end(&host, room(), GITWIRE_PACKET_ROOM));
