@@ -1,5 +1,7 @@
 /* Commands of Git as processes, each with a pipe to its input and one from its output. No shell reads their words. */
+#include <errno.h>
 #include <fcntl.h>
+#include <poll.h>
 #include <signal.h>
 #include <stdbool.h>
 #include <stdio.h>
@@ -8,15 +10,17 @@
 #include <sys/wait.h>
 #include <unistd.h>
 
-/* Where a command writes its messages: to those of this program, into its output, or to a pipe of its own. */
+/* Where a command writes its messages: to those of this program; into its output, in the words of the C locale; or to a pipe of its own. */
 enum reports { TO_ERRORS, TO_OUTPUT, TO_PIPE };
+
+enum { READ_ROOM = 65536 }; /* as much as a pipe holds */
 
 struct command {
 	pid_t id;
 	FILE *input, *output;
 	int messages; /* the pipe of its messages, or -1 */
 	bool is_fed;
-	char *line;
+	char *line, *buffer;
 	size_t room;
 };
 
@@ -33,6 +37,8 @@ static void start(struct command *command, enum reports reports, const char *con
 		fail("no pipe can be made");
 	*command = (struct command){ .id = fork(), .messages = messages[0] };
 	if (command->id == 0) {
+		if (reports == TO_OUTPUT)
+			setenv("LC_ALL", "C", 1);
 		if (prctl(PR_SET_PDEATHSIG, SIGTERM) != 0 || getppid() != here)
 			_exit(127);
 		signal(SIGPIPE, SIG_DFL);
@@ -49,8 +55,10 @@ static void start(struct command *command, enum reports reports, const char *con
 		close(messages[1]);
 	command->input = fdopen(input[1], "w");
 	command->output = fdopen(output[0], "r");
-	if (command->id < 0 || command->input == NULL || command->output == NULL)
+	command->buffer = malloc(READ_ROOM);
+	if (command->id < 0 || command->input == NULL || command->output == NULL || command->buffer == NULL)
 		fail("a command of Git cannot be started");
+	setvbuf(command->output, command->buffer, _IOFBF, READ_ROOM);
 }
 
 /* Ends a command's input. */
@@ -75,11 +83,38 @@ static int end(struct command *command)
 
 	fclose(command->output);
 	free(command->line);
+	free(command->buffer);
 	if (command->messages >= 0)
 		close(command->messages);
 	if (waitpid(command->id, &status, 0) != command->id || !WIFEXITED(status) || !is_whole)
 		return -1;
 	return WEXITSTATUS(status);
+}
+
+/* Lets a pipe hold so many bytes. False if the system refuses, as for a user with many such pipes: it holds 64 kilobytes. */
+static bool widen(int pipe, int bytes)
+{
+	return fcntl(pipe, F_SETPIPE_SZ, bytes) >= 0;
+}
+
+/*
+ * Reads its output up to so many bytes, all of them if there are fewer, and returns how many it read. Commands print in small chunks: this
+ * waits for their end, for a moment at a time, so that it is not woken up for each.
+ */
+static size_t read_output(struct command *command, char *text, size_t room)
+{
+	struct pollfd output = { .fd = fileno(command->output) };
+	int moment = widen(output.fd, 1 << 20) ? 5 : 0; /* milliseconds */
+	ssize_t got = 1;
+	size_t length;
+
+	for (length = 0; length < room && got != 0; length += got < 0 ? 0 : (size_t)got) {
+		poll(&output, 1, moment); /* for its end: data is no event here */
+		got = read(output.fd, text + length, room - length);
+		if (got < 0 && errno != EINTR)
+			fail("the output of a command of Git cannot be read");
+	}
+	return length;
 }
 
 /* The next line of its output without its LF, valid until the next call, or NULL at the end. A last line without an LF was cut off, and is ignored. */

@@ -115,15 +115,14 @@ static bool is_reference(const char *line)
 /* The references that these patterns match, by `git for-each-ref`, which looks at no others. */
 static void answer_matching(const struct texts *patterns)
 {
-	const char *words[7 + 2 * PATTERNS + 1] = { "env", "LC_ALL=C", "git", "for-each-ref", "--sort=refname",
-		"--format=%(objectname) %(refname) %(symref)", "--" };
+	const char *words[5 + 2 * PATTERNS + 1] = { "git", "for-each-ref", "--sort=refname", "--format=%(objectname) %(refname) %(symref)", "--" };
 	struct texts lines = { 0 };
 	struct command listed;
 
 	if (patterns->length == 0)
 		return;
 	for (size_t i = 0; i < patterns->length; i++)
-		words[7 + i] = patterns->at[i];
+		words[5 + i] = patterns->at[i];
 	start_alone(&listed, TO_OUTPUT, words);
 	for (char *line; (line = next_line(&listed)) != NULL;) {
 		if (is_reference(line))
@@ -187,64 +186,170 @@ static const char *peeled_in(struct command *from, struct shown *shown, const ch
 	return found.id;
 }
 
-/* The commands that list references, all running at a time: the target of `HEAD`, all references in order, and the objects of the tags among them. */
-struct listing {
-	struct command head, listed, checked;
-	char name[sizeof space + 4]; /* of `HEAD` */
+/* `HEAD` of the namespace, and its target, which is empty if it is not symbolic. */
+struct head {
+	char name[sizeof space + 4], target[LINE_ROOM];
 };
 
-/* Starts a list of all references, or only of the branches, the tags, or both. */
-static void start_listing(struct listing *it, bool peels, bool heads, bool tags)
+/* Reports `HEAD`, which `git show-ref --head` prints first, with an object; or else, with NULL, as unborn. */
+static void answer_shown_head(const struct head *head, const char *id, const char *peeled)
 {
-	const char *list[7] = { "git", "for-each-ref", "--sort=refname", "--format=%(objectname) %(refname) %(symref)" };
-	const char *check[7] = { "git", "show-ref", "--head" };
-	size_t listed = 4, checked = 3;
+	if (id != NULL)
+		answer_reference(id, head->name, head->target, peeled);
+	else
+		answer_unborn(head->name, head->target);
+}
 
-	if (peels)
-		check[checked++] = "-d";
-	if (heads) {
-		list[listed++] = "refs/heads/";
-		check[checked++] = "--heads";
-	}
-	if (tags) {
-		list[listed++] = "refs/tags/";
-		check[checked++] = "--tags";
-	}
-	start_head(&it->head, it->name, sizeof it->name);
-	start_alone(&it->checked, TO_ERRORS, check);
-	start_alone(&it->listed, TO_ERRORS, list);
+/* Starts `git show-ref`, which prints the objects of tags too, if they are asked for: those of packed references it knows without a look. */
+static void start_shown(struct command *shown, bool heads, bool tags)
+{
+	const char *words[7] = { "git", "show-ref", "--head" };
+	size_t count = 3;
+
+	if (gitwire_host_flag(&host, GITWIRE_FLAG_PEEL))
+		words[count++] = "-d";
+	if (heads)
+		words[count++] = "--heads";
+	if (tags)
+		words[count++] = "--tags";
+	start_alone(shown, TO_ERRORS, words);
+}
+
+/* Ends it; its status is 1 if there is no reference. It fails for a damaged one. */
+static void end_shown(struct command *shown, bool is_empty)
+{
+	if (end(shown) != (is_empty ? 1 : 0))
+		fail("the references cannot be read");
 }
 
 /*
- * All references, or only the branches, the tags, or both: `git for-each-ref` prints them in their order, and `git show-ref` prints the
- * objects of tags, which it knows from the packed references. It fails for a damaged reference, which the other one skips.
+ * The references that `git show-ref` prints, in the order in which `git for-each-ref` prints them, with their targets. The second takes three
+ * times as long as the first, and skips a damaged reference.
  */
-static void answer_all(bool heads, bool tags)
+static void answer_by_two(struct command *first, const struct head *head, bool heads, bool tags)
 {
 	static struct shown shown;
-	static char target[LINE_ROOM];
+	const char *words[7] = { "git", "for-each-ref", "--sort=refname", "--format=%(objectname) %(refname) %(symref)" };
 	char id[GITWIRE_OBJECT_NAME_ROOM + 1], *line, *reference;
 	bool peels = gitwire_host_flag(&host, GITWIRE_FLAG_PEEL), is_empty;
-	struct listing it;
+	struct command second;
+	size_t count = 4;
 
-	start_listing(&it, peels, heads, tags);
-	receive_head(&it.head, target, sizeof target);
-	shown.next = next_line(&it.checked);
-	read_shown(&it.checked, &shown);
+	if (heads)
+		words[count++] = "refs/heads/";
+	if (tags)
+		words[count++] = "refs/tags/";
+	start_alone(&second, TO_ERRORS, words);
+	shown.next = next_line(first);
+	read_shown(first, &shown);
 	is_empty = shown.is_none;
-	if (is_empty || strcmp(shown.name, it.name) != 0)
-		answer_unborn(it.name, target);
-	else
-		answer_reference(shown.id, it.name, target, shown.peeled);
-	while ((line = next_line(&it.listed)) != NULL) {
+	answer_shown_head(head, !is_empty && strcmp(shown.name, head->name) == 0 ? shown.id : NULL, shown.peeled);
+	while ((line = next_line(&second)) != NULL) {
 		line = cut_line(line, id);
 		reference = strsep(&line, " ");
-		answer_reference(id, reference, line, peels ? peeled_in(&it.checked, &shown, id, reference) : "");
+		answer_reference(id, reference, line, peels ? peeled_in(first, &shown, id, reference) : "");
 	}
 	while (!shown.is_none)
-		read_shown(&it.checked, &shown);
-	if (end(&it.listed) != 0 || end(&it.checked) != (is_empty ? 1 : 0)) /* 1 reports that there is none */
+		read_shown(first, &shown);
+	if (end(&second) != 0)
 		fail("the references cannot be read");
+	end_shown(first, is_empty);
+}
+
+/* A reference of a list that was read whole. */
+struct listed {
+	const char *id, *name, *peeled;
+};
+
+static int compare_listed(const void *one, const void *other)
+{
+	return strcmp(((const struct listed *)one)->name, ((const struct listed *)other)->name);
+}
+
+/* Cuts the lines of `git show-ref` apart, puts the references in order, and returns how many there are. */
+static size_t cut_list(char *text, size_t length, struct listed *listed)
+{
+	bool is_in_order = true;
+	size_t count = 0;
+
+	for (char *line = text, *end; (end = memchr(line, '\n', (size_t)(text + length - line))) != NULL; line = end + 1) {
+		char *name = memchr(line, ' ', (size_t)(end - line));
+
+		if (name == NULL || (name - line != 40 && name - line != GITWIRE_OBJECT_NAME_ROOM))
+			fail("a line of a reference is none");
+		*name++ = 0;
+		*end = 0;
+		if (count > 0 && end - name > 3 && strcmp(end - 3, "^{}") == 0) {
+			listed[count - 1].peeled = line;
+			continue;
+		}
+		is_in_order &= count == 0 || strcmp(listed[count - 1].name, name) < 0;
+		listed[count++] = (struct listed){ line, name, "" };
+	}
+	if (!is_in_order)
+		qsort(listed, count, sizeof *listed, compare_listed);
+	return count;
+}
+
+/* How many bytes a list may have to be read whole: those of some 30,000 references. */
+enum { MOST_LIST = 1 << 21 };
+
+/*
+ * The references that `git show-ref` prints, if none but `HEAD` is symbolic, since it prints no targets. False if there are too many, and then
+ * it has ended, and nothing is answered. The library checks each part of a reference.
+ */
+static bool answer_by_one(struct command *first, const struct head *head)
+{
+	char *text = malloc(MOST_LIST + 1);
+	struct listed *listed;
+	size_t length, count, at;
+
+	if (text == NULL)
+		stop("no memory");
+	length = read_output(first, text, MOST_LIST + 1);
+	if (length > MOST_LIST) {
+		end(first);
+		free(text);
+		return false;
+	}
+	end_shown(first, length == 0);
+	listed = malloc((length / 40 + 1) * sizeof *listed);
+	if (listed == NULL)
+		stop("no memory");
+	count = cut_list(text, length, listed);
+	at = count > 0 && strcmp(listed->name, head->name) == 0;
+	answer_shown_head(head, at == 1 ? listed->id : NULL, at == 1 ? listed->peeled : NULL);
+	for (; at < count; at++)
+		answer_reference(listed[at].id, listed[at].name, "", listed[at].peeled);
+	free(listed);
+	free(text);
+	return true;
+}
+
+/* Whether a reference of this list may be symbolic. */
+static bool lists_symbolic(bool heads, bool tags)
+{
+	if (!heads && !tags)
+		return has_symbolic("refs");
+	return (heads && has_symbolic("refs/heads")) || (tags && has_symbolic("refs/tags"));
+}
+
+/* All references, or only the branches, the tags, or both. The commands run at a time. */
+static void answer_all(bool heads, bool tags)
+{
+	static struct head head;
+	struct command target, shown;
+	bool is_symbolic;
+
+	start_shown(&shown, heads, tags);
+	start_head(&target, head.name, sizeof head.name);
+	is_symbolic = lists_symbolic(heads, tags);
+	receive_head(&target, head.target, sizeof head.target);
+	if (!is_symbolic && answer_by_one(&shown, &head))
+		return;
+	if (!is_symbolic)
+		start_shown(&shown, heads, tags);
+	answer_by_two(&shown, &head, heads, tags);
 }
 
 /* What a request asks for. */

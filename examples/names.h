@@ -1,39 +1,69 @@
 /* Sets of object names, as their digits. Each keeps the order in which its names were added. */
 #include <gitwire.h>
 
+#include <errno.h>
 #include <stdbool.h>
 #include <stdint.h>
+#include <stdio.h>
 #include <stdlib.h>
 #include <string.h>
+#include <sys/random.h>
 
 struct name {
 	char digits[GITWIRE_OBJECT_NAME_ROOM + 1];
 };
 
+/* A place of a hash table: the number of a name, from 1, or 0 if it is free; and the hash of that name, so that most others are not compared. */
+struct place {
+	uint32_t number, hash;
+};
+
 struct names {
 	struct name *at;
 	size_t length;
-	size_t *places; /* a hash table: the number in `at` of each name, from 1, and 0 in a free place */
-	size_t room;    /* of the table, a power of two */
+	struct place *places;
+	size_t room; /* of the table, a power of two */
 };
 
-/* The place of the name in the table, or where it would be. Its first digits are enough to find it. */
-static size_t *find_place(const struct names *names, const char *digits)
+static uint64_t mixed(uint64_t hash, uint64_t part)
 {
-	uint64_t hash = 14695981039346656037u;
+	unsigned __int128 product = (unsigned __int128)(hash ^ part) * 0x9e3779b97f4a7c15u;
+
+	return (uint64_t)product ^ (uint64_t)(product >> 64);
+}
+
+/* A hash under a key that each process chooses anew, so that no client knows names that share a place. */
+static uint32_t hash_of(const char *digits, size_t length)
+{
+	static uint64_t key;
+	uint64_t hash, part;
+
+	while (key == 0 && getrandom(&key, sizeof key, 0) < 0)
+		if (errno != EINTR)
+			stop("no random number");
+	for (hash = key; length >= sizeof part; digits += sizeof part, length -= sizeof part) {
+		memcpy(&part, digits, sizeof part);
+		hash = mixed(hash, part);
+	}
+	part = 0;
+	memcpy(&part, digits, length);
+	return (uint32_t)mixed(hash, part);
+}
+
+/* The place of the name in the table, or where it would be. */
+static struct place *find_place(const struct names *names, const char *digits, uint32_t hash)
+{
 	size_t at;
 
-	for (const char *digit = digits; *digit != 0 && digit < digits + 16; digit++)
-		hash = (hash ^ (uint8_t)*digit) * 1099511628211u;
-	for (at = hash & (names->room - 1); names->places[at] != 0; at = (at + 1) & (names->room - 1))
-		if (strcmp(names->at[names->places[at] - 1].digits, digits) == 0)
+	for (at = hash & (names->room - 1); names->places[at].number != 0; at = (at + 1) & (names->room - 1))
+		if (names->places[at].hash == hash && strcmp(names->at[names->places[at].number - 1].digits, digits) == 0)
 			break;
 	return &names->places[at];
 }
 
 static bool has_name(const struct names *names, const char *digits)
 {
-	return names->room > 0 && *find_place(names, digits) != 0;
+	return names->room > 0 && find_place(names, digits, hash_of(digits, strlen(digits)))->number != 0;
 }
 
 static void clear_names(struct names *names)
@@ -47,32 +77,47 @@ static void clear_names(struct names *names)
 static void enlarge(struct names *names)
 {
 	size_t room = names->room == 0 ? 64 : 2 * names->room;
+	struct place *places = calloc(room, sizeof *places);
 
 	names->at = realloc(names->at, room / 2 * sizeof *names->at);
-	free(names->places);
-	names->places = calloc(room, sizeof *names->places);
-	if (names->at == NULL || names->places == NULL)
+	if (names->at == NULL || places == NULL || room > UINT32_MAX)
 		stop("no memory");
+	for (size_t i = 0, at; i < names->room; i++) {
+		if (names->places[i].number == 0)
+			continue;
+		for (at = names->places[i].hash & (room - 1); places[at].number != 0;)
+			at = (at + 1) & (room - 1);
+		places[at] = names->places[i];
+	}
+	free(names->places);
+	names->places = places;
 	names->room = room;
-	for (size_t i = 0; i < names->length; i++)
-		*find_place(names, names->at[i].digits) = i + 1;
 }
 
-/* Adds a name, unless it is there. */
+/* Adds a name, unless it is there. What is longer than a name can be is cut off. */
 static void add_name(struct names *names, const char *digits)
 {
-	if (has_name(names, digits))
-		return;
+	size_t length = strnlen(digits, GITWIRE_OBJECT_NAME_ROOM);
+	uint32_t hash = hash_of(digits, length);
+	struct place *place;
+	char *name;
+
 	if (names->length == names->room / 2)
 		enlarge(names);
-	snprintf(names->at[names->length].digits, sizeof names->at->digits, "%s", digits);
-	names->length++;
-	*find_place(names, digits) = names->length;
+	name = names->at[names->length].digits; /* the next one, which may stay free */
+	memcpy(name, digits, length);
+	name[length] = 0;
+	place = find_place(names, name, hash);
+	if (place->number == 0)
+		*place = (struct place){ .number = (uint32_t)++names->length, .hash = hash };
 }
 
 /* Writes each on a line of its own, after this text. */
 static void write_names(FILE *to, const char *before, const struct names *names)
 {
-	for (size_t i = 0; i < names->length; i++)
-		fprintf(to, "%s%s\n", before, names->at[i].digits);
+	for (size_t i = 0; i < names->length; i++) {
+		fputs(before, to);
+		fputs(names->at[i].digits, to);
+		putc('\n', to);
+	}
 }

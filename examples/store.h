@@ -6,6 +6,8 @@
 #include "texts.h"
 
 #include <errno.h>
+#include <fcntl.h>
+#include <ftw.h>
 #include <limits.h>
 #include <strings.h>
 #include <sys/stat.h>
@@ -16,6 +18,7 @@ static char *configuration;         /* each KEY LF VALUE NUL, or KEY NUL, in ord
 static size_t configuration_length;
 static char space[4096];            /* the prefix of the references' names in the namespace that is served */
 static struct texts hidden;         /* the values of the settings of hidden references, in order */
+static bool is_worktree;            /* whether it shares the references of another repository */
 
 /*
  * The next setting of this key after `last`, or the first one after NULL. Returns its value, which is empty if it has none; NULL if there
@@ -109,6 +112,45 @@ static bool is_hidden(const char *name)
 			return *pattern != '!';
 	}
 	return false;
+}
+
+/* How many files may be looked into for symbolic references, so that a repository with many loose references costs no more. */
+enum { MOST_FILES = 256 };
+static size_t files_seen;
+
+/* Whether this file below `refs` is, or may be, a symbolic reference. Returns 1 to end the search, and 0 to go on. */
+static int may_be_symbolic(const char *path, const struct stat *state, int kind, struct FTW *place)
+{
+	char beginning[4];
+	int file;
+	ssize_t length;
+
+	(void)place;
+	if (kind == FTW_D)
+		return 0;
+	if (kind != FTW_F || !S_ISREG(state->st_mode) || files_seen++ == MOST_FILES)
+		return 1;
+	file = open(path, O_RDONLY | O_CLOEXEC | O_NOFOLLOW);
+	if (file < 0)
+		return errno != ENOENT; /* it may have been packed meanwhile */
+	length = read(file, beginning, sizeof beginning);
+	close(file);
+	return length < 0 || (length == sizeof beginning && memcmp(beginning, "ref:", sizeof beginning) == 0);
+}
+
+/*
+ * Whether a reference in this folder may be symbolic. Where Git keeps references in files, each of those has a file of its own that begins
+ * with `ref:` or is a link: it is never packed.
+ */
+static bool has_symbolic(const char *folder)
+{
+	int result;
+
+	files_seen = 0;
+	if (is_worktree || strcmp(setting("extensions.refstorage", "files"), "files") != 0)
+		return true;
+	result = nftw(folder, may_be_symbolic, 16, FTW_PHYS);
+	return result > 0 || (result < 0 && (access(folder, F_OK) == 0 || errno != ENOENT)); /* there may be no such folder */
 }
 
 /* HEAD of the namespace, whose name fits into `name`. Its target is received next, or an empty text if it is not symbolic. */
@@ -230,8 +272,8 @@ static bool leads_to_repository(char *path, size_t room)
 /* Reads the facts about the repository in this folder: its object format, and where its history is cut off. False if this folder has none. */
 static bool read_repository(gitwire_format *format)
 {
-	static const char *const ask[] = { "git", "-c", "safe.bareRepository=all", "rev-parse", "--git-dir", "--show-object-format", "--git-path",
-		"shallow", NULL };
+	static const char *const ask[] = { "git", "-c", "safe.bareRepository=all", "rev-parse", "--git-dir", "--show-object-format",
+		"--git-common-dir", "--git-path", "shallow", NULL };
 	static const char *const settings[] = { "git", "-c", "safe.bareRepository=all", "config", "-z", "--list", NULL };
 	char line[GITWIRE_OBJECT_NAME_ROOM + 2], *answer;
 	struct command command, configured;
@@ -242,6 +284,7 @@ static bool read_repository(gitwire_format *format)
 	start_alone(&configured, TO_ERRORS, settings); /* meanwhile */
 	is_here = (answer = next_line(&command)) != NULL && strcmp(answer, ".") == 0;
 	*format = (answer = next_line(&command)) != NULL && strcmp(answer, "sha256") == 0 ? GITWIRE_SHA256 : GITWIRE_SHA1;
+	is_worktree = (answer = next_line(&command)) == NULL || strcmp(answer, ".") != 0;
 	boundary = (answer = next_line(&command)) == NULL ? NULL : fopen(answer, "r");
 	while (boundary != NULL && fgets(line, sizeof line, boundary) != NULL) {
 		line[strcspn(line, "\n")] = 0;

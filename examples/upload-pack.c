@@ -3,10 +3,10 @@
  *
  *     upload-pack [--stateless-rpc] [--http-backend-info-refs] [--timeout=N] [--strict] FOLDER
  *
- * The library reads the requests and makes the answers; what it asks for is looked up by commands of Git: references by `git show-ref` and
- * `git for-each-ref`, objects by one `git cat-file --batch-command` that runs as long as the session, the ends of a shallow history by `git
- * rev-list`, and packs by `git pack-objects --revs --stdout`, whose bytes pass on as they come. If one of them fails, the client receives
- * an error. It speaks version 2 alone, whatever version its client asks for.
+ * The library reads the requests and makes the answers; what it asks for is looked up by commands of Git: references by `git show-ref` or
+ * `git for-each-ref` or both, objects by one `git cat-file --batch-command` that runs as long as the session, the ends of a shallow history
+ * by `git rev-list`, and packs by `git pack-objects --revs --stdout`, whose bytes pass on as they come. If one of them fails, the client
+ * receives an error. It speaks version 2 alone, whatever version its client asks for.
  *
  *     git clone --upload-pack=.../upload-pack REPOSITORY CLONE
  */
@@ -268,6 +268,7 @@ static void answer_pack(void)
 
 	start_pack(&pack, is_cut);
 	is_open[1] = pack.messages >= 0;
+	widen(fileno(pack.input), 1 << 20);
 	write_revisions(pack.input, is_cut);
 	end_input(&pack);
 	while (is_open[0] || is_open[1]) {

@@ -130,19 +130,76 @@ of_format() {
 
 # A file of packed references that has another order than it states, as Git's own tests write one: it is served all the same.
 case_upload_pack_lists_packed_references_in_any_order() {
-    local i id
+    local i id symbolic
+    for symbolic in alias ''; do
+        configured history-sha1
+        [ -n "$symbolic" ] || git -C served symbolic-ref -d refs/heads/alias
+        id=$(git -C served rev-parse nested)
+        git -C served pack-refs --all
+        for i in {1..30}; do
+            printf '%s refs/tags/v-%s\n^%s\n' "$id" $i "$(git -C served rev-parse "$id^{}")"
+        done >> served/.git/packed-refs
+        run "$uploading" --stateless-rpc served < <(prefixes)
+        expect_status 0
+        git -C served for-each-ref --format='%(refname)' > wanted
+        sed -n 's/^....[0-9a-f]* \(refs[^ ]*\).*/\1/p' out > written
+        expect_same 'the references' wanted written
+        [ "$(grep -c "refs/tags/v-.* peeled:$(git -C served rev-parse "$id^{}")" out)" = 30 ] || differs 'a tag without what it is of' out
+    done
+}
+
+# lists_as_git FOLDER: that the answers to the requests of a clone and of a mirror are those of Git, with and without tags' objects.
+lists_as_git() {
+    answers_alike "$1" "$(prefixes)"
+    answers_alike "$1" "$(request symrefs)"
+    answers_alike "$1" "$(prefixes HEAD refs/heads/ refs/tags/)"
+    answers_alike "$1" "$(prefixes refs/heads/)"
+    answers_alike "$1" "$(request 'ref-prefix refs/tags/')"
+}
+
+# written_references COUNT NAME: so many references for `git update-ref --stdin`.
+written_references() {
+    awk -v count="$1" -v name="$2" -v id="$(git -C served rev-parse main)" 'BEGIN { for (i = 1; i <= count; i++) printf "create %s-%d %s\n", name, i, id }'
+}
+
+# Where no reference is symbolic, one command lists them all; it does not show where symbolic ones lead. How it is known that there is none: by
+# the files of references, if those are few.
+case_upload_pack_lists_symbolic_references_wherever_they_are() {
+    local long
     configured history-sha1
-    id=$(git -C served rev-parse nested)
+    git -C served symbolic-ref -d refs/heads/alias
+    GIT_TRACE=$room/commands "$uploading" --stateless-rpc served < <(prefixes HEAD refs/heads/ refs/tags/) > /dev/null
+    grep -q show-ref commands && ! grep for-each-ref commands || differs 'other commands' commands
+    lists_as_git served
     git -C served pack-refs --all
-    for i in {1..30}; do
-        printf '%s refs/tags/v-%s\n^%s\n' "$id" $i "$(git -C served rev-parse "$id^{}")"
-    done >> served/.git/packed-refs
-    run "$uploading" --stateless-rpc served < <(prefixes)
-    expect_status 0
-    git -C served for-each-ref --format='%(refname)' > wanted
-    sed -n 's/^....[0-9a-f]* \(refs[^ ]*\).*/\1/p' out > written
-    expect_same 'the references' wanted written
-    [ "$(grep -c "refs/tags/v-.* peeled:$(git -C served rev-parse "$id^{}")" out)" = 30 ] || differs 'a tag without what it is of' out
+    lists_as_git served
+    rm -r served/.git/refs/tags
+    lists_as_git served
+    git -C served symbolic-ref refs/tags/led refs/heads/topic
+    lists_as_git served
+    git -C served symbolic-ref refs/deep/in/a/folder refs/heads/alone
+    git -C served symbolic-ref -d refs/tags/led
+    lists_as_git served
+    git -C served symbolic-ref -d refs/deep/in/a/folder
+    git -C served -c core.preferSymlinkRefs=true symbolic-ref refs/heads/linked refs/heads/topic
+    lists_as_git served
+    rm served/.git/refs/heads/linked
+    written_references 300 refs/heads/many | git -C served update-ref --stdin
+    git -C served symbolic-ref refs/heads/among refs/heads/many-7
+    lists_as_git served
+    grep -q 'refs/heads/among symref-target:refs/heads/many-7' <("$uploading" --stateless-rpc served < <(prefixes)) || differs 'no target'
+    git -C served symbolic-ref -d refs/heads/among
+    long=$(printf '%0200d' 0)
+    written_references 10000 "refs/tags/$long" | git -C served update-ref --stdin
+    git -C served pack-refs --all
+    lists_as_git served
+    git -C served checkout -q --detach
+    git -C served worktree add -q "$room/other-tree" alone
+    git -C served symbolic-ref refs/heads/led refs/heads/topic
+    git -C "$room/other-tree" update-ref refs/bisect/bad main
+    lists_as_git other-tree
+    lists_as_git served
+    rm -rf other-tree
 }
 
 # The references of each namespace are served as those of a repository of its own.
