@@ -13,7 +13,8 @@ ghost use Rattle.git_msg.specs.ResponseLines.{wanted_of, wanted_text};
 ghost use Rattle.git_msg.specs.WrittenRequest.{text_line};
 ghost use Rattle.git_server.specs.FetchAnswers.{ack_packet};
 ghost use Rattle.git_host.specs.FetchPlaces.{Holds};
-ghost use Rattle.git_pkt.specs.Packets.{longest_payload};
+ghost use Rattle.git_pkt.specs.Bands.{band_packet};
+ghost use Rattle.git_pkt.specs.Packets.{longest_payload, spelling_of};
 ghost use Rattle.git_msg.specs.Asked.{fetch, is_empty, no_progress_of, only_negotiates};
 ghost use Rattle.git_server.specs.FetchAnswers.{negotiates};
 ghost use Rattle.git_server.specs.Objects.{object_of};
@@ -22,7 +23,7 @@ ghost use Rattle.git_host.specs.FetchPlaces.{after_boundary, after_haves, place_
 
 use git_msg::{Boundary, Fetch, WantedRef, put_ack, put_boundary, put_line, put_wanted};
 use git_names::{Format, Oid};
-use git_pkt::{Band, Hold, Packet, put, put_band};
+use git_pkt::{BAND_HEAD, Band, Hold, Packet, close_band, put, put_at, put_band};
 use std::alloc::Allocator;
 
 /// How far the answer has come: what is sent or asked next.
@@ -331,7 +332,7 @@ impl<A: Allocator + Copy> FetchAnswer<A> {
         let Place::Pack = self.place else {
             return false;
         };
-        put_band(hold, Band::Pack, bytes);
+        put_on_band(hold, Band::Pack, bytes);
         true
     }
 
@@ -349,7 +350,7 @@ impl<A: Allocator + Copy> FetchAnswer<A> {
         if drops_progress(&self.request) {
             return ProgressReported::Hidden;
         }
-        put_band(hold, Band::Progress, bytes);
+        put_on_band(hold, Band::Progress, bytes);
         ProgressReported::Packet
     }
 
@@ -503,6 +504,22 @@ fn wanted_at<A: Allocator + Copy>(request: &Fetch<A>, at: usize) -> Place
         return Place::WantedEnd;
     }
     Place::Wanted(at)
+}
+
+// Makes the hold the packet of these bytes on a band. A hold that is at least as long is written over, as after another full packet: one
+// that is emptied is filled with zeros, and writing those costs as much as the packet.
+fn put_on_band(hold: &mut Hold, band: Band, bytes: &[u8])
+    requires { length bytes.now < longest_payload }
+    ensures { hold.new.items ≡ spelling_of (band_packet band bytes.now) }
+{
+    let length = BAND_HEAD + bytes.len();
+    if hold.len() < length {
+        put_band(hold, band, bytes);
+        return;
+    }
+    hold.truncate(length);
+    put_at(hold.as_mut_slice(), BAND_HEAD, bytes);
+    close_band(hold, band, bytes.len());
 }
 
 // Makes the hold the line of the have at this place, where there is one.

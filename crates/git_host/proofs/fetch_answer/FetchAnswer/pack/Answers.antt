@@ -13,7 +13,7 @@ returns-clause-reported g c t given h =
     let at = subst (λ (p : Place). StandsAt p q t given) c.in-Pack.is h.stands in
     record {
       packet = band_packet Band bytes;
-      held = band_held _ bytes Band c.put_band.ensures c.requires.fits;
+      held = band_held _ bytes Band c.put_on_band.ensures c.requires.fits;
       same = record { request = refl; format = refl; wanted = refl };
       holds = record {
         wanted = h.wanted;
