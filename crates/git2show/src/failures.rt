@@ -74,7 +74,7 @@ impl Failure {
         Failure { fault, cause }
     }
 
-    /// The failure of a stream of which requests are to be shown, and in which a packet at this offset begins none.
+    /// The failure of a stream whose requests are to be shown: a packet at this offset begins none.
     pub(crate) fn of_stray(offset: u64) -> Failure {
         let kind = Kind::NoCommand;
         Failure {
