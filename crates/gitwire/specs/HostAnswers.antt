@@ -27,7 +27,7 @@ use Rattle.git_host.specs.declared.report.Report.{Report}
 use Rattle.gitwire.specs.Answers.{answering, answering_fault, answering_packet, answering_used, more_of, what_number}
 use Rattle.gitwire.specs.Numbers.{command_number}
 use Rattle.gitwire.specs.Offers.{offer_meant}
-use Rattle.gitwire.specs.RequestAnswers.{HasOrNone, PutsFrom, is_set, telling_number, telling_which}
+use Rattle.gitwire.specs.RequestAnswers.{HasOrNone, PutsFrom, is_set, telling_which}
 use Rattle.gitwire.specs.Rooms.{put_before}
 use Rattle.gitwire.specs.WrittenForC.{boundary_of, given, object_name_check, ref_name_check, where_given}
 use Rattle.gitwire.specs.declared.answer.GitwireAnswer.{GitwireAnswer}
