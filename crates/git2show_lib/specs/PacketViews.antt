@@ -60,6 +60,11 @@ abbrev pub first_of : List ℕ → Option ℕ
 first_of [] = None
 first_of (n ∷ more) = Some n
 
+-- what a view shows some of: all packets, or those of the requests with the command that it looks for
+abbrev pub looked_for : Option (Bor (List ℕ)) → List Given → List Given
+looked_for None given = given
+looked_for (Some word) given = requests_with word.now given
+
 -- ---- the same packet by packet, if the requests with one command are looked for
 
 -- where the stream stands with a packet
