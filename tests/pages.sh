@@ -54,7 +54,7 @@ rows_of_the_table() {
     sed -n "/^| $1 |/,/^\$/p" "$top/docs/PROTOCOL.md" | tail -n +3 | cut -d '|' -f "$2"
 }
 
-# The first words of what stands there in backticks.
+# The first word of each text in backticks.
 quoted_words() {
     grep -o -E '`[a-z][a-z-]*' | tr -d '`' | sort -u
 }

@@ -62,7 +62,7 @@ use Rattle.git2show_lib.specs.declared.checking.CheckFault.TheVariants.{Requests
 use Rattle.git2show_lib.specs.declared.checking.CheckFault.TheVariants.{ReadFault as CheckReadFault, WriteFault as CheckWriteFault}
 use Rattle.git2show_lib.specs.declared.checking.CheckFault.TheVariants.{ReadLimit as CheckReadLimit}
 use Rattle.git2show_lib.proofs.CheckRuns.{Awaiting, Checking, Reading, advertised, asks_within, bytes_heard, counted_place, form_due, found_in, known_on}
-use Rattle.git2show_lib.proofs.CheckRuns.{lines_written, none_asked, reads_on, response_due, silent, still_offered, turn_of, uses_of}
+use Rattle.git2show_lib.proofs.CheckRuns.{lines_written, none_asked, place_is, reads_on, response_due, silent, still_offered, turn_of, uses_of}
 
 -- which of its streams failed, and what shows it, is the same of a fault and of what is reported of it
 told_as : (S T : Type 0) (own : RunFault) (place : ℕ) (fault : CheckFault) (read written : Bool) → fault ≡ placed place own

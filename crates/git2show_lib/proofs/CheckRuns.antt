@@ -372,7 +372,7 @@ module _ {A : Type 0} {t : Terms} {limit : ℕ} where
         All-append P c.r.turns (turn ∷ []) c.ended (All-cons P turn [] ended (All-nil P))
 
     -- where the next turn begins
-    place_is : client_bytes client ≡ length c.h.used
+    pub place_is : client_bytes client ≡ length c.h.used
     place_is = position_is t c.h client c.runs.along.stands
 
     begins_at : place_after c.r.opening c.r.turns ≡ length c.h.used + passed_in c.r.turns

@@ -14,6 +14,8 @@ pub mod JudgedReadings
 pub mod AdvertisementNoted
 pub mod Sendings
 pub mod PrettyTexts
+pub mod PrettyWidths
+pub mod PrettyPrintable
 pub mod JsonTexts
 pub mod Printing
 pub mod OnlyRequests

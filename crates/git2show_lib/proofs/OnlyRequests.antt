@@ -1,12 +1,16 @@
 -- What is shown if the requests with one command are looked for.
-use Rattle.std.proofs.Common.{◌≡◌, ℕ, Bool, true, false, List, [], ◌∷◌, ◌++◌, drop, flat_map, Option, Some, None, Bor}
+use Rattle.std.proofs.Common.{◌≡◌, ℕ, Bool, true, false, List, [], ◌∷◌, ◌++◌, drop, flat_map, Option, Some, None, Result, Bor}
 use Rattle.std.proofs.Common.{refl, sym, ap, ◌∙◌, if◌then◌else◌, ◌&&◌, nat_lt}
 use Rattle.std.specs.List.{filter}
 use Rattle.git_pkt.specs.Packets.{Pkt, flush, delim, resp_end, payload}
 use Rattle.git_pkt.specs.Splits.{Given}
 use Rattle.git2show_lib.specs.PrettyLines.{label_of}
 use Rattle.git2show_lib.specs.PacketViews.{begins_request, counted, first_of, goes_on, has_command, is_asked, is_command, is_flush, is_pack}
-use Rattle.git2show_lib.specs.PacketViews.{of_any_command, requests_of, requests_with, shown, request_after, strays, strays_of, tally_of, viewed, with_first}
+use Rattle.git2show_lib.specs.PacketViews.{looked_for, of_any_command, requests_of, requests_with, shown, request_after, strays, strays_of}
+use Rattle.git2show_lib.specs.PacketViews.{tally_of, viewed, with_first}
+use Rattle.git2show_lib.specs.Machine.ShownStream.{ShowsRequests, ShowsView}
+use Rattle.git_pkt.specs.Streams.{Flow, Moves}
+use Rattle.git_pkt.specs.declared.fault.RunFault.{RunFault}
 use Rattle.git2show_lib.specs.declared.views.RequestState.{RequestState}
 use Rattle.git2show_lib.specs.declared.views.Tally.{Tally}
 use Rattle.git2show_lib.specs.declared.views.View.{View}
@@ -21,7 +25,7 @@ module _ (word : Bor (List ℕ)) where
   abbrev joined : List (List Given) → List Given
   joined requests = flat_map (λ r. r) (filter (has_command word.now) requests)
 
-  -- those of requests of which the first has begun, or has not
+  -- those of requests: the first has begun, or has not
   abbrev begun : RequestState → List (List Given) → List Given
   begun RequestState.Between requests = joined requests
   begun RequestState.Wanted [] = []
@@ -140,9 +144,45 @@ shows_requests view word start given is between outside =
     alone word view is given start start (rw between (outside, outside))
     ∙ ap (λ (gs : List Given). shown (Some (of_any_command view)) start gs) (rw between (wanted_is word given RequestState.Between))
 
+shows_looked_for : (view : View) (start : Tally) (given : List Given) → start.request ≡ RequestState.Between → start.in_pack ≡ false
+    → shown (Some view) start given ≡ shown (Some (of_any_command view)) start (looked_for view.only given)
+shows_looked_for view start given between outside = at view.only refl where
+  at : (only : Option (Bor (List ℕ))) → view.only ≡ only
+      → shown (Some view) start given ≡ shown (Some (of_any_command view)) start (looked_for view.only given)
+  at None e =
+      ap (λ (o : Option (Bor (List ℕ))). shown (Some (record { form = view.form; from = view.from; no_pack = view.no_pack; only = o })) start given) e
+      ∙ ap (λ (o : Option (Bor (List ℕ))). shown (Some (of_any_command view)) start (looked_for o given)) (sym e)
+  at (Some word) e =
+      shows_requests view word start given e between outside
+      ∙ ap (λ (o : Option (Bor (List ℕ))). shown (Some (of_any_command view)) start (looked_for o given)) (sym e)
+
+-- a run with a view shows the packets that the view looks for
+pub with_requests : {broken ended : Bool} {turns : ℕ} {view : View} {start final : Tally} {result : Result (Unit {0}) RunFault} {readers writers : List Flow}
+    → start.request ≡ RequestState.Between → start.in_pack ≡ false
+    → Moves broken (ShowsView (Some view) start final result ended turns) readers writers
+    → Moves broken (ShowsRequests view start result ended turns) readers writers
+with_requests {view = view} {start = start} between outside ran =
+    let shows = ran.related.shows in
+    record {
+      used = ran.used;
+      given = ran.given;
+      read = ran.read;
+      written = ran.written;
+      related = record {
+        used = shows.used;
+        unused = shows.unused;
+        packets = shows.packets;
+        rest = shows.rest;
+        cut = shows.cut;
+        splits = shows.splits;
+        lines = shows.lines ∙ ap (λ (l : List ℕ). l ∷ []) (shows_looked_for view start shows.packets between outside);
+        ends = shows.ends;
+      };
+    }
+
 -- ---- the first packet that begins no request
 
--- those of requests of which the first has begun, or has not
+-- those of requests: the first has begun, or has not
 abbrev strays_begun : RequestState → List (List Given) → List ℕ
 strays_begun RequestState.Between requests = flat_map strays_of requests
 strays_begun request requests = flat_map strays_of (drop 1 requests)

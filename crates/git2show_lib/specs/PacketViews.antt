@@ -26,7 +26,7 @@ abbrev pub is_command : List ℕ → Pkt → Bool
 is_command word (payload bytes) = bytes_eq (text_of bytes) (codes "command=" ++ word)
 is_command word packet = false
 
--- what a request begins with: the line of a command, or a flush alone, by which a client that asks for nothing more ends
+-- what a request begins with: the line of a command, or a flush alone, which a client sends that asks for nothing more
 abbrev pub begins_request : Pkt → Bool
 begins_request (payload bytes) = starts_with nat_eq (text_of bytes) (codes "command=")
 begins_request packet = is_flush packet
@@ -59,6 +59,11 @@ strays given = flat_map strays_of (requests_of given)
 abbrev pub first_of : List ℕ → Option ℕ
 first_of [] = None
 first_of (n ∷ more) = Some n
+
+-- what a view shows some of: all packets, or those of the requests with the command that it looks for
+abbrev pub looked_for : Option (Bor (List ℕ)) → List Given → List Given
+looked_for None given = given
+looked_for (Some word) given = requests_with word.now given
 
 -- ---- the same packet by packet, if the requests with one command are looked for
 

@@ -1,5 +1,5 @@
 -- A packet on a line of columns, for a reader who looks at a conversation.
-use Rattle.std.specs.Prelude.{ℕ, ◌+◌, ◌-◌, ◌==◌, ◌||◌, ◌&&◌, Bool, true, false, max, min, nat_eq}
+use Rattle.std.specs.Prelude.{ℕ, ◌≤◌, ◌+◌, ◌-◌, ◌==◌, ◌||◌, ◌&&◌, Bool, true, false, max, min, nat_eq}
 use Rattle.std.specs.Prelude.{nat_le, replicate, List, [], ◌∷◌, ◌++◌, length, take, drop, codes, decimal, if◌then◌else◌}
 use Rattle.std.specs.List.{list_any, prefix_len, starts_with}
 use Rattle.std.specs.Str.{bytes_eq}
@@ -144,3 +144,7 @@ labelled_line colours width label g = columns colours label g ++ text_column wid
 -- the line of a packet, for a terminal with so many columns
 abbrev pub pretty_line : Bool → ℕ → Bool → Given → List ℕ
 pretty_line colours width in_pack g = labelled_line colours width (label_of in_pack g.packet) g
+
+-- a byte that takes one column of a terminal
+abbrev pub IsPrintable : ℕ → Type 0
+IsPrintable b = (32 ≤ b) × (b ≤ 126)

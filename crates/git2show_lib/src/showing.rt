@@ -6,7 +6,8 @@ ghost use Rattle.git_pkt.specs.Machine.Told.{inner_of, reads_of, has_failed, has
 ghost use Rattle.git_pkt.specs.Machine.Engine.{FailsAs, IsShownBy, IsSpent};
 ghost use Rattle.git_pkt.specs.Streams.{flow, is_broken, Moves};
 ghost use Rattle.git_pkt.specs.Machine.PacketReader.{fault_of, passes_of};
-ghost use Rattle.git2show_lib.specs.Machine.ShownStream.{Shows, ShowsView, ShowsPiece, PrintsPiece, WritesFront};
+ghost use Rattle.git2show_lib.specs.declared.views.RequestState.{RequestState};
+ghost use Rattle.git2show_lib.specs.Machine.ShownStream.{Shows, ShowsRequests, ShowsView, ShowsPiece, PrintsPiece, WritesFront};
 
 use crate::lines::Lines;
 use crate::renderers::{Plain, Renderer};
@@ -65,6 +66,10 @@ pub fn show_view<R: Read, W: Write>(
     ensures fault { IfErr result (IsShownBy (IsTrue (has_failed reader.new)) (IsTrue (has_failed writer.new)) (IsSpent reader.new turns)) }
     ensures told { FailsAs result (has_failed reader.new) (has_failed writer.new) }
     ensures shown { Moves (is_broken result) (ShowsView (Some view.entry) tally.old tally.new result (has_ended reader.new) turns)
+        (flow (R.remaining (inner_of reader.old)) (R.remaining (inner_of reader.new)) ∷ [])
+        (flow (W.contents (inner_of writer.old)) (W.contents (inner_of writer.new)) ∷ []) }
+    ensures requests { tally.old.request ≡ RequestState.Between → tally.old.in_pack ≡ false
+        → Moves (is_broken result) (ShowsRequests view.entry tally.old result (has_ended reader.new) turns)
         (flow (R.remaining (inner_of reader.old)) (R.remaining (inner_of reader.new)) ∷ [])
         (flow (W.contents (inner_of writer.old)) (W.contents (inner_of writer.new)) ∷ []) }
 {

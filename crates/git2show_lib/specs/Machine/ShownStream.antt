@@ -10,7 +10,7 @@ use Rattle.git_pkt.specs.declared.fault.RunFault.TheVariants.{ReadFault, WriteFa
 use Rattle.git_pkt.specs.declared.reader.PacketReader.{PacketReader}
 use Rattle.git_client.specs.Machine.LineParts.{PutAs}
 use Rattle.git2show_lib.specs.PacketLines.{lines_of}
-use Rattle.git2show_lib.specs.PacketViews.{shown, tally_of}
+use Rattle.git2show_lib.specs.PacketViews.{looked_for, of_any_command, shown, tally_of}
 use Rattle.git2show_lib.specs.declared.views.Tally.{Tally}
 use Rattle.git2show_lib.specs.declared.views.View.{View}
 
@@ -45,6 +45,10 @@ pub record ShowsView (view : Option View) (start final : Tally) (result : Result
     (read given : List (List ℕ)) : Type 0 where
   pub shows : ShowsAs (shown view start) result ended turns read given
   pub tally : final ≡ tally_of view start shows.packets
+
+-- what the view shows, if it looks for no command, of the packets that it looks for
+abbrev pub ShowsRequests : View → Tally → Result (Unit {0}) RunFault → Bool → ℕ → List (List ℕ) → List (List ℕ) → Type 0
+ShowsRequests view start = ShowsAs (λ given. shown (Some (of_any_command view)) start (looked_for view.only given))
 
 -- the reader went on over these bytes, and what is shown of its packets was sent or waits
 pub record Prints (view : Option View) (start final : Tally) (old new : PacketReader) (bytes waiting : List ℕ) (writer : Flow) : Type 0 where
