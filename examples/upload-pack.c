@@ -414,6 +414,18 @@ static bool begin(void)
 	return is_well;
 }
 
+/* Reports that there is no such repository, in the words that users know: a backslash stays one, as in Git's own message. */
+static void report_no_repository(const char *name)
+{
+	fputs("fatal: '", stderr);
+	for (const char *end; (end = strchr(name, '\\')) != NULL; name = end + 1) {
+		show_bytes(stderr, (const uint8_t *)name, (size_t)(end - name));
+		fputc('\\', stderr);
+	}
+	show_bytes(stderr, (const uint8_t *)name, strlen(name));
+	fputs("' does not appear to be a git repository\n", stderr);
+}
+
 int main(int count, char **words)
 {
 	bool strict = false, stateless = false, advertise = false;
@@ -442,9 +454,7 @@ int main(int count, char **words)
 	if (!begin())
 		return 128;
 	if (!enter(words[at], strict, &offer.format)) {
-		fputs("fatal: '", stderr);
-		show_bytes(stderr, (const uint8_t *)words[at], strlen(words[at]));
-		fputs("' does not appear to be a git repository\n", stderr); /* as users know it */
+		report_no_repository(words[at]);
 		return 128;
 	}
 	read_space();

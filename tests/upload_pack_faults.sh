@@ -299,6 +299,8 @@ case_upload_pack_is_no_shell() {
     done
     run "$uploading" $'no\x1bwhere'
     expect 128 /dev/null <(printf '%s\n' "fatal: 'no\\x1bwhere' does not appear to be a git repository")
+    run "$uploading" 'no\where'
+    expect 128 /dev/null <(printf '%s\n' "fatal: 'no\where' does not appear to be a git repository")
 }
 
 # A repository's own settings and files are not trusted: no program is started for them, and they lead to no other user's repository.
