@@ -1,8 +1,5 @@
 #!/usr/bin/env python3
-"""Words that comments do not have any more: a native reader has to read a sentence with them twice.
-
-    tests/words.py            prints which of them the places that are not clean yet have, and how often
-    tests/words.py --check    prints nothing, and fails if a comment anywhere else has one
+"""Words that comments do not have any more: a native reader has to read a sentence with them twice. Prints nothing, and fails if a comment has one.
 
 The comments are those of sources, specs, proofs, examples, tests and benches. Text between backticks is a name and is not looked at, nor is the
 beginning of a comment on a shell function, which shows how it is called, up to its colon.
@@ -27,11 +24,6 @@ room|rooms: buffer, space; "it fits"
 of which|of whom|by which|by whom: whose, with which, or a second sentence
 is given|are given|was given|were given: is passed, returned, sent
 what is had|that is had|which it has: its, those of
-"""
-
-# Places that are not clean yet. Take one off once it is.
-UNCLEAN = """
-crates/git2show_lib
 """
 
 # Comments that may have such a word: a file, some of the words around it, and the reason.
@@ -103,23 +95,13 @@ def found():
                     yield str(path.relative_to(TOP)), text.count("\n", 0, place) + 1, word[0].lower(), around
 
 
-def main(words):
-    bad, counts = [], {}
-    for name, number, word, around in found():
-        place = next((place for place in UNCLEAN.split() if name == place or name.startswith(place + "/")), None)
-        if place:
-            counts.setdefault(place, {}).setdefault(word, 0)
-            counts[place][word] += 1
-        elif not any(name == file and part in around for file, part, _ in ALLOWED):
-            bad.append(f"{name}:{number}: {around}")
-    if words == ["--check"] and bad:
+def main():
+    bad = [f"{name}:{number}: {around}" for name, number, word, around in found() if not any(name == file and part in around for file, part, _ in ALLOWED)]
+    if bad:
         sys.exit("tests/words.py: comments with retired words:\n" + "\n".join(bad))
-    if words != ["--check"]:
-        for place, its in sorted(counts.items()):
-            print(f"{place}: {', '.join(f'{word} {count}' for word, count in sorted(its.items(), key=lambda each: -each[1]))}")
 
 
 if __name__ == "__main__":
     # A reader that has seen enough, as `head`, ends it without a message.
     signal.signal(signal.SIGPIPE, signal.SIG_DFL)
-    main(sys.argv[1:])
+    main()

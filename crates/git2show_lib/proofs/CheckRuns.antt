@@ -139,8 +139,8 @@ module _ {A : Type 0} (t : Terms) where
       pub read : Consumes requests.before requests.after (used ++ waiting)
       pub limit_is : limit_of stream ≡ limit
 
-    -- a response is expected, in this form: the advertisement, or that to the last of the requests that were read. Whatever comes of it, of which a
-    -- client receives this, these are all bytes of the responses then, and all lines.
+    -- a response is expected, in this form: the advertisement, or that to the last of the requests that were read. Whatever comes of it and whatever a
+    -- client receives of that, these are all bytes of the responses then, and all lines.
     pub record Awaiting (broken : Bool) (form : Option Form) (front : List (Request A)) (client : Client A) (waiting : List ℕ)
         (requests responses out : Flow) : Type 0 where
       pub found : Found

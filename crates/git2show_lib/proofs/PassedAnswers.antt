@@ -121,7 +121,7 @@ cut_between old used given rest fault reads sound kind shut at =
       at = omega (arith, at, ap length none, reads.position);
     }
 
--- ---- a chunk of which some is used
+-- ---- a chunk that is used in part
 
 module _ (ending : Ending) (first mid : PacketReader) (piece : List ℕ) (done : ℕ) (within : done ≤ length piece)
     (so_far : (bytes : List ℕ) → Passes ending bytes first → Passes ending (bytes ++ take done piece) mid) where

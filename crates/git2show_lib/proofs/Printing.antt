@@ -114,9 +114,9 @@ module _ {view : Option View} {start middle : Tally} {a b : PacketReader} {u w :
     tally = so_far.tally;
   }
 
--- ---- one call of `feed` over what is left of a piece
+-- ---- one call of `feed` over what is left of a chunk
 
--- what is left of a piece after `done` bytes, as a slice shows it
+-- what is left of a chunk after `done` bytes, as a slice shows it
 abbrev pub left : List ℕ → ℕ → List ℕ
 left piece done = take (length piece - done) (drop done piece)
 
@@ -171,7 +171,7 @@ module _ {view : Option View} {start middle : Tally} {old b c : PacketReader} (p
         (record { packet = seen p; offset = offset }) (reads_by (GotPacket p offset) is) line counts),
   )
 
--- the write of what waited failed, whether or not the piece had a fault
+-- the write of what waited failed, whether or not the chunk had a fault
 pub sent_in_part : {view : Option View} {start final : Tally} (old new : PacketReader) (piece w : List ℕ) (before held later : Option (List ℕ))
     (stopped : Option Fault) → PrintsPiece view start final stopped old new piece w (flow before held) → AppendsFront held later w
     → WritesFront view start final old new piece (flow before later)
@@ -200,7 +200,7 @@ state_of reader fault bytes packets rest told reads =
     rw (zero-add (length bytes), told) at reads.state
 
 module _ {view : Option View} {start middle final : Tally} where
-  -- the lines of a piece were written, and reading goes on
+  -- the lines of a chunk were written, and reading goes on
   pub shows_more : (old new : PacketReader) (count n : ℕ) (piece : List ℕ) {left_before left left_after held_before held held_after : Option (List ℕ)}
       → Moved false (ShowsSoFar view start middle old count) (flow left_before left) (flow held_before held) → Consumes left left_after (take n piece)
       → Writes view middle final false old new (take n piece) (flow held held_after) → n ≤ length piece → 0 < n
@@ -219,7 +219,7 @@ module _ {view : Option View} {start middle final : Tally} where
 
 module _ {view : Option View} {start middle final : Tally} (ended : Bool) (turns count : ℕ) (old new : PacketReader) (bytes : List ℕ)
     {left_before left left_after held_before held held_after : Option (List ℕ)} where
-  -- the lines of a front of a piece were written, or a front of them, and the run ended there
+  -- the lines of a front of a chunk were written, or a front of them, and the run ended there
   stops_in : (result : Result (Unit {0}) RunFault) (used : ℕ)
       → Moved false (ShowsSoFar view start middle old count) (flow left_before left) (flow held_before held) → Consumes left left_after bytes
       → Writes view middle final (is_broken result) old new (take used bytes) (flow held held_after)
@@ -244,7 +244,7 @@ module _ {view : Option View} {start middle final : Tally} (ended : Bool) (turns
         tally = tally-then view start shows.packets writes.packets shows.tally writes.tally;
       }) so_far read writes.written)
 
-  -- a piece ended the run
+  -- a chunk ended the run
   pub stops_by : (fault : RunFault) → Moved false (ShowsSoFar view start middle old count) (flow left_before left) (flow held_before held)
       → Consumes left left_after bytes → ShowsPiece view middle final (Err fault) old new bytes (flow held held_after)
       → RunEnds view start final (Err fault) ended turns (flow left_before left_after) (flow held_before held_after)

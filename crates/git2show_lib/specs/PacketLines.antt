@@ -1,4 +1,4 @@
--- The lines by which packets are shown.
+-- The lines that show packets.
 use Rattle.std.specs.Prelude.{ℕ, List, [], ◌∷◌, ◌++◌, length, codes, decimal}
 use Rattle.std.specs.List.{flat_map}
 use Rattle.git_pkt.specs.Packets.{Pkt, flush, delim, resp_end, payload, body_of}

@@ -11,7 +11,7 @@ use Rattle.git2show_lib.specs.declared.pretty.Label.{Label}
 
 -- ---- what a packet is
 
--- the lines by which sections of an answer to `fetch` begin
+-- the lines that sections of an answer to `fetch` begin with
 abbrev pub sections : List (List ℕ)
 sections = codes "acknowledgments" ∷ codes "shallow-info" ∷ codes "wanted-refs" ∷ codes "packfile-uris" ∷ codes "packfile" ∷ []
 
@@ -97,7 +97,7 @@ shortened_after k (b ∷ bytes) =
 abbrev pub shortened : List ℕ → List ℕ
 shortened = shortened_after 0
 
--- a text that is longer than its room is cut, and ends with two dots
+-- a text that is longer than its width is cut, and ends with two dots
 abbrev pub cut : ℕ → List ℕ → List ℕ
 cut room text = if nat_le (length text) room then text else take (room - 2) text ++ codes ".."
 

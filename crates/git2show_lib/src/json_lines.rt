@@ -24,10 +24,10 @@ pub(crate) enum Coding {
 /// How many bytes one byte becomes, at most.
 const LONGEST: usize = 6;
 
-/// Room for what comes before the bytes of a payload.
+/// Space for what comes before the bytes of a payload.
 pub(crate) const START: usize = 128;
 
-/// Room for the part of it that says what kind a packet is.
+/// Space for the part of it that names the kind of a packet.
 const KIND: usize = 64;
 
 /// What one byte becomes, and how many of its bytes count.

@@ -76,7 +76,7 @@ impl Lines {
         flush(writer)
     }
 
-    /// Puts the line of a packet after the others, and sends them where there is no room.
+    /// Puts the line of a packet after the others, and sends them if it does not fit.
     // Inlined, as all that it does once a packet: LLVM leaves what has two callers, a run with a view and one without, as calls.
     #[inline(always)]
     pub(crate) fn put<W: Write>(
@@ -247,7 +247,7 @@ impl Lines {
         Ok(())
     }
 
-    /// Puts the escapes of one block after the others: at once where it is a whole one, each byte of which is its own escape.
+    /// Puts the escapes of one block after the others: at once if it is a whole one and each of its bytes is its own escape.
     fn emit_block<W: Write>(&mut self, writer: &mut Told<W>, block: &[u8]) -> Result<(), RunFault>
         requires { length block.now ≤ BLOCK }
         ensures { Puts W.contents writer.old self.old (escaped_of block.now) result writer.new self.new }
@@ -261,7 +261,7 @@ impl Lines {
         Ok(())
     }
 
-    /// Makes room for a run.
+    /// Makes space for a run.
     fn make_room<W: Write>(&mut self, writer: &mut Told<W>) -> Result<(), RunFault>
         ensures puts { Puts W.contents writer.old self.old [] result writer.new self.new }
         ensures room { OnOk result (length self.new + RUN ≤ CAPACITY) }

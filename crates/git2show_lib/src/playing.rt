@@ -81,7 +81,7 @@ fn hear_server<R: Repo, O: Write, P: Output, A: Allocator + Copy>(
     Ok(())
 }
 
-/// Hears a message of a server, the advertisement or a response, and what comes after it: a response end, or nothing. Both writers are
+/// Receives a message of a server, the advertisement or a response, and what comes after it: a response end, or nothing. Both writers are
 /// flushed.
 ///
 /// `Refused` with the first fault of what was received, truncated if the server sends nothing more and more is expected; `WriteFault` where a

@@ -15,13 +15,13 @@ use itoa::Buffer;
 /// How many bytes of a text are shown, at most.
 const FRONT: usize = 1024;
 
-/// Room for a line.
+/// Space for a line.
 pub(crate) const LINE: usize = 320;
 
 /// The maximum number of columns.
 const WIDEST: usize = 200;
 
-/// Room for what a line has before its text.
+/// Space for what a line has before its text.
 const COLUMNS: usize = 64;
 
 static SPACES: [u8; 10] = [b' '; 10];
@@ -46,7 +46,7 @@ pub(crate) enum Label {
     End,
     /// The line of a request that names its command.
     Command,
-    /// The line by which a section begins.
+    /// The line that a section begins with.
     Section,
     /// Bytes of a pack.
     Pack,
@@ -290,7 +290,7 @@ fn put_length(packet: Packet<'_>, out: &mut [u8], at: usize) -> usize
     }
 }
 
-/// Writes a text in its column, cut to its room.
+/// Writes a text in its column, cut to its width.
 fn put_in_column(label: Label, room: usize, text: &[u8], out: &mut [u8], at: usize) -> usize
     requires short { room ≤ WIDEST }
     requires room { at + WIDEST + 20 ≤ length out.old }
@@ -304,7 +304,7 @@ fn put_in_column(label: Label, room: usize, text: &[u8], out: &mut [u8], at: usi
     put_cut(room, text, out, at)
 }
 
-/// Writes a text, cut to its room.
+/// Writes a text, cut to its width.
 fn put_cut(room: usize, text: &[u8], out: &mut [u8], at: usize) -> usize
     requires short { room ≤ WIDEST }
     requires room { at + WIDEST + 2 ≤ length out.old }

@@ -13,7 +13,7 @@ use itoa::Buffer;
 use std::io::Write;
 use thiserror::Error;
 
-/// Room for a fault's line: the longest has the program's name, a stream, a name and an offset of 20 digits.
+/// Space for a fault's line: the longest has the program's name, a stream, a name and an offset of 20 digits.
 const LINE: usize = 80;
 
 /// The status of a program that ends with a fault.

@@ -16,7 +16,7 @@ use git_names::Steps;
 use git_pkt::{Fault, Got, PacketReader, RunFault, Told, receive};
 use std::io::{Read, Write};
 
-/// Shows the packets that a reader gives, a line each, over at most `turns` reads into the piece. Lines of whole
+/// Shows the packets that a reader gives, a line each, over at most `turns` reads into the chunk. Lines of whole
 /// packets are written and flushed before a fault is answered, and before the next read.
 ///
 /// Ok comes at the reader's end alone, between two packets. The faults are `Refused`, with what is wrong with the
@@ -118,7 +118,7 @@ fn show_by<R: Read, W: Write, V: Renderer>(
     Err(RunFault::ReadLimit)
 }
 
-/// Shows the packets of a piece, and sends their lines.
+/// Shows the packets of a chunk, and sends their lines.
 fn show_piece<W: Write, V: Renderer>(
     packets: &mut PacketReader,
     piece: &[u8],
@@ -146,7 +146,7 @@ fn show_piece<W: Write, V: Renderer>(
     }
 }
 
-/// Prints the packets of a piece into the buffer of lines, up to the first fault, which is the answer.
+/// Prints the packets of a chunk into the buffer of lines, up to the first fault, which is the answer.
 fn print_piece<W: Write, V: Renderer>(
     packets: &mut PacketReader,
     piece: &[u8],

@@ -11,7 +11,7 @@ use git_pkt::{Packet, RunFault, Told, put_at, send, text};
 use itoa::Buffer;
 use std::io::Write;
 
-/// Room for the line below all others.
+/// Space for the line below all others.
 const SUMMARY: usize = 160;
 
 /// How packets are shown.

@@ -81,7 +81,7 @@ pub record PassesWhole (ending : Ending) (passed : Passed) (waiting piece : List
   pub ordered : passed.left.start ≤ passed.left.end
   pub within : passed.left.end ≤ length piece
 
--- all bytes were used, and more are due
+-- all bytes were used, and more are expected
 pub record PassesOn (ending : Ending) (waiting : List ℕ) (reader : Flow) : Type 0 where
   pub used : List ℕ
   pub uses : Uses used waiting [] reader

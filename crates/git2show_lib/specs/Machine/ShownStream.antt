@@ -64,23 +64,23 @@ pub record Writes (view : Option View) (start final : Tally) (broken : Bool) (ol
   pub written : WrittenAs broken writer (shown view start packets)
   pub tally : final ≡ tally_of view start packets
 
--- the reader met this fault when it had used so many bytes of the piece
+-- the reader met this fault when it had used so many bytes of the chunk
 pub record MeetsFault (f : Fault) (new : PacketReader) (piece : List ℕ) (used : ℕ) : Type 0 where
   pub told : fault_of new ≡ Some f
   pub shown : ShownByFeed f used piece
 
 module _ (view : Option View) (start final : Tally) where
-  -- all of the piece was used and printed, or a front of it up to a fault
+  -- all of the chunk was used and printed, or a front of it up to a fault
   abbrev pub PrintsPiece : Option Fault → PacketReader → PacketReader → List ℕ → List ℕ → Flow → Type 0
   PrintsPiece None old new piece waiting writer = Prints view start final old new piece waiting writer × (fault_of new ≡ None)
   PrintsPiece (Some f) old new piece waiting writer =
       (used : ℕ) × Prints view start final old new (take used piece) waiting writer × MeetsFault f new piece used
 
-  -- a front of the piece was used, and a front of its lines written
+  -- a front of the chunk was used, and a front of its lines written
   abbrev pub WritesFront : PacketReader → PacketReader → List ℕ → Flow → Type 0
   WritesFront old new piece writer = (used : ℕ) × Writes view start final true old new (take used piece) writer
 
-  -- all of the piece was used and its lines were written, or those of a front of it up to a fault; or a write failed somewhere in it
+  -- all of the chunk was used and its lines were written, or those of a front of it up to a fault; or a write failed somewhere in it
   abbrev pub ShowsPiece : Result (Unit {0}) RunFault → PacketReader → PacketReader → List ℕ → Flow → Type 0
   ShowsPiece (Ok done) old new piece writer = Writes view start final false old new piece writer × (fault_of new ≡ None)
   ShowsPiece (Err WriteFault) old new piece writer = WritesFront old new piece writer

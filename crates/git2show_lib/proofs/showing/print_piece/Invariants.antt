@@ -5,7 +5,7 @@ use Rattle.git_pkt.specs.Streams.{flow}
 use Rattle.git2show_lib.specs.Machine.ShownStream.{Prints}
 use Rattle.git2show_lib.proofs.showing.print_piece.Given as goal
 
--- the packets of what is done of the piece have been printed, and nothing has failed since the call began
+-- the packets of what is done of the chunk have been printed, and nothing has failed since the call began
 abbrev pub invariant-loop-done : goal.invariant-loop-done
 invariant-loop-done g l = record {
   within : l.done ≤ length l.piece;
