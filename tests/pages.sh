@@ -112,7 +112,7 @@ case_each_source_states_what_it_is_about_and_imports_what_it_may() {
 }
 
 case_no_comment_has_a_word_that_is_retired() {
-    run "$top/tests/words.py" --check
+    run "$top/tests/words.py"
     expect_status 0
     expect_same 'standard error' /dev/null err
 }
