@@ -113,7 +113,7 @@ static void try_a_request_for_a_pack(void)
 	EXPECT(tells(gitwire_request_item(&request, GITWIRE_LIST_WANTS, 0, room, 39), GITWIRE_ROOM_TOO_SMALL, 0, 0, 0));
 	EXPECT(tells(gitwire_request_number(&request, GITWIRE_NUMBER_DEEPEN), GITWIRE_DONE, 0, 7, 0));
 	EXPECT(tells(gitwire_request_number(&request, GITWIRE_NUMBER_DEEPEN_SINCE), GITWIRE_NOTHING, 0, 0, 0));
-	EXPECT(tells(gitwire_request_number(&request, 2), GITWIRE_BAD_VALUE, 0, 0, 0));
+	EXPECT(tells(gitwire_request_number(&request, 0), GITWIRE_BAD_VALUE, 0, 0, 0));
 	EXPECT(tells(gitwire_request_end(&request), GITWIRE_DONE, 0, 0, 0));
 	EXPECT(tells(gitwire_request_add(&request, TEXT("deepen-since 9223372036854775807")), GITWIRE_DONE, 0, 0, 0));
 	EXPECT(tells(gitwire_request_add(&request, TEXT("deepen-not v1")), GITWIRE_DONE, 0, 0, 0));
