@@ -4,6 +4,7 @@
 #include <poll.h>
 #include <signal.h>
 #include <stdbool.h>
+#include <stdint.h>
 #include <stdio.h>
 #include <stdlib.h>
 #include <sys/prctl.h>
@@ -97,24 +98,37 @@ static bool widen(int pipe, int bytes)
 	return fcntl(pipe, F_SETPIPE_SZ, bytes) >= 0;
 }
 
-/*
- * Reads its output up to so many bytes, all of them if there are fewer, and returns how many it read. Commands print in small chunks: this
- * waits for their end, for a moment at a time, so that it is not woken up for each.
- */
-static size_t read_output(struct command *command, char *text, size_t room)
+static ssize_t read_patiently(void *pipe, char *bytes, size_t room)
 {
-	struct pollfd output = { .fd = fileno(command->output) };
-	int moment = widen(output.fd, 1 << 20) ? 5 : 0; /* milliseconds */
-	ssize_t got = 1;
-	size_t length;
+	struct pollfd output = { .fd = (int)(intptr_t)pipe };
 
-	for (length = 0; length < room && got != 0; length += got < 0 ? 0 : (size_t)got) {
-		poll(&output, 1, moment); /* for its end: data is no event here */
-		got = read(output.fd, text + length, room - length);
-		if (got < 0 && errno != EINTR)
-			fail("the output of a command of Git cannot be read");
+	poll(&output, 1, 1); /* a millisecond, or until its end: data is no event here */
+	return read(output.fd, bytes, room);
+}
+
+static int close_patiently(void *pipe)
+{
+	return close((int)(intptr_t)pipe);
+}
+
+/*
+ * Has the output of a command that prints much in small chunks read in large ones: it goes on into a wide pipe, and this program is not woken up
+ * for each chunk. Nothing was read yet.
+ */
+static void be_patient(struct command *command)
+{
+	cookie_io_functions_t calls = { .read = read_patiently, .close = close_patiently };
+	int pipe = fcntl(fileno(command->output), F_DUPFD_CLOEXEC, 3);
+
+	if (pipe < 0 || !widen(pipe, 1 << 20)) {
+		close(pipe);
+		return;
 	}
-	return length;
+	fclose(command->output);
+	command->output = fopencookie((void *)(intptr_t)pipe, "r", calls);
+	if (command->output == NULL)
+		fail("a command of Git cannot be read");
+	setvbuf(command->output, command->buffer, _IOFBF, READ_ROOM);
 }
 
 /* The next line of its output without its LF, valid until the next call, or NULL at the end. A last line without an LF was cut off, and is ignored. */

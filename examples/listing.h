@@ -256,74 +256,22 @@ static void answer_by_two(struct command *first, const struct head *head, bool h
 	end_shown(first, is_empty);
 }
 
-/* A reference of a list that was read whole. */
-struct listed {
-	const char *id, *name, *peeled;
-};
-
-static int compare_listed(const void *one, const void *other)
+/* The references that `git show-ref` prints, if they are in order, and none but `HEAD` is symbolic, since it prints no targets. */
+static void answer_by_one(struct command *first, const struct head *head)
 {
-	return strcmp(((const struct listed *)one)->name, ((const struct listed *)other)->name);
-}
+	static struct shown shown;
+	bool is_empty, is_head;
 
-/* Cuts the lines of `git show-ref` apart, puts the references in order, and returns how many there are. */
-static size_t cut_list(char *text, size_t length, struct listed *listed)
-{
-	bool is_in_order = true;
-	size_t count = 0;
-
-	for (char *line = text, *end; (end = memchr(line, '\n', (size_t)(text + length - line))) != NULL; line = end + 1) {
-		char *name = memchr(line, ' ', (size_t)(end - line));
-
-		if (name == NULL || (name - line != 40 && name - line != GITWIRE_OBJECT_NAME_ROOM))
-			fail("a line of a reference is none");
-		*name++ = 0;
-		*end = 0;
-		if (count > 0 && end - name > 3 && strcmp(end - 3, "^{}") == 0) {
-			listed[count - 1].peeled = line;
-			continue;
-		}
-		is_in_order &= count == 0 || strcmp(listed[count - 1].name, name) < 0;
-		listed[count++] = (struct listed){ line, name, "" };
-	}
-	if (!is_in_order)
-		qsort(listed, count, sizeof *listed, compare_listed);
-	return count;
-}
-
-/* How many bytes a list may have to be read whole: those of some 30,000 references. */
-enum { MOST_LIST = 1 << 21 };
-
-/*
- * The references that `git show-ref` prints, if none but `HEAD` is symbolic, since it prints no targets. False if there are too many, and then
- * it has ended, and nothing is answered. The library checks each part of a reference.
- */
-static bool answer_by_one(struct command *first, const struct head *head)
-{
-	char *text = malloc(MOST_LIST + 1);
-	struct listed *listed;
-	size_t length, count, at;
-
-	if (text == NULL)
-		stop("no memory");
-	length = read_output(first, text, MOST_LIST + 1);
-	if (length > MOST_LIST) {
-		end(first);
-		free(text);
-		return false;
-	}
-	end_shown(first, length == 0);
-	listed = malloc((length / 40 + 1) * sizeof *listed);
-	if (listed == NULL)
-		stop("no memory");
-	count = cut_list(text, length, listed);
-	at = count > 0 && strcmp(listed->name, head->name) == 0;
-	answer_shown_head(head, at == 1 ? listed->id : NULL, at == 1 ? listed->peeled : NULL);
-	for (; at < count; at++)
-		answer_reference(listed[at].id, listed[at].name, "", listed[at].peeled);
-	free(listed);
-	free(text);
-	return true;
+	shown.next = next_line(first);
+	read_shown(first, &shown);
+	is_empty = shown.is_none;
+	is_head = !is_empty && strcmp(shown.name, head->name) == 0;
+	answer_shown_head(head, is_head ? shown.id : NULL, shown.peeled);
+	if (is_head)
+		read_shown(first, &shown);
+	for (; !shown.is_none; read_shown(first, &shown))
+		answer_reference(shown.id, shown.name, "", shown.peeled);
+	end_shown(first, is_empty);
 }
 
 /* Whether a reference of this list may be symbolic. */
@@ -339,17 +287,17 @@ static void answer_all(bool heads, bool tags)
 {
 	static struct head head;
 	struct command target, shown;
-	bool is_symbolic;
+	bool is_enough;
 
 	start_shown(&shown, heads, tags);
+	be_patient(&shown);
 	start_head(&target, head.name, sizeof head.name);
-	is_symbolic = lists_symbolic(heads, tags);
+	is_enough = !lists_symbolic(heads, tags) && is_packed_in_order();
 	receive_head(&target, head.target, sizeof head.target);
-	if (!is_symbolic && answer_by_one(&shown, &head))
-		return;
-	if (!is_symbolic)
-		start_shown(&shown, heads, tags);
-	answer_by_two(&shown, &head, heads, tags);
+	if (is_enough)
+		answer_by_one(&shown, &head);
+	else
+		answer_by_two(&shown, &head, heads, tags);
 }
 
 /* What a request asks for. */

@@ -153,6 +153,30 @@ static bool has_symbolic(const char *folder)
 	return result > 0 || (result < 0 && (access(folder, F_OK) == 0 || errno != ENOENT)); /* there may be no such folder */
 }
 
+/* Whether the packed references are in order, as Git writes them: `git show-ref` prints them as their file has them, and another hand may write one. */
+static bool is_packed_in_order(void)
+{
+	static char line[LINE_ROOM], last[LINE_ROOM];
+	FILE *file = fopen("packed-refs", "re");
+	bool is_in_order = true;
+	const char *name;
+
+	if (file == NULL)
+		return errno == ENOENT;
+	*last = 0;
+	while (is_in_order && fgets(line, sizeof line, file) != NULL) {
+		if (*line == '#' || *line == '^')
+			continue;
+		name = strchr(line, ' ');
+		is_in_order = name != NULL && strcmp(last, name) < 0;
+		if (is_in_order)
+			strcpy(last, name);
+	}
+	is_in_order &= !ferror(file);
+	fclose(file);
+	return is_in_order;
+}
+
 /* HEAD of the namespace, whose name fits into `name`. Its target is received next, or an empty text if it is not symbolic. */
 static void start_head(struct command *command, char *name, size_t room)
 {

@@ -162,17 +162,17 @@ written_references() {
     awk -v count="$1" -v name="$2" -v id="$(git -C served rev-parse main)" 'BEGIN { for (i = 1; i <= count; i++) printf "create %s-%d %s\n", name, i, id }'
 }
 
-# Where no reference is symbolic, one command lists them all; it does not show where symbolic ones lead. How it is known that there is none: by
-# the files of references, if those are few.
+# Where no reference is symbolic, one command lists them all; it does not show where symbolic ones lead. That there is none is known by the files
+# of references, if those are few.
 case_upload_pack_lists_symbolic_references_wherever_they_are() {
     local long
     configured history-sha1
     git -C served symbolic-ref -d refs/heads/alias
-    GIT_TRACE=$room/commands "$uploading" --stateless-rpc served < <(prefixes HEAD refs/heads/ refs/tags/) > /dev/null
-    grep -q show-ref commands && ! grep for-each-ref commands || differs 'other commands' commands
     lists_as_git served
     git -C served pack-refs --all
     lists_as_git served
+    GIT_TRACE=$room/commands "$uploading" --stateless-rpc served < <(prefixes HEAD refs/heads/ refs/tags/) > /dev/null
+    grep -q show-ref commands && ! grep for-each-ref commands || differs 'other commands' commands
     rm -r served/.git/refs/tags
     lists_as_git served
     git -C served symbolic-ref refs/tags/led refs/heads/topic
