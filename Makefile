@@ -67,10 +67,10 @@ install: $(PROGRAM) $(LIBRARY)
 	@install -D -m 644 "$(LIBRARY)" "$(to)/lib/libgitwire.a"
 	@objects=$$(mktemp -d) && (cd "$$objects" && ar x "$(KIT)/c/liblibc_c.a") && \
 		ar qs "$(to)/lib/libgitwire.a" "$$objects"/*.o && rm -r "$$objects"
-	@$(CC) -shared -o "$(to)/lib/libgitwire.so.$(VERSION)" -Wl,-soname,libgitwire.so.0,--version-script=gitwire.map \
+	@$(CC) -shared -o "$(to)/lib/libgitwire.so.$(VERSION)" -Wl,-soname,libgitwire.so.1,--version-script=gitwire.map \
 		-Wl,-z,defs,-z,relro,-z,now,--whole-archive "$(to)/lib/libgitwire.a" -Wl,--no-whole-archive
-	@ln -sf libgitwire.so.$(VERSION) "$(to)/lib/libgitwire.so.0"
-	@ln -sf libgitwire.so.0 "$(to)/lib/libgitwire.so"
+	@ln -sf libgitwire.so.$(VERSION) "$(to)/lib/libgitwire.so.1"
+	@ln -sf libgitwire.so.1 "$(to)/lib/libgitwire.so"
 
 $(PROGRAM):
 	@echo "make install: $@ is not there: it is proved with all that it stands on, and built, which can take half an hour and more"

@@ -35,7 +35,7 @@ static bool begin(void)
 		&& add("want 1111111111111111111111111111111111111111") && add("done");
 }
 
-static bool tell_fault(uint8_t fault, uint64_t offset)
+static bool tell_fault(gitwire_fault fault, uint64_t offset)
 {
 	uint8_t text[GITWIRE_FAULT_TEXT_ROOM];
 	size_t length = gitwire_fault_text(fault, offset, text, sizeof text);

@@ -16,7 +16,7 @@
 /* A fetch, from the request for the reference to the last byte of the pack. */
 struct fetch {
 	gitwire_client client;
-	uint8_t format;
+	gitwire_format format;
 	const char *reference;
 	char id[65];          /* the reference's object, once the server has sent it */
 	bool has_listed;
@@ -38,7 +38,7 @@ static bool add(gitwire_request *request, const char *word, const char *value)
 /* Makes the next request: the reference's object, and then the pack of that object. */
 static bool make_request(struct fetch *fetch, gitwire_request *request)
 {
-	uint8_t command = fetch->has_listed ? GITWIRE_FETCH : GITWIRE_LS_REFS;
+	gitwire_command command = fetch->has_listed ? GITWIRE_FETCH : GITWIRE_LS_REFS;
 
 	if (gitwire_request_new(request, command, fetch->format, GITWIRE_USUAL_LIMIT) != GITWIRE_DONE)
 		return false;

@@ -12,15 +12,15 @@ LD_LIBRARY_PATH is not needed where the library lies in a folder that the system
 
 import signal
 import sys
-from ctypes import CDLL, POINTER, Structure, byref, c_bool, c_size_t, c_uint8, c_uint32, c_uint64, c_void_p, create_string_buffer
+from ctypes import CDLL, POINTER, Structure, byref, c_bool, c_size_t, c_uint32, c_uint64, c_void_p, create_string_buffer
 from typing import NamedTuple, Optional
 
 # The numbers of gitwire.h.
 DONE, MORE, FAILED, REQUEST, PACKET, NEED_INPUT, CAN_ASK, FINISHED = 0, 1, 2, 13, 15, 16, 19, 20
 CAPABILITY, OFFERED, REFERENCE, ACK, NAK, READY, SHALLOW, UNSHALLOW, WANTED_REF, INFO, PACK, PROGRESS, ENDED = range(21, 34)
-SHA1, SHA256 = 0, 1
-ENDS_BY_FLUSH, ENDS_BY_RESPONSE_END = 0, 1
-COMMANDS = ["ls-refs", "fetch", "object-info"]
+SHA1, SHA256 = 1, 2
+ENDS_BY_FLUSH, ENDS_BY_RESPONSE_END = 1, 2
+COMMANDS = {1: "ls-refs", 2: "fetch", 3: "object-info"}
 FEATURES_ALL = 127
 USUAL_LIMIT = 16777216
 PAYLOAD_ROOM, PACKET_ROOM, FAULT_TEXT_ROOM, ESCAPE_ROOM = 65516, 65520, 64, 4
@@ -37,7 +37,7 @@ class Handle(Structure):
 class Answer(Structure):
     """What one call returns."""
 
-    _fields_ = [("used", c_size_t), ("offset", c_uint64), ("length", c_size_t), ("kind", c_uint8), ("fault", c_uint8)]
+    _fields_ = [("used", c_size_t), ("offset", c_uint64), ("length", c_size_t), ("kind", c_uint32), ("fault", c_uint32)]
 
 
 class Listed(Structure):
@@ -51,8 +51,8 @@ class Listed(Structure):
         ("text_length", c_size_t),
         ("peeled_length", c_size_t),
         ("size", c_uint64),
-        ("kind", c_uint8),
-        ("fault", c_uint8),
+        ("kind", c_uint32),
+        ("fault", c_uint32),
         ("has_text", c_bool),
         ("has_size", c_bool),
     ]
@@ -61,27 +61,27 @@ class Listed(Structure):
 class Offer(Structure):
     """What a server advertises."""
 
-    _fields_ = [("features", c_uint32), ("format", c_uint8)]
+    _fields_ = [("features", c_uint32), ("format", c_uint32)]
 
 
 def load_library():
     """The library, and what its calls take and return. A text, a buffer and an array are each a pointer and a length."""
-    library = CDLL("libgitwire.so.0")
+    library = CDLL("libgitwire.so.1")
     handle, text = POINTER(Handle), [c_void_p, c_size_t]
     takes = {
-        "request_reader_new": (c_uint8, [handle, Offer, c_uint32]),
+        "request_reader_new": (c_uint32, [handle, Offer, c_uint32]),
         "request_reader_feed": (Answer, [handle, handle, *text]),
         "request_reader_clear": (None, [handle]),
-        "request_command": (Answer, [handle]),
+        "request_command": (c_uint32, [handle]),
         "request_clear": (None, [handle]),
-        "client_new": (c_uint8, [handle, c_uint8, c_uint8]),
+        "client_new": (c_uint32, [handle, c_uint32, c_uint32]),
         "client_events": (Answer, [handle, *text, *text, *text]),
         "client_pull": (Answer, [handle, *text]),
         "client_ask": (Answer, [handle, handle]),
-        "client_leave": (c_uint8, [handle]),
+        "client_leave": (c_uint32, [handle]),
         "client_close": (Answer, [handle]),
         "client_clear": (None, [handle]),
-        "fault_text": (c_size_t, [c_uint8, c_uint64, *text]),
+        "fault_text": (c_size_t, [c_uint32, c_uint64, *text]),
         "escape": (Answer, [*text, *text]),
     }
     for name, (gives, wants) in takes.items():
@@ -146,7 +146,7 @@ class Request:
 
     def command(self):
         """The name of its command."""
-        return COMMANDS[LIBRARY.gitwire_request_command(byref(self.handle)).offset]
+        return COMMANDS[LIBRARY.gitwire_request_command(byref(self.handle))]
 
 
 def requests_of(stream, format_=SHA1):

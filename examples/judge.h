@@ -32,7 +32,7 @@ struct judge {
 	gitwire_request request;            /* the last whole one */
 	gitwire_offer offer;                /* the offer that these are read against */
 	struct others others;               /* what else the server advertised */
-	uint8_t format;
+	gitwire_format format;
 	uint64_t begins_at;                 /* where the unfinished request begins */
 	enum request_part part;
 	char command[8];                    /* of that request: `fetch` or `ls-refs`, or empty */
@@ -53,7 +53,7 @@ struct packet {
 static uint8_t room[GITWIRE_PACKET_ROOM];
 
 /* Begins a conversation. False if there is no memory. */
-static bool begin_judge(struct judge *judge, uint8_t format, FILE *transcript)
+static bool begin_judge(struct judge *judge, gitwire_format format, FILE *transcript)
 {
 	*judge = (struct judge){ .format = format, .transcript = transcript };
 	return gitwire_client_new(&judge->client, format, GITWIRE_ENDS_BY_FLUSH) == GITWIRE_DONE;
@@ -71,7 +71,7 @@ static void end_judge(struct judge *judge)
  * What is expected next: CAN_ASK if it is the client's turn, NEED_INPUT if it is the server's, FINISHED if the client has left. The packets
  * of a request are dropped here: the watched client's own packets go on, as it wrote them.
  */
-static uint8_t due(struct judge *judge)
+static gitwire_result due(struct judge *judge)
 {
 	gitwire_answer answer;
 
@@ -83,7 +83,7 @@ static uint8_t due(struct judge *judge)
 	return answer.kind;
 }
 
-static gitwire_answer refusal(uint8_t fault, uint64_t offset)
+static gitwire_answer refusal(gitwire_fault fault, uint64_t offset)
 {
 	return (gitwire_answer){ .kind = GITWIRE_FAILED, .fault = fault, .offset = offset };
 }
@@ -91,8 +91,10 @@ static gitwire_answer refusal(uint8_t fault, uint64_t offset)
 /* Asks what the client has asked, before the server has its last packet. A request that is not allowed is reported at its offset. */
 static gitwire_answer ask(struct judge *judge)
 {
-	static const char *const commands[] = { "ls-refs", "fetch", "object-info" };
-	const char *command = commands[gitwire_request_command(&judge->request).offset];
+	static const char *const commands[] = {
+		[GITWIRE_LS_REFS] = "ls-refs", [GITWIRE_FETCH] = "fetch", [GITWIRE_OBJECT_INFO] = "object-info",
+	};
+	const char *command = commands[gitwire_request_command(&judge->request)];
 	gitwire_answer answer = gitwire_client_ask(&judge->client, &judge->request);
 
 	if (answer.kind == GITWIRE_FAILED)

@@ -31,7 +31,7 @@ static const char *add(gitwire_request *request, const char *word, const char *v
  * Makes the request: the references of these prefixes, with the targets of symbolic ones and the objects that tags peel to. Returns why it
  * cannot be made, or NULL.
  */
-static const char *make_request(gitwire_request *request, uint8_t format, char **prefixes)
+static const char *make_request(gitwire_request *request, gitwire_format format, char **prefixes)
 {
 	const char *why;
 
@@ -119,7 +119,7 @@ static int converse(gitwire_client *client, gitwire_request *request, int to, in
 int main(int count, char **words)
 {
 	bool is_sha256 = count > 1 && strcmp(words[1], "--sha256") == 0;
-	uint8_t format = is_sha256 ? GITWIRE_SHA256 : GITWIRE_SHA1;
+	gitwire_format format = is_sha256 ? GITWIRE_SHA256 : GITWIRE_SHA1;
 	gitwire_client client = GITWIRE_NONE;
 	gitwire_request request = GITWIRE_NONE;
 	const char *why;

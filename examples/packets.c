@@ -30,10 +30,11 @@ static void show(gitwire_answer packet, const uint8_t *payload)
 	case GITWIRE_RESPONSE_END:
 		puts("end");
 		return;
+	default:
+		printf("data %zu%s", packet.length, packet.length > 0 ? " " : "");
+		show_bytes(stdout, payload, packet.length);
+		putchar('\n');
 	}
-	printf("data %zu%s", packet.length, packet.length > 0 ? " " : "");
-	show_bytes(stdout, payload, packet.length);
-	putchar('\n');
 }
 
 static int tell(const char *what)

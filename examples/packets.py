@@ -9,7 +9,7 @@ a folder that the system's loader knows.
 
 import signal
 import sys
-from ctypes import CDLL, POINTER, Structure, byref, c_bool, c_size_t, c_uint8, c_uint64, c_void_p, create_string_buffer
+from ctypes import CDLL, POINTER, Structure, byref, c_bool, c_size_t, c_uint32, c_uint64, c_void_p, create_string_buffer
 
 MOST_PIECE = 65536
 
@@ -29,18 +29,18 @@ class Handle(Structure):
 class Told(Structure):
     """The result of one call."""
 
-    _fields_ = [("used", c_size_t), ("offset", c_uint64), ("length", c_size_t), ("kind", c_uint8), ("fault", c_uint8)]
+    _fields_ = [("used", c_size_t), ("offset", c_uint64), ("length", c_size_t), ("kind", c_uint32), ("fault", c_uint32)]
 
 
 def load_library():
     """The library, with the types of its calls. A text is a pointer and a length, and so is a buffer."""
-    library = CDLL("libgitwire.so.0")
+    library = CDLL("libgitwire.so.1")
     takes = {
-        "packet_reader_new": (c_uint8, [POINTER(Handle)]),
+        "packet_reader_new": (c_uint32, [POINTER(Handle)]),
         "packet_reader_feed": (Told, [POINTER(Handle), c_void_p, c_size_t, c_void_p, c_size_t]),
         "packet_reader_close": (Told, [POINTER(Handle)]),
         "packet_reader_clear": (None, [POINTER(Handle)]),
-        "fault_text": (c_size_t, [c_uint8, c_uint64, c_void_p, c_size_t]),
+        "fault_text": (c_size_t, [c_uint32, c_uint64, c_void_p, c_size_t]),
         "escape": (Told, [c_void_p, c_size_t, c_void_p, c_size_t]),
     }
     for name, (gives, wants) in takes.items():

@@ -11,12 +11,12 @@ use std::ptr;
 const PAYLOAD_ROOM: usize = 65_516;
 const MOST_PIECE: usize = 65_536;
 
-const DONE: u8 = 0;
-const MORE: u8 = 1;
-const FAILED: u8 = 2;
-const FLUSH: u8 = 10;
-const DELIM: u8 = 11;
-const RESPONSE_END: u8 = 12;
+const DONE: u32 = 0;
+const MORE: u32 = 1;
+const FAILED: u32 = 2;
+const FLUSH: u32 = 10;
+const DELIM: u32 = 11;
+const RESPONSE_END: u32 = 12;
 
 #[repr(C)]
 struct Handle {
@@ -30,12 +30,12 @@ struct Answer {
     used: usize,
     offset: u64,
     length: usize,
-    kind: u8,
-    fault: u8,
+    kind: u32,
+    fault: u32,
 }
 
 extern "C" {
-    fn gitwire_packet_reader_new(reader: *mut Handle) -> u8;
+    fn gitwire_packet_reader_new(reader: *mut Handle) -> u32;
     fn gitwire_packet_reader_feed(
         reader: *mut Handle,
         piece: *const u8,
@@ -45,7 +45,7 @@ extern "C" {
     ) -> Answer;
     fn gitwire_packet_reader_close(reader: *mut Handle) -> Answer;
     fn gitwire_packet_reader_clear(reader: *mut Handle);
-    fn gitwire_fault_text(fault: u8, offset: u64, room: *mut u8, room_length: usize) -> usize;
+    fn gitwire_fault_text(fault: u32, offset: u64, room: *mut u8, room_length: usize) -> usize;
     fn gitwire_escape(
         bytes: *const u8,
         bytes_length: usize,

@@ -71,7 +71,7 @@ static _Noreturn void fail(const char *what)
 }
 
 /* The item of a list of the request, in `text` with a NUL after it, or NULL past the list's end. */
-static const char *item(uint8_t list, uint64_t at)
+static const char *item(gitwire_list list, uint64_t at)
 {
 	gitwire_answer answer = gitwire_host_item(&host, list, at, text, sizeof text - 1);
 

@@ -228,7 +228,7 @@ static bool leads_to_repository(char *path, size_t room)
 }
 
 /* Reads the facts about the repository in this folder: its object format, and where its history is cut off. False if this folder has none. */
-static bool read_repository(uint8_t *format)
+static bool read_repository(gitwire_format *format)
 {
 	static const char *const ask[] = { "git", "-c", "safe.bareRepository=all", "rev-parse", "--git-dir", "--show-object-format", "--git-path",
 		"shallow", NULL };
@@ -259,7 +259,7 @@ static bool read_repository(uint8_t *format)
  * Enters the repository that Git finds by this name; with `strict` only under this very name. Git must not look further up, and it checks
  * whose folder it is.
  */
-static bool enter(const char *name, bool strict, uint8_t *format)
+static bool enter(const char *name, bool strict, gitwire_format *format)
 {
 	static const char *const ends[] = { "/.git", "", ".git/.git", ".git" };
 	char path[PATH_MAX];

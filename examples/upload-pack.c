@@ -23,7 +23,7 @@
 #include <poll.h>
 
 /* Looks up the objects of a list of the request, and adds those that exist. Returns the first that does not exist, or NULL. */
-static const char *find_listed(uint8_t list, const char *type, struct names *into)
+static const char *find_listed(gitwire_list list, const char *type, struct names *into)
 {
 	static struct names asked;
 	const char *name;
@@ -142,7 +142,7 @@ static const char *why_not(void)
 	return NULL;
 }
 
-static void admit(uint64_t command)
+static void admit(gitwire_command command)
 {
 	const char *reason = command == GITWIRE_FETCH ? why_not() : NULL;
 
@@ -298,7 +298,7 @@ static void answer_need(gitwire_answer need)
 
 	switch (need.kind) {
 	case GITWIRE_ASKED:
-		admit(need.offset);
+		admit(gitwire_host_command(&host));
 		return;
 	case GITWIRE_NEED_REFERENCE:
 		answer_references();
@@ -326,8 +326,9 @@ static void answer_need(gitwire_answer need)
 	case GITWIRE_NEED_PACK:
 		answer_pack();
 		return;
+	default:
+		stop("no memory");
 	}
-	stop("no memory");
 }
 
 /* Feeds what the client sent, or closes at its end. */

@@ -84,7 +84,7 @@ static bool pass_on(struct stream *stream)
 static bool has_turn(const struct stream *stream)
 {
 	const uint8_t *text = stream->bytes + stream->judged + 4;
-	uint8_t next = due(&judge);
+	gitwire_result next = due(&judge);
 
 	if (stream == &requests)
 		return next == GITWIRE_CAN_ASK;
@@ -254,7 +254,7 @@ static int watch_server(char **command)
 
 int main(int count, char **words)
 {
-	uint8_t format = GITWIRE_SHA1;
+	gitwire_format format = GITWIRE_SHA1;
 	const char *name = NULL;
 	FILE *transcript = stderr;
 	int status, at = 1;

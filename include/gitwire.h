@@ -22,9 +22,11 @@
  *
  *   - It returns, whatever the bytes are. A code reports a call that is not allowed at the moment, a buffer that is too
  *     small, a number that means nothing and a handle with nothing in it; nothing was used or changed then. Instead of a
- *     code, gitwire_request_flag and gitwire_host_flag return false, and gitwire_fault_name, gitwire_fault_text and
- *     gitwire_kind_name 0. A feed when no input is expected uses nothing, and returns NOT_NOW or the earlier error: a loop
- *     that feeds until all is used might not end.
+ *     code, gitwire_request_flag and gitwire_host_flag return false, and gitwire_request_command, gitwire_request_format,
+ *     gitwire_host_command, gitwire_fault_name, gitwire_fault_text and gitwire_kind_name 0. A feed when no input is expected
+ *     uses nothing, and returns NOT_NOW or the earlier error: a loop that feeds until all is used might not end.
+ *   - Each kind of number is an enum: one in the place of another is an error in C++, and in C a warning of -Wextra or
+ *     -Wenum-conversion. In each but gitwire_result 0 means nothing; so does a number of 32 bits that is not listed.
  *   - A text is a pointer and a length, without a NUL at its end. A buffer (`room`) is where a call writes: a pointer and
  *     how many bytes are there. The call writes at the front of the buffer and reports how many bytes it wrote; the bytes
  *     after them are unchanged. A chunk (`piece`) is the bytes that one call is fed.
@@ -47,7 +49,6 @@
  *     else writes to a text or touches a buffer or an array while the call runs.
  *   - Each field of a gitwire_offer is set. Each bool of a gitwire_caps or of an array of events is 0 or 1 before the call, as
  *     in zeroed memory.
- *   - Numbers of several kinds begin at 0: a format that is passed as a command or an ending is taken for one.
  *   - The stack has space for a call. The tests make each call in a thread with the 16 KiB of PTHREAD_STACK_MIN.
  *   - malloc, realloc and free are those of one allocator, which aligns as the C standard requires. No call is made from a
  *     signal handler, nor in the child of a fork of a process with more than one thread.
@@ -60,6 +61,11 @@
  * gitwire_put_reference too); a feed when no input is expected returns NOT_NOW, where it returned MORE; gitwire_kind_name and
  * gitwire_escape; calls `_free` take NULL; calls that no program should make with NULL, or whose result none should ignore,
  * are marked for the compilers that can check this; a call returns a `gitwire_answer`, which was `gitwire_told`.
+ *
+ * Since 0.2.0: each kind of number is an enum, from `gitwire_result` to `gitwire_band`, and has 32 bits, where it was a uint8_t;
+ * formats, commands, endings, flags, lists and the numbers of requests begin at 1, where they began at 0;
+ * gitwire_request_command, gitwire_request_format and gitwire_host_command return the number, or 0 if there is none, where they
+ * returned a gitwire_answer. So a program has to be compiled again, and bindings that have the numbers are to be changed.
  */
 #ifndef GITWIRE_H
 #define GITWIRE_H
@@ -111,7 +117,7 @@ extern "C" {
 #define GITWIRE_MOST_LIMIT 1073741824
 
 /* The result of a call: what it returns, or the `kind` of what it returns. */
-enum {
+typedef enum gitwire_result {
 	GITWIRE_DONE = 0,
 	GITWIRE_MORE = 1,             /* go on: `used` bytes of the chunk were used, and there is nothing else to report */
 	GITWIRE_FAILED = 2,           /* refused: `fault` is why, `offset` where (for a repository's text only `offset`) */
@@ -162,10 +168,10 @@ enum {
 	GITWIRE_NEED_SIZE = 42,       /* the size of the object at this index of LIST_OIDS: gitwire_host_size */
 	GITWIRE_OUT_OF_ORDER = 43,    /* a reference does not come after the one reported before it; nothing changed */
 	GITWIRE_NOT_SHALLOW = 44      /* an `unshallow` line of a commit that the request does not call shallow; nothing changed */
-};
+} gitwire_result;
 
-/* Why something was refused: `fault` of what is returned. docs/PROTOCOL.md states the offset of each. */
-enum {
+/* Why something was refused: `fault` of what is returned, or 0. docs/PROTOCOL.md states the offset of each. */
+typedef enum gitwire_fault {
 	GITWIRE_FAULT_BAD_DIGIT = 1,
 	GITWIRE_FAULT_BAD_LENGTH = 2,
 	GITWIRE_FAULT_TOO_LONG = 3,
@@ -201,7 +207,7 @@ enum {
 	GITWIRE_FAULT_READ_FAULT = 32,
 	GITWIRE_FAULT_WRITE_FAULT = 33,
 	GITWIRE_FAULT_READ_LIMIT = 34
-};
+} gitwire_fault;
 
 /*
  * Object formats, commands of requests, and how each response ends: with its flush alone, or with one more packet, the
@@ -209,21 +215,21 @@ enum {
  * sends none, nor does Git's server: if a client has this ending, over a connection for each request, its program feeds it
  * `0002` after each response, but not after the advertisement.
  */
-enum { GITWIRE_SHA1 = 0, GITWIRE_SHA256 = 1 };
-enum { GITWIRE_LS_REFS = 0, GITWIRE_FETCH = 1, GITWIRE_OBJECT_INFO = 2 };
-enum { GITWIRE_ENDS_BY_FLUSH = 0, GITWIRE_ENDS_BY_RESPONSE_END = 1 };
+typedef enum gitwire_format { GITWIRE_SHA1 = 1, GITWIRE_SHA256 = 2 } gitwire_format;
+typedef enum gitwire_command { GITWIRE_LS_REFS = 1, GITWIRE_FETCH = 2, GITWIRE_OBJECT_INFO = 3 } gitwire_command;
+typedef enum gitwire_ending { GITWIRE_ENDS_BY_FLUSH = 1, GITWIRE_ENDS_BY_RESPONSE_END = 2 } gitwire_ending;
 
 /* The result of one call. Fields without a meaning are 0. */
 typedef struct {
 	size_t used;       /* how many bytes of the chunk were used */
 	uint64_t offset;   /* an offset in the stream, counted in bytes from 0; or the number that was asked for */
 	size_t length;     /* how many bytes are at the front of the buffer; or how many packets or events are in the array */
-	uint8_t kind;
-	uint8_t fault;
+	gitwire_result kind;
+	gitwire_fault fault;
 } gitwire_answer;
 
 /* What a server may advertise beside `agent` and the commands `ls-refs` and `fetch`, which it always advertises: a bit for each. */
-enum {
+typedef enum gitwire_feature {
 	GITWIRE_FEATURE_UNBORN = 1,          /* of `ls-refs` */
 	GITWIRE_FEATURE_SHALLOW = 2,         /* of `fetch` */
 	GITWIRE_FEATURE_REF_IN_WANT = 4,     /* of `fetch` */
@@ -232,12 +238,12 @@ enum {
 	GITWIRE_FEATURE_OBJECT_INFO = 32,
 	GITWIRE_FEATURE_FILTER = 64,         /* of `fetch` */
 	GITWIRE_FEATURES_ALL = 127
-};
+} gitwire_feature;
 
 /* What a server advertises. A bit that means no feature is a BAD_VALUE. */
 typedef struct {
-	uint32_t features;
-	uint8_t format;    /* the object format */
+	uint32_t features;        /* the sum of the bits of gitwire_feature, or 0 */
+	gitwire_format format;    /* the object format */
 } gitwire_offer;
 
 /* The handles. Their fields belong to the library. */
@@ -275,7 +281,7 @@ typedef struct { void *at_; bool is_made_; } gitwire_host;
 
 /* A reader of a stream before its first byte. */
 GITWIRE_LOOKED_AT
-uint8_t gitwire_packet_reader_new(gitwire_packet_reader *reader);
+gitwire_result gitwire_packet_reader_new(gitwire_packet_reader *reader);
 
 /*
  * Reads up to the end of a packet, the end of the chunk or the first error, whichever comes first: `used` is how many bytes
@@ -329,7 +335,7 @@ GITWIRE_FREES(gitwire_packet_reader)
  * together. BAD_VALUE for a format or a feature that does not exist, and for a limit above GITWIRE_MOST_LIMIT.
  */
 GITWIRE_LOOKED_AT
-uint8_t gitwire_request_reader_new(gitwire_request_reader *reader, gitwire_offer offer, uint32_t limit);
+gitwire_result gitwire_request_reader_new(gitwire_request_reader *reader, gitwire_offer offer, uint32_t limit);
 
 /*
  * Reads up to the end of a request, a flush instead of one, the end of the chunk or the first error, whichever comes first:
@@ -366,7 +372,7 @@ GITWIRE_FREES(gitwire_request_reader)
  * a format that does not exist, and for a limit above GITWIRE_MOST_LIMIT.
  */
 GITWIRE_LOOKED_AT
-uint8_t gitwire_request_new(gitwire_request *request, uint8_t command, uint8_t format, uint32_t limit);
+gitwire_result gitwire_request_new(gitwire_request *request, gitwire_command command, gitwire_format format, uint32_t limit);
 
 /*
  * Adds an argument: a line as in gitprotocol-v2(5), without LF, such as `want ` and an object name, `done`, or
@@ -383,54 +389,54 @@ gitwire_answer gitwire_request_add(gitwire_request *request, const uint8_t *line
 GITWIRE_LOOKED_AT
 gitwire_answer gitwire_request_end(gitwire_request *request);
 
-/* The number of its command; of its object format: DONE with it in `offset`. NO_HANDLE. */
+/* Its command; its object format. 0 for a handle that has nothing. */
 GITWIRE_LOOKED_AT
-gitwire_answer gitwire_request_command(gitwire_request *request);
+gitwire_command gitwire_request_command(gitwire_request *request);
 GITWIRE_LOOKED_AT
-gitwire_answer gitwire_request_format(gitwire_request *request);
+gitwire_format gitwire_request_format(gitwire_request *request);
 
 /* Whether a flag is set. false for a flag that its command does not have, for a number that is no flag, and without a request. */
-enum {
-	GITWIRE_FLAG_SYMREFS = 0,
-	GITWIRE_FLAG_PEEL = 1,
-	GITWIRE_FLAG_DONE = 2,
-	GITWIRE_FLAG_THIN_PACK = 3,
-	GITWIRE_FLAG_NO_PROGRESS = 4,
-	GITWIRE_FLAG_INCLUDE_TAG = 5,
-	GITWIRE_FLAG_OFS_DELTA = 6,
-	GITWIRE_FLAG_DEEPEN_RELATIVE = 7,
-	GITWIRE_FLAG_SIZE = 8,
-	GITWIRE_FLAG_UNBORN = 9,
-	GITWIRE_FLAG_WAIT_FOR_DONE = 10
-};
+typedef enum gitwire_flag {
+	GITWIRE_FLAG_SYMREFS = 1,
+	GITWIRE_FLAG_PEEL = 2,
+	GITWIRE_FLAG_DONE = 3,
+	GITWIRE_FLAG_THIN_PACK = 4,
+	GITWIRE_FLAG_NO_PROGRESS = 5,
+	GITWIRE_FLAG_INCLUDE_TAG = 6,
+	GITWIRE_FLAG_OFS_DELTA = 7,
+	GITWIRE_FLAG_DEEPEN_RELATIVE = 8,
+	GITWIRE_FLAG_SIZE = 9,
+	GITWIRE_FLAG_UNBORN = 10,
+	GITWIRE_FLAG_WAIT_FOR_DONE = 11
+} gitwire_flag;
 GITWIRE_LOOKED_AT
-bool gitwire_request_flag(gitwire_request *request, uint8_t flag);
+bool gitwire_request_flag(gitwire_request *request, gitwire_flag flag);
 
 /*
  * The depth in commits (DEEPEN), or the time in seconds since 1970 (DEEPEN_SINCE), of the request: DONE with it in
  * `offset`; of several the last counts. NOTHING if the request has none. BAD_VALUE, NO_HANDLE.
  */
-enum { GITWIRE_NUMBER_DEEPEN = 0, GITWIRE_NUMBER_DEEPEN_SINCE = 1 };
+typedef enum gitwire_number { GITWIRE_NUMBER_DEEPEN = 1, GITWIRE_NUMBER_DEEPEN_SINCE = 2 } gitwire_number;
 GITWIRE_LOOKED_AT
-gitwire_answer gitwire_request_number(gitwire_request *request, uint8_t which);
+gitwire_answer gitwire_request_number(gitwire_request *request, gitwire_number which);
 
 /*
  * An item of a list, counted from 0. DONE with `length` bytes in the buffer: an object name is its digits. NOTHING past the
  * end of the list, and for a list that the request's command does not have. GITWIRE_REFERENCE_NAME_ROOM bytes always
  * suffice. ROOM_TOO_SMALL, BAD_VALUE, NO_HANDLE.
  */
-enum {
-	GITWIRE_LIST_REF_PREFIXES = 0,
-	GITWIRE_LIST_WANTS = 1,
-	GITWIRE_LIST_HAVES = 2,
-	GITWIRE_LIST_SHALLOWS = 3,
-	GITWIRE_LIST_DEEPEN_NOTS = 4,
-	GITWIRE_LIST_WANT_REFS = 5,
-	GITWIRE_LIST_OIDS = 6,
-	GITWIRE_LIST_FILTERS = 7      /* filter specifications as received, which no call looks into */
-};
+typedef enum gitwire_list {
+	GITWIRE_LIST_REF_PREFIXES = 1,
+	GITWIRE_LIST_WANTS = 2,
+	GITWIRE_LIST_HAVES = 3,
+	GITWIRE_LIST_SHALLOWS = 4,
+	GITWIRE_LIST_DEEPEN_NOTS = 5,
+	GITWIRE_LIST_WANT_REFS = 6,
+	GITWIRE_LIST_OIDS = 7,
+	GITWIRE_LIST_FILTERS = 8      /* filter specifications as received, which no call looks into */
+} gitwire_list;
 GITWIRE_LOOKED_AT
-gitwire_answer gitwire_request_item(gitwire_request *request, uint8_t list, size_t index, uint8_t *room, size_t room_length);
+gitwire_answer gitwire_request_item(gitwire_request *request, gitwire_list list, size_t index, uint8_t *room, size_t room_length);
 
 GITWIRE_FREES(gitwire_request)
 
@@ -480,7 +486,7 @@ GITWIRE_FREES(gitwire_repository)
  * repository's handle has nothing, BAD_VALUE for a limit above GITWIRE_MOST_LIMIT. The repository's handle is unchanged.
  */
 GITWIRE_LOOKED_AT
-uint8_t gitwire_server_new(gitwire_server *server, gitwire_repository *repository, uint32_t limit, bool advertise);
+gitwire_result gitwire_server_new(gitwire_server *server, gitwire_repository *repository, uint32_t limit, bool advertise);
 
 /*
  * Takes bytes of the input: MORE, and `used` is how many: up to the end of a request, a flush instead of one, or an error,
@@ -496,7 +502,7 @@ gitwire_answer gitwire_server_feed(gitwire_server *server, const uint8_t *piece,
  * NOT_NOW while a packet waits to be pulled and after the end. NO_HANDLE.
  */
 GITWIRE_GIVEN
-uint8_t gitwire_server_close(gitwire_server *server);
+gitwire_result gitwire_server_close(gitwire_server *server);
 
 /*
  * The next packet to be sent, or what to do instead. Each packet is returned once. The buffer needs at least
@@ -540,14 +546,14 @@ GITWIRE_FREES(gitwire_server)
 /* A host's server at the beginning of a session, which sends the advertisement of the offer first if `advertise` is set. BAD_VALUE for a
  * format or a feature that does not exist, and for a limit above GITWIRE_MOST_LIMIT. */
 GITWIRE_LOOKED_AT
-uint8_t gitwire_host_new(gitwire_host *host, gitwire_offer offer, uint32_t limit, bool advertise);
+gitwire_result gitwire_host_new(gitwire_host *host, gitwire_offer offer, uint32_t limit, bool advertise);
 
 /* As gitwire_server_feed and gitwire_server_close. A request is refused at its first bad packet, before it is ASKED. NOT_NOW while one is ASKED or
  * answered, while a packet waits to be pulled, and after the end: so pull until NEED_INPUT before you feed the others. */
 GITWIRE_LOOKED_AT
 gitwire_answer gitwire_host_feed(gitwire_host *host, const uint8_t *piece, size_t piece_length);
 GITWIRE_GIVEN
-uint8_t gitwire_host_close(gitwire_host *host);
+gitwire_result gitwire_host_close(gitwire_host *host);
 
 /*
  * The next packet to be sent, or what to do instead: until that is done, each call returns the same. PACKET, NEED_INPUT, ENDED_BY_FLUSH,
@@ -558,21 +564,21 @@ uint8_t gitwire_host_close(gitwire_host *host);
 GITWIRE_LOOKED_AT
 gitwire_answer gitwire_host_pull(gitwire_host *host, uint8_t *room, size_t room_length);
 
-/* The request that is ASKED or answered, by calls as gitwire_request_command, _flag, _number and _item: NOTHING, or false, if there is none. Once
+/* The request that is ASKED or answered, by calls as gitwire_request_command, _flag, _number and _item: NOTHING, 0 or false, if there is none. Once
  * an `ls-refs` request is accepted, its prefixes are in the order of their bytes, without those that begin with another. */
 GITWIRE_LOOKED_AT
-gitwire_answer gitwire_host_command(gitwire_host *host);
+gitwire_command gitwire_host_command(gitwire_host *host);
 GITWIRE_LOOKED_AT
-bool gitwire_host_flag(gitwire_host *host, uint8_t flag);
+bool gitwire_host_flag(gitwire_host *host, gitwire_flag flag);
 GITWIRE_LOOKED_AT
-gitwire_answer gitwire_host_number(gitwire_host *host, uint8_t which);
+gitwire_answer gitwire_host_number(gitwire_host *host, gitwire_number which);
 GITWIRE_LOOKED_AT
-gitwire_answer gitwire_host_item(gitwire_host *host, uint8_t list, size_t index, uint8_t *room, size_t room_length);
+gitwire_answer gitwire_host_item(gitwire_host *host, gitwire_list list, size_t index, uint8_t *room, size_t room_length);
 
 /* Accepts the request that is ASKED, which is answered from now on: DONE. Or refuses it: PACKET, an error packet with this text, and the session
  * is over (NotOurs); a text of more than 65,511 bytes is BadLine. NOT_NOW if none is ASKED. */
 GITWIRE_LOOKED_AT
-uint8_t gitwire_host_accept(gitwire_host *host);
+gitwire_result gitwire_host_accept(gitwire_host *host);
 GITWIRE_LOOKED_AT
 gitwire_answer gitwire_host_refuse(gitwire_host *host, const uint8_t *text, size_t text_length, uint8_t *room, size_t room_length);
 
@@ -643,7 +649,7 @@ GITWIRE_FREES(gitwire_host)
 
 /* A client before the first byte. BAD_VALUE for a format or an ending that does not exist. */
 GITWIRE_LOOKED_AT
-uint8_t gitwire_client_new(gitwire_client *client, uint8_t format, uint8_t ending);
+gitwire_result gitwire_client_new(gitwire_client *client, gitwire_format format, gitwire_ending ending);
 
 /*
  * One event. Its parts lie in the buffer one after another: id, name, text, peeled, of these lengths, 0 for a missing part.
@@ -667,8 +673,8 @@ typedef struct {
 	size_t text_length;
 	size_t peeled_length;
 	uint64_t size;
-	uint8_t kind;
-	uint8_t fault;
+	gitwire_result kind;
+	gitwire_fault fault;
 	bool has_text;
 	bool has_size;
 } gitwire_event;
@@ -733,7 +739,7 @@ gitwire_answer gitwire_client_ask(gitwire_client *client, gitwire_request *reque
 
 /* Leaves: the flush that ends the conversation is to be pulled, and no request can be asked any more. DONE, NOT_NOW, NO_HANDLE. */
 GITWIRE_GIVEN
-uint8_t gitwire_client_leave(gitwire_client *client);
+gitwire_result gitwire_client_leave(gitwire_client *client);
 
 /*
  * Reports the end of the input, when more was expected: FAILED with Truncated, at the end of the last whole packet. NOT_NOW
@@ -763,7 +769,7 @@ typedef struct {
 
 /* What was noted of the advertisement so far: DONE. NO_HANDLE, and then nothing is written. */
 GITWIRE_LOOKED_AT
-uint8_t gitwire_client_caps(gitwire_client *client, gitwire_caps *caps);
+gitwire_result gitwire_client_caps(gitwire_client *client, gitwire_caps *caps);
 
 GITWIRE_FREES(gitwire_client)
 
@@ -777,14 +783,14 @@ GITWIRE_FREES(gitwire_client)
 
 /* A writer: a buffer of GITWIRE_PACKET_ROOM bytes, in which each packet is made. What a call writes depends on no earlier call. */
 GITWIRE_LOOKED_AT
-uint8_t gitwire_writer_new(gitwire_writer *writer);
+gitwire_result gitwire_writer_new(gitwire_writer *writer);
 
 GITWIRE_FREES(gitwire_writer)
 
 /* A packet of the kind PAYLOAD, FLUSH, DELIM or RESPONSE_END: a payload of more than 65,516 bytes is TooLong, and bytes with
  * another kind are BAD_VALUE. A payload without bytes is written as `0004`, which by Git's documents should not be sent. */
 GITWIRE_LOOKED_AT
-gitwire_answer gitwire_put_packet(gitwire_writer *writer, uint8_t kind, const uint8_t *payload, size_t payload_length,
+gitwire_answer gitwire_put_packet(gitwire_writer *writer, gitwire_result kind, const uint8_t *payload, size_t payload_length,
 	uint8_t *room, size_t room_length);
 
 /* All packets of an advertisement, fewer than GITWIRE_ADVERTISEMENT_ROOM bytes. */
@@ -794,34 +800,34 @@ gitwire_answer gitwire_put_advertisement(gitwire_writer *writer, gitwire_offer o
 /* A reference, with its object, the target of a symbolic one and what an annotated tag peels to; a length of 0 means none: a
  * reference without an object is unborn. */
 GITWIRE_LOOKED_AT
-gitwire_answer gitwire_put_reference(gitwire_writer *writer, uint8_t format, const uint8_t *id, size_t id_length,
+gitwire_answer gitwire_put_reference(gitwire_writer *writer, gitwire_format format, const uint8_t *id, size_t id_length,
 	const uint8_t *name, size_t name_length, const uint8_t *target, size_t target_length, const uint8_t *peeled,
 	size_t peeled_length, uint8_t *room, size_t room_length);
 
 /* `ACK` and an object that both sides have. */
 GITWIRE_LOOKED_AT
-gitwire_answer gitwire_put_ack(gitwire_writer *writer, uint8_t format, const uint8_t *id, size_t id_length, uint8_t *room,
+gitwire_answer gitwire_put_ack(gitwire_writer *writer, gitwire_format format, const uint8_t *id, size_t id_length, uint8_t *room,
 	size_t room_length);
 
 /* A commit at the boundary: `shallow`, or else `unshallow`. */
 GITWIRE_LOOKED_AT
-gitwire_answer gitwire_put_boundary(gitwire_writer *writer, uint8_t format, bool shallow, const uint8_t *id, size_t id_length,
+gitwire_answer gitwire_put_boundary(gitwire_writer *writer, gitwire_format format, bool shallow, const uint8_t *id, size_t id_length,
 	uint8_t *room, size_t room_length);
 
 /* A reference that was wanted by its name. */
 GITWIRE_LOOKED_AT
-gitwire_answer gitwire_put_wanted(gitwire_writer *writer, uint8_t format, const uint8_t *id, size_t id_length,
+gitwire_answer gitwire_put_wanted(gitwire_writer *writer, gitwire_format format, const uint8_t *id, size_t id_length,
 	const uint8_t *name, size_t name_length, uint8_t *room, size_t room_length);
 
 /* An object, and its size if the host has it (`has_size`). */
 GITWIRE_LOOKED_AT
-gitwire_answer gitwire_put_info(gitwire_writer *writer, uint8_t format, const uint8_t *id, size_t id_length, bool has_size,
+gitwire_answer gitwire_put_info(gitwire_writer *writer, gitwire_format format, const uint8_t *id, size_t id_length, bool has_size,
 	uint64_t size, uint8_t *room, size_t room_length);
 
 /* Bytes on a side band: of the pack, of progress, or of a fatal error, after which nothing comes. More than 65,515 are TooLong. */
-enum { GITWIRE_BAND_PACK = 1, GITWIRE_BAND_PROGRESS = 2, GITWIRE_BAND_FATAL = 3 };
+typedef enum gitwire_band { GITWIRE_BAND_PACK = 1, GITWIRE_BAND_PROGRESS = 2, GITWIRE_BAND_FATAL = 3 } gitwire_band;
 GITWIRE_LOOKED_AT
-gitwire_answer gitwire_put_band(gitwire_writer *writer, uint8_t band, const uint8_t *bytes, size_t bytes_length,
+gitwire_answer gitwire_put_band(gitwire_writer *writer, gitwire_band band, const uint8_t *bytes, size_t bytes_length,
 	uint8_t *room, size_t room_length);
 
 /* The error packet: `ERR `, the text and LF. A text of more than 65,511 bytes is BadLine. */
@@ -839,8 +845,8 @@ gitwire_answer gitwire_put_line(gitwire_writer *writer, const uint8_t *text, siz
  * in the buffer: 0 if there is no such error, or the buffer is too small. GITWIRE_FAULT_NAME_ROOM and GITWIRE_FAULT_TEXT_ROOM
  * bytes suffice.
  */
-size_t gitwire_fault_name(uint8_t fault, uint8_t *room, size_t room_length);
-size_t gitwire_fault_text(uint8_t fault, uint64_t offset, uint8_t *room, size_t room_length);
+size_t gitwire_fault_name(gitwire_fault fault, uint8_t *room, size_t room_length);
+size_t gitwire_fault_text(gitwire_fault fault, uint64_t offset, uint8_t *room, size_t room_length);
 
 /* A text of the library's own, with a NUL at its end, which counts in its length. It lasts as long as the library is loaded. */
 typedef struct {
@@ -853,15 +859,15 @@ typedef struct {
  * NUL; of a number that is no error's, two NULs. Before the call `at` is no NULL and `length` is 0: gitwire_fault_string and
  * gitwire_fault_sentence see to that, and return the name and the sentence, or an empty text.
  */
-void gitwire_fault_words(uint8_t fault, gitwire_text *text);
-static inline const char *gitwire_fault_string(uint8_t fault)
+void gitwire_fault_words(gitwire_fault fault, gitwire_text *text);
+static inline const char *gitwire_fault_string(gitwire_fault fault)
 {
 	gitwire_text text = { "", 0 };
 
 	gitwire_fault_words(fault, &text);
 	return text.at;
 }
-static inline const char *gitwire_fault_sentence(uint8_t fault)
+static inline const char *gitwire_fault_sentence(gitwire_fault fault)
 {
 	const char *at = gitwire_fault_string(fault);
 
@@ -888,7 +894,7 @@ static inline const char *gitwire_version(void)
  * The name of a `kind` of what is returned, such as `NeedInput`, for messages. Returns how many bytes are in the buffer: 0 if
  * there is no such kind, or the buffer is too small. GITWIRE_KIND_NAME_ROOM bytes suffice.
  */
-size_t gitwire_kind_name(uint8_t kind, uint8_t *room, size_t room_length);
+size_t gitwire_kind_name(gitwire_result kind, uint8_t *room, size_t room_length);
 
 /*
  * Untrusted bytes as a text that may be shown on a terminal, or be a line of a log, as `git2show show` shows them: LF is
@@ -914,10 +920,14 @@ GITWIRE_IS_HANDLE(gitwire_host);
 #undef GITWIRE_IS_HANDLE
 #undef GITWIRE_FREES
 GITWIRE_STATIC_ASSERT(sizeof(size_t) == 8 && sizeof(void *) == 8 && sizeof(bool) == 1, "the library is of 64 bits");
+GITWIRE_STATIC_ASSERT(sizeof(gitwire_result) == 4 && sizeof(gitwire_fault) == 4 && sizeof(gitwire_format) == 4
+	&& sizeof(gitwire_command) == 4 && sizeof(gitwire_ending) == 4 && sizeof(gitwire_flag) == 4 && sizeof(gitwire_number) == 4
+	&& sizeof(gitwire_list) == 4 && sizeof(gitwire_band) == 4, "a number has 32 bits, so no -fshort-enums");
 GITWIRE_STATIC_ASSERT(sizeof(gitwire_offer) == 8 && offsetof(gitwire_offer, format) == 4, "gitwire_offer");
-GITWIRE_STATIC_ASSERT(sizeof(gitwire_answer) == 32 && offsetof(gitwire_answer, fault) == 25, "gitwire_answer");
-GITWIRE_STATIC_ASSERT(sizeof(gitwire_event) == 64 && offsetof(gitwire_event, kind) == 56
-	&& offsetof(gitwire_event, has_size) == 59, "gitwire_event");
+GITWIRE_STATIC_ASSERT(sizeof(gitwire_answer) == 32 && offsetof(gitwire_answer, kind) == 24
+	&& offsetof(gitwire_answer, fault) == 28, "gitwire_answer");
+GITWIRE_STATIC_ASSERT(sizeof(gitwire_event) == 72 && offsetof(gitwire_event, kind) == 56
+	&& offsetof(gitwire_event, fault) == 60 && offsetof(gitwire_event, has_size) == 65, "gitwire_event");
 GITWIRE_STATIC_ASSERT(sizeof(gitwire_text) == 16 && offsetof(gitwire_text, length) == 8, "gitwire_text");
 GITWIRE_STATIC_ASSERT(sizeof(gitwire_caps) == 12 && offsetof(gitwire_caps, sha256) == 9, "gitwire_caps");
 

@@ -130,18 +130,18 @@ case_library_has_the_calls_of_its_header() {
     expect_same 'the calls of the library' wanted written
 }
 
-# The shared library has the name that programs look for, shows the calls of the header and nothing else, and depends only on the C library.
-# None of its code is written to when it is loaded.
+# The shared library has the name that programs look for, shows the calls of the header with their version and nothing else, and depends only on
+# the C library. None of its code is written to when it is loaded.
 case_shared_library_shows_the_calls_of_its_header_alone() {
     local it=$installed/lib/libgitwire.so
-    nm -D --defined-only "$it" | awk '{ print $NF }' | sort > written
-    expect_same 'what the shared library shows' <(calls_of_the_header _clear) written
+    readelf -W --dyn-syms "$it" | awk '$5 == "GLOBAL" && $7 != "UND" && $7 != "ABS" { print $8 }' | sort > written
+    expect_same 'what the shared library shows' <(calls_of_the_header _clear | sed 's/$/@@GITWIRE_0.3/' | sort) written
     objdump -p "$it" > parts
-    expect_same 'what it is called' <(echo libgitwire.so.0) <(awk '$1 == "SONAME" { print $2 }' parts)
+    expect_same 'what it is called' <(echo libgitwire.so.1) <(awk '$1 == "SONAME" { print $2 }' parts)
     expect_same 'what it needs' <(echo libc.so.6) <(awk '$1 == "NEEDED" { print $2 }' parts)
     ! grep -q TEXTREL parts || differs 'code that is written to' parts
-    expect_same 'the links to it' <(printf '%s\n' libgitwire.so.0 libgitwire.so.0.2.0) \
-        <(readlink "$it" "$installed/lib/libgitwire.so.0")
+    expect_same 'the links to it' <(printf '%s\n' libgitwire.so.1 libgitwire.so.0.2.0) \
+        <(readlink "$it" "$installed/lib/libgitwire.so.1")
 }
 
 # shared COMMAND..: runs a program over the shared library.
@@ -149,13 +149,15 @@ shared() {
     LD_LIBRARY_PATH=$installed/lib run "$@"
 }
 
-# Each call is made over the shared library too.
+# Each call is made over the shared library too. A program names the version of the calls that it was linked with.
 case_programs_take_the_shared_library() {
     local flags name
     read -r -a flags <<< "$(of_library --cflags --libs)"
     gcc -O2 -o bin/list-shared "$top/examples/list.c" "${flags[@]}"
     shared ldd bin/list-shared
-    grep -q -F "libgitwire.so.0 => $installed/lib/libgitwire.so.0 " out || differs 'a program without the shared library' out
+    grep -q -F "libgitwire.so.1 => $installed/lib/libgitwire.so.1 " out || differs 'a program without the shared library' out
+    readelf -W -V bin/list-shared > parts
+    grep -q 'Name: GITWIRE_0\.3 ' parts || differs 'a program without the version of its calls' parts
     for name in library_calls library_writers library_host; do
         gcc -O2 -o "bin/$name-shared" "$top/tests/$name.c" "${flags[@]}"
         shared "$name-shared"
@@ -169,10 +171,74 @@ case_library_header_stands_alone() {
     local language
     for language in c:c11 c:c17 c++:c++11 c++:c++17; do
         [ "${language%%:*}" = c ] || command -v g++ > /dev/null || continue
-        run gcc -x "${language%%:*}" -std="${language##*:}" -pedantic -Wall -Wextra -Werror -fsyntax-only - \
+        run gcc -x "${language%%:*}" -std="${language##*:}" -pedantic -Wall -Wextra -Wconversion -Werror -fsyntax-only - \
             -I"$installed/include" <<< '#include <gitwire.h>
             gitwire_client client = GITWIRE_NONE;'
         expect 0 /dev/null /dev/null
+    done
+}
+
+# compiles COMPILER LANGUAGE:STANDARD STATEMENTS: runs a compiler on a function with these statements.
+compiles() {
+    local language=$2
+    run "$1" -x "${language%%:*}" -std="${language##*:}" -pedantic -Wall -Wextra -Wconversion -Werror -fsyntax-only - -I"$installed/include" <<< "
+        #include <gitwire.h>
+        extern gitwire_client client;
+        extern gitwire_request request;
+        extern gitwire_host host;
+        extern gitwire_writer writer;
+        extern gitwire_format format;
+        extern gitwire_ending ending;
+        extern uint8_t room[GITWIRE_PACKET_ROOM];
+        bool is_well(void);
+        bool is_well(void) { $3 }"
+}
+
+# Statements with numbers in their places, and after each one with a number of another kind.
+statements_with_numbers() {
+    cat << 'end'
+{ return gitwire_client_new(&client, format, ending) == GITWIRE_DONE; }
+{ return gitwire_client_new(&client, ending, format) == GITWIRE_DONE; }
+{ return gitwire_client_new(&client, GITWIRE_SHA1, GITWIRE_ENDS_BY_FLUSH) == GITWIRE_DONE; }
+{ return gitwire_client_new(&client, GITWIRE_ENDS_BY_FLUSH, GITWIRE_SHA1) == GITWIRE_DONE; }
+{ return gitwire_request_new(&request, GITWIRE_FETCH, GITWIRE_SHA1, 0) == GITWIRE_DONE; }
+{ return gitwire_request_new(&request, GITWIRE_SHA1, GITWIRE_FETCH, 0) == GITWIRE_DONE; }
+{ gitwire_command command = gitwire_request_command(&request); return command == GITWIRE_FETCH; }
+{ gitwire_result command = gitwire_request_command(&request); return command == GITWIRE_DONE; }
+{ gitwire_format its_format = gitwire_request_format(&request); return its_format == format; }
+{ gitwire_command its_format = gitwire_request_format(&request); return its_format == GITWIRE_FETCH; }
+{ gitwire_command command = gitwire_host_command(&host); return command == GITWIRE_LS_REFS; }
+{ gitwire_ending command = gitwire_host_command(&host); return command == ending; }
+{ return gitwire_request_flag(&request, GITWIRE_FLAG_PEEL); }
+{ return gitwire_request_flag(&request, GITWIRE_LIST_WANTS); }
+{ return gitwire_request_number(&request, GITWIRE_NUMBER_DEEPEN).kind == GITWIRE_DONE; }
+{ return gitwire_request_number(&request, GITWIRE_FLAG_DEEPEN_RELATIVE).kind == GITWIRE_DONE; }
+{ return gitwire_host_item(&host, GITWIRE_LIST_WANTS, 0, room, sizeof room).kind == GITWIRE_DONE; }
+{ return gitwire_host_item(&host, GITWIRE_FLAG_PEEL, 0, room, sizeof room).kind == GITWIRE_DONE; }
+{ return gitwire_put_band(&writer, GITWIRE_BAND_PACK, room, 1, room, 0).kind == GITWIRE_DONE; }
+{ return gitwire_put_band(&writer, GITWIRE_PACK, room, 1, room, 0).kind == GITWIRE_DONE; }
+{ gitwire_fault fault = gitwire_host_pull(&host, room, sizeof room).fault; return fault == GITWIRE_FAULT_NOT_OURS; }
+{ gitwire_fault fault = gitwire_host_pull(&host, room, sizeof room).kind; return fault == GITWIRE_FAULT_NOT_OURS; }
+{ return gitwire_fault_name(GITWIRE_FAULT_TRUNCATED, room, sizeof room) > 0; }
+{ return gitwire_fault_name(GITWIRE_FAILED, room, sizeof room) > 0; }
+end
+}
+
+# A number of one kind in the place of another is refused: in C by a warning that -Wextra has, in C++ by an error.
+case_library_header_has_a_type_for_each_kind_of_number() {
+    local compiler language wrong
+    for compiler in gcc clang; do
+        command -v $compiler > /dev/null || continue
+        for language in c:c11 c++:c++17; do
+            [ "${language%%:*}" = c ] || command -v g++ > /dev/null || continue
+            compiles $compiler $language "$(statements_with_numbers | sed -n 1~2p)"
+            expect 0 /dev/null /dev/null
+            while read -r wrong; do
+                compiles $compiler $language "$wrong"
+                expect_status 1
+                grep -q -E 'enum-conversion|cannot (convert|initialize)|no matching function' err || differs "what $compiler reports of $wrong" err
+            done < <(statements_with_numbers | sed -n 2~2p)
+        done
     done
 }
 

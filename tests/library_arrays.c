@@ -32,7 +32,8 @@ struct log {
 
 static struct stream requests, responses;
 static struct log single, filled;
-static uint8_t format, ending;
+static gitwire_format format;
+static gitwire_ending ending;
 static uint8_t large_room[GITWIRE_EVENTS_ROOM(MOST_BYTES)];
 
 static void note(struct log *log, const char *words, ...)
@@ -83,7 +84,7 @@ static void note_event(struct log *log, gitwire_event event, size_t end, const u
 	note(log, "\n");
 }
 
-static void note_end(struct log *log, uint8_t kind, uint8_t fault, uint64_t offset, size_t end)
+static void note_end(struct log *log, gitwire_result kind, gitwire_fault fault, uint64_t offset, size_t end)
 {
 	if (kind == GITWIRE_FAILED)
 		note(log, "%zu fault %u at %zu\n", end, fault, (size_t)offset);

@@ -38,7 +38,7 @@ static void try_packets(void)
 	memset(room, '#', sizeof room);
 }
 
-static bool has_item(gitwire_request *request, uint8_t list, size_t index, const char *item)
+static bool has_item(gitwire_request *request, gitwire_list list, size_t index, const char *item)
 {
 	return wrote(gitwire_request_item(request, list, index, ROOM), item);
 }
@@ -50,17 +50,15 @@ static void try_a_request_for_references(void)
 	gitwire_request_free(&request);
 	EXPECT(tells(gitwire_request_add(&request, TEXT("peel")), GITWIRE_NO_HANDLE, 0, 0, 0));
 	EXPECT(tells(gitwire_request_end(&request), GITWIRE_NO_HANDLE, 0, 0, 0));
-	EXPECT(tells(gitwire_request_command(&request), GITWIRE_NO_HANDLE, 0, 0, 0));
-	EXPECT(tells(gitwire_request_format(&request), GITWIRE_NO_HANDLE, 0, 0, 0));
+	EXPECT(gitwire_request_command(&request) == 0 && gitwire_request_format(&request) == 0);
 	EXPECT(tells(gitwire_request_number(&request, GITWIRE_NUMBER_DEEPEN), GITWIRE_NO_HANDLE, 0, 0, 0));
 	EXPECT(tells(gitwire_request_item(&request, GITWIRE_LIST_WANTS, 0, ROOM), GITWIRE_NO_HANDLE, 0, 0, 0));
 	EXPECT(!gitwire_request_flag(&request, GITWIRE_FLAG_PEEL));
-	EXPECT(gitwire_request_new(&request, 3, GITWIRE_SHA1, 0) == GITWIRE_BAD_VALUE);
-	EXPECT(gitwire_request_new(&request, GITWIRE_LS_REFS, 2, 0) == GITWIRE_BAD_VALUE);
+	EXPECT(gitwire_request_new(&request, 0, GITWIRE_SHA1, 0) == GITWIRE_BAD_VALUE);
+	EXPECT(gitwire_request_new(&request, GITWIRE_LS_REFS, 0, 0) == GITWIRE_BAD_VALUE);
 	EXPECT(gitwire_request_new(&request, GITWIRE_LS_REFS, GITWIRE_SHA1, GITWIRE_MOST_LIMIT + 1) == GITWIRE_BAD_VALUE);
 	EXPECT(gitwire_request_new(&request, GITWIRE_LS_REFS, GITWIRE_SHA256, 40) == GITWIRE_DONE);
-	EXPECT(tells(gitwire_request_command(&request), GITWIRE_DONE, 0, GITWIRE_LS_REFS, 0));
-	EXPECT(tells(gitwire_request_format(&request), GITWIRE_DONE, 0, GITWIRE_SHA256, 0));
+	EXPECT(gitwire_request_command(&request) == GITWIRE_LS_REFS && gitwire_request_format(&request) == GITWIRE_SHA256);
 	EXPECT(tells(gitwire_request_add(&request, TEXT("peel")), GITWIRE_DONE, 0, 0, 0));
 	EXPECT(tells(gitwire_request_add(&request, TEXT("ref-prefix refs/tags/")), GITWIRE_DONE, 0, 0, 0));
 	EXPECT(tells(gitwire_request_add(&request, TEXT("ref-prefix ")), GITWIRE_DONE, 0, 0, 0));
@@ -68,16 +66,16 @@ static void try_a_request_for_references(void)
 	EXPECT(tells_fault(gitwire_request_add(&request, TEXT("done")), GITWIRE_FAULT_UNKNOWN_ARGUMENT, 0, 0));
 	EXPECT(tells_fault(gitwire_request_add(&request, NULL, 0), GITWIRE_FAULT_UNKNOWN_ARGUMENT, 0, 0));
 	EXPECT(gitwire_request_flag(&request, GITWIRE_FLAG_PEEL) && !gitwire_request_flag(&request, GITWIRE_FLAG_SYMREFS));
-	EXPECT(!gitwire_request_flag(&request, GITWIRE_FLAG_DONE) && !gitwire_request_flag(&request, 9));
+	EXPECT(!gitwire_request_flag(&request, GITWIRE_FLAG_DONE) && !gitwire_request_flag(&request, GITWIRE_FLAG_UNBORN));
 	EXPECT(has_item(&request, GITWIRE_LIST_REF_PREFIXES, 0, "refs/tags/"));
 	EXPECT(has_item(&request, GITWIRE_LIST_REF_PREFIXES, 1, ""));
 	EXPECT(tells(gitwire_request_item(&request, GITWIRE_LIST_REF_PREFIXES, 2, ROOM), GITWIRE_NOTHING, 0, 0, 0));
 	EXPECT(tells(gitwire_request_item(&request, GITWIRE_LIST_REF_PREFIXES, 0, room, 9), GITWIRE_ROOM_TOO_SMALL, 0, 0, 0));
 	EXPECT(tells(gitwire_request_item(&request, GITWIRE_LIST_WANTS, 0, ROOM), GITWIRE_NOTHING, 0, 0, 0));
 	EXPECT(tells(gitwire_request_item(&request, GITWIRE_LIST_FILTERS, 0, ROOM), GITWIRE_NOTHING, 0, 0, 0));
-	EXPECT(tells(gitwire_request_item(&request, 8, 0, ROOM), GITWIRE_BAD_VALUE, 0, 0, 0));
+	EXPECT(tells(gitwire_request_item(&request, 0, 0, ROOM), GITWIRE_BAD_VALUE, 0, 0, 0));
 	EXPECT(tells(gitwire_request_end(&request), GITWIRE_DONE, 0, 0, 0));
-	EXPECT(gitwire_request_new(&request, 3, GITWIRE_SHA1, 0) == GITWIRE_BAD_VALUE); /* the handle stays as it was */
+	EXPECT(gitwire_request_new(&request, 0, GITWIRE_SHA1, 0) == GITWIRE_BAD_VALUE); /* the handle stays as it was */
 	EXPECT(gitwire_request_flag(&request, GITWIRE_FLAG_PEEL));
 	gitwire_request_free(&request);
 	gitwire_request_free(&request);
@@ -99,7 +97,7 @@ static void try_a_request_for_a_pack(void)
 	EXPECT(tells(gitwire_request_add(&request, TEXT("want " ONE)), GITWIRE_DONE, 0, 0, 0));
 	for (size_t i = 0; i < sizeof lines / sizeof *lines; i++)
 		EXPECT(tells(gitwire_request_add(&request, TEXT(lines[i])), GITWIRE_DONE, 0, 0, 0));
-	for (uint8_t flag = 0; flag < 12; flag++)
+	for (gitwire_flag flag = 0; flag <= GITWIRE_FLAG_WAIT_FOR_DONE; flag++)
 		EXPECT(gitwire_request_flag(&request, flag) == (flag >= GITWIRE_FLAG_DONE && flag <= GITWIRE_FLAG_DEEPEN_RELATIVE));
 	EXPECT(has_item(&request, GITWIRE_LIST_WANTS, 0, ONE));
 	EXPECT(has_item(&request, GITWIRE_LIST_HAVES, 0, TWO));
@@ -115,7 +113,7 @@ static void try_a_request_for_a_pack(void)
 	EXPECT(tells(gitwire_request_item(&request, GITWIRE_LIST_WANTS, 0, room, 39), GITWIRE_ROOM_TOO_SMALL, 0, 0, 0));
 	EXPECT(tells(gitwire_request_number(&request, GITWIRE_NUMBER_DEEPEN), GITWIRE_DONE, 0, 7, 0));
 	EXPECT(tells(gitwire_request_number(&request, GITWIRE_NUMBER_DEEPEN_SINCE), GITWIRE_NOTHING, 0, 0, 0));
-	EXPECT(tells(gitwire_request_number(&request, 2), GITWIRE_BAD_VALUE, 0, 0, 0));
+	EXPECT(tells(gitwire_request_number(&request, 0), GITWIRE_BAD_VALUE, 0, 0, 0));
 	EXPECT(tells(gitwire_request_end(&request), GITWIRE_DONE, 0, 0, 0));
 	EXPECT(tells(gitwire_request_add(&request, TEXT("deepen-since 9223372036854775807")), GITWIRE_DONE, 0, 0, 0));
 	EXPECT(tells(gitwire_request_add(&request, TEXT("deepen-not v1")), GITWIRE_DONE, 0, 0, 0));
@@ -134,7 +132,8 @@ static void try_a_request_for_a_pack(void)
 static void try_flags(void)
 {
 	static const struct {
-		uint8_t command, flag;
+		gitwire_command command;
+		gitwire_flag flag;
 		const char *line;
 	} cases[] = {
 		{ GITWIRE_LS_REFS, GITWIRE_FLAG_SYMREFS, "symrefs" }, { GITWIRE_LS_REFS, GITWIRE_FLAG_PEEL, "peel" },
@@ -149,7 +148,7 @@ static void try_flags(void)
 
 		EXPECT(gitwire_request_new(&request, cases[i].command, GITWIRE_SHA1, 100) == GITWIRE_DONE);
 		EXPECT(gitwire_request_add(&request, TEXT(cases[i].line)).kind == GITWIRE_DONE);
-		for (uint8_t flag = 0; flag < 12; flag++)
+		for (gitwire_flag flag = 0; flag <= GITWIRE_FLAG_WAIT_FOR_DONE; flag++)
 			EXPECT(gitwire_request_flag(&request, flag) == (flag == cases[i].flag));
 		gitwire_request_free(&request);
 	}
@@ -163,7 +162,8 @@ static void try_a_reader_of_requests(void)
 {
 	gitwire_request_reader reader = GITWIRE_NONE;
 	gitwire_request request = GITWIRE_NONE;
-	gitwire_offer offer = { .format = GITWIRE_SHA1 }, bad = { .format = 2 }, unknown = { .features = GITWIRE_FEATURES_ALL + 1 };
+	gitwire_offer offer = { .format = GITWIRE_SHA1 }, bad = { .features = 0 };
+	gitwire_offer unknown = { .features = GITWIRE_FEATURES_ALL + 1, .format = GITWIRE_SHA1 };
 	const uint8_t *whole = (const uint8_t *)LS_REFS LS_REFS;
 	const size_t first = strlen(LS_REFS);
 
@@ -180,7 +180,7 @@ static void try_a_reader_of_requests(void)
 	EXPECT(tells(gitwire_request_reader_feed(&reader, &request, whole, 8), GITWIRE_MORE, 8, 0, 0));
 	EXPECT(tells(gitwire_request_end(&request), GITWIRE_DONE, 0, 0, 0)); /* an empty one, which nobody asked for */
 	EXPECT(tells(gitwire_request_reader_feed(&reader, &request, whole + 8, first), GITWIRE_REQUEST, first - 8, 0, 0));
-	EXPECT(tells(gitwire_request_command(&request), GITWIRE_DONE, 0, GITWIRE_LS_REFS, 0));
+	EXPECT(gitwire_request_command(&request) == GITWIRE_LS_REFS);
 	EXPECT(gitwire_request_flag(&request, GITWIRE_FLAG_PEEL));
 	/* It has the reader's limit: of 100 bytes its argument has four, and a line here 75. */
 	EXPECT(tells(gitwire_request_add(&request, TEXT("ref-prefix " LONG_ONE)), GITWIRE_DONE, 0, 0, 0));
@@ -195,7 +195,7 @@ static void try_a_reader_of_requests(void)
 	offer.features = GITWIRE_FEATURE_OBJECT_INFO;
 	EXPECT(gitwire_request_reader_new(&reader, offer, 100) == GITWIRE_DONE);
 	EXPECT(tells(gitwire_request_reader_feed(&reader, &request, TEXT(OBJECT_INFO)), GITWIRE_REQUEST, strlen(OBJECT_INFO), 0, 0));
-	EXPECT(tells(gitwire_request_command(&request), GITWIRE_DONE, 0, GITWIRE_OBJECT_INFO, 0));
+	EXPECT(gitwire_request_command(&request) == GITWIRE_OBJECT_INFO);
 	EXPECT(gitwire_request_reader_new(&reader, offer, 100) == GITWIRE_DONE);
 	EXPECT(tells_fault(gitwire_request_reader_feed(&reader, &request, TEXT(FILTERED)), GITWIRE_FAULT_NOT_ADVERTISED, 43, 22));
 	offer.features |= GITWIRE_FEATURE_FILTER;
@@ -323,7 +323,7 @@ static void hear(struct talk *t, gitwire_event e)
 }
 
 /* Passes on what each side has to send, until a request can be asked or everything was sent. Returns the kind that the client returns then. */
-static uint8_t go_on(struct talk *t)
+static gitwire_result go_on(struct talk *t)
 {
 	static uint8_t packet[GITWIRE_PACKET_ROOM];
 	gitwire_answer answer;
@@ -352,7 +352,7 @@ static uint8_t go_on(struct talk *t)
 }
 
 /* Asks a request of these lines, up to a NULL, and returns what the client returns for it. */
-static gitwire_answer ask(struct talk *t, uint8_t command, const char *const *lines)
+static gitwire_answer ask(struct talk *t, gitwire_command command, const char *const *lines)
 {
 	gitwire_request request = GITWIRE_NONE;
 	gitwire_answer answer;
@@ -367,7 +367,7 @@ static gitwire_answer ask(struct talk *t, uint8_t command, const char *const *li
 }
 
 /* What is received for a request of these lines. */
-static bool hears(struct talk *t, uint8_t command, const char *const *lines, const char *wanted)
+static bool hears(struct talk *t, gitwire_command command, const char *const *lines, const char *wanted)
 {
 	EXPECT(tells(ask(t, command, lines), GITWIRE_DONE, 0, 0, 0));
 	EXPECT(go_on(t) == GITWIRE_CAN_ASK);
@@ -506,7 +506,7 @@ static void try_bands(void)
 }
 
 /* An event whose text is the last of the bytes used of the chunk; the buffer is unchanged. */
-static bool lies_in(gitwire_event event, const char *piece, uint8_t kind, size_t used, const char *text)
+static bool lies_in(gitwire_event event, const char *piece, gitwire_result kind, size_t used, const char *text)
 {
 	static uint8_t kept[sizeof room];
 
@@ -567,8 +567,8 @@ static void try_refusals_of_a_client(void)
 	EXPECT(gitwire_client_close(&client).kind == GITWIRE_NO_HANDLE);
 	EXPECT(gitwire_client_message(&client, ROOM).kind == GITWIRE_NO_HANDLE);
 	EXPECT(gitwire_client_caps(&client, &caps) == GITWIRE_NO_HANDLE && !caps.agent && caps.sha256);
-	EXPECT(gitwire_client_new(&client, 2, GITWIRE_ENDS_BY_FLUSH) == GITWIRE_BAD_VALUE);
-	EXPECT(gitwire_client_new(&client, GITWIRE_SHA1, 2) == GITWIRE_BAD_VALUE);
+	EXPECT(gitwire_client_new(&client, 0, GITWIRE_ENDS_BY_FLUSH) == GITWIRE_BAD_VALUE);
+	EXPECT(gitwire_client_new(&client, GITWIRE_SHA1, 0) == GITWIRE_BAD_VALUE);
 	EXPECT(gitwire_client_new(&client, GITWIRE_SHA1, GITWIRE_ENDS_BY_RESPONSE_END) == GITWIRE_DONE);
 	EXPECT(gitwire_client_pull(&client, room, GITWIRE_PACKET_ROOM - 1).kind == GITWIRE_ROOM_TOO_SMALL);
 	EXPECT(gitwire_client_feed(&client, TEXT("000eversion 2\n"), room, GITWIRE_PAYLOAD_ROOM - 1).kind == GITWIRE_ROOM_TOO_SMALL);
@@ -583,7 +583,7 @@ static void try_refusals_of_a_client(void)
 	EXPECT(tells_fault(gitwire_client_ask(&client, &request), GITWIRE_FAULT_NOT_ADVERTISED, 0, 27));
 	EXPECT(gitwire_request_new(&request, GITWIRE_LS_REFS, GITWIRE_SHA256, 0) == GITWIRE_DONE);
 	EXPECT(tells_fault(gitwire_client_ask(&client, &request), GITWIRE_FAULT_WRONG_FORMAT, 0, 27));
-	EXPECT(tells(gitwire_request_format(&request), GITWIRE_DONE, 0, GITWIRE_SHA256, 0));
+	EXPECT(gitwire_request_format(&request) == GITWIRE_SHA256);
 	gitwire_request_free(&request);
 	EXPECT(gitwire_client_new(&client, GITWIRE_SHA1, GITWIRE_ENDS_BY_FLUSH) == GITWIRE_DONE); /* what it had is freed */
 	event = gitwire_client_feed(&client, TEXT("000cERR gone"), ROOM);
@@ -591,8 +591,8 @@ static void try_refusals_of_a_client(void)
 	event = gitwire_client_feed(&client, TEXT("0000"), ROOM);
 	EXPECT(event.kind == GITWIRE_FAILED && event.used == 0 && event.fault == GITWIRE_FAULT_REMOTE_ERROR && event.offset == 0);
 	EXPECT(tells_fault(gitwire_client_pull(&client, ROOM), GITWIRE_FAULT_REMOTE_ERROR, 0, 0));
-	EXPECT(gitwire_client_new(&client, 2, GITWIRE_ENDS_BY_FLUSH) == GITWIRE_BAD_VALUE); /* the handle stays as it was */
-	EXPECT(gitwire_client_new(&client, GITWIRE_SHA1, 2) == GITWIRE_BAD_VALUE);
+	EXPECT(gitwire_client_new(&client, 0, GITWIRE_ENDS_BY_FLUSH) == GITWIRE_BAD_VALUE); /* the handle stays as it was */
+	EXPECT(gitwire_client_new(&client, GITWIRE_SHA1, 0) == GITWIRE_BAD_VALUE);
 	memset(room, '#', sizeof room);
 	EXPECT(wrote(gitwire_client_message(&client, ROOM), "gone"));
 	EXPECT(gitwire_client_message(&client, room, 3).kind == GITWIRE_ROOM_TOO_SMALL);
@@ -641,9 +641,9 @@ static void try_what_is_noted(void)
 /* Each handle is made with each value that it may have, also with the limits of these. */
 static void try_each_value(void)
 {
-	static const uint8_t formats[] = { GITWIRE_SHA1, GITWIRE_SHA256 };
-	static const uint8_t commands[] = { GITWIRE_LS_REFS, GITWIRE_FETCH, GITWIRE_OBJECT_INFO };
-	static const uint8_t endings[] = { GITWIRE_ENDS_BY_FLUSH, GITWIRE_ENDS_BY_RESPONSE_END };
+	static const gitwire_format formats[] = { GITWIRE_SHA1, GITWIRE_SHA256 };
+	static const gitwire_command commands[] = { GITWIRE_LS_REFS, GITWIRE_FETCH, GITWIRE_OBJECT_INFO };
+	static const gitwire_ending endings[] = { GITWIRE_ENDS_BY_FLUSH, GITWIRE_ENDS_BY_RESPONSE_END };
 	static const uint32_t limits[] = { 0, 1, GITWIRE_USUAL_LIMIT, GITWIRE_MOST_LIMIT };
 	gitwire_request_reader reader = GITWIRE_NONE;
 	gitwire_request request = GITWIRE_NONE;
@@ -674,6 +674,38 @@ static void try_each_value(void)
 	gitwire_repository_free(&repository);
 	gitwire_server_free(&server);
 	gitwire_client_free(&client);
+}
+
+/* A number that means nothing is refused, 0 and those that would mean something if their higher bits were cut off. */
+static void try_numbers_that_mean_nothing(void)
+{
+	static const unsigned numbers[] = { 0, 100, 255, 256, 257, 258, 259, 65536, 65537, 0x01000001, 0x80000001, 0xffffffff };
+	gitwire_request request = GITWIRE_NONE;
+	gitwire_request_reader reader = GITWIRE_NONE;
+	gitwire_client client = GITWIRE_NONE;
+
+	EXPECT(gitwire_request_new(&request, GITWIRE_FETCH, GITWIRE_SHA1, 100) == GITWIRE_DONE);
+	EXPECT(tells(gitwire_request_add(&request, TEXT("done")), GITWIRE_DONE, 0, 0, 0));
+	for (size_t i = 0; i < sizeof numbers / sizeof *numbers; i++) {
+		unsigned number = numbers[i];
+		gitwire_offer offer = { .format = (gitwire_format)number };
+
+		EXPECT(gitwire_client_new(&client, (gitwire_format)number, GITWIRE_ENDS_BY_FLUSH) == GITWIRE_BAD_VALUE);
+		EXPECT(gitwire_client_new(&client, GITWIRE_SHA1, (gitwire_ending)number) == GITWIRE_BAD_VALUE);
+		EXPECT(gitwire_request_reader_new(&reader, offer, 0) == GITWIRE_BAD_VALUE);
+		EXPECT(gitwire_request_new(&request, (gitwire_command)number, GITWIRE_SHA1, 0) == GITWIRE_BAD_VALUE);
+		EXPECT(gitwire_request_new(&request, GITWIRE_LS_REFS, (gitwire_format)number, 0) == GITWIRE_BAD_VALUE);
+		EXPECT(!gitwire_request_flag(&request, (gitwire_flag)number));
+		EXPECT(tells(gitwire_request_number(&request, (gitwire_number)number), GITWIRE_BAD_VALUE, 0, 0, 0));
+		EXPECT(tells(gitwire_request_item(&request, (gitwire_list)number, 0, ROOM), GITWIRE_BAD_VALUE, 0, 0, 0));
+		EXPECT(tells(gitwire_put_band(&writer, (gitwire_band)number, TEXT("x"), ROOM), GITWIRE_BAD_VALUE, 0, 0, 0));
+		EXPECT(tells(gitwire_put_ack(&writer, (gitwire_format)number, TEXT(ONE), ROOM), GITWIRE_BAD_VALUE, 0, 0, 0));
+		EXPECT(tells(gitwire_put_packet(&writer, (gitwire_result)number, NULL, 0, ROOM), GITWIRE_BAD_VALUE, 0, 0, 0));
+	}
+	EXPECT(tells(gitwire_put_packet(&writer, (gitwire_result)(256 + GITWIRE_FLUSH), NULL, 0, ROOM), GITWIRE_BAD_VALUE, 0, 0, 0));
+	EXPECT(!gitwire_request_flag(&request, (gitwire_flag)(256 + GITWIRE_FLAG_DONE)) && gitwire_request_flag(&request, GITWIRE_FLAG_DONE));
+	EXPECT(!client.is_made_ && !reader.is_made_);
+	gitwire_request_free(&request);
 }
 
 /* A text of many lines is read whole, and each of its references is sent. */
@@ -722,6 +754,7 @@ static void *try_all(void *nothing)
 	try_refusals_of_a_client();
 	try_what_is_noted();
 	try_each_value();
+	try_numbers_that_mean_nothing();
 	try_many_references();
 	gitwire_writer_free(&writer);
 	return nothing;

@@ -30,12 +30,12 @@ static uint8_t room[GITWIRE_PACKET_ROOM];
 static gitwire_writer writer = GITWIRE_NONE;
 
 /* Whether exactly these fields are set, and the others are 0. */
-static bool tells(gitwire_answer answer, uint8_t kind, size_t used, uint64_t offset, size_t length)
+static bool tells(gitwire_answer answer, gitwire_result kind, size_t used, uint64_t offset, size_t length)
 {
 	return answer.kind == kind && answer.used == used && answer.offset == offset && answer.length == length && answer.fault == 0;
 }
 
-static inline bool tells_fault(gitwire_answer answer, uint8_t fault, size_t used, uint64_t offset)
+static inline bool tells_fault(gitwire_answer answer, gitwire_fault fault, size_t used, uint64_t offset)
 {
 	return answer.kind == GITWIRE_FAILED && answer.fault == fault && answer.used == used && answer.offset == offset && answer.length == 0;
 }

@@ -22,7 +22,7 @@ static bool sends(gitwire_answer answer, size_t used, const char *packet)
 	return is_it;
 }
 
-static bool pulls(uint8_t kind, uint64_t offset)
+static bool pulls(gitwire_result kind, uint64_t offset)
 {
 	return tells(gitwire_host_pull(&host, ROOM), kind, 0, offset, 0) && tells(gitwire_host_pull(&host, ROOM), kind, 0, offset, 0);
 }
@@ -39,12 +39,12 @@ static void begin(uint32_t features)
 }
 
 /* Feeds a whole request, which is accepted. */
-static void ask(const char *request, uint64_t command)
+static void ask(const char *request, gitwire_command command)
 {
 	EXPECT(tells(gitwire_host_feed(&host, TEXT(request)), GITWIRE_MORE, strlen(request), 0, 0));
 	EXPECT(pulls(GITWIRE_ASKED, command));
 	EXPECT(gitwire_host_accept(&host) == GITWIRE_DONE);
-	EXPECT(tells(gitwire_host_command(&host), GITWIRE_DONE, 0, command, 0));
+	EXPECT(gitwire_host_command(&host) == command);
 	EXPECT(tells(gitwire_host_feed(&host, TEXT("0000")), GITWIRE_NOT_NOW, 0, 0, 0));
 	EXPECT(gitwire_host_close(&host) == GITWIRE_NOT_NOW && gitwire_host_accept(&host) == GITWIRE_NOT_NOW);
 }
@@ -53,7 +53,7 @@ static void ask(const char *request, uint64_t command)
  * Expects that each call that reports returns this, except for the one with this number, which answers the open question. Then
  * `gitwire_host_fail` may be called too, and is not tried.
  */
-static void expect_of_reports(uint8_t kind, int but, size_t length)
+static void expect_of_reports(gitwire_result kind, int but, size_t length)
 {
 	for (int call = 0; call < (but < 0 ? 14 : 13); call++) {
 		gitwire_answer answer;
@@ -80,13 +80,13 @@ static void expect_of_reports(uint8_t kind, int but, size_t length)
 static void try_no_session(void)
 {
 	gitwire_offer offer = { .features = GITWIRE_FEATURES_ALL, .format = GITWIRE_SHA1 };
-	static const gitwire_offer odd = { .features = GITWIRE_FEATURES_ALL + 1, .format = GITWIRE_SHA1 }, formatless = { .format = 2 };
+	static const gitwire_offer odd = { .features = GITWIRE_FEATURES_ALL + 1, .format = GITWIRE_SHA1 }, formatless = { .features = 0 };
 
 	gitwire_host_free(&host);
 	expect_of_reports(GITWIRE_NO_HANDLE, -1, sizeof room);
 	EXPECT(tells(gitwire_host_feed(&host, TEXT("0000")), GITWIRE_NO_HANDLE, 0, 0, 0));
 	EXPECT(tells(gitwire_host_pull(&host, ROOM), GITWIRE_NO_HANDLE, 0, 0, 0));
-	EXPECT(tells(gitwire_host_command(&host), GITWIRE_NO_HANDLE, 0, 0, 0));
+	EXPECT(gitwire_host_command(&host) == 0);
 	EXPECT(tells(gitwire_host_number(&host, GITWIRE_NUMBER_DEEPEN), GITWIRE_NO_HANDLE, 0, 0, 0));
 	EXPECT(tells(gitwire_host_item(&host, GITWIRE_LIST_WANTS, 0, ROOM), GITWIRE_NO_HANDLE, 0, 0, 0));
 	EXPECT(tells(ERROR_OF("no"), GITWIRE_NO_HANDLE, 0, 0, 0));
@@ -102,7 +102,8 @@ static void try_no_session(void)
 static void try_an_advertisement(void)
 {
 	uint8_t whole[GITWIRE_ADVERTISEMENT_ROOM];
-	gitwire_answer written = gitwire_put_advertisement(&writer, (gitwire_offer){ .features = GITWIRE_FEATURES_ALL }, whole, sizeof whole), given;
+	gitwire_offer offer = { .features = GITWIRE_FEATURES_ALL, .format = GITWIRE_SHA1 };
+	gitwire_answer written = gitwire_put_advertisement(&writer, offer, whole, sizeof whole), given;
 
 	EXPECT(tells(gitwire_host_feed(&host, TEXT("0000")), GITWIRE_NOT_NOW, 0, 0, 0));
 	EXPECT(tells(gitwire_host_pull(&host, room, GITWIRE_PACKET_ROOM - 1), GITWIRE_ROOM_TOO_SMALL, 0, 0, 0));
@@ -112,7 +113,7 @@ static void try_an_advertisement(void)
 	EXPECT(pulls(GITWIRE_NEED_INPUT, 0));
 	expect_of_reports(GITWIRE_NOT_NOW, -1, sizeof room);
 	expect_of_reports(GITWIRE_ROOM_TOO_SMALL, -1, GITWIRE_PACKET_ROOM - 1);
-	EXPECT(tells(gitwire_host_command(&host), GITWIRE_NOTHING, 0, 0, 0));
+	EXPECT(gitwire_host_command(&host) == 0);
 	EXPECT(tells(gitwire_host_number(&host, GITWIRE_NUMBER_DEEPEN), GITWIRE_NOTHING, 0, 0, 0));
 	EXPECT(tells(gitwire_host_item(&host, GITWIRE_LIST_WANTS, 0, ROOM), GITWIRE_NOTHING, 0, 0, 0));
 	EXPECT(tells(ERROR_OF("no"), GITWIRE_NOT_NOW, 0, 0, 0));

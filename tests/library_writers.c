@@ -43,7 +43,7 @@ static void try_writers_of_packets(void)
 	EXPECT(wrote(gitwire_put_band(&writer, GITWIRE_BAND_PROGRESS, TEXT("50%"), ROOM), "0008\00250%"));
 	EXPECT(wrote(gitwire_put_band(&writer, GITWIRE_BAND_FATAL, TEXT("gone"), ROOM), "0009\003gone"));
 	EXPECT(gitwire_put_band(&writer, 0, TEXT("gone"), ROOM).kind == GITWIRE_BAD_VALUE);
-	EXPECT(tells_fault(gitwire_put_band(&writer, 1, longest, sizeof longest - 1, ROOM), GITWIRE_FAULT_TOO_LONG, 0, 0));
+	EXPECT(tells_fault(gitwire_put_band(&writer, GITWIRE_BAND_PACK, longest, sizeof longest - 1, ROOM), GITWIRE_FAULT_TOO_LONG, 0, 0));
 	EXPECT(wrote(gitwire_put_line(&writer, TEXT("NAK"), ROOM), "0008NAK\n"));
 	EXPECT(wrote(gitwire_put_line(&writer, NULL, 0, ROOM), "0005\n"));
 	EXPECT(tells_fault(gitwire_put_line(&writer, longest, sizeof longest - 1, ROOM), GITWIRE_FAULT_BAD_LINE, 0, 0));
@@ -57,7 +57,7 @@ static void try_writers_of_advertisements(void)
 
 	EXPECT(wrote(gitwire_put_advertisement(&writer, offer, ROOM), "000eversion 2\n" "0011agent=git2/1\n" "000cls-refs\n"
 		"0012fetch=shallow\n" "0019object-format=sha256\n" "0010object-info\n" "0000"));
-	offer = (gitwire_offer){ .features = GITWIRE_FEATURE_REF_IN_WANT | GITWIRE_FEATURE_SERVER_OPTION };
+	offer = (gitwire_offer){ .features = GITWIRE_FEATURE_REF_IN_WANT | GITWIRE_FEATURE_SERVER_OPTION, .format = GITWIRE_SHA1 };
 	EXPECT(wrote(gitwire_put_advertisement(&writer, offer, ROOM), "000eversion 2\n" "0011agent=git2/1\n" "000cls-refs\n"
 		"0016fetch=ref-in-want\n" "0012server-option\n" "0017object-format=sha1\n" "0000"));
 	EXPECT(gitwire_put_advertisement(&writer, offer, room, 20).kind == GITWIRE_ROOM_TOO_SMALL);
@@ -67,7 +67,7 @@ static void try_writers_of_advertisements(void)
 	offer.features++;
 	EXPECT(gitwire_put_advertisement(&writer, offer, ROOM).kind == GITWIRE_BAD_VALUE);
 	offer.features--;
-	offer.format = 2;
+	offer.format = 0;
 	EXPECT(gitwire_put_advertisement(&writer, offer, ROOM).kind == GITWIRE_BAD_VALUE);
 }
 
@@ -79,13 +79,13 @@ static void try_offers_of_one_thing(void)
 		const char *lines;
 	} cases[] = {
 		{ { .format = GITWIRE_SHA256 }, "000cls-refs\n" "000afetch\n" "0019object-format=sha256\n" },
-		{ { .features = GITWIRE_FEATURE_UNBORN }, "0013ls-refs=unborn\n" "000afetch\n" "0017object-format=sha1\n" },
-		{ { .features = GITWIRE_FEATURE_SHALLOW }, "000cls-refs\n" "0012fetch=shallow\n" "0017object-format=sha1\n" },
-		{ { .features = GITWIRE_FEATURE_REF_IN_WANT }, "000cls-refs\n" "0016fetch=ref-in-want\n" "0017object-format=sha1\n" },
-		{ { .features = GITWIRE_FEATURE_WAIT_FOR_DONE }, "000cls-refs\n" "0018fetch=wait-for-done\n" "0017object-format=sha1\n" },
-		{ { .features = GITWIRE_FEATURE_FILTER }, "000cls-refs\n" "0011fetch=filter\n" "0017object-format=sha1\n" },
-		{ { .features = GITWIRE_FEATURE_OBJECT_INFO }, "000cls-refs\n" "000afetch\n" "0017object-format=sha1\n" "0010object-info\n" },
-		{ { .features = GITWIRE_FEATURE_SERVER_OPTION }, "000cls-refs\n" "000afetch\n" "0012server-option\n" "0017object-format=sha1\n" },
+		{ { .features = GITWIRE_FEATURE_UNBORN, .format = GITWIRE_SHA1 }, "0013ls-refs=unborn\n" "000afetch\n" "0017object-format=sha1\n" },
+		{ { .features = GITWIRE_FEATURE_SHALLOW, .format = GITWIRE_SHA1 }, "000cls-refs\n" "0012fetch=shallow\n" "0017object-format=sha1\n" },
+		{ { .features = GITWIRE_FEATURE_REF_IN_WANT, .format = GITWIRE_SHA1 }, "000cls-refs\n" "0016fetch=ref-in-want\n" "0017object-format=sha1\n" },
+		{ { .features = GITWIRE_FEATURE_WAIT_FOR_DONE, .format = GITWIRE_SHA1 }, "000cls-refs\n" "0018fetch=wait-for-done\n" "0017object-format=sha1\n" },
+		{ { .features = GITWIRE_FEATURE_FILTER, .format = GITWIRE_SHA1 }, "000cls-refs\n" "0011fetch=filter\n" "0017object-format=sha1\n" },
+		{ { .features = GITWIRE_FEATURE_OBJECT_INFO, .format = GITWIRE_SHA1 }, "000cls-refs\n" "000afetch\n" "0017object-format=sha1\n" "0010object-info\n" },
+		{ { .features = GITWIRE_FEATURE_SERVER_OPTION, .format = GITWIRE_SHA1 }, "000cls-refs\n" "000afetch\n" "0012server-option\n" "0017object-format=sha1\n" },
 	};
 	char wanted[GITWIRE_ADVERTISEMENT_ROOM];
 
@@ -107,7 +107,7 @@ static void try_writers_of_lines(void)
 		GITWIRE_FAULT_BAD_OBJECT_NAME, 0, 0));
 	EXPECT(tells_fault(gitwire_put_reference(&writer, GITWIRE_SHA1, TEXT(ONE), TEXT("HEAD"), TEXT("main"), NULL, 0, ROOM),
 		GITWIRE_FAULT_BAD_REF_NAME, 0, 0));
-	EXPECT(gitwire_put_reference(&writer, 2, TEXT(ONE), TEXT("HEAD"), NULL, 0, NULL, 0, ROOM).kind == GITWIRE_BAD_VALUE);
+	EXPECT(gitwire_put_reference(&writer, 0, TEXT(ONE), TEXT("HEAD"), NULL, 0, NULL, 0, ROOM).kind == GITWIRE_BAD_VALUE);
 	EXPECT(wrote(gitwire_put_ack(&writer, GITWIRE_SHA1, TEXT(ONE), ROOM), "0031ACK " ONE "\n"));
 	EXPECT(gitwire_put_ack(&writer, GITWIRE_SHA1, TEXT(ONE), room, 48).kind == GITWIRE_ROOM_TOO_SMALL);
 	EXPECT(wrote(gitwire_put_boundary(&writer, GITWIRE_SHA1, true, TEXT(ONE), ROOM), "0035shallow " ONE "\n"));
@@ -140,8 +140,8 @@ static void try_names_of_faults(void)
 		[GITWIRE_FAULT_READ_FAULT] = "ReadFault", [GITWIRE_FAULT_WRITE_FAULT] = "WriteFault",
 		[GITWIRE_FAULT_READ_LIMIT] = "ReadLimit" };
 
-	for (uint8_t fault = 1; fault < sizeof names / sizeof *names; fault++) {
-		size_t length = gitwire_fault_name(fault, ROOM);
+	for (unsigned fault = 1; fault < sizeof names / sizeof *names; fault++) {
+		size_t length = gitwire_fault_name((gitwire_fault)fault, ROOM);
 
 		EXPECT(length == strlen(names[fault]) && memcmp(room, names[fault], length) == 0);
 	}
@@ -152,13 +152,13 @@ static void try_texts_of_faults(void)
 {
 	size_t longest = 0;
 
-	for (unsigned fault = 0; fault < 256; fault++) {
-		size_t length = gitwire_fault_name((uint8_t)fault, ROOM);
+	for (unsigned fault = 0; fault < 1024; fault++) {
+		size_t length = gitwire_fault_name((gitwire_fault)fault, ROOM);
 
 		EXPECT((length > 0) == (fault >= 1 && fault <= GITWIRE_FAULT_READ_LIMIT));
-		EXPECT(gitwire_fault_text((uint8_t)fault, UINT64_MAX, ROOM) == (length > 0 ? length + 24 : 0));
-		EXPECT(strlen(gitwire_fault_string((uint8_t)fault)) == length && memcmp(gitwire_fault_string((uint8_t)fault), room, length) == 0);
-		EXPECT((strlen(gitwire_fault_sentence((uint8_t)fault)) > 20) == (length > 0));
+		EXPECT(gitwire_fault_text((gitwire_fault)fault, UINT64_MAX, ROOM) == (length > 0 ? length + 24 : 0));
+		EXPECT(strlen(gitwire_fault_string((gitwire_fault)fault)) == length && memcmp(gitwire_fault_string((gitwire_fault)fault), room, length) == 0);
+		EXPECT((strlen(gitwire_fault_sentence((gitwire_fault)fault)) > 20) == (length > 0));
 		longest = length > longest ? length : longest;
 	}
 	EXPECT(longest <= GITWIRE_FAULT_NAME_ROOM && longest + 24 <= GITWIRE_FAULT_TEXT_ROOM);
@@ -171,8 +171,8 @@ static void try_texts_of_faults(void)
 
 static void try_names_of_kinds(void)
 {
-	for (unsigned kind = 0; kind < 256; kind++) {
-		size_t length = gitwire_kind_name((uint8_t)kind, ROOM);
+	for (unsigned kind = 0; kind < 1024; kind++) {
+		size_t length = gitwire_kind_name((gitwire_result)kind, ROOM);
 
 		EXPECT((length > 0) == (kind <= GITWIRE_NOT_SHALLOW) && length <= GITWIRE_KIND_NAME_ROOM);
 	}
@@ -182,7 +182,7 @@ static void try_names_of_kinds(void)
 }
 
 /* Whether so many bytes were escaped, with this escape at the front of the buffer and the bytes after it unchanged. */
-static bool escapes(gitwire_answer answer, uint8_t kind, size_t used, const char *escape)
+static bool escapes(gitwire_answer answer, gitwire_result kind, size_t used, const char *escape)
 {
 	bool is_it = tells(answer, kind, used, 0, strlen(escape)) && memcmp(room, escape, strlen(escape)) == 0 && room[answer.length] == '#';
 

@@ -68,7 +68,7 @@ static void expect(bool holds, const char *what)
 }
 
 /* Whether a call went well, or reported that memory was refused. */
-static bool is_made(uint8_t answer, const char *what)
+static bool is_made(gitwire_result answer, const char *what)
 {
 	expect(answer == GITWIRE_DONE || (answer == GITWIRE_OUT_OF_MEMORY && refused > 0), what);
 	return answer == GITWIRE_DONE;
@@ -146,7 +146,7 @@ static void run_request_reader(void)
 {
 	gitwire_request_reader reader = GITWIRE_NONE;
 	gitwire_request request = GITWIRE_NONE;
-	gitwire_offer offer = { .features = GITWIRE_FEATURE_SHALLOW | GITWIRE_FEATURE_FILTER };
+	gitwire_offer offer = { .features = GITWIRE_FEATURE_SHALLOW | GITWIRE_FEATURE_FILTER, .format = GITWIRE_SHA1 };
 
 	if (is_made(gitwire_request_reader_new(&reader, offer, GITWIRE_USUAL_LIMIT), "a reader of requests")) {
 		hear_request(&reader, &request, FETCH);
@@ -200,7 +200,7 @@ static void run_request(void)
 static void run_flags(void)
 {
 	static const struct {
-		uint8_t command;
+		gitwire_command command;
 		const char *lines[10];
 	} all[] = {
 		{ GITWIRE_LS_REFS, { "symrefs", "peel", "unborn" } },
@@ -285,7 +285,7 @@ static void run_server(void)
 }
 
 /* Whether a report is accepted, once there is memory for it: if memory is refused nothing changes, and the report is made again. */
-static void expect_reported(gitwire_host *host, uint8_t kind, gitwire_answer (*report)(gitwire_host *))
+static void expect_reported(gitwire_host *host, gitwire_result kind, gitwire_answer (*report)(gitwire_host *))
 {
 	gitwire_answer answer = report(host);
 
@@ -311,7 +311,7 @@ static void run_host(void)
 {
 	static const char *const said = LS_REFS "0012command=fetch\n" "0001" "0014want-ref refs/a\n" "0009done\n" "0000";
 	gitwire_host host = GITWIRE_NONE;
-	gitwire_offer offer = { .features = GITWIRE_FEATURES_ALL };
+	gitwire_offer offer = { .features = GITWIRE_FEATURES_ALL, .format = GITWIRE_SHA1 };
 	gitwire_answer answer = { .kind = GITWIRE_PACKET };
 	size_t used = 0;
 	bool made;
@@ -381,7 +381,7 @@ static void break_requests_off(size_t length)
 	static const char *const said = LS_REFS FETCH;
 	gitwire_request_reader reader = GITWIRE_NONE;
 	gitwire_request request = GITWIRE_NONE;
-	gitwire_offer offer = { .features = GITWIRE_FEATURE_SHALLOW | GITWIRE_FEATURE_FILTER };
+	gitwire_offer offer = { .features = GITWIRE_FEATURE_SHALLOW | GITWIRE_FEATURE_FILTER, .format = GITWIRE_SHA1 };
 	gitwire_answer answer = { .kind = GITWIRE_MORE };
 
 	if (is_made(gitwire_request_reader_new(&reader, offer, GITWIRE_USUAL_LIMIT), "a reader of requests that break off"))

@@ -73,7 +73,7 @@ command -v gcc > /dev/null || install_packages gcc libc6-dev || stop "no C compi
 command -v valgrind > /dev/null || install_packages valgrind || echo 'no valgrind, and it could not be installed: nothing is run under it' >&2
 # Debian has its web servers in this folder.
 export PATH=$PATH:/usr/sbin
-for tool in g++ man pkg-config rustc go script nginx fcgiwrap apache2 lighttpd; do
+for tool in g++ clang man pkg-config rustc go script nginx fcgiwrap apache2 lighttpd; do
     command -v $tool > /dev/null || echo "no $tool: what needs it is passed over" >&2
 done
 

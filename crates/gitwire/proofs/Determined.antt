@@ -1,5 +1,5 @@
 -- What a writer for C reports, and what it leaves in the buffer, is determined by the values that C passes and the buffer.
-use Rattle.std.proofs.Common.{◌≡◌, ℕ, ◌≤◌, List, [], ◌∷◌, length, length-append, Option, Some, None, Ok, Err, slice_get}
+use Rattle.std.proofs.Common.{◌≡◌, ℕ, ◌≤◌, List, [], ◌∷◌, length, length-append, Option, Some, None, Ok, Err}
 use Rattle.std.proofs.Common.{sym, ◌∙◌, ap, refl, subst, inl, inr, arith}
 use Rattle.std.proofs.lemmas.Bool.Decides.{leb_tells}
 use Rattle.git_names.specs.ObjectName.{ObjectName}
@@ -17,7 +17,7 @@ use Rattle.git_msg.specs.WrittenRequest.{text_line}
 use Rattle.git_msg.proofs.CheckLaws.{AllFair, IsFair, fair_check, one_name, passes_or_refuses}
 use Rattle.git_msg.specs.declared.offers.Offer.{Offer}
 use Rattle.git_server.specs.Answers.{advertisement_of, spelled}
-use Rattle.gitwire.specs.Numbers.{formats}
+use Rattle.gitwire.specs.Numbers.{formats, numbered}
 use Rattle.gitwire.specs.Rooms.{Fills}
 use Rattle.gitwire.specs.WrittenForC.{Advertises, InFormat, IsDetermined, IsLineOf, IsOfKind, IsReferenceOf, Meant, Tells, telling_why}
 use Rattle.gitwire.specs.WrittenForC.{MeansBand, MeansLine, MeansLineOf, MeansPacket, MeansReference, MeansWanted}
@@ -127,7 +127,7 @@ one_line text = record { packets = λ p q h k. h ∙ sym k; whys = λ why other 
 
 -- names in a format
 
-same_format : (number : ℕ) (format other : Format) → slice_get formats number ≡ Some format → slice_get formats number ≡ Some other → format ≡ other
+same_format : (number : ℕ) (format other : Format) → numbered formats number ≡ Some format → numbered formats number ≡ Some other → format ≡ other
 same_format number format other h k = cc
 
 -- nothing that the checks refuse is a packet, and names are one packet

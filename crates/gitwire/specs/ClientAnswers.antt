@@ -30,7 +30,7 @@ use Rattle.gitwire.specs.declared.event.GitwireEvent.{GitwireEvent}
 use Rattle.gitwire.specs.declared.answer.GitwireAnswer.{GitwireAnswer}
 use Rattle.gitwire.specs.declared.answer.What.TheVariants as What
 
--- the endings by their numbers
+-- the endings by their numbers: the first has 1
 abbrev pub endings : List Ending
 endings = FlushOnly ∷ ResponseEnd ∷ []
 

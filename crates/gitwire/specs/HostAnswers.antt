@@ -27,7 +27,7 @@ use Rattle.git_host.specs.declared.report.Report.{Report}
 use Rattle.gitwire.specs.Answers.{answering, answering_fault, answering_packet, answering_used, more_of, what_number}
 use Rattle.gitwire.specs.Numbers.{command_number}
 use Rattle.gitwire.specs.Offers.{offer_meant}
-use Rattle.gitwire.specs.RequestAnswers.{HasOrNone, PutsFrom, is_set, telling_number, telling_which}
+use Rattle.gitwire.specs.RequestAnswers.{HasOrNone, PutsFrom, is_set, telling_which}
 use Rattle.gitwire.specs.Rooms.{put_before}
 use Rattle.gitwire.specs.WrittenForC.{boundary_of, given, object_name_check, ref_name_check, where_given}
 use Rattle.gitwire.specs.declared.answer.GitwireAnswer.{GitwireAnswer}
@@ -129,9 +129,10 @@ pub record PullsInRoom (old : HostServer Global) (room : List ℕ) (answer : Git
 
 -- ---- the request at hand
 
-abbrev pub telling_command : Option Asked → GitwireAnswer
-telling_command None = answering What.Nothing
-telling_command (Some asked) = telling_number (command_number (command_asked asked))
+-- the number of its command, or 0 if there is none
+abbrev pub command_shown : Option Asked → ℕ
+command_shown None = 0
+command_shown (Some asked) = command_number (command_asked asked)
 
 abbrev pub has_flag_at : ℕ → Option Asked → Bool
 has_flag_at number None = false

@@ -1,5 +1,5 @@
--- What the numbers that C passes mean: a number is an index of these lists, and one past the end means nothing.
-use Rattle.std.specs.Prelude.{ℕ, List, [], ◌∷◌}
+-- What the numbers that C passes mean: the first of each of these lists has 1. 0 means nothing, and so does a number past the end.
+use Rattle.std.specs.Prelude.{ℕ, zero, suc, List, [], ◌∷◌, Option, None, slice_get}
 use Rattle.git_names.specs.declared.object_format.Format.{Format}
 use Rattle.git_names.specs.declared.object_format.Format.TheVariants.{Sha1, Sha256}
 use Rattle.git_msg.specs.declared.arguments.Command.{Command}
@@ -8,22 +8,27 @@ use Rattle.git_msg.specs.declared.flags.Flag.{Flag}
 use Rattle.gitwire.specs.declared.numbers.Given.{Given}
 use Rattle.gitwire.specs.declared.numbers.ItemList.{ItemList}
 
+-- what a number means in a list
+abbrev pub numbered : {X : Type 0} → List X → ℕ → Option X
+numbered values zero = None
+numbered values (suc before) = slice_get values before
+
 abbrev pub formats : List Format
 formats = Sha1 ∷ Sha256 ∷ []
 
--- the index of a format
+-- the number of a format
 abbrev pub format_number : Format → ℕ
-format_number Sha1 = 0
-format_number Sha256 = 1
+format_number Sha1 = 1
+format_number Sha256 = 2
 
 abbrev pub commands : List Command
 commands = LsRefs ∷ Fetch ∷ ObjectInfo ∷ []
 
--- the index of a command
+-- the number of a command
 abbrev pub command_number : Command → ℕ
-command_number LsRefs = 0
-command_number Fetch = 1
-command_number ObjectInfo = 2
+command_number LsRefs = 1
+command_number Fetch = 2
+command_number ObjectInfo = 3
 
 abbrev pub flags : List Flag
 flags =

@@ -1,10 +1,10 @@
 -- What a server advertises, as C passes it, and what was noted of an advertisement, as C is shown it: a bit for each feature.
-use Rattle.std.specs.Prelude.{ℕ, ◌+◌, Bool, true, false, not, ◌==◌, nat_lt, if◌then◌else◌, Option, None, slice_get}
+use Rattle.std.specs.Prelude.{ℕ, ◌+◌, Bool, true, false, not, ◌==◌, nat_lt, if◌then◌else◌, Option, None}
 use Rattle.std.specs.Int.Bits.{bit_and}
 use Rattle.std.specs.Option.{option_map}
 use Rattle.git_msg.specs.declared.offers.Caps.{Caps}
 use Rattle.git_msg.specs.declared.offers.Offer.{Offer}
-use Rattle.gitwire.specs.Numbers.{formats}
+use Rattle.gitwire.specs.Numbers.{formats, numbered}
 use Rattle.gitwire.specs.declared.offer.GitwireOffer.{GitwireOffer}
 
 -- the bit of a feature is set
@@ -23,7 +23,7 @@ offer_meant o =
       filter = has_feature o.features 64;
       object_info = has_feature o.features 32;
       server_option = has_feature o.features 16;
-    }) (slice_get formats o.format)
+    }) (numbered formats o.format)
 
 -- a bit, if its feature was noted
 abbrev pub where_shown : Bool → ℕ → ℕ

@@ -12,7 +12,7 @@ use Rattle.git_msg.specs.Checks.{Passes, Refuses}
 use Rattle.git_msg.specs.Machine.HeldRequest.{IsEmpty, IsRefused, Keeps, add_checks, command_of, format_of}
 use Rattle.git_msg.specs.Lines.{end_checks}
 use Rattle.git_msg.specs.declared.requests.Request.{Request}
-use Rattle.gitwire.specs.Numbers.{commands, flags, formats, given_numbers}
+use Rattle.gitwire.specs.Numbers.{commands, flags, formats, given_numbers, numbered}
 use Rattle.gitwire.specs.Rooms.{Fills}
 use Rattle.gitwire.specs.Answers.{answering, answering_fault, answering_packet, what_number}
 use Rattle.gitwire.specs.declared.answer.GitwireAnswer.{GitwireAnswer}
@@ -36,12 +36,12 @@ HasOrNone answer value new =
 
 -- a number means nothing, or the limit is above the maximum
 abbrev pub MeanNoRequest : ℕ → ℕ → ℕ → Type 0
-MeanNoRequest command format limit = (slice_get commands command ≡ None) ⊎ ((slice_get formats format ≡ None) ⊎ (most_limit < limit))
+MeanNoRequest command format limit = (numbered commands command ≡ None) ⊎ ((numbered formats format ≡ None) ⊎ (most_limit < limit))
 
 -- the request is an empty one with the command, the format and the limit that these values mean
 pub record MeanRequest (command format limit : ℕ) (request : Request Global) : Type 0 where
-  pub command_is : slice_get commands command ≡ Some (command_of request)
-  pub format_is : slice_get formats format ≡ Some (format_of request)
+  pub command_is : numbered commands command ≡ Some (command_of request)
+  pub format_is : numbered formats format ≡ Some (format_of request)
   pub in_range : limit ≤ most_limit
   pub empty : IsEmpty (command_of request) (format_of request) limit request
 
@@ -86,7 +86,7 @@ pub record EndsAnswers (asked : Asked) (answer : GitwireAnswer) : Type 0 where
 
 -- whether the flag of this number is set; a number of no flag is not
 abbrev pub is_set : ℕ → Asked → Bool
-is_set number asked = unwrap_or (option_map (λ flag. has_flag flag asked) (slice_get flags number)) false
+is_set number asked = unwrap_or (option_map (λ flag. has_flag flag asked) (numbered flags number)) false
 
 -- the number, if it was set
 abbrev pub given_of : Given → Asked → Option ℕ
@@ -101,7 +101,7 @@ telling_given (Some number) = telling_number number
 -- what is reported to C about the number of the request that this number selects
 abbrev pub telling_which : ℕ → Asked → GitwireAnswer
 telling_which number asked =
-    unwrap_or (option_map (λ which. telling_given (given_of which asked)) (slice_get given_numbers number)) (answering What.BadValue)
+    unwrap_or (option_map (λ which. telling_given (given_of which asked)) (numbered given_numbers number)) (answering What.BadValue)
 
 -- the text at an index of a list; an object name as its digits
 abbrev pub item_of : ItemList → Asked → ℕ → Option (List ℕ)

@@ -1,5 +1,5 @@
 -- The packets that are written for C, each to the front of a buffer: what the values that C passes mean, and what is reported to C.
-use Rattle.std.specs.Prelude.{◌≡◌, ◌≢◌, ℕ, ◌<◌, ◌≤◌, Bool, true, false, List, [], ◌∷◌, ◌++◌, length, codes, slice_get}
+use Rattle.std.specs.Prelude.{◌≡◌, ◌≢◌, ℕ, ◌<◌, ◌≤◌, Bool, true, false, List, [], ◌∷◌, ◌++◌, length, codes}
 use Rattle.std.specs.Prelude.{Option, Some, None, IsSome, Result, Ok, Err}
 use Rattle.std.specs.Bool.{then_some}
 use Rattle.git_names.specs.ObjectName.{ObjectName, IsObjectName, IsNoObjectName}
@@ -20,7 +20,7 @@ use Rattle.git_msg.specs.declared.response_lines.Boundary.{Boundary}
 use Rattle.git_msg.specs.declared.response_lines.Boundary.TheVariants.{Shallow, Unshallow}
 use Rattle.git_msg.specs.declared.offers.Offer.{Offer}
 use Rattle.git_server.specs.Answers.{advertisement_of, spelled}
-use Rattle.gitwire.specs.Numbers.{formats}
+use Rattle.gitwire.specs.Numbers.{formats, numbered}
 use Rattle.gitwire.specs.Rooms.{Fills}
 use Rattle.gitwire.specs.Answers.{answering, answering_fault, what_number}
 use Rattle.gitwire.specs.declared.answer.GitwireAnswer.{GitwireAnswer}
@@ -127,17 +127,17 @@ where_given text c = record { refuses = λ kind. (text ≢ []) × c.refuses kind
 
 -- why names in the format of this number mean nothing: that of the first check that fails
 abbrev pub IsRefusedIn : ℕ → (Format → List Check) → Unwritten → Type 0
-IsRefusedIn number checks BadValue = slice_get formats number ≡ None
-IsRefusedIn number checks (Refused kind) = (format : Format) × (slice_get formats number ≡ Some format) × Refuses (checks format) kind
+IsRefusedIn number checks BadValue = numbered formats number ≡ None
+IsRefusedIn number checks (Refused kind) = (format : Format) × (numbered formats number ≡ Some format) × Refuses (checks format) kind
 
 -- names in the format of this number mean a packet, or are refused
 abbrev pub InFormat : ℕ → (Format → List Check) → (Format → Pkt → Type 0) → Meant → Type 0
-InFormat number checks IsPacket (Ok packet) = (format : Format) × (slice_get formats number ≡ Some format) × IsPacket format packet
+InFormat number checks IsPacket (Ok packet) = (format : Format) × (numbered formats number ≡ Some format) × IsPacket format packet
 InFormat number checks IsPacket (Err why) = IsRefusedIn number checks why
 
 -- the object that the digits name in the format of this number
 abbrev pub Names : ℕ → List ℕ → Result ObjectName Unwritten → Type 0
-Names number digits (Ok id) = (format : Format) × (slice_get formats number ≡ Some format) × IsObjectName format digits id
+Names number digits (Ok id) = (format : Format) × (numbered formats number ≡ Some format) × IsObjectName format digits id
 Names number digits (Err why) = IsRefusedIn number (λ format. object_name_check format digits ∷ []) why
 
 -- the line with this text about the object that the digits name

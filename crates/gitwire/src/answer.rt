@@ -16,9 +16,9 @@ pub struct GitwireAnswer {
     /// How many bytes were written to the front of the buffer.
     pub length: usize,
     /// The number of a [`What`].
-    pub kind: u8,
+    pub kind: u32,
     /// The number of an error, from 1 to 34.
-    pub fault: u8,
+    pub fault: u32,
 }
 
 /// The result of a call.
@@ -106,7 +106,7 @@ impl What {
     }
 
     /// Its number in C, from 0 to 44.
-    pub fn number(self) -> u8
+    pub fn number(self) -> u32
         ensures { result ≡ what_number self }
     {
         match self {
@@ -198,7 +198,7 @@ impl GitwireAnswer {
             offset: fault.offset,
             length: 0,
             kind: What::Failed.number(),
-            fault: fault.kind.number(),
+            fault: u32::from(fault.kind.number()),
         }
     }
 }

@@ -1,6 +1,6 @@
 //! A client that C holds.
 
-ghost use Rattle.std.specs.Prelude.{◌≡◌, ◌≤◌, None, MatchResult, length, slice_get};
+ghost use Rattle.std.specs.Prelude.{◌≡◌, ◌≤◌, None, MatchResult, length};
 ghost use Rattle.git_client.specs.EventParts.{parts_of};
 ghost use Rattle.git_client.specs.declared.events.HeardGot.TheVariants as Got;
 ghost use Rattle.gitwire.specs.Calls.{HasNone, Of, On};
@@ -8,7 +8,7 @@ ghost use Rattle.gitwire.specs.ClientAnswers.{AsksIn, BeginsBy, CapsAnswers, Clo
 ghost use Rattle.gitwire.specs.ClientAnswers.{LeavesRequest, LeavesAnswers, MessageAnswers, PullsInRoom, TakesRequest, endings};
 ghost use Rattle.gitwire.specs.EventAnswers.{bytes_shown, telling_parts};
 ghost use Rattle.gitwire.specs.Handles.{client_in, request_in};
-ghost use Rattle.gitwire.specs.Numbers.{formats};
+ghost use Rattle.gitwire.specs.Numbers.{formats, numbered};
 ghost use Rattle.gitwire.specs.Answers.{answering, what_number};
 
 use crate::answer::{GitwireAnswer, What};
@@ -52,10 +52,10 @@ pub struct GitwireCaps {
 pub extern "C" fn gitwire_client_new(
     alloc: Global,
     client: &mut GitwireClient,
-    format: u8,
-    ending: u8,
-) -> u8
-    ensures { BeginsBy (slice_get formats format) (slice_get endings ending) (client_in client.old) result (client_in client.new) }
+    format: u32,
+    ending: u32,
+) -> u32
+    ensures { BeginsBy (numbered formats format) (numbered endings ending) (client_in client.old) result (client_in client.new) }
 {
     let Some(format) = format_numbered(format) else {
         return What::BadValue.number();
@@ -71,12 +71,12 @@ pub extern "C" fn gitwire_client_new(
 }
 
 /// The ending that C means by this number; none if there is no such ending.
-fn ending_numbered(number: u8) -> Option<Ending>
-    ensures { result ≡ slice_get endings number }
+fn ending_numbered(number: u32) -> Option<Ending>
+    ensures { result ≡ numbered endings number }
 {
     match number {
-        0 => Some(Ending::FlushOnly),
-        1 => Some(Ending::ResponseEnd),
+        1 => Some(Ending::FlushOnly),
+        2 => Some(Ending::ResponseEnd),
         _ => None,
     }
 }
@@ -253,7 +253,7 @@ fn ask(
 
 /// Leaves: the flush that ends the conversation is to be pulled. `Done`, `NotNow` if the client cannot ask, or `NoHandle`.
 #[unsafe(no_mangle)]
-pub extern "C" fn gitwire_client_leave(alloc: Global, client: &mut GitwireClient) -> u8
+pub extern "C" fn gitwire_client_leave(alloc: Global, client: &mut GitwireClient) -> u32
     ensures { On (client_in client.old) (client_in client.new) (λ old new. LeavesAnswers old result new) (result ≡ what_number What.NoHandle) }
 {
     let Some(mut taken) = client.take(alloc) else {
@@ -264,7 +264,7 @@ pub extern "C" fn gitwire_client_leave(alloc: Global, client: &mut GitwireClient
     answer
 }
 
-fn leave(client: &mut Client<Global>) -> u8
+fn leave(client: &mut Client<Global>) -> u32
     ensures { LeavesAnswers client.old result client.new }
 {
     if !client.can_ask() {
@@ -334,7 +334,7 @@ pub extern "C" fn gitwire_client_caps(
     alloc: Global,
     client: &mut GitwireClient,
     caps: &mut GitwireCaps,
-) -> u8
+) -> u32
     ensures { Of (client_in client.old) (client_in client.new) (λ had. (result ≡ what_number What.Done) × CapsAnswers had caps.new)
         ((result ≡ what_number What.NoHandle) × (caps.new ≡ caps.old)) }
 {

@@ -33,9 +33,9 @@ pub struct GitwireEvent {
     /// How many bytes the object has.
     pub size: u64,
     /// The number of a [`What`].
-    pub kind: u8,
+    pub kind: u32,
     /// The number of an error, from 1 to 34.
-    pub fault: u8,
+    pub fault: u32,
     /// Whether there is a text: it may be empty.
     pub has_text: bool,
     /// Whether there is a size.
@@ -106,7 +106,7 @@ impl GitwireEvent {
     {
         GitwireEvent {
             offset: fault.offset,
-            fault: fault.kind.number(),
+            fault: u32::from(fault.kind.number()),
             ..GitwireEvent::none(used, What::Failed)
         }
     }

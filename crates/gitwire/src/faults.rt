@@ -8,7 +8,7 @@ use git_pkt::{Fault, Kind};
 /// Writes an error's name, such as `Truncated`, to the front of the buffer, and returns its length: 0 if no error has the number, or the
 /// buffer is too small.
 #[unsafe(no_mangle)]
-pub extern "C" fn gitwire_fault_name(fault: u8, room: &mut [u8]) -> usize
+pub extern "C" fn gitwire_fault_name(fault: u32, room: &mut [u8]) -> usize
     ensures { TellsName fault room.old result room.new }
 {
     let Some(kind) = kind_of(fault) else {
@@ -20,7 +20,7 @@ pub extern "C" fn gitwire_fault_name(fault: u8, room: &mut [u8]) -> usize
 /// Writes what users see of an error, such as `Truncated at 994`, to the front of the buffer, and returns its length: 0 if no error has the
 /// number, or the buffer is too small.
 #[unsafe(no_mangle)]
-pub extern "C" fn gitwire_fault_text(fault: u8, offset: u64, room: &mut [u8]) -> usize
+pub extern "C" fn gitwire_fault_text(fault: u32, offset: u64, room: &mut [u8]) -> usize
     ensures { TellsText fault offset room.old result room.new }
 {
     let Some(kind) = kind_of(fault) else {
@@ -31,7 +31,7 @@ pub extern "C" fn gitwire_fault_text(fault: u8, offset: u64, room: &mut [u8]) ->
 }
 
 /// The kind of error with this number.
-pub(crate) fn kind_of(number: u8) -> Option<Kind>
+pub(crate) fn kind_of(number: u32) -> Option<Kind>
     ensures { IsKindOf number result }
 {
     match number {

@@ -35,7 +35,7 @@ pub extern "C" fn gitwire_host_new(
     offer: GitwireOffer,
     limit: u32,
     advertise: bool,
-) -> u8
+) -> u32
     ensures { MakesHost offer limit advertise (host_in host.old) result (host_in host.new) }
 {
     let Some(meant) = host_meant(alloc, offer, limit, advertise) else {
@@ -94,7 +94,7 @@ fn feed(server: &mut HostServer<Global>, piece: &[u8]) -> GitwireAnswer
 
 /// The input ends here. `Done`; `NotNow` if the server expects no bytes, and nothing changed; or `NoHandle`.
 #[unsafe(no_mangle)]
-pub extern "C" fn gitwire_host_close(alloc: Global, host: &mut GitwireHost) -> u8
+pub extern "C" fn gitwire_host_close(alloc: Global, host: &mut GitwireHost) -> u32
     ensures { On (host_in host.old) (host_in host.new) (λ old new. ClosesAnswers old result new) (result ≡ what_number What.NoHandle) }
 {
     let Some(mut taken) = host.take(alloc) else {
@@ -105,14 +105,14 @@ pub extern "C" fn gitwire_host_close(alloc: Global, host: &mut GitwireHost) -> u
     answer
 }
 
-fn close(server: &mut HostServer<Global>) -> u8
+fn close(server: &mut HostServer<Global>) -> u32
     ensures { ClosesAnswers server.old result server.new }
 {
     done_where(server.close())
 }
 
 // What is reported for a call that does something or changes nothing.
-fn done_where(done: bool) -> u8
+fn done_where(done: bool) -> u32
     ensures { result ≡ done_where done }
 {
     if done {
@@ -179,7 +179,8 @@ fn show_asked(server: &HostServer<Global>) -> GitwireAnswer
 {
     match server.request() {
         Some(request) => {
-            GitwireAnswer::of_packet(0, number_of_command(request.command()), 0, What::Asked)
+            let command = u64::from(number_of_command(request.command()));
+            GitwireAnswer::of_packet(0, command, 0, What::Asked)
         }
         None => GitwireAnswer::of(What::Asked),
     }
@@ -212,7 +213,7 @@ fn show_end(outcome: Outcome) -> GitwireAnswer
 
 /// Accepts the request that came. `Done`; `NotNow` if none is `Asked`, and nothing changed; or `NoHandle`.
 #[unsafe(no_mangle)]
-pub extern "C" fn gitwire_host_accept(alloc: Global, host: &mut GitwireHost) -> u8
+pub extern "C" fn gitwire_host_accept(alloc: Global, host: &mut GitwireHost) -> u32
     ensures { On (host_in host.old) (host_in host.new) (λ old new. AcceptsAnswers old result new) (result ≡ what_number What.NoHandle) }
 {
     let Some(mut taken) = host.take(alloc) else {
@@ -223,7 +224,7 @@ pub extern "C" fn gitwire_host_accept(alloc: Global, host: &mut GitwireHost) -> 
     answer
 }
 
-fn accept(server: &mut HostServer<Global>) -> u8
+fn accept(server: &mut HostServer<Global>) -> u32
     ensures { AcceptsAnswers server.old result server.new }
 {
     done_where(server.accept())

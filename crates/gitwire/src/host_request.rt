@@ -1,12 +1,12 @@
 //! The request at hand of a host's server that C holds.
 
-ghost use Rattle.std.specs.Prelude.{◌≡◌, false, slice_get};
+ghost use Rattle.std.specs.Prelude.{◌≡◌, false};
 ghost use Rattle.git_host.specs.HostLookups.{asked_in, request_of};
 ghost use Rattle.gitwire.specs.Answers.{answering};
 ghost use Rattle.gitwire.specs.Calls.{HasNone, Of};
 ghost use Rattle.gitwire.specs.Handles.{host_in};
-ghost use Rattle.gitwire.specs.HostAnswers.{PutsAt, has_flag_at, telling_command, telling_given_at};
-ghost use Rattle.gitwire.specs.Numbers.{item_lists};
+ghost use Rattle.gitwire.specs.HostAnswers.{PutsAt, command_shown, has_flag_at, telling_given_at};
+ghost use Rattle.gitwire.specs.Numbers.{item_lists, numbered};
 ghost use Rattle.gitwire.specs.RequestAnswers.{PutsFrom, is_set, telling_which};
 
 use crate::answer::{GitwireAnswer, What};
@@ -17,33 +17,32 @@ use crate::request_items::{put_name_if_any, put_text_if_any};
 use git_host::{HostServer, RequestAtHand};
 use std::alloc::Global;
 
-/// The command of the request that is asked about or answered: `Done`, and `offset` is its number; `Nothing` if there is none; or
-/// `NoHandle`.
+/// The number of the command of the request that is asked about or answered; 0 if there is none, and for a handle without a server.
 #[unsafe(no_mangle)]
-pub extern "C" fn gitwire_host_command(alloc: Global, host: &mut GitwireHost) -> GitwireAnswer
-    ensures { Of (host_in host.old) (host_in host.new) (λ had. result ≡ telling_command (request_of had)) (result ≡ answering What.NoHandle) }
+pub extern "C" fn gitwire_host_command(alloc: Global, host: &mut GitwireHost) -> u32
+    ensures { Of (host_in host.old) (host_in host.new) (λ had. result ≡ command_shown (request_of had)) (result ≡ 0) }
 {
     let Some(taken) = host.take(alloc) else {
-        return GitwireAnswer::of(What::NoHandle);
+        return 0;
     };
     let answer = command(&taken.inner);
     host.put(taken);
     answer
 }
 
-fn command(server: &HostServer<Global>) -> GitwireAnswer
-    ensures { result ≡ telling_command (request_of server.now) }
+fn command(server: &HostServer<Global>) -> u32
+    ensures { result ≡ command_shown (request_of server.now) }
 {
     match server.request() {
-        Some(request) => tell_number(number_of_command(request.command())),
-        None => GitwireAnswer::of(What::Nothing),
+        Some(request) => number_of_command(request.command()),
+        None => 0,
     }
 }
 
 /// Whether the request that is asked about or answered has the flag of this number, from `SYMREFS` to `WAIT_FOR_DONE`. For another number,
 /// and without a request, it is false.
 #[unsafe(no_mangle)]
-pub extern "C" fn gitwire_host_flag(alloc: Global, host: &mut GitwireHost, flag: u8) -> bool
+pub extern "C" fn gitwire_host_flag(alloc: Global, host: &mut GitwireHost, flag: u32) -> bool
     ensures { Of (host_in host.old) (host_in host.new) (λ had. result ≡ has_flag_at flag (request_of had)) (result ≡ false) }
 {
     let Some(taken) = host.take(alloc) else {
@@ -54,7 +53,7 @@ pub extern "C" fn gitwire_host_flag(alloc: Global, host: &mut GitwireHost, flag:
     answer
 }
 
-fn has_flag(server: &HostServer<Global>, number: u8) -> bool
+fn has_flag(server: &HostServer<Global>, number: u32) -> bool
     ensures { result ≡ has_flag_at number (request_of server.now) }
 {
     match server.request() {
@@ -63,7 +62,7 @@ fn has_flag(server: &HostServer<Global>, number: u8) -> bool
     }
 }
 
-fn is_set(request: &RequestAtHand<'_, Global>, number: u8) -> bool
+fn is_set(request: &RequestAtHand<'_, Global>, number: u32) -> bool
     ensures { result ≡ is_set number (asked_in request.now) }
 {
     match flag_numbered(number) {
@@ -78,7 +77,7 @@ fn is_set(request: &RequestAtHand<'_, Global>, number: u8) -> bool
 pub extern "C" fn gitwire_host_number(
     alloc: Global,
     host: &mut GitwireHost,
-    which: u8,
+    which: u32,
 ) -> GitwireAnswer
     ensures { Of (host_in host.old) (host_in host.new) (λ had. result ≡ telling_given_at which (request_of had)) (result ≡ answering What.NoHandle) }
 {
@@ -90,7 +89,7 @@ pub extern "C" fn gitwire_host_number(
     answer
 }
 
-fn number(server: &HostServer<Global>, which: u8) -> GitwireAnswer
+fn number(server: &HostServer<Global>, which: u32) -> GitwireAnswer
     ensures { result ≡ telling_given_at which (request_of server.now) }
 {
     match server.request() {
@@ -99,7 +98,7 @@ fn number(server: &HostServer<Global>, which: u8) -> GitwireAnswer
     }
 }
 
-fn given_number(request: &RequestAtHand<'_, Global>, which: u8) -> GitwireAnswer
+fn given_number(request: &RequestAtHand<'_, Global>, which: u32) -> GitwireAnswer
     ensures { result ≡ telling_which which (asked_in request.now) }
 {
     let Some(which) = Given::numbered(which) else {
@@ -122,11 +121,11 @@ fn given_number(request: &RequestAtHand<'_, Global>, which: u8) -> GitwireAnswer
 pub extern "C" fn gitwire_host_item(
     alloc: Global,
     host: &mut GitwireHost,
-    list: u8,
+    list: u32,
     index: usize,
     room: &mut [u8],
 ) -> GitwireAnswer
-    ensures { Of (host_in host.old) (host_in host.new) (λ had. PutsAt (slice_get item_lists list) index (request_of had) room.old result room.new)
+    ensures { Of (host_in host.old) (host_in host.new) (λ had. PutsAt (numbered item_lists list) index (request_of had) room.old result room.new)
         (HasNone room.old result room.new) }
 {
     let Some(taken) = host.take(alloc) else {
@@ -137,8 +136,8 @@ pub extern "C" fn gitwire_host_item(
     answer
 }
 
-fn item(server: &HostServer<Global>, list: u8, index: usize, room: &mut [u8]) -> GitwireAnswer
-    ensures { PutsAt (slice_get item_lists list) index (request_of server.now) room.old result room.new }
+fn item(server: &HostServer<Global>, list: u32, index: usize, room: &mut [u8]) -> GitwireAnswer
+    ensures { PutsAt (numbered item_lists list) index (request_of server.now) room.old result room.new }
 {
     match server.request() {
         Some(request) => put_item(&request, list, index, room),
@@ -148,11 +147,11 @@ fn item(server: &HostServer<Global>, list: u8, index: usize, room: &mut [u8]) ->
 
 fn put_item(
     request: &RequestAtHand<'_, Global>,
-    list: u8,
+    list: u32,
     index: usize,
     room: &mut [u8],
 ) -> GitwireAnswer
-    ensures { PutsFrom (slice_get item_lists list) (asked_in request.now) index room.old result room.new }
+    ensures { PutsFrom (numbered item_lists list) (asked_in request.now) index room.old result room.new }
 {
     let Some(list) = ItemList::numbered(list) else {
         return GitwireAnswer::of(What::BadValue);

@@ -10,7 +10,7 @@ use git_client::EventKind;
 /// Writes the name of a kind of what is reported, such as `NeedInput`, to the front of the buffer, and returns its length: 0 if no kind has
 /// the number, or the buffer is too small.
 #[unsafe(no_mangle)]
-pub extern "C" fn gitwire_kind_name(kind: u8, room: &mut [u8]) -> usize
+pub extern "C" fn gitwire_kind_name(kind: u32, room: &mut [u8]) -> usize
     ensures { TellsKind kind room.old result room.new }
 {
     let Some(what) = what_of(kind) else {
@@ -20,7 +20,7 @@ pub extern "C" fn gitwire_kind_name(kind: u8, room: &mut [u8]) -> usize
 }
 
 /// The kind with this number.
-fn what_of(number: u8) -> Option<What>
+fn what_of(number: u32) -> Option<What>
     ensures { IsWhatOf number result }
 {
     match number {

@@ -29,7 +29,7 @@ use std::alloc::Global;
 pub extern "C" fn gitwire_put_reference(
     alloc: Global,
     writer: &mut GitwireWriter,
-    format: u8,
+    format: u32,
     id: &[u8],
     name: &[u8],
     target: &[u8],
@@ -54,7 +54,7 @@ pub extern "C" fn gitwire_put_reference(
 pub extern "C" fn gitwire_put_ack(
     alloc: Global,
     writer: &mut GitwireWriter,
-    format: u8,
+    format: u32,
     id: &[u8],
     room: &mut [u8],
 ) -> GitwireAnswer
@@ -75,7 +75,7 @@ pub extern "C" fn gitwire_put_ack(
 pub extern "C" fn gitwire_put_boundary(
     alloc: Global,
     writer: &mut GitwireWriter,
-    format: u8,
+    format: u32,
     shallow: bool,
     id: &[u8],
     room: &mut [u8],
@@ -98,7 +98,7 @@ pub extern "C" fn gitwire_put_boundary(
 pub extern "C" fn gitwire_put_wanted(
     alloc: Global,
     writer: &mut GitwireWriter,
-    format: u8,
+    format: u32,
     id: &[u8],
     name: &[u8],
     room: &mut [u8],
@@ -121,7 +121,7 @@ pub extern "C" fn gitwire_put_wanted(
 pub extern "C" fn gitwire_put_info(
     alloc: Global,
     writer: &mut GitwireWriter,
-    format: u8,
+    format: u32,
     id: &[u8],
     has_size: bool,
     size: u64,
@@ -140,7 +140,7 @@ pub extern "C" fn gitwire_put_info(
 
 fn make_reference(
     hold: &mut Hold,
-    format: u8,
+    format: u32,
     id: &[u8],
     name: &[u8],
     target: &[u8],
@@ -165,7 +165,7 @@ fn make_reference(
     Ok(())
 }
 
-fn make_ack(hold: &mut Hold, format: u8, id: &[u8]) -> Result<(), Unwritten>
+fn make_ack(hold: &mut Hold, format: u32, id: &[u8]) -> Result<(), Unwritten>
     ensures { Makes (MeansAck format id.now) result hold.new.items }
 {
     let id = read_id(format, id)?;
@@ -173,7 +173,7 @@ fn make_ack(hold: &mut Hold, format: u8, id: &[u8]) -> Result<(), Unwritten>
     Ok(())
 }
 
-fn make_boundary(hold: &mut Hold, format: u8, shallow: bool, id: &[u8]) -> Result<(), Unwritten>
+fn make_boundary(hold: &mut Hold, format: u32, shallow: bool, id: &[u8]) -> Result<(), Unwritten>
     ensures { Makes (MeansBoundary format shallow id.now) result hold.new.items }
 {
     let id = read_id(format, id)?;
@@ -182,7 +182,7 @@ fn make_boundary(hold: &mut Hold, format: u8, shallow: bool, id: &[u8]) -> Resul
     Ok(())
 }
 
-fn make_wanted(hold: &mut Hold, format: u8, id: &[u8], name: &[u8]) -> Result<(), Unwritten>
+fn make_wanted(hold: &mut Hold, format: u32, id: &[u8], name: &[u8]) -> Result<(), Unwritten>
     ensures { Makes (MeansWanted format id.now name.now) result hold.new.items }
 {
     let id = read_id(format, id)?;
@@ -197,7 +197,7 @@ fn make_wanted(hold: &mut Hold, format: u8, id: &[u8], name: &[u8]) -> Result<()
 
 fn make_info(
     hold: &mut Hold,
-    format: u8,
+    format: u32,
     id: &[u8],
     has_size: bool,
     size: u64,
@@ -221,7 +221,7 @@ pub(crate) fn boundary_of(shallow: bool, id: Oid) -> Boundary
 }
 
 /// The object that the digits name, in the format of this number.
-fn read_id(number: u8, digits: &[u8]) -> Result<Oid, Unwritten>
+fn read_id(number: u32, digits: &[u8]) -> Result<Oid, Unwritten>
     ensures { Names number digits.now result }
 {
     let Some(format) = format_numbered(number) else {

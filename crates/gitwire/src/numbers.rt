@@ -1,73 +1,73 @@
-//! Names for the numbers that C passes.
+//! Names for the numbers that C passes: each kind begins at 1, and 0 means nothing.
 
-ghost use Rattle.std.specs.Prelude.{◌≡◌, Some, slice_get};
-ghost use Rattle.gitwire.specs.Numbers.{commands, flags, formats, format_number, command_number, item_lists, given_numbers};
+ghost use Rattle.std.specs.Prelude.{◌≡◌, Some};
+ghost use Rattle.gitwire.specs.Numbers.{commands, flags, formats, format_number, command_number, item_lists, given_numbers, numbered};
 
 use git_msg::{Command, Flag};
 use git_names::Format;
 
 /// The format that C means by this number; none if there is no such format.
-pub(crate) fn format_numbered(number: u8) -> Option<Format>
-    ensures { result ≡ slice_get formats number }
+pub(crate) fn format_numbered(number: u32) -> Option<Format>
+    ensures { result ≡ numbered formats number }
 {
     match number {
-        0 => Some(Format::Sha1),
-        1 => Some(Format::Sha256),
+        1 => Some(Format::Sha1),
+        2 => Some(Format::Sha256),
         _ => None,
     }
 }
 
 /// The number of a format in C.
-pub(crate) fn number_of_format(format: Format) -> u64
+pub(crate) fn number_of_format(format: Format) -> u32
     ensures value { result ≡ format_number format }
-    ensures place { slice_get formats result ≡ Some format }
+    ensures place { numbered formats result ≡ Some format }
 {
     match format {
-        Format::Sha1 => 0,
-        Format::Sha256 => 1,
+        Format::Sha1 => 1,
+        Format::Sha256 => 2,
     }
 }
 
 /// The command that C means by this number; none if there is no such command.
-pub(crate) fn command_numbered(number: u8) -> Option<Command>
-    ensures { result ≡ slice_get commands number }
+pub(crate) fn command_numbered(number: u32) -> Option<Command>
+    ensures { result ≡ numbered commands number }
 {
     match number {
-        0 => Some(Command::LsRefs),
-        1 => Some(Command::Fetch),
-        2 => Some(Command::ObjectInfo),
+        1 => Some(Command::LsRefs),
+        2 => Some(Command::Fetch),
+        3 => Some(Command::ObjectInfo),
         _ => None,
     }
 }
 
 /// The number of a command in C.
-pub(crate) fn number_of_command(command: Command) -> u64
+pub(crate) fn number_of_command(command: Command) -> u32
     ensures value { result ≡ command_number command }
-    ensures place { slice_get commands result ≡ Some command }
+    ensures place { numbered commands result ≡ Some command }
 {
     match command {
-        Command::LsRefs => 0,
-        Command::Fetch => 1,
-        Command::ObjectInfo => 2,
+        Command::LsRefs => 1,
+        Command::Fetch => 2,
+        Command::ObjectInfo => 3,
     }
 }
 
 /// The flag that C means by this number; none if there is no such flag.
-pub(crate) fn flag_numbered(number: u8) -> Option<Flag>
-    ensures { result ≡ slice_get flags number }
+pub(crate) fn flag_numbered(number: u32) -> Option<Flag>
+    ensures { result ≡ numbered flags number }
 {
     match number {
-        0 => Some(Flag::Symrefs),
-        1 => Some(Flag::Peel),
-        2 => Some(Flag::Done),
-        3 => Some(Flag::ThinPack),
-        4 => Some(Flag::NoProgress),
-        5 => Some(Flag::IncludeTag),
-        6 => Some(Flag::OfsDelta),
-        7 => Some(Flag::DeepenRelative),
-        8 => Some(Flag::Size),
-        9 => Some(Flag::Unborn),
-        10 => Some(Flag::WaitForDone),
+        1 => Some(Flag::Symrefs),
+        2 => Some(Flag::Peel),
+        3 => Some(Flag::Done),
+        4 => Some(Flag::ThinPack),
+        5 => Some(Flag::NoProgress),
+        6 => Some(Flag::IncludeTag),
+        7 => Some(Flag::OfsDelta),
+        8 => Some(Flag::DeepenRelative),
+        9 => Some(Flag::Size),
+        10 => Some(Flag::Unborn),
+        11 => Some(Flag::WaitForDone),
         _ => None,
     }
 }
@@ -81,12 +81,12 @@ pub(crate) enum Given {
 
 impl Given {
     /// The one with this number.
-    pub(crate) fn numbered(number: u8) -> Option<Given>
-        ensures { result ≡ slice_get given_numbers number }
+    pub(crate) fn numbered(number: u32) -> Option<Given>
+        ensures { result ≡ numbered given_numbers number }
     {
         match number {
-            0 => Some(Given::Deepen),
-            1 => Some(Given::DeepenSince),
+            1 => Some(Given::Deepen),
+            2 => Some(Given::DeepenSince),
             _ => None,
         }
     }
@@ -107,18 +107,18 @@ pub(crate) enum ItemList {
 
 impl ItemList {
     /// The list with this number.
-    pub(crate) fn numbered(number: u8) -> Option<ItemList>
-        ensures { result ≡ slice_get item_lists number }
+    pub(crate) fn numbered(number: u32) -> Option<ItemList>
+        ensures { result ≡ numbered item_lists number }
     {
         match number {
-            0 => Some(ItemList::RefPrefixes),
-            1 => Some(ItemList::Wants),
-            2 => Some(ItemList::Haves),
-            3 => Some(ItemList::Shallows),
-            4 => Some(ItemList::DeepenNots),
-            5 => Some(ItemList::WantRefs),
-            6 => Some(ItemList::Oids),
-            7 => Some(ItemList::Filters),
+            1 => Some(ItemList::RefPrefixes),
+            2 => Some(ItemList::Wants),
+            3 => Some(ItemList::Haves),
+            4 => Some(ItemList::Shallows),
+            5 => Some(ItemList::DeepenNots),
+            6 => Some(ItemList::WantRefs),
+            7 => Some(ItemList::Oids),
+            8 => Some(ItemList::Filters),
             _ => None,
         }
     }

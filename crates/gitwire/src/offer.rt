@@ -37,7 +37,7 @@ pub struct GitwireOffer {
     /// The sum of the features that are advertised, [`UNBORN`] to [`FILTER`].
     pub features: u32,
     /// The number of the format of object names: `SHA1` or `SHA256`.
-    pub format: u8,
+    pub format: u32,
 }
 
 impl GitwireOffer {

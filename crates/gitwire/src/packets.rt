@@ -20,7 +20,7 @@ pub(crate) const LONGEST_PAYLOAD: usize = 65_516;
 /// Makes the handle's reader a new one, of a stream that starts at offset 0. What it had before is freed. `Done`; or
 /// `OutOfMemory`, and the handle has none.
 #[unsafe(no_mangle)]
-pub extern "C" fn gitwire_packet_reader_new(alloc: Global, reader: &mut GitwirePacketReader) -> u8
+pub extern "C" fn gitwire_packet_reader_new(alloc: Global, reader: &mut GitwirePacketReader) -> u32
     ensures { Begins result (packet_reader_in reader.new) }
 {
     *reader = GitwirePacketReader::none(alloc);

@@ -1,10 +1,10 @@
 //! A request that C holds.
 
-ghost use Rattle.std.specs.Prelude.{◌≡◌, MatchOption, None, false, slice_get};
+ghost use Rattle.std.specs.Prelude.{◌≡◌, MatchOption, None, false};
 ghost use Rattle.git_msg.specs.Machine.HeldRequest.{asked_of, command_of, format_of};
 ghost use Rattle.gitwire.specs.Calls.{HasNone, Of, On};
 ghost use Rattle.gitwire.specs.Handles.{request_in};
-ghost use Rattle.gitwire.specs.Numbers.{command_number, format_number, item_lists};
+ghost use Rattle.gitwire.specs.Numbers.{command_number, format_number, item_lists, numbered};
 ghost use Rattle.gitwire.specs.RequestAnswers.{AddsLine, AddsAnswers, EndsAnswers, Makes, MeanNoRequest, MeanRequest, PutsFrom};
 ghost use Rattle.gitwire.specs.Answers.{answering};
 ghost use Rattle.gitwire.specs.RequestAnswers.{is_set, telling_number, telling_result, telling_which};
@@ -31,10 +31,10 @@ pub(crate) const MOST_LIMIT: u32 = 1_073_741_824;
 pub extern "C" fn gitwire_request_new(
     alloc: Global,
     request: &mut GitwireRequest,
-    command: u8,
-    format: u8,
+    command: u32,
+    format: u32,
     limit: u32,
-) -> u8
+) -> u32
     ensures { Makes command format limit (request_in request.old) result (request_in request.new) }
 {
     let Some(meant) = request_meant(alloc, command, format, limit) else {
@@ -48,7 +48,7 @@ pub extern "C" fn gitwire_request_new(
 }
 
 /// The empty request that these values mean; none if a number means nothing or the limit is above the maximum.
-fn request_meant(alloc: Global, command: u8, format: u8, limit: u32) -> Option<Request<Global>>
+fn request_meant(alloc: Global, command: u32, format: u32, limit: u32) -> Option<Request<Global>>
     ensures { MatchOption result (MeanNoRequest command format limit) (MeanRequest command format limit) }
 {
     let Some(command) = command_numbered(command) else {
@@ -126,36 +126,28 @@ fn judge_end(request: &Request<Global>) -> GitwireAnswer
     tell(request.check_end())
 }
 
-/// The request's command: `Done`, and `offset` is its number; or `NoHandle`.
+/// The number of the request's command; 0 for a handle without a request.
 #[unsafe(no_mangle)]
-pub extern "C" fn gitwire_request_command(
-    alloc: Global,
-    request: &mut GitwireRequest,
-) -> GitwireAnswer
-    ensures { Of (request_in request.old) (request_in request.new) (λ had. result ≡ telling_number (command_number (command_of had)))
-        (result ≡ answering What.NoHandle) }
+pub extern "C" fn gitwire_request_command(alloc: Global, request: &mut GitwireRequest) -> u32
+    ensures { Of (request_in request.old) (request_in request.new) (λ had. result ≡ command_number (command_of had)) (result ≡ 0) }
 {
     let Some(taken) = request.take(alloc) else {
-        return GitwireAnswer::of(What::NoHandle);
+        return 0;
     };
-    let answer = tell_number(number_of_command(taken.inner.command()));
+    let answer = number_of_command(taken.inner.command());
     request.put(taken);
     answer
 }
 
-/// The format of the request's object names: `Done`, and `offset` is its number; or `NoHandle`.
+/// The number of the format of the request's object names; 0 for a handle without a request.
 #[unsafe(no_mangle)]
-pub extern "C" fn gitwire_request_format(
-    alloc: Global,
-    request: &mut GitwireRequest,
-) -> GitwireAnswer
-    ensures { Of (request_in request.old) (request_in request.new) (λ had. result ≡ telling_number (format_number (format_of had)))
-        (result ≡ answering What.NoHandle) }
+pub extern "C" fn gitwire_request_format(alloc: Global, request: &mut GitwireRequest) -> u32
+    ensures { Of (request_in request.old) (request_in request.new) (λ had. result ≡ format_number (format_of had)) (result ≡ 0) }
 {
     let Some(taken) = request.take(alloc) else {
-        return GitwireAnswer::of(What::NoHandle);
+        return 0;
     };
-    let answer = tell_number(number_of_format(taken.inner.format()));
+    let answer = number_of_format(taken.inner.format());
     request.put(taken);
     answer
 }
@@ -172,7 +164,7 @@ pub(crate) fn tell_number(number: u64) -> GitwireAnswer
 pub extern "C" fn gitwire_request_flag(
     alloc: Global,
     request: &mut GitwireRequest,
-    flag: u8,
+    flag: u32,
 ) -> bool
     ensures { Of (request_in request.old) (request_in request.new) (λ had. result ≡ is_set flag (asked_of had)) (result ≡ false) }
 {
@@ -184,7 +176,7 @@ pub extern "C" fn gitwire_request_flag(
     answer
 }
 
-fn has_flag(request: &Request<Global>, number: u8) -> bool
+fn has_flag(request: &Request<Global>, number: u32) -> bool
     ensures { result ≡ is_set number (asked_of request.now) }
 {
     match flag_numbered(number) {
@@ -199,7 +191,7 @@ fn has_flag(request: &Request<Global>, number: u8) -> bool
 pub extern "C" fn gitwire_request_number(
     alloc: Global,
     request: &mut GitwireRequest,
-    which: u8,
+    which: u32,
 ) -> GitwireAnswer
     ensures { Of (request_in request.old) (request_in request.new) (λ had. result ≡ telling_which which (asked_of had)) (result ≡ answering What.NoHandle) }
 {
@@ -211,7 +203,7 @@ pub extern "C" fn gitwire_request_number(
     answer
 }
 
-fn given_number(request: &Request<Global>, which: u8) -> GitwireAnswer
+fn given_number(request: &Request<Global>, which: u32) -> GitwireAnswer
     ensures { result ≡ telling_which which (asked_of request.now) }
 {
     let Some(which) = Given::numbered(which) else {
@@ -233,11 +225,11 @@ fn given_number(request: &Request<Global>, which: u8) -> GitwireAnswer
 pub extern "C" fn gitwire_request_item(
     alloc: Global,
     request: &mut GitwireRequest,
-    list: u8,
+    list: u32,
     index: usize,
     room: &mut [u8],
 ) -> GitwireAnswer
-    ensures { Of (request_in request.old) (request_in request.new) (λ had. PutsFrom (slice_get item_lists list) (asked_of had) index room.old result room.new)
+    ensures { Of (request_in request.old) (request_in request.new) (λ had. PutsFrom (numbered item_lists list) (asked_of had) index room.old result room.new)
         (HasNone room.old result room.new) }
 {
     let Some(taken) = request.take(alloc) else {

@@ -1,10 +1,9 @@
 //! The items of a request's lists, on their way to a buffer of C.
 
-ghost use Rattle.std.specs.Prelude.{slice_get};
 ghost use Rattle.std.specs.Option.{option_copied, option_map};
 ghost use Rattle.git_names.specs.ObjectName.{hex_of};
 ghost use Rattle.git_msg.specs.Machine.HeldRequest.{asked_of};
-ghost use Rattle.gitwire.specs.Numbers.{item_lists};
+ghost use Rattle.gitwire.specs.Numbers.{item_lists, numbered};
 ghost use Rattle.gitwire.specs.RequestAnswers.{PutsFrom, PutsItem};
 
 use crate::answer::{GitwireAnswer, What};
@@ -17,11 +16,11 @@ use std::alloc::Global;
 /// Writes the item at an index of the list of this number to the front of the buffer.
 pub(crate) fn put_item(
     request: &Request<Global>,
-    list: u8,
+    list: u32,
     index: usize,
     room: &mut [u8],
 ) -> GitwireAnswer
-    ensures { PutsFrom (slice_get item_lists list) (asked_of request.now) index room.old result room.new }
+    ensures { PutsFrom (numbered item_lists list) (asked_of request.now) index room.old result room.new }
 {
     let Some(list) = ItemList::numbered(list) else {
         return GitwireAnswer::of(What::BadValue);

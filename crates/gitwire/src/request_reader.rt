@@ -24,7 +24,7 @@ pub extern "C" fn gitwire_request_reader_new(
     reader: &mut GitwireRequestReader,
     offer: GitwireOffer,
     limit: u32,
-) -> u8
+) -> u32
     ensures { MakesReader offer limit (request_reader_in reader.old) result (request_reader_in reader.new) }
 {
     let Some(meant) = reader_meant(alloc, offer, limit) else {

@@ -29,7 +29,7 @@ pub extern "C" fn gitwire_server_new(
     repository: &mut GitwireRepository,
     limit: u32,
     advertise: bool,
-) -> u8
+) -> u32
     ensures begins { BeginsOver (repository_in repository.old) limit advertise (server_in server.old) result (server_in server.new) }
     ensures stays { repository_in repository.new ≡ repository_in repository.old }
 {
@@ -47,7 +47,7 @@ fn begin(
     repo: &SharedRepo,
     limit: u32,
     advertise: bool,
-) -> u8
+) -> u32
     ensures { BeginsWithin repo.now limit advertise (server_in server.old) result (server_in server.new) }
 {
     if limit > MOST_KEPT {
@@ -108,7 +108,7 @@ fn feed(server: &mut Server<SharedRepo, Global>, piece: &[u8]) -> GitwireAnswer
 
 /// The input ends here. `Done`; `NotNow` if the server expects no bytes, and nothing changed; or `NoHandle`.
 #[unsafe(no_mangle)]
-pub extern "C" fn gitwire_server_close(alloc: Global, server: &mut GitwireServer) -> u8
+pub extern "C" fn gitwire_server_close(alloc: Global, server: &mut GitwireServer) -> u32
     ensures { On (server_in server.old) (server_in server.new) (λ old new. ClosesAnswers old result new) (result ≡ what_number What.NoHandle) }
 {
     let Some(mut taken) = server.take(alloc) else {
@@ -119,7 +119,7 @@ pub extern "C" fn gitwire_server_close(alloc: Global, server: &mut GitwireServer
     answer
 }
 
-fn close(server: &mut Server<SharedRepo, Global>) -> u8
+fn close(server: &mut Server<SharedRepo, Global>) -> u32
     ensures { ClosesAnswers server.old result server.new }
 {
     if !server.wants_input() {

@@ -25,7 +25,7 @@ pub extern "C" fn gitwire_version_text(text: &mut GitwireText)
 /// The name of the error with this number, a NUL, its sentence, which states what it means and what to look at, and a NUL. Both are
 /// empty if no error has the number.
 #[unsafe(no_mangle)]
-pub extern "C" fn gitwire_fault_words(fault: u8, text: &mut GitwireText)
+pub extern "C" fn gitwire_fault_words(fault: u32, text: &mut GitwireText)
     ensures { HasWords fault text.new.bytes.now }
 {
     let bytes: &'static [u8] = match kind_of(fault) {

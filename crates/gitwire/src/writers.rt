@@ -25,7 +25,7 @@ use std::alloc::Global;
 pub extern "C" fn gitwire_put_packet(
     alloc: Global,
     writer: &mut GitwireWriter,
-    kind: u8,
+    kind: u32,
     payload: &[u8],
     room: &mut [u8],
 ) -> GitwireAnswer
@@ -47,7 +47,7 @@ pub extern "C" fn gitwire_put_packet(
 pub extern "C" fn gitwire_put_band(
     alloc: Global,
     writer: &mut GitwireWriter,
-    band: u8,
+    band: u32,
     bytes: &[u8],
     room: &mut [u8],
 ) -> GitwireAnswer
@@ -132,7 +132,7 @@ fn advertise(hold: &mut Hold, offer: GitwireOffer, room: &mut [u8]) -> GitwireAn
     fill(hold.as_slice(), room)
 }
 
-fn make_packet(hold: &mut Hold, kind: u8, payload: &[u8]) -> Result<(), Unwritten>
+fn make_packet(hold: &mut Hold, kind: u32, payload: &[u8]) -> Result<(), Unwritten>
     ensures { Makes (MeansPacket kind payload.now) result hold.new.items }
 {
     let packet = match (kind, payload) {
@@ -149,7 +149,7 @@ fn make_packet(hold: &mut Hold, kind: u8, payload: &[u8]) -> Result<(), Unwritte
     Ok(())
 }
 
-fn make_band(hold: &mut Hold, band: u8, bytes: &[u8]) -> Result<(), Unwritten>
+fn make_band(hold: &mut Hold, band: u32, bytes: &[u8]) -> Result<(), Unwritten>
     ensures { Makes (MeansBand band bytes.now) result hold.new.items }
 {
     let Some(band) = band_numbered(band) else {
@@ -162,7 +162,7 @@ fn make_band(hold: &mut Hold, band: u8, bytes: &[u8]) -> Result<(), Unwritten>
     Ok(())
 }
 
-fn band_numbered(number: u8) -> Option<Band>
+fn band_numbered(number: u32) -> Option<Band>
     ensures { MatchOption result ((band : SideBand) → number ≢ byte_of band) (λ band. number ≡ byte_of band) }
 {
     match number {
