@@ -94,7 +94,10 @@ module _ (format : Format) (q : FetchAsked) where
             of_format = All-append (λ (id : ObjectName). id.format ≡ format) kept fresh of
                 (All-replicate (λ (id : ObjectName). id.format ≡ format) (length q.want_refs - length kept) (some_id format) refl);
           },
-          record { sound = sound_so format q (no_facts ids) (absent_more c.absent c.ended (no_facts ids)) refl refl (none_sound format q ids); answer = c.answer },
+          record {
+            sound = sound_so format q (no_facts ids) (absent_more c.absent c.ended (no_facts ids)) refl refl (none_sound format q ids);
+            answer = c.answer;
+          },
         );
       }
 
