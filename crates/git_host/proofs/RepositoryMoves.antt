@@ -303,9 +303,9 @@ with_packs repo (q ∷ qs) (f ∷ fs) all packs =
 with_packs repo [] (f ∷ fs) all packs = absurd all
 with_packs repo (q ∷ qs) [] all packs = absurd all
 
--- ---- what was reported, and how far the store's counter says
+-- ---- what was reported, and how far the store's counter states
 
--- each request but the last was reported on as the repository answers, and the last as far as so many replies; the store's counter says as
+-- each request but the last was reported on as the repository answers, and the last as far as so many replies; the store's counter states as
 -- much where it received that request
 pub record UpToLast (repo : Repository) (received : Bool) (at : ℕ) (named : Bool) (asked : List Asked) (facts : List Facts) : Type 0 where
   pub earlier : List Asked

@@ -1,4 +1,4 @@
--- A session over a store that answers as a repository does: at each move what was reported has come as far as the store's counter says.
+-- A session over a store that answers as a repository does: at each move what was reported has come as far as the store's counter states.
 use Rattle.std.proofs.Common.{arith, ◌≡◌, ℕ, Bool, true, false, List, [], ◌∷◌, ◌++◌, length, Some}
 use Rattle.std.proofs.Common.{refl, sym, ap, ◌∙◌, append_assoc, append-nil, length-append, subst, inl, inr}
 use Rattle.git_pkt.specs.Packets.{Pkt}
