@@ -17,6 +17,7 @@ use Rattle.git_host.specs.FetchFacts.{AreSoundFacts, FetchFacts, before_pack, no
 use Rattle.git_host.specs.FetchPlaces.{StandsAt, asked_of as fetch_of, format_of as fetch_format, is_before_pack, is_pack, place_by, step_at}
 use Rattle.git_host.specs.FetchPlaces.{step_of as fetch_step}
 use Rattle.git_host.specs.ReferencesPlaces.{IsReferencesAnswerOf, ReferencesFacts, RepresentsReferences, StandsAtReferences, no_references}
+use Rattle.git_host.specs.ReferencesPlaces.{with_references_end}
 use Rattle.git_host.specs.SizesPlaces.{Asks, AtObject, IsSizesAnswerOf, RepresentsSizes, StandsAtSizes, size_line, sizes_asked}
 use Rattle.git_host.specs.HostSessions.{Facts, IsAnswerBy, IsFront, IsFrontBy, IsSoFar, nothing_for, of_fetch, of_references, of_sizes}
 use Rattle.git_host.specs.HostAnswers.{FailsBy, FailsFetch, Terms, IsAnswering, IsAskedFor, IsCut, asks_wanted, cut_where, found_ids}
@@ -41,7 +42,7 @@ use Rattle.git_host.specs.declared.host_answer.HostAnswer.TheVariants.{Admission
 use Rattle.git_host.proofs.FetchFronts.{absent_more, completes, have_fits, ready_fits, shallow_fits}
 use Rattle.git_host.proofs.FetchMoves.{begins, none_sound, sound_so}
 use Rattle.git_host.proofs.HostAnswerMoves.{all_found, fetch_gives, gives_same}
-use Rattle.git_host.proofs.ReferencesMoves.{after_refs, first_entries}
+use Rattle.git_host.proofs.ReferencesMoves.{after_refs, first_entries, sound_to_the_end}
 use Rattle.git_host.proofs.SizesMoves.{after_size, after_size_header, size_there}
 
 no_more : {X : Type 0} (xs : List X) → IsFront xs xs
@@ -68,7 +69,7 @@ module _ (format : Format) (q : FetchAsked) where
       let place = place_by (negotiates q) in
       let c = completes place q (no_facts ids) [] count (no_loss (negotiates q)) (begins q ids place refl) in
       record {
-        later = of_fetch (record { wants = all_there q.wants; found = map Some ids }) (absent_more c.absent (no_facts ids));
+        later = of_fetch (record { wants = all_there q.wants; found = map Some ids }) (absent_more c.absent c.ended (no_facts ids));
         grows = (
           record {
             wants = wants;
@@ -78,6 +79,7 @@ module _ (format : Format) (q : FetchAsked) where
             has = (c.absent, refl);
             ready = λ is. absurd (cc);
             boundary = ([], refl);
+            boundary_ended = λ is. absurd (cc);
             wanted = (fresh, refl);
             pack = ([], refl);
             progress = ([], refl);
@@ -92,7 +94,10 @@ module _ (format : Format) (q : FetchAsked) where
             of_format = All-append (λ (id : ObjectName). id.format ≡ format) kept fresh of
                 (All-replicate (λ (id : ObjectName). id.format ≡ format) (length q.want_refs - length kept) (some_id format) refl);
           },
-          record { sound = sound_so format q (no_facts ids) (absent_more c.absent (no_facts ids)) refl refl (none_sound format q ids); answer = c.answer },
+          record {
+            sound = sound_so format q (no_facts ids) (absent_more c.absent c.ended (no_facts ids)) refl refl (none_sound format q ids);
+            answer = c.answer;
+          },
         );
       }
 
@@ -147,20 +152,21 @@ module _ (format : Format) (q : FetchAsked) (a : AdmissionFacts) (t : FetchFacts
   fetch_front place unlost stands =
       let c = completes place q t front admitted.all unlost stands in
       record {
-        later = of_fetch a (absent_more c.absent t);
+        later = of_fetch a (absent_more c.absent c.ended t);
         grows = (
           record { wants = no_more a.wants; found = no_more a.found },
           record {
             has = (c.absent, refl);
             ready = λ is. is;
             boundary = no_more t.boundary;
+            boundary_ended = c.grows;
             wanted = no_more t.wanted;
             pack = no_more t.pack;
             progress = no_more t.progress;
           },
         );
         more = c.more;
-        answer = (admitted, record { sound = sound_so format q t (absent_more c.absent t) refl refl sound; answer = c.answer });
+        answer = (admitted, record { sound = sound_so format q t (absent_more c.absent c.ended t) refl refl sound; answer = c.answer });
       }
 
   fetch_so_far : (place : Place) → StandsAt place q t front → IsSoFar format (fetch q) (of_fetch a t) front
@@ -197,11 +203,18 @@ before_place AtLoss alone q t given is h = absurd (cc)
 -- ---- references
 
 refs_front : (place : ReferencesPlace) (format : Format) (q : LsRefsAsked) (t : ReferencesFacts) (last : Option Entry) (given : List Pkt)
-    → StandsAtReferences place format q t last given → (more : List Pkt) × IsReferencesAnswerOf format q t (given ++ more)
+    → StandsAtReferences place format q t last given → (more : List Pkt) × IsReferencesAnswerOf format q (with_references_end t) (given ++ more)
 refs_front First format q t last given h = (flush ∷ [], after_refs format q t last given (first_entries format q t last given h))
 refs_front Entries format q t last given h = (flush ∷ [], after_refs format q t last given h.1)
 refs_front AfterUnborn format q t last given h = (flush ∷ [], after_refs format q t last given h.1)
-refs_front AllReferences format q t last given h = ([], subst (IsReferencesAnswerOf format q t) (sym (append-nil given)) h)
+refs_front AllReferences format q t last given h = (
+  [],
+  subst (IsReferencesAnswerOf format q (with_references_end t)) (sym (append-nil given)) (record {
+    sound = sound_to_the_end format t h.sound;
+    ended = refl;
+    packets_are = h.packets_are;
+  }),
+)
 
 -- ---- sizes
 
@@ -256,7 +269,7 @@ sizes_complete AllSizes q sizes given h = record {
 whole_front : (format : Format) (q : Asked) (f : Facts) (front : List Pkt) → IsAnswerBy whole format q f front → IsFrontBy format q f front
 whole_front format (ls_refs q) (of_references t) front h = record {
   later = of_references t;
-  grows = record { unborn = λ target there. there; refs = no_more t.refs };
+  grows = record { unborn = λ target there. there; refs = no_more t.refs; ended = λ is. is };
   more = [];
   answer = subst (IsReferencesAnswerOf format q t) (sym (append-nil front)) h;
 }
@@ -268,6 +281,7 @@ whole_front format (fetch q) (of_fetch a t) front h = record {
       has = no_more t.has;
       ready = λ is. is;
       boundary = no_more t.boundary;
+      boundary_ended = λ is. is;
       wanted = no_more t.wanted;
       pack = no_more t.pack;
       progress = no_more t.progress;
@@ -302,10 +316,10 @@ module _ {A : Type 0} where
   references_front answer format q t front same h =
       let (more, is) = refs_front answer.place answer.format q t answer.last front h.stands in
       record {
-        later = of_references t;
-        grows = record { unborn = λ target there. there; refs = no_more t.refs };
+        later = of_references (with_references_end t);
+        grows = record { unborn = λ target there. there; refs = no_more t.refs; ended = λ is. refl };
         more = more;
-        answer = subst (λ (m : Format). IsReferencesAnswerOf m q t (front ++ more)) same is;
+        answer = subst (λ (m : Format). IsReferencesAnswerOf m q (with_references_end t) (front ++ more)) same is;
       }
 
   sizes_front : (answer : SizesAnswer A) (format : Format) (q : ObjectInfoAsked) (sizes : List (Option ℕ)) (front : List Pkt) → sizes_asked answer ≡ q
@@ -430,8 +444,8 @@ pub start_so_far : (format : Format) (q : Asked) → IsSoFar format q (nothing_f
 start_so_far format (ls_refs q) =
     let (more, is) = refs_front First format q no_references None [] (record { nothing = refl; last_is = refl; given_is = refl }) in
     inl (record {
-      later = of_references no_references;
-      grows = record { unborn = λ target there. there; refs = ([], refl) };
+      later = of_references (with_references_end no_references);
+      grows = record { unborn = λ target there. there; refs = ([], refl); ended = λ is. refl };
       more = more;
       answer = is;
     })

@@ -9,7 +9,8 @@ use Rattle.git_server.specs.Packs.{whole}
 use Rattle.git_server.specs.FetchAnswers.{ack_packet, nak_or_acks, ready_lines, shallow_info}
 use Rattle.git_host.specs.FetchFacts.{FetchFacts, IsFetchAnswerOf, acknowledgments, before_pack, opening, picked, wanted_refs}
 use Rattle.git_host.specs.FetchPlaces.{AtHave, AtPack, AtPackHeader, AtReady, AtShallow}
-use Rattle.git_host.specs.FetchPlaces.{AtWanted, AtWantedHeader, StandsAt, after_boundary, after_haves, shallow_so_far, with_have}
+use Rattle.git_host.specs.FetchPlaces.{AtWanted, AtWantedHeader, StandsAt, after_boundary, after_haves, shallow_so_far, with_boundary_end}
+use Rattle.git_host.specs.FetchPlaces.{with_have}
 use Rattle.git_host.specs.declared.fetch_answer.Place.{Place}
 use Rattle.git_host.specs.declared.fetch_answer.Place.TheVariants.{Header, Have, Nak, Ready, Delimiter, Shallow, ShallowLine, WantedHeader, Wanted, WantedEnd}
 use Rattle.git_host.specs.declared.fetch_answer.Place.TheVariants.{PackHeader, Pack, Whole as AtEnd, Broken as AtLoss}
@@ -17,21 +18,25 @@ use Rattle.git_host.proofs.FetchMoves.{SoFar, after_all_wanted, after_delimiter,
 use Rattle.git_host.proofs.FetchMoves.{after_not_common, after_pack, after_pack_header, after_shallow_line, after_unready, after_wanted_header}
 use Rattle.git_host.proofs.FetchMoves.{all_reported, item_there, opening_is, so_far_ends}
 
--- the store has none of the objects that were not reported on yet
-abbrev pub absent_more : List Bool → FetchFacts → FetchFacts
-absent_more absent t = record t { has = t.has ++ absent }
+-- the store has none of the objects that were not reported on yet, and its boundary has ended or not
+abbrev pub absent_more : List Bool → Bool → FetchFacts → FetchFacts
+absent_more absent ended t = record t { has = t.has ++ absent; boundary_ended = ended }
 
 -- an answer that begins so
 pub record Completes (q : FetchAsked) (t : FetchFacts) (given : List Pkt) : Type 0 where
   pub absent : List Bool
+  pub ended : Bool
   pub more : List Pkt
-  pub answer : IsFetchAnswerOf whole q (record t { has = t.has ++ absent }) (given ++ more)
+  pub grows : t.boundary_ended ≡ true → ended ≡ true
+  pub answer : IsFetchAnswerOf whole q (absent_more absent ended t) (given ++ more)
 
 module _ (q : FetchAsked) (t : FetchFacts) (given : List Pkt) where
   completed : IsFetchAnswerOf whole q t given → Completes q t given
   completed h = record {
     absent = [];
+    ended = t.boundary_ended;
     more = [];
+    grows = λ is. is;
     answer = subst (λ (bs : List Bool). IsFetchAnswerOf whole q (record t { has = bs }) (given ++ [])) (sym (append-nil t.has))
         (subst (IsFetchAnswerOf whole q t) (sym (append-nil given)) h);
   }
@@ -40,18 +45,26 @@ module _ (q : FetchAsked) (t : FetchFacts) (given : List Pkt) where
   by_packet : (packet : Pkt) → Completes q t (given ++ packet ∷ []) → Completes q t given
   by_packet packet h = record {
     absent = h.absent;
+    ended = h.ended;
     more = packet ∷ h.more;
-    answer = subst (IsFetchAnswerOf whole q (record t { has = t.has ++ h.absent })) (append_assoc given (packet ∷ []) h.more) h.answer;
+    grows = h.grows;
+    answer = subst (IsFetchAnswerOf whole q (absent_more h.absent h.ended t)) (append_assoc given (packet ∷ []) h.more) h.answer;
   }
 
   -- or by one report more
   by_absent : Completes q (with_have false t) given → Completes q t given
   by_absent h = record {
     absent = false ∷ h.absent;
+    ended = h.ended;
     more = h.more;
-    answer = subst (λ (bs : List Bool). IsFetchAnswerOf whole q (record t { has = bs }) (given ++ h.more))
+    grows = h.grows;
+    answer = subst (λ (bs : List Bool). IsFetchAnswerOf whole q (record t { has = bs; boundary_ended = h.ended }) (given ++ h.more))
         (append_assoc t.has (false ∷ []) h.absent) h.answer;
   }
+
+  -- or by the end of the boundary
+  by_end : Completes q (with_boundary_end t) given → Completes q t given
+  by_end h = record { absent = h.absent; ended = h.ended; more = h.more; grows = λ is. h.grows refl; answer = h.answer }
 
 module _ (q : FetchAsked) (t : FetchFacts) (all : length t.wanted ≡ length q.want_refs) where
   from_pack : (given : List Pkt) → AtPack q t given → Completes q t given
@@ -77,13 +90,15 @@ module _ (q : FetchAsked) (t : FetchFacts) (all : length t.wanted ≡ length q.w
   from_wanted_header given h =
       by_packet q t given _ (from_wanted (length q.want_refs) 0 _ (omega arith) (after_wanted_header q t given h).1)
 
-  from_refs : (b : Bool) (given : List Pkt) → StandsAt (after_boundary b) q t given → Completes q t given
-  from_refs true given h = from_pack_header given h
-  from_refs false given h = from_wanted_header given h
+from_refs : (b : Bool) (q : FetchAsked) (t : FetchFacts) → length t.wanted ≡ length q.want_refs → (given : List Pkt)
+    → StandsAt (after_boundary b) q t given → Completes q t given
+from_refs true q t all given h = from_pack_header q t all given h
+from_refs false q t all given h = from_wanted_header q t all given h
 
+module _ (q : FetchAsked) (t : FetchFacts) (all : length t.wanted ≡ length q.want_refs) where
   from_shallow : (any : Bool) (given : List Pkt) → AtShallow any q t given → Completes q t given
-  from_shallow true given h = by_packet q t given _ (from_refs (is_empty q.want_refs) _ (after_lines q t given h))
-  from_shallow false given h = from_refs (is_empty q.want_refs) given (after_no_line q t given h)
+  from_shallow true given h = by_packet q t given _ (by_end q t _ (from_refs (is_empty q.want_refs) q (with_boundary_end t) all _ (after_lines q t given h)))
+  from_shallow false given h = by_end q t given (from_refs (is_empty q.want_refs) q (with_boundary_end t) all given (after_no_line q t given h))
 
   from_ready : (given : List Pkt) → AtReady q t given → Completes q t given
   from_ready given h = by_packet q t given _ (completed q t _ (after_unready q t given h))

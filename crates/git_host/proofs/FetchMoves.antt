@@ -30,7 +30,7 @@ use Rattle.git_host.specs.FetchPlaces.{AtDelimiter, AtHave, AtHeader, AtNak, AtP
 use Rattle.git_host.specs.FetchPlaces.{AtReady, AtShallow, AtShallowLine, AtWanted, AtWantedHeader}
 use Rattle.git_host.specs.FetchPlaces.{Holds, IsOpened, NoPack, NothingAfter, StandsAt, WhereNegotiating}
 use Rattle.git_host.specs.FetchPlaces.{acks_header, after_boundary, after_haves, place_by, shallow_so_far}
-use Rattle.git_host.specs.FetchPlaces.{is_line_at, is_ready_asked, step_at, with_have, with_line, with_pack, with_progress, with_ready}
+use Rattle.git_host.specs.FetchPlaces.{is_line_at, is_ready_asked, step_at, with_boundary_end, with_have, with_line, with_pack, with_progress, with_ready}
 use Rattle.git_host.specs.declared.fetch_answer.Place.{Place}
 use Rattle.git_host.specs.declared.fetch_answer.Place.TheVariants.{Header, Have, Nak, Ready, Delimiter, Shallow, ShallowLine, WantedHeader, Wanted, WantedEnd}
 use Rattle.git_host.specs.declared.fetch_answer.Place.TheVariants.{PackHeader, Pack, Whole as AtEnd, Broken as AtLoss}
@@ -281,28 +281,30 @@ after_line q t given line h = record {
 
 -- after the boundary
 refs_by : (b : Bool) (q : FetchAsked) (t : FetchFacts) (given : List Pkt) → is_empty q.want_refs ≡ b → IsOpened q t
-    → given ≡ opening q t ++ shallow_info t.boundary → NoPack t → StandsAt (after_boundary b) q t given
+    → given ≡ opening q t ++ shallow_info t.boundary → NoPack t → StandsAt (after_boundary b) q (with_boundary_end t) given
 refs_by true q t given none opened is no_pack = record {
   opened = opened;
+  ended = refl;
   given_is = is ∙ ap (λ (l : List Pkt). opening q t ++ l)
       (sym (append-nil (shallow_info t.boundary)) ∙ ap (λ (l : List Pkt). shallow_info t.boundary ++ l) (sym (none_wanted t.wanted q.want_refs none)));
-  no_pack = no_pack;
+  no_pack = record { pack = no_pack.pack; progress = no_pack.progress };
 }
 refs_by false q t given some opened is no_pack = record {
   opened = opened;
+  ended = refl;
   some = some;
   given_is = is;
-  no_pack = no_pack;
+  no_pack = record { pack = no_pack.pack; progress = no_pack.progress };
 }
 
 pub after_lines : (q : FetchAsked) (t : FetchFacts) (given : List Pkt) → AtShallow true q t given
-    → StandsAt (after_boundary (is_empty q.want_refs)) q t (given ++ delim ∷ [])
+    → StandsAt (after_boundary (is_empty q.want_refs)) q (with_boundary_end t) (given ++ delim ∷ [])
 after_lines q t given h = refs_by (is_empty q.want_refs) q t (given ++ delim ∷ []) refl h.opened
     (ap (λ (l : List Pkt). l ++ delim ∷ []) h.given_is ∙ append_assoc (opening q t) (shallow_so_far t.boundary) (delim ∷ [])
     ∙ ap (λ (l : List Pkt). opening q t ++ l) (so_far_ends t.boundary h.some)) h.no_pack
 
 pub after_no_line : (q : FetchAsked) (t : FetchFacts) (given : List Pkt) → AtShallow false q t given
-    → StandsAt (after_boundary (is_empty q.want_refs)) q t given
+    → StandsAt (after_boundary (is_empty q.want_refs)) q (with_boundary_end t) given
 after_no_line q t given h =
     let none = empty_is t.boundary h.some in
     refs_by (is_empty q.want_refs) q t given refl h.opened
@@ -317,6 +319,7 @@ after_wanted_header q t given h = (
   some_items q.want_refs h.some,
   record {
     opened = h.opened;
+    ended = h.ended;
     some = h.some;
     given_is = ap (λ (l : List Pkt). l ++ text_line (codes "wanted-refs") ∷ []) h.given_is;
     no_pack = h.no_pack;
@@ -347,6 +350,7 @@ after_name next q t given id name h named here =
     let count : length ids ≡ next = length-take-le next t.wanted (omega (arith, slice_get_within t.wanted next id here)) in
     record {
       opened = h.opened;
+      ended = h.ended;
       some = h.some;
       given_is = ap (λ (l : List Pkt). l ++ line ∷ []) h.given_is
           ∙ append_assoc front (text_line (codes "wanted-refs") ∷ wanted_lines ids q.want_refs) (line ∷ [])
@@ -376,6 +380,7 @@ after_all_wanted q t given all h =
     let lines = text_line (codes "wanted-refs") ∷ wanted_lines t.wanted q.want_refs in
     record {
       opened = h.opened;
+      ended = h.ended;
       given_is = ap (λ (l : List Pkt). l ++ delim ∷ []) (h.given_is
           ∙ ap (λ (ids : List ObjectName). (opening q t ++ shallow_info t.boundary) ++ text_line (codes "wanted-refs") ∷ wanted_lines ids q.want_refs)
           (take_all (length q.want_refs) t.wanted (omega (arith, all))))
@@ -390,6 +395,7 @@ after_all_wanted q t given all h =
 pub after_pack_header : (q : FetchAsked) (t : FetchFacts) (given : List Pkt) → AtPackHeader q t given → AtPack q t (given ++ packfile_header ∷ [])
 after_pack_header q t given h = record {
   opened = h.opened;
+  ended = h.ended;
   parts = [];
   are_parts = (h.no_pack.pack, h.no_pack.progress);
   given_is = ap (λ (l : List Pkt). l ++ packfile_header ∷ []) h.given_is;
@@ -399,6 +405,7 @@ pub after_part : (q : FetchAsked) (t : FetchFacts) (given : List Pkt) (bytes : L
     → AtPack q (with_pack bytes t) (given ++ band_packet OnPack bytes ∷ [])
 after_part q t given bytes some fits h = record {
   opened = h.opened;
+  ended = h.ended;
   parts = h.parts ++ band_packet OnPack bytes ∷ [];
   are_parts = pack_more bytes some fits t.pack t.progress h.parts h.are_parts;
   given_is = ap (λ (l : List Pkt). l ++ band_packet OnPack bytes ∷ []) h.given_is
@@ -409,6 +416,7 @@ pub after_progress : (q : FetchAsked) (t : FetchFacts) (given : List Pkt) (bytes
     → AtPack q t given → AtPack q (with_progress bytes t) (given ++ band_packet OnProgress bytes ∷ [])
 after_progress q t given bytes some fits h = record {
   opened = h.opened;
+  ended = h.ended;
   parts = h.parts ++ band_packet OnProgress bytes ∷ [];
   are_parts = progress_more bytes some fits t.pack t.progress h.parts h.are_parts;
   given_is = ap (λ (l : List Pkt). l ++ band_packet OnProgress bytes ∷ []) h.given_is
@@ -418,6 +426,7 @@ after_progress q t given bytes some fits h = record {
 pub after_pack : (manner : Manner) (q : FetchAsked) (t : FetchFacts) (given : List Pkt) → length t.wanted ≡ length q.want_refs → AtPack q t given
     → IsFetchAnswerOf manner q t (given ++ last_packet manner ∷ [])
 after_pack manner q t given all h = answer_by q t (negotiates q) manner (given ++ last_packet manner ∷ []) h.opened (record {
+  ended = h.ended;
   all = all;
   parts = h.parts;
   are_parts = h.are_parts;

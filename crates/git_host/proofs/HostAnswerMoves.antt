@@ -23,7 +23,7 @@ use Rattle.git_host.specs.Admissions.{with_found, with_want}
 use Rattle.git_host.specs.AdmittedAnswers.{Becomes, BecomesAnswer}
 use Rattle.git_host.specs.FetchFacts.{FetchFacts, IsSoundFetchAnswer, no_facts}
 use Rattle.git_host.specs.FetchPlaces.{EndsBoundary, IsToTheSame, Represents, ReportsAlone, ReportsAndGives, Steps, WhereAsked, asked_of as fetch_of}
-use Rattle.git_host.specs.FetchPlaces.{is_asked, is_boundary}
+use Rattle.git_host.specs.FetchPlaces.{is_asked, is_boundary, with_boundary_end}
 use Rattle.git_host.specs.FetchPlaces.{ReportsLine, ReportsProgress, format_of as fetch_format, is_line_asked, is_pack, is_progress_asked}
 use Rattle.git_host.specs.FetchPlaces.{step_of as fetch_step, with_line, with_pack, with_progress}
 use Rattle.git_host.specs.ReferencesPlaces.{IsToTheSame as IsToTheSameRefs, KeepsAs, ReferencesFacts, Reports, ReportsHidden, ReportsOn, ReportsUnborn}
@@ -122,9 +122,6 @@ module _ {A : Type 0} where
   gives_same old new bytes gives m q f front h =
       let (packet, held, is) = gives m q f front h in
       (packet, held, subst (λ (x : Facts). IsAnswering m new q x (front ++ packet ∷ [])) (same_fetch f) is)
-
-  pub goes_same : (old new : HostAnswer A) → GoesOn (on_fetch (λ t. t)) old new → GoesOn (λ f. f) old new
-  goes_same old new goes m q f front h = subst (λ (x : Facts). IsAnswering m new q x front) (same_fetch f) (goes m q f front h)
 
   -- ---- a fetch
   module _ (a b : FetchAnswer A) where
@@ -232,8 +229,8 @@ module _ {A : Type 0} where
     boundary_ends : (end : BoundaryEnd) (bytes : List ℕ) → is_asked end ≡ is_boundary (fetch_step a) → EndsBoundary end a bytes b
         → ReportsBy EndsIt (Fetch a) (ended_as end) bytes (Fetch b)
     boundary_ends EndNotAsked bytes is same = (fetch_same same, λ is_wanted. absurd (cc))
-    boundary_ends Absent bytes is done = (goes_same (Fetch a) (Fetch b) (fetch_goes (λ t. t) (λ t. refl) done.0), done.1)
-    boundary_ends DelimGiven bytes is gives = (gives_same (Fetch a) (Fetch b) bytes (fetch_gives (λ t. t) bytes (λ t. refl) gives), tt)
+    boundary_ends Absent bytes is done = (fetch_goes with_boundary_end (λ t. refl) done.0, done.1)
+    boundary_ends DelimGiven bytes is gives = (fetch_gives with_boundary_end bytes (λ t. refl) gives, tt)
 
     pub fetch_boundary : (old : HostAnswer A) (end : BoundaryEnd) (r : HostReported) (bytes : List ℕ) → old ≡ Fetch a → r ≡ ended_as end
         → is_asked end ≡ is_boundary (fetch_step a) → EndsBoundary end a bytes b → ReportsBy EndsIt old r bytes (Fetch b)

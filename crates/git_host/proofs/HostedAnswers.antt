@@ -1,5 +1,5 @@
 -- Answers to requests, each by what one repository answers.
-use Rattle.std.proofs.Common.{◌≡◌, ◌≢◌, ℕ, Bool, true, false, All, List, [], ◌∷◌, ◌++◌, length, map, drop, Option, Some, None, refl, sym, ap, ◌∙◌}
+use Rattle.std.proofs.Common.{arith, ◌≡◌, ◌≢◌, ℕ, Bool, true, false, All, List, [], ◌∷◌, ◌++◌, length, map, drop, Option, Some, None, refl, sym, ap, ◌∙◌}
 use Rattle.std.proofs.Common.{append-nil, inl, inr}
 use Rattle.std.proofs.lemmas.List.Elements.{All-cons, All-nil}
 use Rattle.git_names.specs.ObjectName.{ObjectName}
@@ -44,6 +44,14 @@ all_answers format repo (q ∷ qs) (f ∷ fs) packets of (answer, more, cut, is,
     (answer, more, cut, one_answer format repo q f answer of.0 is, all_answers format repo qs fs more of.1 others)
 all_answers format repo [] (f ∷ fs) packets of h = absurd of
 all_answers format repo (q ∷ qs) [] packets of h = absurd of
+
+-- as many requests are answered as were reported on
+pub as_many : (format : Format) (asked : List Asked) (reported : List Facts) (packets : List Pkt) → AreAnswersBy format asked reported packets
+    → length asked ≡ length reported
+as_many format [] [] packets h = refl
+as_many format (q ∷ qs) (f ∷ fs) packets (answer, more, cut, is, others) = omega (arith, as_many format qs fs more others)
+as_many format [] (f ∷ fs) packets h = absurd h
+as_many format (q ∷ qs) [] packets h = absurd h
 
 -- ---- a whole session
 
@@ -113,8 +121,9 @@ module _ (s : HostSetting) (repo : Repository) (failures : ℕ) where
         → given ≡ before ++ spelled tail → IsTail (over_repository s repo failures) stops.left outcome tail
         → IsSession (over_repository s repo failures) used over given outcome
     session outcome before stops ends tail fits is is_tail =
-        let reports = of stops.asked stops.left stops.rest stops.are_asked in
         let all = stops.all in
+        let reports = of stops.asked stops.left stops.rest stops.are_asked
+        (as_many s.offer.format stops.asked reported all.answers all.answered) in
         record {
           asked = stops.asked;
           left = stops.left;

@@ -20,3 +20,7 @@ pub mod StoreSteps
 pub mod StoreReaches
 pub mod StoreWaits
 pub mod StoreRunLemmas
+pub mod AskedGrowth
+pub mod RepositoryReports
+pub mod RepositoryMoves
+pub mod RepositorySessions

@@ -16,7 +16,8 @@ use Rattle.git_msg.specs.Prefixes.{OrdersPrefixes, is_shown}
 use Rattle.git_server.specs.Answers.{asks_for_unborn, reference_packet, shown_refs, unborn_packet, unborn_packets}
 use Rattle.git_server.specs.Repository.{Entry, IsNamed, IsOfFormat, IsRising, IsUnbornHead, comes_before}
 use Rattle.git_host.specs.ReferencesPlaces.{AreSoundReferences, AtEntries, AtFirst, IsAlike, IsLast, IsReferencesAnswerOf, ReferencesFacts}
-use Rattle.git_host.specs.ReferencesPlaces.{StandsAtReferences, after_entry, comes_after, no_references, packets_so_far, refuses_head_at, with_ref, with_unborn}
+use Rattle.git_host.specs.ReferencesPlaces.{StandsAtReferences, after_entry, comes_after, no_references, packets_so_far, refuses_head_at, with_ref}
+use Rattle.git_host.specs.ReferencesPlaces.{with_references_end, with_unborn}
 use Rattle.git_host.specs.declared.references_answer.ReferencesPlace.{ReferencesPlace}
 use Rattle.git_host.specs.declared.references_answer.ReferencesPlace.TheVariants.{First, Entries, AfterUnborn, Whole}
 use Rattle.git_host.proofs.Picked.{length_more, map_more}
@@ -100,6 +101,10 @@ one_more_sound format t last entry h is after named of_format other = record {
   };
 }
 
+-- the end changes nothing of the references
+pub sound_to_the_end : (format : Format) (t : ReferencesFacts) → AreSoundReferences format t → AreSoundReferences format (with_references_end t)
+sound_to_the_end format t h = record { rising = h.rising; named = h.named; of_format = h.of_format; unborn = h.unborn }
+
 module _ (format : Format) (q : LsRefsAsked) (t : ReferencesFacts) (last : Option Entry) (given : List Pkt) (at : AtEntries format q t last given) where
   refs_on : (entry : Entry) (b : Bool) → is_shown q.ref_prefixes entry.name ≡ b
       → packets_so_far q (with_ref entry t) ≡ packets_so_far q t ++ (if b then reference_packet q.symrefs q.peel entry ∷ [] else [])
@@ -132,9 +137,10 @@ module _ (format : Format) (q : LsRefsAsked) (t : ReferencesFacts) (last : Optio
     given_is = at.given_is ∙ sym (append-nil (packets_so_far q t)) ∙ sym (refs_on entry false e);
   }
 
-  pub after_refs : IsReferencesAnswerOf format q t (given ++ flush ∷ [])
+  pub after_refs : IsReferencesAnswerOf format q (with_references_end t) (given ++ flush ∷ [])
   after_refs = record {
-    sound = at.sound;
+    sound = sound_to_the_end format t at.sound;
+    ended = refl;
     packets_are = ap (λ (l : List Pkt). l ++ flush ∷ []) at.given_is
         ∙ append_assoc (unborn_packets q t.unborn) (map (reference_packet q.symrefs q.peel) (shown_refs q.ref_prefixes t.refs)) (flush ∷ []);
   }

@@ -1,5 +1,5 @@
 -- What is sent for what was reported is an answer of each repository that answers so.
-use Rattle.std.proofs.Common.{arith, ◌≡◌, ℕ, ◌<◌, Bool, true, false, not, ◌&&◌, List, [], ◌∷◌, ◌++◌}
+use Rattle.std.proofs.Common.{arith, ◌≡◌, ℕ, ◌<◌, Bool, true, false, List, [], ◌∷◌, ◌++◌}
 use Rattle.std.proofs.Common.{length, map, codes, if◌then◌else◌, refl, sym, ap, ◌∙◌, append_assoc, subst, inl, inr}
 use Rattle.std.specs.List.{filter, filter_map}
 use Rattle.git_names.specs.ObjectName.{ObjectName}
@@ -7,7 +7,7 @@ use Rattle.git_pkt.specs.Packets.{Pkt}
 use Rattle.git_pkt.specs.Bands.{AreBands}
 use Rattle.git_pkt.specs.declared.band.Band.TheVariants.{Pack as OnPack}
 use Rattle.git_msg.specs.declared.Boundary.{Boundary}
-use Rattle.git_msg.specs.Asked.{FetchAsked, only_negotiates}
+use Rattle.git_msg.specs.Asked.{FetchAsked}
 use Rattle.git_msg.specs.ResponseLines.{wanted_of, wanted_text}
 use Rattle.git_msg.specs.WrittenRequest.{text_line}
 use Rattle.git_server.specs.Packs.{EndsPack, IsPackfile, Manner, whole, broken, packfile_header}
@@ -16,7 +16,7 @@ use Rattle.git_server.specs.FetchAnswers.{EndsWithBoundary, IsFetchAnswer, IsFet
 use Rattle.git_server.specs.FetchAnswers.{negotiates, ready_lines, section, shallow_info, wanted_packet}
 use Rattle.git_server.specs.FetchAnswers.{acknowledgments as acknowledgments_of, is_ready_for, nak_or_acks, wanted_refs as wanted_refs_of}
 use Rattle.git_host.specs.FetchFacts.{AreParts, FetchFacts, HasPack, IsFetchAnswerWhere, IsFetchAnswerOf, acknowledgments}
-use Rattle.git_host.specs.FetchFacts.{is_ready, last_packet, opening, picked, wanted_lines, wanted_refs}
+use Rattle.git_host.specs.FetchFacts.{is_ready, last_packet, opening, picked, sends_pack, wanted_lines, wanted_refs}
 use Rattle.git_host.specs.RepositoryFacts.{AreFound, IsPackOf, AreOfRepository}
 
 pub picked_has : (has : ObjectName → Bool) (ids : List ObjectName) → picked (map has ids) ids ≡ filter has ids
@@ -68,23 +68,23 @@ ends_by broken pack bytes parts is h = record {
 }
 
 module _ (manner : Manner) (repo : Repository) (q : FetchAsked) (t : FetchFacts) (reports : AreOfRepository manner repo q t) where
-  acknowledged : acknowledgments q t ≡ acknowledgments_of repo q
-  acknowledged =
-      ap (λ (bs : List Bool). text_line (codes "acknowledgments") ∷ nak_or_acks (picked bs q.haves)) reports.has
+  acknowledged : negotiates q ≡ true → acknowledgments q t ≡ acknowledgments_of repo q
+  acknowledged asks =
+      ap (λ (bs : List Bool). text_line (codes "acknowledgments") ∷ nak_or_acks (picked bs q.haves)) (reports.has asks)
       ∙ ap (λ (ids : List ObjectName). text_line (codes "acknowledgments") ∷ nak_or_acks ids) (picked_has repo.has q.haves)
 
-  ready_for : is_ready q t ≡ is_ready_for repo q
-  ready_for = ap (λ (b : Bool). not (only_negotiates q) && b) reports.ready
+  sends_by : (b : Bool) → negotiates q ≡ b → sends_pack q t ≡ (if b then is_ready q t else true)
+  sends_by b e = ap (λ (x : Bool). if x then is_ready q t else true) e
 
   -- from the boundary on
-  after : (parts : List Pkt) → AreParts t.pack t.progress parts
+  after : sends_pack q t ≡ true → (parts : List Pkt) → AreParts t.pack t.progress parts
       → EndsWithBoundary manner repo q
       (shallow_info t.boundary ++ (wanted_refs t.wanted q.want_refs ++ (packfile_header ∷ (parts ++ last_packet manner ∷ []))))
-  after parts are =
+  after sends parts are =
       let tail = parts ++ last_packet manner ∷ [] in
       let packs : IsPackfile manner (repo.pack q) (packfile_header ∷ tail) = record {
         tail = tail;
-        ends = ends_by manner (repo.pack q) t.pack parts reports.pack (subst (λ (l : List ℕ). AreParts t.pack l parts) reports.progress are);
+        ends = ends_by manner (repo.pack q) t.pack parts (reports.pack sends) (subst (λ (l : List ℕ). AreParts t.pack l parts) reports.progress are);
         packets_are = refl;
       } in
       record {
@@ -94,7 +94,8 @@ module _ (manner : Manner) (repo : Repository) (q : FetchAsked) (t : FetchFacts)
           holds = packs;
           packets_are = ap (λ (l : List Pkt). l ++ (packfile_header ∷ tail)) (found_section repo q.want_refs t.wanted reports.wanted);
         };
-        packets_are = ap (λ (lines : List Boundary). shallow_info lines ++ (wanted_refs t.wanted q.want_refs ++ (packfile_header ∷ tail))) reports.boundary;
+        packets_are = ap (λ (lines : List Boundary). shallow_info lines ++ (wanted_refs t.wanted q.want_refs ++ (packfile_header ∷ tail)))
+            (reports.boundary sends);
       }
 
   -- the whole answer, where the pack is part of it
@@ -114,16 +115,22 @@ module _ (manner : Manner) (repo : Repository) (q : FetchAsked) (t : FetchFacts)
   answers_by true true packets e ready h =
       subst (λ (x : Bool). IsNegotiated x (acknowledgments_of repo q) manner repo q packets) (sym ready) (record {
         others = shallow_info t.boundary ++ (wanted_refs t.wanted q.want_refs ++ (packfile_header ∷ (h.1.parts ++ last_packet manner ∷ [])));
-        holds = after h.1.parts h.1.are_parts;
+        holds = after (sends_by true e ∙ reports.ready e ∙ ready) h.1.parts h.1.are_parts;
         packets_are = with_pack (acknowledgments_of repo q ++ ready_lines) packets h.1
-            (opens_by true e ∙ ap (λ (l : List Pkt). l ++ ready_lines) acknowledged);
+            (opens_by true e ∙ ap (λ (l : List Pkt). l ++ ready_lines) (acknowledged e));
       })
   answers_by true false packets e ready h =
       subst (λ (x : Bool). IsNegotiated x (acknowledgments_of repo q) manner repo q packets) (sym ready)
-      (subst (λ (lines : List Pkt). IsFlushed manner lines packets) acknowledged h.1)
+      (subst (λ (lines : List Pkt). IsFlushed manner lines packets) (acknowledged e) h.1)
   answers_by false r packets e ready h =
-      subst (EndsWithBoundary manner repo q) (sym (with_pack [] packets h (opens_by false e))) (after h.parts h.are_parts)
+      subst (EndsWithBoundary manner repo q) (sym (with_pack [] packets h (opens_by false e)))
+      (after (sends_by false e) h.parts h.are_parts)
+
+  -- whether the pack follows is what the repository answers
+  as_ready : (b : Bool) (packets : List Pkt) → negotiates q ≡ b → IsFetchAnswerWhere b (is_ready q t) manner q t packets
+      → IsFetchAnswerWhere b (is_ready_for repo q) manner q t packets
+  as_ready true packets e h = subst (λ (r : Bool). IsFetchAnswerWhere true r manner q t packets) (reports.ready e) h
+  as_ready false packets e h = h
 
   pub reported_answers : (packets : List Pkt) → IsFetchAnswerOf manner q t packets → IsFetchAnswer manner repo q packets
-  reported_answers packets h = answers_by (negotiates q) (is_ready_for repo q) packets refl refl
-      (subst (λ (r : Bool). IsFetchAnswerWhere (negotiates q) r manner q t packets) ready_for h)
+  reported_answers packets h = answers_by (negotiates q) (is_ready_for repo q) packets refl refl (as_ready (negotiates q) packets refl h)

@@ -1,5 +1,5 @@
 -- One call of a host's server over its store, as a move.
-use Rattle.std.proofs.Common.{◌≡◌, ℕ, Bool, true, false, List, [], ◌∷◌, ◌++◌, Option, Some, None, refl, sym, ap, ◌∙◌, subst, append-nil}
+use Rattle.std.proofs.Common.{◌≡◌, ℕ, Bool, true, false, List, [], ◌∷◌, Option, Some, None, refl, sym, ap, ◌∙◌, subst, append-nil}
 use Rattle.std.specs.Prelude.{Result, Ok, Err, IsSome}
 use Rattle.git_loop.specs.declared.machine.Next.{Next}
 use Rattle.git_loop.specs.declared.machine.Next.TheVariants.{Packet as GivesPacket, NeedInput as WaitsForInput, Finished as HasFinished}

@@ -1,22 +1,21 @@
 -- A run of a host's server over its store: what the states at both ends mean for its session.
-use Rattle.std.proofs.Common.{◌≡◌, ◌≢◌, ℕ, ◌≤◌, Bool, true, false, List, [], ◌∷◌, ◌++◌, length, Option, Some, None, Result, Ok, Err, IsErrAnd, IfErr}
+use Rattle.std.proofs.Common.{◌≡◌, ◌≢◌, ℕ, Bool, true, false, List, [], ◌∷◌, ◌++◌, Option, Some, None, Result, Ok, Err, IsErrAnd, IfErr}
 use Rattle.std.proofs.Common.{◌⊎◌, inl, inr, IsSome, refl, sym, ap, ◌∙◌, append-nil, subst}
 use Rattle.std.proofs.lemmas.Grind.{flat_map-append}
-use Rattle.git_loop.specs.Machines.{EndsRun, HasFinished, IsWaiting as RunWaits, Ran, ReachesThroughClose, RunReaches, RunStates, StateRelation}
+use Rattle.git_loop.specs.Machines.{EndsRun, HasFinished, IsWaiting as RunWaits, Ran, RunReaches, RunStates, StateRelation}
 use Rattle.git_pkt.specs.Streams.{Flow, Moves, is_broken}
 use Rattle.git_pkt.specs.declared.fault.RunFault.{RunFault}
 use Rattle.git_pkt.specs.declared.fault.RunFault.TheVariants.{ReadFault, WriteFault, ReadLimit, Refused as RefusedRun}
 use Rattle.git_pkt.proofs.EngineLemmas.{at_fault}
 use Rattle.git_msg.specs.Asked.{Asked}
 use Rattle.git_server.specs.declared.outcome.Outcome.{Outcome}
-use Rattle.git_host.specs.HostSessions.{Facts, HostSetting, IsHosted, IsWaiting}
-use Rattle.git_host.specs.HostServer.{ClosesHost, Hosts, HostsIn, outcome_in, outcome_of, reads_on}
+use Rattle.git_host.specs.HostSessions.{Facts, HostSetting}
+use Rattle.git_host.specs.HostServer.{ClosesHost, Hosts, HostsIn, outcome_of, reads_on}
 use Rattle.git_host.specs.Hosted.{left_of, server_of, store_of}
 use Rattle.git_host.specs.Questions.{Question, Reply}
 use Rattle.git_host.specs.StoreMoves.{AllMade, AllOpen, Move, Reaches, all_made_append, closed, facts_after, given_by, given_in, is_closed, over_after}
 use Rattle.git_host.specs.StoreMoves.{over_with, used_by, used_in}
 use Rattle.git_host.specs.StoreRuns.{EndsStoreRun, ServedStore, WaitsForMore}
-use Rattle.git_host.specs.declared.host_server.HostServer.{HostServer}
 use Rattle.git_host.specs.declared.host_server.Phase.{Phase}
 use Rattle.git_host.specs.declared.hosted.Hosted.{Hosted}
 use Rattle.git_host.proofs.HostCallMoves.{ended_is, waits_so}

@@ -3,7 +3,7 @@ use Rattle.std.proofs.Common.{◌≡◌, ℕ, Bool, true, false, List, [], ◌�
 use Rattle.std.proofs.Common.{refl, sym, ap, ◌∙◌, subst, append_assoc, append-nil}
 use Rattle.git_msg.specs.Asked.{Asked}
 use Rattle.git_host.specs.HostSessions.{Facts, HostSetting}
-use Rattle.git_host.specs.HostServer.{Hosts, bytes_of, given_with, with_last}
+use Rattle.git_host.specs.HostServer.{Hosts, given_with, with_last}
 use Rattle.git_host.specs.Questions.{Question, Reply}
 use Rattle.git_host.specs.StoreMoves.{AllMade, Made, Move, asked, began, closed, facts_after, facts_with, fed, gave, given_by}
 use Rattle.git_host.specs.StoreMoves.{given_in, is_taken, over_after, over_with, rested, used_by, used_in, was_none, was_refused, was_taken}
@@ -55,7 +55,7 @@ none_given OutOfMemory server refused = refl
 
 module _ {A S : Type 0} (begins : S → Asked → S → Type 0) (replies : S → Question → Reply → S → Type 0) (s : HostSetting) where
   -- after one move
-  one_move : (move : Move) (old : HostServer A) (store : S) (new : HostServer A) (left : S) → Made begins replies move old store new left
+  pub one_move : (move : Move) (old : HostServer A) (store : S) (new : HostServer A) (left : S) → Made begins replies move old store new left
       → (used : List ℕ) (over : Bool) (facts : List Facts) (given : List ℕ) → Hosts s used over facts given old
       → Hosts s (used ++ used_by move) (over_with move over) (facts_with move facts) (given ++ given_by move) new
   one_move (fed bytes begun) old store new left (feeds, is, kept) used over facts given h =

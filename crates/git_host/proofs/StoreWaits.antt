@@ -1,30 +1,28 @@
 -- What a host's server of some session waits for, and what its store is asked then.
 use Rattle.std.proofs.Common.{◌≡◌, ℕ, zero, suc, ◌<◌, ◌⊎◌, inl, inr, Bool, true, false, List, ◌++◌, length, Option, IsSome}
-use Rattle.std.proofs.Common.{refl, sym, ap, ◌∙◌, subst, arith, slice_get}
+use Rattle.std.proofs.Common.{refl, sym, subst, arith, slice_get}
 use Rattle.std.specs.Option.{option_map}
 use Rattle.std.proofs.Props.{props}
 use Rattle.std.proofs.Math.Logic.{∥∥₁_elim, ∥∥₁_map}
 use Rattle.std.proofs.lemmas.Option.{slice_get_cases}
-use Rattle.git_names.specs.ObjectName.{ObjectName}
 use Rattle.git_pkt.specs.Packets.{Pkt}
-use Rattle.git_msg.specs.Asked.{Asked, FetchAsked, LsRefsAsked, ObjectInfoAsked, fetch, ls_refs, object_info, only_negotiates}
+use Rattle.git_msg.specs.Asked.{Asked, FetchAsked, fetch, ls_refs, object_info, only_negotiates}
 use Rattle.git_server.specs.declared.outcome.Outcome.{Outcome}
 use Rattle.git_msg.specs.declared.streams.RequestStream.{RequestStream}
 use Rattle.git_host.specs.Admissions.{AdmissionFacts, RepresentsAdmission, StandsAtStep}
-use Rattle.git_host.specs.Admissions.{step_of as admission_step, asked_of as admission_asked, format_of as admission_format, wanted_by}
+use Rattle.git_host.specs.Admissions.{asked_of as admission_asked, format_of as admission_format, wanted_by}
 use Rattle.git_host.specs.FetchFacts.{FetchFacts}
-use Rattle.git_host.specs.FetchPlaces.{StandsAt, asked_of as fetch_asked, step_at, step_of as fetch_step}
+use Rattle.git_host.specs.FetchPlaces.{StandsAt, asked_of as fetch_asked, step_at}
 use Rattle.git_host.specs.HostAnswers.{IsAnswering, IsNeeded, Terms}
 use Rattle.git_host.specs.HostLookups.{answered_by, at_hand}
-use Rattle.git_host.specs.HostSessions.{AtLast, Facts, HostSetting, of_fetch, of_references, of_sizes}
-use Rattle.git_host.specs.HostServer.{ClosesHost, Hosts, HostsIn, MovesHost, StepsHost, WaitsFor, fault_in, fault_of, is_asked, is_reading}
+use Rattle.git_host.specs.HostSessions.{Facts, HostSetting, of_fetch, of_references, of_sizes}
+use Rattle.git_host.specs.HostServer.{ClosesHost, HostsIn, MovesHost, StepsHost, WaitsFor, fault_in, is_asked, is_reading}
 use Rattle.git_host.specs.HostServer.{outcome_in, outcome_of, reads_on, terms_of}
 use Rattle.git_host.specs.HostStates.{IsOfAHost, is_over, is_over_in}
 use Rattle.git_host.specs.Questions.{Question, Reply, ask_have, ask_size, ask_want, ask_want_ref}
 use Rattle.git_host.specs.StoreMoves.{Reaches, facts_after, given_in, over_after, question_at, question_by, used_in}
 use Rattle.git_host.specs.declared.admission.Admission.{Admission as AdmissionMachine}
 use Rattle.git_host.specs.declared.admission.AdmissionStep.{AdmissionStep}
-use Rattle.git_host.specs.declared.admission.AdmissionStep.TheVariants.{AskWant, AskWantRef}
 use Rattle.git_host.specs.declared.fetch_answer.FetchAnswer.{FetchAnswer}
 use Rattle.git_host.specs.declared.fetch_answer.Place.{Place}
 use Rattle.git_host.specs.declared.fetch_answer.Place.TheVariants as At

@@ -19,18 +19,21 @@ use Rattle.git_server.specs.Objects.{object_cmp, object_of}
 use Rattle.git_server.specs.Repository.{IsUnshallowOf}
 
 -- what a store reported for one fetch: whether it has each object that the client has, by place; whether it is ready to send a pack; the
--- shallow boundary; the object of each wanted reference, by place; the bytes of the pack, and those of the progress
+-- shallow boundary, and whether that is all of it; the object of each wanted reference, by place; the bytes of the pack, and those of the
+-- progress
 pub record FetchFacts : Type 0 where
   pub has : List Bool
   pub ready : Bool
   pub boundary : List Boundary
+  pub boundary_ended : Bool
   pub wanted : List ObjectName
   pub pack : List ℕ
   pub progress : List ℕ
 
 -- nothing but the objects of the wanted references
 abbrev pub no_facts : List ObjectName → FetchFacts
-no_facts wanted = record { has = []; ready = false; boundary = []; wanted = wanted; pack = []; progress = [] }
+no_facts wanted =
+    record { has = []; ready = false; boundary = []; boundary_ended = false; wanted = wanted; pack = []; progress = [] }
 
 -- a sound repository of the format may have the line in the shallow boundary for the request
 pub record IsSoundLine (format : Format) (q : FetchAsked) (line : Boundary) : Type 0 where
@@ -64,6 +67,10 @@ acknowledgments q t = text_line (codes "acknowledgments") ∷ nak_or_acks (picke
 -- whether the pack follows where the request negotiates
 abbrev pub is_ready : FetchAsked → FetchFacts → Bool
 is_ready q t = not (only_negotiates q) && t.ready
+
+-- whether the pack follows
+abbrev pub sends_pack : FetchAsked → FetchFacts → Bool
+sends_pack q t = if negotiates q then is_ready q t else true
 
 -- what comes before the section of the shallow boundary
 abbrev pub opening : FetchAsked → FetchFacts → List Pkt
@@ -99,8 +106,9 @@ abbrev pub last_packet : Manner → Pkt
 last_packet whole = flush
 last_packet broken = pack_source_packet
 
--- each wanted reference has an object, and the packets are the sections, the last with the pack
+-- the boundary ended, each wanted reference has an object, and the packets are the sections, the last with the pack
 pub record HasPack (manner : Manner) (q : FetchAsked) (t : FetchFacts) (packets : List Pkt) : Type 0 where
+  pub ended : t.boundary_ended ≡ true
   pub all : length t.wanted ≡ length q.want_refs
   pub parts : List Pkt
   pub are_parts : AreParts t.pack t.progress parts

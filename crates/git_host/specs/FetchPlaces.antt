@@ -109,6 +109,7 @@ pub record AtShallowLine (line : Boundary) (q : FetchAsked) (t : FetchFacts) (gi
 
 pub record AtWantedHeader (q : FetchAsked) (t : FetchFacts) (given : List Pkt) : Type 0 where
   pub opened : IsOpened q t
+  pub ended : t.boundary_ended ≡ true
   pub some : is_empty q.want_refs ≡ false
   pub given_is : given ≡ opening q t ++ shallow_info t.boundary
   pub no_pack : NoPack t
@@ -116,17 +117,20 @@ pub record AtWantedHeader (q : FetchAsked) (t : FetchFacts) (given : List Pkt) :
 -- the lines of the wanted references were sent up to this place
 pub record AtWanted (next : ℕ) (q : FetchAsked) (t : FetchFacts) (given : List Pkt) : Type 0 where
   pub opened : IsOpened q t
+  pub ended : t.boundary_ended ≡ true
   pub some : is_empty q.want_refs ≡ false
   pub given_is : given ≡ (opening q t ++ shallow_info t.boundary) ++ text_line (codes "wanted-refs") ∷ wanted_lines (take next t.wanted) q.want_refs
   pub no_pack : NoPack t
 
 pub record AtPackHeader (q : FetchAsked) (t : FetchFacts) (given : List Pkt) : Type 0 where
   pub opened : IsOpened q t
+  pub ended : t.boundary_ended ≡ true
   pub given_is : given ≡ before_pack q t
   pub no_pack : NoPack t
 
 pub record AtPack (q : FetchAsked) (t : FetchFacts) (given : List Pkt) : Type 0 where
   pub opened : IsOpened q t
+  pub ended : t.boundary_ended ≡ true
   pub parts : List Pkt
   pub are_parts : AreParts t.pack t.progress parts
   pub given_is : given ≡ before_pack q t ++ (packfile_header ∷ parts)
@@ -285,6 +289,9 @@ with_ready t = record t { ready = true }
 abbrev pub with_line : Boundary → FetchFacts → FetchFacts
 with_line line t = record t { boundary = t.boundary ++ line ∷ [] }
 
+abbrev pub with_boundary_end : FetchFacts → FetchFacts
+with_boundary_end t = record t { boundary_ended = true }
+
 abbrev pub with_pack : List ℕ → FetchFacts → FetchFacts
 with_pack bytes t = record t { pack = t.pack ++ bytes }
 
@@ -310,8 +317,8 @@ module _ {A : Type 0} where
   -- what the end of the boundary does: it is over
   abbrev pub EndsBoundary : BoundaryEnd → FetchAnswer A → List ℕ → FetchAnswer A → Type 0
   EndsBoundary NotAsked old bytes new = new ≡ old
-  EndsBoundary Absent old bytes new = ReportsAlone (λ t. t) old new × (is_boundary (step_of new) ≡ false)
-  EndsBoundary DelimGiven old bytes new = ReportsAndGives (λ t. t) old bytes new
+  EndsBoundary Absent old bytes new = ReportsAlone with_boundary_end old new × (is_boundary (step_of new) ≡ false)
+  EndsBoundary DelimGiven old bytes new = ReportsAndGives with_boundary_end old bytes new
 
   -- what a line of the boundary does: one that no sound repository has for the request changes nothing
   abbrev pub ReportsLine : Boundary → BoundaryReported → FetchAnswer A → List ℕ → FetchAnswer A → Type 0

@@ -16,10 +16,11 @@ use Rattle.git_host.specs.Admissions.{AdmissionFacts, IsAdmitted, IsOfOtherForma
 use Rattle.git_host.specs.Admissions.{with_found, with_want}
 use Rattle.git_host.specs.FetchFacts.{FetchFacts, no_facts}
 use Rattle.git_host.specs.FetchPlaces.{ReportsAndGives, Represents, is_before_pack, is_boundary, is_have, is_pack, is_ready_asked, with_have, with_line}
+use Rattle.git_host.specs.FetchPlaces.{with_boundary_end}
 use Rattle.git_host.specs.FetchPlaces.{with_pack, with_progress, with_ready}
 use Rattle.git_host.specs.FetchPlaces.{WantsNoProgress, asked_of as fetch_of, format_of as fetch_format, step_of as fetch_step}
 use Rattle.git_host.specs.ReferencesPlaces.{HasBegun, IsUnsoundAfter, ReferencesFacts, RepresentsReferences, is_whole, with_ref, with_unborn}
-use Rattle.git_host.specs.ReferencesPlaces.{format_of as references_format}
+use Rattle.git_host.specs.ReferencesPlaces.{format_of as references_format, with_references_end}
 use Rattle.git_host.specs.SizesPlaces.{IsAsking, RepresentsSizes, sizes_asked}
 use Rattle.git_host.specs.HostSessions.{Facts, IsAnswerBy, IsBeforePack, IsFrontBy, IsLacking, nothing_for, of_fetch, of_references, of_sizes}
 use Rattle.git_host.specs.declared.admission.Admission.{Admission as AdmissionMachine}
@@ -102,14 +103,14 @@ with_report (Have has) f = on_fetch (with_have has) f
 with_report (Ready true) f = on_fetch with_ready f
 with_report (Ready false) f = f
 with_report (Boundary line) f = on_fetch (with_line line) f
-with_report EndsBoundary f = f
+with_report EndsBoundary f = on_fetch with_boundary_end f
 with_report (Pack bytes) f = on_fetch (with_pack (part_of bytes.now)) f
 with_report (Progress bytes) f = on_fetch (with_progress (part_of bytes.now)) f
 with_report PackEnd f = f
 with_report Failed f = f
 with_report (Reference entry) f = on_references (with_ref entry) f
 with_report (Unborn target) f = on_references (with_unborn (name_bytes target)) f
-with_report ReferencesEnd f = f
+with_report ReferencesEnd f = on_references with_references_end f
 with_report (Size size) f = on_sizes (λ sizes. sizes ++ size ∷ []) f
 
 -- the same of a report that the request does not ask for: progress is dropped

@@ -133,6 +133,7 @@ pub record GrowsFetch (t later : FetchFacts) : Type 0 where
   pub has : IsFront t.has later.has
   pub ready : t.ready ≡ true → later.ready ≡ true
   pub boundary : IsFront t.boundary later.boundary
+  pub boundary_ended : t.boundary_ended ≡ true → later.boundary_ended ≡ true
   pub wanted : IsFront t.wanted later.wanted
   pub pack : IsFront t.pack later.pack
   pub progress : IsFront t.progress later.progress
@@ -140,6 +141,7 @@ pub record GrowsFetch (t later : FetchFacts) : Type 0 where
 pub record GrowsReferences (t later : ReferencesFacts) : Type 0 where
   pub unborn : ForSome t.unborn (λ target. later.unborn ≡ Some target)
   pub refs : IsFront t.refs later.refs
+  pub ended : t.ended ≡ true → later.ended ≡ true
 
 abbrev pub Grows : Facts → Facts → Type 0
 Grows (of_references t) (of_references later) = GrowsReferences t later

@@ -1,5 +1,5 @@
 -- Sessions of a host that answers as one repository does.
-use Rattle.std.specs.Prelude.{◌≡◌, ◌⊎◌, ℕ, false, List, [], ◌∷◌, ◌++◌, map}
+use Rattle.std.specs.Prelude.{◌≡◌, ◌⊎◌, ℕ, false, List, [], ◌∷◌, ◌++◌, length, map}
 use Rattle.git_pkt.specs.Splits.{Given}
 use Rattle.git_pkt.specs.Packets.{spelling_of}
 use Rattle.git_pkt.specs.declared.fault.Fault.{Fault}
@@ -47,10 +47,11 @@ AllReportedBy repo [] [] = Unit {0}
 AllReportedBy repo (q ∷ qs) (f ∷ fs) = IsAdmittedByRepository repo q f × IsOfRepository repo q f × AllReportedBy repo qs fs
 AllReportedBy repo _ _ = ⊥
 
--- whatever these bytes ask for, this was reported for it as by the repository
+-- the requests that these bytes begin with, as many as were reported on, were reported on as by the repository
 abbrev pub IsReportedBy : HostSetting → Repository → List ℕ → List Facts → Type 0
 IsReportedBy s repo used reported =
-    (asked : List Asked) (left : List Given) (rest : List ℕ) → AreAsked s.offer s.limit used asked left rest → AllReportedBy repo asked reported
+    (asked : List Asked) (left : List Given) (rest : List ℕ) → AreAsked s.offer s.limit used asked left rest → length asked ≡ length reported
+    → AllReportedBy repo asked reported
 
 -- no packet of a request that broke off asks for what the repository lacks
 abbrev pub HasAllSoFar : HostSetting → Repository → List Given → Type 0

@@ -18,3 +18,4 @@ pub mod StoreMoves
 pub mod StoreRuns
 pub mod RepoReplies
 pub mod Hosted
+pub mod RepositoryRuns

@@ -5,7 +5,7 @@ use Rattle.git_names.specs.ObjectName.{ObjectName}
 use Rattle.git_names.specs.NameBytes.{name_bytes}
 use Rattle.git_names.specs.RefName.{IsRefName}
 use Rattle.git_msg.specs.declared.Boundary.{Boundary}
-use Rattle.git_msg.specs.Asked.{Asked, FetchAsked, fetch, ls_refs, object_info, haves_of, oids_of, want_refs_of, wants_of}
+use Rattle.git_msg.specs.Asked.{Asked, FetchAsked, fetch, ls_refs, haves_of, oids_of, want_refs_of, wants_of}
 use Rattle.git_server.specs.Repository.{Entry}
 use Rattle.git_host.specs.declared.store.Part.{Part}
 use Rattle.git_host.specs.declared.store.Part.TheVariants as Parts

@@ -16,13 +16,14 @@ use Rattle.git_host.specs.declared.references_answer.Reported.{Reported}
 use Rattle.git_host.specs.declared.references_answer.Reported.TheVariants.{Packet, Hidden, NotAsked}
 use Rattle.git_host.specs.declared.references_answer.ReferencesAnswer.{ReferencesAnswer}
 
--- what a store reported for one request for references: what an unborn `HEAD` points to, and its references
+-- what a store reported for one request for references: what an unborn `HEAD` points to, its references, and whether those are all of them
 pub record ReferencesFacts : Type 0 where
   pub unborn : Option (List ℕ)
   pub refs : List Entry
+  pub ended : Bool
 
 abbrev pub no_references : ReferencesFacts
-no_references = record { unborn = None; refs = [] }
+no_references = record { unborn = None; refs = []; ended = false }
 
 -- a sound repository of the format may have these references: their names rise, and `HEAD` is none of them where it is unborn
 pub record AreSoundReferences (format : Format) (t : ReferencesFacts) : Type 0 where
@@ -34,6 +35,7 @@ pub record AreSoundReferences (format : Format) (t : ReferencesFacts) : Type 0 w
 -- the packets are the answer to the request by what was reported
 pub record IsReferencesAnswerOf (format : Format) (q : LsRefsAsked) (t : ReferencesFacts) (packets : List Pkt) : Type 0 where
   pub sound : AreSoundReferences format t
+  pub ended : t.ended ≡ true
   pub packets_are : packets ≡ unborn_packets q t.unborn ++ reference_packets q t.refs
 
 -- the reference that was reported last, if one was
@@ -93,6 +95,10 @@ with_ref entry t = record t { refs = t.refs ++ entry ∷ [] }
 
 abbrev pub with_unborn : List ℕ → ReferencesFacts → ReferencesFacts
 with_unborn target t = record t { unborn = Some target }
+
+-- the end of the references
+abbrev pub with_references_end : ReferencesFacts → ReferencesFacts
+with_references_end t = record t { ended = true }
 
 module _ {A : Type 0} where
   abbrev pub last_reported : ReferencesAnswer A → Option Entry
@@ -162,5 +168,5 @@ module _ {A : Type 0} where
 
   -- what the end does
   abbrev pub Ends : ReferencesAnswer A → Bool → List ℕ → ReferencesAnswer A → Type 0
-  Ends old true bytes new = IsToTheSame old new × ReportsOn (λ t. t) old bytes new × is_whole new
+  Ends old true bytes new = IsToTheSame old new × ReportsOn with_references_end old bytes new × is_whole new
   Ends old false bytes new = (new ≡ old) × is_whole old

@@ -1,9 +1,10 @@
 -- What a store replies that answers as a repository does.
 use Rattle.std.specs.Prelude.{◌≡◌, ◌≤◌, ℕ, ◌+◌, Bool, true, false, List, length, Option, None, Some, slice_get}
-use Rattle.git_msg.specs.Asked.{Asked}
 use Rattle.git_server.specs.Repository.{IsFound, RepoState, Repository}
 use Rattle.git_host.specs.Questions.{Question, Reply, ask_boundary, ask_have, ask_pack, ask_reference, ask_size, ask_want, ask_want_ref, entry, failed}
-use Rattle.git_host.specs.Questions.{found, has, line, ready, references_end, size_is, unborn}
+use Rattle.git_host.specs.Questions.{found, has, line, progress, ready, references_end, size_is, unborn}
+use Rattle.git_host.specs.declared.store.Part.{Part}
+use Rattle.git_host.specs.declared.store.Part.TheVariants.{Progress}
 use Rattle.git_host.specs.declared.repo_store.RepoStore.{RepoStore}
 
 -- what an unborn `HEAD` points to was sent, or `HEAD` is not unborn: references come after it
@@ -17,7 +18,7 @@ IsLeftUnborn repo named None = IsNamed repo named
 IsLeftUnborn repo named (Some target) = (named ≡ false) × (repo.unborn_head ≡ Some target)
 
 -- what the repository answers, after so many lines or references for the request at hand, and what an unborn `HEAD` points to or
--- not. Of a pack it states nothing; a pack that cannot be read fails, and so does a reference that does not fit.
+-- not. Of a pack it states only that no progress comes with it; a pack that cannot be read fails, and so does a reference that does not fit.
 abbrev pub IsReplyOf : Repository → ℕ → Bool → Question → Reply → Type 0
 IsReplyOf repo at named (ask_want id) (has b) = b ≡ repo.has id
 IsReplyOf repo at named (ask_want_ref name) (found id) = IsFound repo.refs name id
@@ -28,9 +29,15 @@ IsReplyOf repo at named ask_reference (entry e) = IsNamed repo named × (slice_g
 IsReplyOf repo at named ask_reference (unborn target) = (named ≡ false) × (repo.unborn_head ≡ Some target)
 IsReplyOf repo at named ask_reference references_end = IsNamed repo named × (length repo.refs ≤ at)
 IsReplyOf repo at named ask_reference failed = Unit {0}
+IsReplyOf repo at named (ask_pack q) (progress bytes) = ⊥
 IsReplyOf repo at named (ask_pack q) reply = Unit {0}
 IsReplyOf repo at named (ask_size id) (size_is size) = size ≡ repo.object_size id
 IsReplyOf repo at named question reply = ⊥
+
+-- bytes of the pack or its end
+abbrev pub IsPackPart : Part → Type 0
+IsPackPart (Progress count) = ⊥
+IsPackPart part = Unit {0}
 
 -- how many references or lines were sent for the request at hand, this reply with them
 abbrev pub place_after : Reply → ℕ → ℕ

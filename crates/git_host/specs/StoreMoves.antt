@@ -1,14 +1,14 @@
 -- What a host's server and its store do in a session, one after the other: what the store was asked and replied, and what was sent for it.
-use Rattle.std.specs.Prelude.{◌≡◌, ℕ, Bool, true, false, List, [], ◌∷◌, ◌++◌, length, take, flat_map, Option, Some, None, IsSome, Result, Ok, Err}
+use Rattle.std.specs.Prelude.{◌≡◌, ℕ, Bool, true, false, List, [], ◌∷◌, ◌++◌, flat_map, Option, Some, None, IsSome, Result, Ok, Err}
 use Rattle.std.proofs.Common.{refl, sym, ◌∙◌, ap, subst}
 use Rattle.std.proofs.lemmas.Grind.{flat_map-append}
 use Rattle.git_loop.specs.declared.machine.Next.{Next}
 use Rattle.git_loop.specs.declared.machine.Next.TheVariants.{Packet as GivesPacket, NeedInput as WaitsForInput, Finished as HasFinished}
 use Rattle.git_msg.specs.Asked.{Asked}
 use Rattle.git_host.specs.HostLookups.{request_of}
-use Rattle.git_host.specs.HostSessions.{Facts, HostSetting}
+use Rattle.git_host.specs.HostSessions.{Facts}
 use Rattle.git_host.specs.HostAnswers.{with_reported}
-use Rattle.git_host.specs.HostServer.{AcceptsHost, ClosesHost, FeedsHost, Hosts, ReportsHost, StepsHost, begun_in, bytes_of, given_with}
+use Rattle.git_host.specs.HostServer.{AcceptsHost, ClosesHost, FeedsHost, ReportsHost, StepsHost, begun_in, bytes_of, given_with}
 use Rattle.git_host.specs.HostServer.{outcome_of, reads_on, with_last}
 use Rattle.git_host.specs.Questions.{IsNoReport, IsReportOf, Question, Reply, question_of}
 use Rattle.git_host.specs.declared.host_server.HostServer.{HostServer}

@@ -17,6 +17,8 @@ ghost use Rattle.git_pkt.specs.Machine.Credit.{MakesAll, Pays};
 ghost use Rattle.git_host.specs.HostSessions.{AreAnswersBy, EndsByHost, Facts, HostSetting, IsHosted};
 ghost use Rattle.git_host.specs.HostedRepository.{AllOfRepository, EndsWell, HasWhatIsBegun, IsCutBeforePack, IsLackedByRepository};
 ghost use Rattle.git_host.specs.HostedRepository.{IsLostOfRepository, IsReportedBy, IsReportedUpTo, RefusesAtItsLine, over_repository};
+ghost use Rattle.git_host.specs.RepositoryRuns.{ServesRepository};
+ghost use Rattle.git_host.specs.StoreMoves.{Move, facts_after, given_in, over_after, used_in};
 ghost use Rattle.git_server.specs.Sessions.{AreAnswers, IsSession};
 ghost use Rattle.git_server.specs.declared.outcome.Outcome.{Outcome};
 ghost use Rattle.git_server.specs.declared.outcome.Outcome.TheVariants.{Refused};
@@ -31,7 +33,9 @@ ghost use Rattle.git_host.specs.declared.report.HostStep.{HostStep};
 ghost use Rattle.git_host.specs.declared.report.Report.{Report};
 
 use crate::host_server::HostServer;
+use crate::repo_store::RepoStore;
 use git_msg::Memory;
+use git_server::Repo;
 use std::alloc::Allocator;
 
 /// If what was reported for a fetch is what a repository answers, what is sent is an answer of the repository, whole or broken off.
@@ -142,4 +146,15 @@ pub fn lacking_request_is_refused_at_its_line()
     ensures { (s : HostSetting) (repo : Repository) (failures : ℕ) (used : List ℕ) (reported : List Facts) (given : List ℕ) (fault : Fault)
         → IsReportedUpTo (IsLackedByRepository repo fault.kind) s repo used reported → EndsByHost s used false reported given (Refused fault)
         → RefusesAtItsLine (over_repository s repo failures) used given fault }
+{}
+
+/// What a `RepoStore` replies is what its repository answers. So if a session over one ended well, no call of the store failed, and the packs
+/// are the repository's, then all that was reported is what the repository answers, and the session is one of a server over that repository.
+pub fn store_session_is_a_repositorys<R: Repo, P, A: Allocator + Copy>()
+    ensures reported { (s : HostSetting) (repo : Repository) (moves : List Move) (outcome : Outcome) (first : HostServer A) (store : RepoStore R P)
+        (last : HostServer A) (left : RepoStore R P) → ServesRepository R.state s repo moves outcome first store last left
+        → IsReportedBy s repo (used_in moves) (facts_after [] moves) }
+    ensures session { (s : HostSetting) (repo : Repository) (failures : ℕ) (moves : List Move) (outcome : Outcome) (first : HostServer A)
+        (store : RepoStore R P) (last : HostServer A) (left : RepoStore R P) → ServesRepository R.state s repo moves outcome first store last left
+        → IsSession (over_repository s repo failures) (used_in moves) (over_after false moves) (given_in moves) outcome }
 {}

@@ -5,7 +5,7 @@ ghost use Rattle.std.specs.Option.{option_copied};
 ghost use Rattle.git_host.specs.HostLookups.{asked_in};
 ghost use Rattle.git_host.specs.Questions.{IsListedWithin, IsPartWithin, found, has, line, listed_in, part_in, ready, replied, size_is};
 ghost use Rattle.git_host.specs.Questions.{ask_boundary, ask_have, ask_pack, ask_reference, ask_size, ask_want, ask_want_ref};
-ghost use Rattle.git_host.specs.RepoReplies.{BeginsAnew, IsLeftUnborn, RepliesAs, answers_of};
+ghost use Rattle.git_host.specs.RepoReplies.{BeginsAnew, IsLeftUnborn, IsPackPart, RepliesAs, answers_of};
 
 use crate::request_at_hand::RequestAtHand;
 use crate::store::{Listed, Part, Store, StoreFault};
@@ -98,6 +98,7 @@ fn next_part<P: Read + Seek>(
 ) -> Result<Part, StoreFault>
     ensures length { length out.new ≡ length out.old }
     ensures within { IfOk result (IsPartWithin (length out.new)) }
+    ensures pack { IfOk result IsPackPart }
 {
     if !has_begun {
         file.begin()?;

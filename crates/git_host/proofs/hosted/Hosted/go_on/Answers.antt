@@ -1,4 +1,4 @@
-use Rattle.std.proofs.Common.{rules, arith, inl, inr, refl, [], ◌<◌, ◌≡◌, ℕ}
+use Rattle.std.proofs.Common.{rules, arith, inl, inr, []}
 use Rattle.git_host.specs.HostServer.{bytes_of}
 use Rattle.git_host.specs.Hosted.{server_of, store_of}
 use Rattle.git_host.specs.StoreMoves.{reaches_further, reaches_itself}
