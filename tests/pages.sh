@@ -44,7 +44,7 @@ part_of_the_page() {
     sed -n "/^\.SH $1/,/^\.SH/p" "$top/docs/git2show.5" | sed 's/\\-/-/g'
 }
 
-# words_of_the_page SECTION: the words by which the lines begin that a section of git2show(5) describes.
+# words_of_the_page SECTION: the first words of the lines that a section of git2show(5) describes.
 words_of_the_page() {
     part_of_the_page "$1" | grep -A 1 -x -F .TP | grep -o -E '\\fB[a-z-]+\\fR( |$|,|\[)|, \\fB[a-z-]+\\fR' | sed -E 's/.*\\fB([a-z-]+)\\fR.*/\1/' | sort -u
 }
@@ -54,7 +54,7 @@ rows_of_the_table() {
     sed -n "/^| $1 |/,/^\$/p" "$top/docs/PROTOCOL.md" | tail -n +3 | cut -d '|' -f "$2"
 }
 
-# The words in backticks by which what stands there begins.
+# The first word of each text in backticks.
 quoted_words() {
     grep -o -E '`[a-z][a-z-]*' | tr -d '`' | sort -u
 }

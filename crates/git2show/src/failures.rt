@@ -23,7 +23,7 @@ pub(crate) enum Cause {
     Call(FailedCall),
     /// A line of a script for this object format is refused.
     ScriptLine(Format),
-    /// A packet begins no request, where requests are looked for.
+    /// A packet begins no request, and requests are to be shown.
     Stray,
 }
 
@@ -74,7 +74,7 @@ impl Failure {
         Failure { fault, cause }
     }
 
-    /// The failure of a stream of which requests are to be shown, and in which a packet at this offset begins none.
+    /// The failure of a stream whose requests are to be shown, and which has a packet at this offset that begins none.
     pub(crate) fn of_stray(offset: u64) -> Failure {
         let kind = Kind::NoCommand;
         Failure {

@@ -25,7 +25,7 @@ module _ (word : Bor (List ℕ)) where
   abbrev joined : List (List Given) → List Given
   joined requests = flat_map (λ r. r) (filter (has_command word.now) requests)
 
-  -- those of requests of which the first has begun, or has not
+  -- those of requests: the first has begun, or has not
   abbrev begun : RequestState → List (List Given) → List Given
   begun RequestState.Between requests = joined requests
   begun RequestState.Wanted [] = []
@@ -182,7 +182,7 @@ with_requests {view = view} {start = start} between outside ran =
 
 -- ---- the first packet that begins no request
 
--- those of requests of which the first has begun, or has not
+-- those of requests: the first has begun, or has not
 abbrev strays_begun : RequestState → List (List Given) → List ℕ
 strays_begun RequestState.Between requests = flat_map strays_of requests
 strays_begun request requests = flat_map strays_of (drop 1 requests)

@@ -26,7 +26,7 @@ abbrev pub is_command : List ℕ → Pkt → Bool
 is_command word (payload bytes) = bytes_eq (text_of bytes) (codes "command=" ++ word)
 is_command word packet = false
 
--- what a request begins with: the line of a command, or a flush alone, by which a client that asks for nothing more ends
+-- what a request begins with: the line of a command, or a flush alone, which a client sends that asks for nothing more
 abbrev pub begins_request : Pkt → Bool
 begins_request (payload bytes) = starts_with nat_eq (text_of bytes) (codes "command=")
 begins_request packet = is_flush packet

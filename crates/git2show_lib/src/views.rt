@@ -53,7 +53,7 @@ pub struct Tally {
     pub in_pack: bool,
     /// Where the stream stands, if the requests with one command are looked for.
     pub request: RequestState,
-    /// The offset of the first packet that begins no request where one has to begin, if requests are looked for. A client sends none.
+    /// The offset of the first packet that stands at the beginning of a request and begins none, if requests are looked for. A client sends none.
     pub stray: Option<u64>,
 }
 
