@@ -8,7 +8,7 @@ LIBRARY ?= crates/gitwire/out/libgitwire.a
 KIT = $(shell dirname "$$($(RT) doc)")
 VERSION = 0.2.0
 
-.PHONY: run program library install test test-program test-git-suite audit mutants cases bench format
+.PHONY: run program library install test test-program test-git-suite test-peers audit mutants cases bench format
 
 # The crates of this repository that a crate depends on, lowest first, and it: its line of crates.txt names them in that order.
 with_those_below = $(foreach it,$(shell sed -n 's/^$(1)\( staticlib\)\{0,1\}: //p' crates.txt) $(1),$(if $(wildcard crates/$(it)),$(it)))
@@ -125,3 +125,8 @@ bench:
 test-git-suite: $(LIBRARY)
 	@$(CC) -std=c11 -O2 -Iinclude -o /tmp/gitwire-upload-pack examples/upload-pack.c "$(LIBRARY)" "$(KIT)/c/liblibc_c.a"
 	@tests/git-suite.sh /tmp/gitwire-upload-pack $(TESTS)
+
+# Other Gits, dulwich, JGit and others of Debian's registry as clients and servers of ours (docs/PEERS.md): no part of what a merge waits for. They are
+# unpacked, once, in the folder that PEERS names, and installed nowhere. TRY names some of them, where not all are to be tried.
+test-peers: $(PROGRAM) $(LIBRARY)
+	@LIBC="$(KIT)/c/liblibc_c.a" tests/peers.sh "$(PROGRAM)" "$(LIBRARY)" $(TRY)
