@@ -102,6 +102,7 @@ has_further_tags() {
 # verdict PEER WAY KIND CASE: what came of a case beside what came of it with Git's own server, a word that docs/PEERS.md explains.
 verdict() {
     local ours=$room/out/$1/$2-$3-$4 theirs=$room/out/$1/$2-theirs-$4 what status their_status
+    [ -e "$ours.status" ] && [ -e "$theirs.status" ] || { echo 'not tried'; return; }
     status=$(cat "$ours.status")
     their_status=$(cat "$theirs.status")
     case $status:$their_status in

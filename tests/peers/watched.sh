@@ -21,8 +21,8 @@ END
     chmod 755 bin/ssh-watched bin/recorded
 }
 
-# watched PEER LINE GIT-WORD..: a command of a Git over the watcher. Prints `same` if all ends well, `check` and the watcher print the same transcript,
-# and that has a line like LINE; `not spoken` if it has none; or else what is wrong.
+# watched PEER LINE GIT-WORD..: a command of a Git over the watcher. Prints `same` if all ends well, `check` and the watcher print the same lines,
+# and one is a line like LINE; `not spoken` if it has none; or else what is wrong.
 watched() {
     local line=$2 status=0 path=$PATH
     [ "$1" = git-bookworm ] || path=$cache/${1#*-}.bin:$PATH
@@ -31,7 +31,8 @@ watched() {
     [ $status = 0 ] || { echo "status $status: $(tail -n 1 watched.out) $(cat watched.err)"; return; }
     [ ! -s watched.err ] || { head -n 1 watched.err; return; }
     limited git2show check requests responses > checked 2> checked.err || { echo "check: $(head -n 1 checked.err)"; return; }
-    [ -z "$library" ] || cut -d ' ' -f 3- watched.transcript | cmp -s - checked || { echo 'another transcript of watch'; return; }
+    # The watcher prints what it does not know as it comes, which is before the line of the request.
+    [ -z "$library" ] || cut -d ' ' -f 3- watched.transcript | sort | cmp -s - <(sort checked) || { echo 'another transcript of watch'; return; }
     if grep -q -e "$line" checked; then echo same; else echo 'not spoken'; fi
 }
 
