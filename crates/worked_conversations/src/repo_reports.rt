@@ -8,7 +8,7 @@ use git_host::{HostReported, HostServer, LONGEST_PART, Need, Report, RequestAtHa
 use git_msg::Fetch;
 use git_names::{Oid, RefName, Steps};
 use git_server::{RefEntry, Repo};
-use std::alloc::Global;
+use std::alloc::{AllocError, Global};
 
 /// The reports of a host whose store is a repository.
 #[derive(Drop)]
@@ -40,6 +40,16 @@ fn fetch_at_hand(server: &HostServer<Global>) -> Result<&Fetch<Global>, Trouble>
         Some(RequestAtHand::Fetch(request)) => Ok(request),
         _ => Err(Trouble::Breaks("a host is asked without a fetch")),
     }
+}
+
+fn copy_of(alloc: Global, entry: &RefEntry) -> Result<RefEntry, AllocError> {
+    RefEntry::copied(
+        alloc,
+        entry.name(),
+        entry.id(),
+        entry.target(),
+        entry.peeled(),
+    )
 }
 
 impl<R: Repo> RepoReports<R> {
@@ -132,13 +142,7 @@ impl<R: Repo> RepoReports<R> {
         let Some(entry) = self.repo.refs().get(self.count) else {
             return Ok(server.report(Report::ReferencesEnd));
         };
-        let copy = RefEntry::copied(
-            self.alloc,
-            entry.name(),
-            entry.id(),
-            entry.target(),
-            entry.peeled(),
-        )?;
+        let copy = copy_of(self.alloc, entry)?;
         self.count = self.count.saturating_add(1);
         Ok(server.report(Report::Reference(copy)))
     }
