@@ -6,7 +6,7 @@ use crate::script::{Given, Recording, Script};
 use crate::sessions::{Contents, Reads, Setup};
 use crate::tables::Table;
 use crate::trouble::Trouble;
-use crate::{checks, clients, plays, runs};
+use crate::{checks, clients, hosts, plays, runs};
 use git_client::Ending;
 use git_msg::Command;
 use git_names::Format;
@@ -75,10 +75,11 @@ impl<'a> Words<'a> {
     }
 
     // The word before the name of the repository's file.
-    fn end(self) -> &'static str {
-        match self.has("play") {
-            true => "play",
-            false => "server",
+    fn before_repository(self) -> &'static str {
+        match self.text.split_whitespace().next() {
+            Some("play") => "play",
+            Some("host") => "as",
+            _ => "server",
         }
     }
 
@@ -172,6 +173,16 @@ fn server_of<'a>(words: Words<'_>, files: &'a Files) -> Result<Setup<'a>, Troubl
     })
 }
 
+// The host's server set up by these words.
+fn host_of(words: Words<'_>) -> Result<hosts::Setup, Trouble> {
+    Ok(hosts::Setup {
+        format: words.format(),
+        limit: words.limit()?,
+        features: words.features(),
+        advertises: words.has("advertises"),
+    })
+}
+
 // The client set up by these words.
 fn client_of<'a>(words: Words<'_>, files: &'a Files) -> clients::Setup<'a> {
     clients::Setup {
@@ -209,6 +220,7 @@ fn end_of<'a>(words: Words<'_>, files: &'a Files) -> Result<End<'a>, Trouble> {
         Some("client") => Ok(End::Client(client_of(words, files))),
         Some("check") => Ok(End::Check(check_of(words))),
         Some("server") => Ok(End::Server(server_of(words, files)?)),
+        Some("host") => Ok(End::Host(host_of(words)?)),
         _ => Err(Trouble::BadCase("nothing to run")),
     }
 }
@@ -278,12 +290,48 @@ fn read_recording(
 // The files that these words name.
 fn read_files(rt: &HostRuntime, alloc: Global, words: Words<'_>) -> Result<Files, Trouble> {
     Ok(Files {
-        repository: file_after(rt, alloc, words, words.end())?,
+        repository: file_after(rt, alloc, words, words.before_repository())?,
         pack: file_after(rt, alloc, words, "pack")?,
         filtered: named_file(rt, words, "filtered")?,
         heard: file_after(rt, alloc, words, "after")?,
         recording: read_recording(rt, alloc, words)?,
     })
+}
+
+// The server that a case is run with beside the one that it names: a host's server in place of a repository's, and where a case of a host
+// names a repository, a server of that.
+fn other_end<'a>(
+    words: Words<'_>,
+    files: &'a Files,
+    end: &End<'a>,
+) -> Result<Option<End<'a>>, Trouble> {
+    match end {
+        End::Server(setup) => Ok(Some(End::HostOfRepository(*setup))),
+        End::Host(_) if words.has("as") => Ok(Some(End::Server(server_of(words, files)?))),
+        _ => Ok(None),
+    }
+}
+
+// Runs a side with these lines. Returns how many runs were made.
+fn end_goes(
+    alloc: Global,
+    (end, other): (&End<'_>, Option<&End<'_>>),
+    recording: Option<Recording>,
+    lines: &[&str],
+) -> Result<usize, Trouble> {
+    let mut script = Script::read(alloc, lines, end.form())?;
+    match (end, recording) {
+        (_, None) => {}
+        (End::Check(_), Some(recording)) => script.take_conversation(recording)?,
+        (_, Some(recording)) => script.take_recording(recording)?,
+    }
+    let runs = runs::goes(alloc, end, &script)?;
+    let Some(other) = other else {
+        return Ok(runs);
+    };
+    script.wait_for_flush(alloc)?;
+    let others = runs::goes(alloc, other, &script)?;
+    Ok(runs.saturating_add(others))
 }
 
 // Runs a case with these lines after its name. Returns how many runs were made.
@@ -293,14 +341,8 @@ fn goes(rt: &HostRuntime, alloc: Global, setup: &str, lines: &[&str]) -> Result<
     let recording = files.recording.take();
     match subject_of(words, &files)? {
         Subject::End(end) => {
-            let mut script = Script::read(alloc, lines, end.form())?;
-            if let Some(recording) = recording {
-                match end {
-                    End::Check(_) => script.take_conversation(recording)?,
-                    _ => script.take_recording(recording)?,
-                }
-            }
-            runs::goes(alloc, &end, &script)
+            let other = other_end(words, &files, &end)?;
+            end_goes(alloc, (&end, other.as_ref()), recording, lines)
         }
         Subject::Play(contents) => {
             let script = Script::read(alloc, lines, Given::Talk)?;

@@ -1,11 +1,10 @@
 //! The sides and readers that a case can run.
 
 use crate::runs::{Due, compare};
-use crate::script::{Given, Script};
+use crate::script::{Given, Script, append_error};
 use crate::setup::{LAST_POSITION, offer};
-use crate::texts::append;
 use crate::trouble::Trouble;
-use crate::{checks, clients, packets, requests, sessions};
+use crate::{checks, clients, host_runs, hosts, packets, requests, sessions};
 use git_names::Format;
 use std::alloc::{AllocError, Global};
 
@@ -18,6 +17,10 @@ pub enum End<'a> {
     Requests(Format, u32, bool),
     /// A server of a repository's text.
     Server(sessions::Setup<'a>),
+    /// A host's server, whose host reports what the repository of such a text answers.
+    HostOfRepository(sessions::Setup<'a>),
+    /// A host's server, whose host reports what the case states.
+    Host(hosts::Setup),
     /// A client.
     Client(clients::Setup<'a>),
     /// `check`, with the requests as its second stream.
@@ -67,11 +70,29 @@ fn server_goes(
     compare(alloc, &run, due, place)
 }
 
+// A host's server of a repository, fed, and served where no read of a pack is to fail or to be short.
+fn host_goes(
+    alloc: Global,
+    setup: &sessions::Setup<'_>,
+    pieces: &[&[u8]],
+    due: &Due,
+    place: usize,
+) -> Result<(), Trouble> {
+    let run = host_runs::of_repository(alloc, setup, pieces)?;
+    compare(alloc, &run, due, place)?;
+    if setup.reads.is_some() {
+        return Ok(());
+    }
+    let run = host_runs::served(alloc, setup, pieces)?;
+    compare(alloc, &run, due, place)
+}
+
 impl<'a> End<'a> {
     /// How its output is written.
     pub fn form(&self) -> Given {
         match self {
-            End::Server(_) => Given::Bytes,
+            End::Server(_) | End::HostOfRepository(_) => Given::Bytes,
+            End::Host(_) => Given::Reports,
             End::Client(_) => Given::Talk,
             _ => Given::Lines,
         }
@@ -90,7 +111,7 @@ impl<'a> End<'a> {
     pub fn may_end_after(&self, given: &[u8], is_answered: bool) -> bool {
         match self {
             End::Packets(_) | End::Requests(..) => true,
-            End::Server(_) => is_answered,
+            End::Server(_) | End::HostOfRepository(_) | End::Host(_) => is_answered,
             End::Client(_) => false,
             End::Check(_) => is_whole(given),
         }
@@ -118,10 +139,9 @@ impl<'a> End<'a> {
         offset: u64,
     ) -> Result<(), AllocError> {
         match self {
-            End::Server(_) => {
-                let line = format!(in alloc; "ERR Truncated at {offset}\n")?;
-                let packet = format!(in alloc; "{:04x}{line}", line.len().saturating_add(4))?;
-                append(given, packet.as_bytes())
+            End::Server(_) | End::HostOfRepository(_) | End::Host(_) => {
+                let text = format!(in alloc; "Truncated at {offset}")?;
+                append_error(alloc, given, text.as_str())
             }
             _ => Ok(()),
         }
@@ -144,6 +164,11 @@ impl<'a> End<'a> {
                 compare(alloc, &run, due, place)
             }
             End::Server(setup) => server_goes(alloc, setup, pieces, due, place),
+            End::HostOfRepository(setup) => host_goes(alloc, setup, pieces, due, place),
+            End::Host(setup) => {
+                let run = host_runs::of_case(alloc, *setup, script, pieces)?;
+                compare(alloc, &run, due, place)
+            }
             End::Client(setup) => {
                 let run = clients::fed(alloc, setup, script, pieces)?;
                 compare(alloc, &run, due, place)

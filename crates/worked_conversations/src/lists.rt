@@ -18,13 +18,13 @@ struct Lists {
     unborn: Option<Vec<u8>>,
 }
 
-// The object name with this text, in the format that has its length.
-fn object(text: &str) -> Result<Oid, Trouble> {
+/// The object name with this text, in the format that has its length.
+pub fn object(text: &str) -> Result<Oid, Trouble> {
     Oid::from_hex(text).map_err(|_| Trouble::BadCase("no object name"))
 }
 
-// The reference of the words after `ref`, or the error of its names.
-fn entry(
+/// The reference of the words after `ref`, or the error of its names.
+pub fn entry(
     alloc: Global,
     name: &str,
     id: &str,

@@ -3,17 +3,22 @@
 #![tactic(auto)]
 
 mod asking;
+mod case_reports;
 mod cases;
 mod checks;
 mod clients;
 mod ends;
 mod escapes;
+mod host_runs;
+mod hosts;
 mod lists;
 mod packets;
 mod plays;
+mod repo_reports;
 mod requests;
 mod runs;
 mod script;
+mod serving;
 mod sessions;
 mod setup;
 mod tables;

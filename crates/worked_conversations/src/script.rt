@@ -11,9 +11,11 @@ use std::alloc::{AllocError, Global};
 pub enum Given {
     /// Escaped bytes, one line after another with nothing between.
     Bytes,
+    /// The same, and beside them what a host reports of its store.
+    Reports,
     /// Lines of text as they are, each with its LF.
     Lines,
-    /// The same, and beside them the packets that are sent and the bytes of the side bands, in their escaped form.
+    /// Such lines, and beside them the packets that are sent and the bytes of the side bands, in their escaped form.
     Talk,
 }
 
@@ -33,9 +35,19 @@ enum Last {
     Input,
     Given,
     Asked,
+    Report,
     Pack,
     Progress,
     Ending,
+}
+
+/// What a host is asked of its store, and what it reports.
+#[derive(Drop)]
+pub struct Reply {
+    pub asked: String,
+    pub reported: String,
+    /// The name of the refusal, if the report is refused.
+    pub refused: Option<String>,
 }
 
 /// The recording of a client and a server: what each of them sent, and the pack bytes among it.
@@ -68,6 +80,10 @@ pub struct Script {
     /// What a client has to ask, and whether it leaves then.
     pub wordings: Vec<Wording>,
     pub leaves: bool,
+    /// What a host reports.
+    pub replies: Vec<Reply>,
+    // How a host's server refuses the request in place of the ending, if it does so otherwise.
+    at_flush: Option<String>,
     /// The lines that state how it ends, each with its LF.
     pub ending: String,
     last: Last,
@@ -88,6 +104,8 @@ impl Script {
             asked_read: 0,
             wordings: Vec::new(alloc),
             leaves: false,
+            replies: Vec::new(alloc),
+            at_flush: None,
             ending: String::new(alloc),
             last: Last::Nothing,
         };
@@ -103,6 +121,9 @@ impl Script {
             (">", _) => self.take_input(text),
             ("<", _) => self.take_given(text, form),
             ("?", Given::Talk) => self.take_sent(alloc, text),
+            ("?", Given::Reports) => self.take_report(alloc, text),
+            ("!", Given::Reports) => self.take_refused(alloc, text),
+            ("host", Given::Bytes) => self.take_host(alloc, text),
             ("?", _) => self.take_asked(text),
             ("+", _) => self.take_more(text, form),
             ("again", _) => self.take_again(alloc, text),
@@ -153,7 +174,7 @@ impl Script {
 
     fn take_given(&mut self, text: &str, form: Given) -> Result<(), Trouble> {
         match form {
-            Given::Bytes => append_unescaped(&mut self.given, text)?,
+            Given::Bytes | Given::Reports => append_unescaped(&mut self.given, text)?,
             Given::Lines | Given::Talk => {
                 append(&mut self.given, text.as_bytes())?;
                 append(&mut self.given, b"\n")?;
@@ -181,6 +202,34 @@ impl Script {
         append_sent(alloc, &mut self.given, packet)?;
         self.last = Last::Nothing;
         self.mark();
+        Ok(())
+    }
+
+    // What a host is asked, and after a colon what it reports.
+    fn take_report(&mut self, alloc: Global, text: &str) -> Result<(), Trouble> {
+        let Some((asked, reported)) = text.split_once(": ") else {
+            return Err(Trouble::BadCase("nothing is reported"));
+        };
+        let reply = Reply {
+            asked: String::from_str(alloc, asked)?,
+            reported: String::from_str(alloc, reported)?,
+            refused: None,
+        };
+        self.last = Last::Report;
+        self.replies.push(reply).map_err(|_| Trouble::OutOfMemory)
+    }
+
+    // The last report is refused by this name.
+    fn take_refused(&mut self, alloc: Global, name: &str) -> Result<(), Trouble> {
+        let Some(reply) = self.replies.as_mut_slice().last_mut() else {
+            return Err(Trouble::BadCase("no report is refused"));
+        };
+        reply.refused = Some(String::from_str(alloc, name)?);
+        Ok(())
+    }
+
+    fn take_host(&mut self, alloc: Global, refusal: &str) -> Result<(), Trouble> {
+        self.at_flush = Some(String::from_str(alloc, refusal)?);
         Ok(())
     }
 
@@ -246,7 +295,7 @@ impl Script {
 
     // Continues the output. If that is lines, its last line has no end yet.
     fn give_more(&mut self, count: u32, text: &str, form: Given) -> Result<(), Trouble> {
-        if form == Given::Bytes {
+        if form == Given::Bytes || form == Given::Reports {
             return append_often(&mut self.given, count, text);
         }
         self.given.pop();
@@ -263,6 +312,17 @@ impl Script {
         Ok(append_str(&mut self.ending, "\n")?)
     }
 
+    // Continues the last report.
+    fn report_more(&mut self, count: u32, text: &str) -> Result<(), Trouble> {
+        let Some(reply) = self.replies.as_mut_slice().last_mut() else {
+            return Err(Trouble::BadCase("nothing is reported before +"));
+        };
+        for _ in 0..count {
+            append_str(&mut reply.reported, text)?;
+        }
+        Ok(())
+    }
+
     // Continues the line before: this many times these bytes.
     fn take_more(&mut self, text: &str, form: Given) -> Result<(), Trouble> {
         let (count, text) = text.split_once(' ').unwrap_or((text, ""));
@@ -275,6 +335,7 @@ impl Script {
             Last::Pack => append_often(&mut self.pack, count, text)?,
             Last::Progress => append_often(&mut self.progress, count, text)?,
             Last::Given => self.give_more(count, text, form)?,
+            Last::Report => self.report_more(count, text)?,
             Last::Ending => self.end_more(count, text)?,
             Last::Nothing => return Err(Trouble::BadCase("nothing before +")),
         }
@@ -329,6 +390,60 @@ impl Script {
             None => 0,
         }
     }
+}
+
+impl Script {
+    /// Makes this what a host's server does for the same packets.
+    ///
+    /// A server of a repository looks for what a request wants as soon as its line comes, and refuses the line (`NotOurs`, `UnknownRef`). A
+    /// host's server asks its host once the request is whole, and refuses it at its flush. Nothing else differs. So a case that is refused
+    /// at such a line states the refusal of a host's server where a flush follows that line: at this flush, or at the line itself if that
+    /// is refused without a look at the store, as for `TooMuchKept`.
+    pub fn wait_for_flush(&mut self, alloc: Global) -> Result<(), Trouble> {
+        let Some(refusal) = self.at_flush.take() else {
+            return Ok(());
+        };
+        if !asks_the_store(self.ending.as_str()) {
+            return Err(Trouble::BadCase("a host refuses this as any server does"));
+        }
+        let end = self.told();
+        let rest = self.input.as_slice().get(end..).unwrap_or(&[]);
+        let rest = copied(alloc, rest)?;
+        self.input.truncate(end);
+        self.forget_refusal();
+        let flush = format!(in alloc; " at {end}")?;
+        if refusal.as_str().ends_with(flush.as_str()) {
+            append(&mut self.input, b"0000")?;
+            self.end_step()?;
+        }
+        append_error(alloc, &mut self.given, refusal.as_str())?;
+        self.mark();
+        self.ending = format!(in alloc; "refused {refusal}\n")?;
+        Ok(append(&mut self.input, rest.as_slice())?)
+    }
+
+    // Removes what the last step sends, and the ending.
+    fn forget_refusal(&mut self) {
+        let before = match self.steps.as_slice() {
+            [.., before, _] => before.given,
+            _ => self.greeting.given,
+        };
+        self.given.truncate(before);
+        self.ending.clear();
+        self.mark();
+    }
+}
+
+// Whether this ending is a refusal that depends on what the store has.
+fn asks_the_store(ending: &str) -> bool {
+    ending.starts_with("refused NotOurs at ") || ending.starts_with("refused UnknownRef at ")
+}
+
+/// Appends the error packet with this text.
+pub fn append_error(alloc: Global, packets: &mut Vec<u8>, text: &str) -> Result<(), AllocError> {
+    let line = format!(in alloc; "ERR {text}\n")?;
+    let packet = format!(in alloc; "{:04x}{line}", line.len().saturating_add(4))?;
+    append(packets, packet.as_bytes())
 }
 
 /// Appends the line of a packet that is sent.

@@ -1,0 +1,104 @@
+//! Runs of a host's server: its host reports what a case states or what a repository answers, or its store is the repository.
+
+use crate::case_reports::CaseReports;
+use crate::hosts::{Host, Setup};
+use crate::repo_reports::RepoReports;
+use crate::runs::Run;
+use crate::script::Script;
+use crate::serving::{ending_of, run};
+use crate::sessions::{self, Reads, repository};
+use crate::setup::{TURNS, limits, offer};
+use crate::texts::append_str;
+use crate::trouble::Trouble;
+use git_host::{Hosted, RepoStore, Store, serve_store};
+use git_pkt::Told;
+use git_server::{Faulty, Repo};
+use std::alloc::Global;
+use std::io::Cursor;
+use test_streams::Pieces;
+
+/// Feeds the chunks to a host's server, whose host makes the reports of the case. Then the input ends. What was not asked for is a line of the
+/// ending.
+pub fn of_case(
+    alloc: Global,
+    setup: Setup,
+    script: &Script,
+    pieces: &[&[u8]],
+) -> Result<Run, Trouble> {
+    let reports = CaseReports::new(alloc, script.replies.as_slice());
+    let mut host = Host::new(alloc, setup, reports);
+    let mut run = run(alloc, &mut host, pieces)?;
+    let left = host.reports().left();
+    if left > 0 {
+        let line = format!(in alloc; "{left} reports are not asked for\n")?;
+        append_str(&mut run.ending, line.as_str())?;
+    }
+    Ok(run)
+}
+
+// Feeds the chunks to a host's server, whose host reports what this repository answers. Then the input ends.
+fn reported_of<R: Repo + Drop>(
+    alloc: Global,
+    setup: &sessions::Setup<'_>,
+    repo: R,
+    pieces: &[&[u8]],
+) -> Result<Run, Trouble> {
+    let setup = Setup {
+        format: repo.format(),
+        limit: setup.limit,
+        features: setup.features,
+        advertises: setup.advertises,
+    };
+    let mut host = Host::new(alloc, setup, RepoReports::new(alloc, repo));
+    run(alloc, &mut host, pieces)
+}
+
+/// The same with the repository of a case.
+pub fn of_repository(
+    alloc: Global,
+    setup: &sessions::Setup<'_>,
+    pieces: &[&[u8]],
+) -> Result<Run, Trouble> {
+    let repo = repository(alloc, setup.contents)?;
+    match setup.reads {
+        Some(Reads { fail_from, most }) => {
+            let repo = Faulty::new(repo, fail_from, most.max(1));
+            reported_of(alloc, setup, repo, pieces)
+        }
+        None => reported_of(alloc, setup, repo, pieces),
+    }
+}
+
+// Serves the chunks with a host's server over its store, and appends what it sends. Returns how the run ended.
+fn serve_pieces<S: Store>(
+    alloc: Global,
+    hosted: &mut Hosted<S, Global>,
+    pieces: &[&[u8]],
+    output: &mut Vec<u8>,
+) -> Result<String, Trouble> {
+    let mut reader = Told::new(Pieces::new(pieces));
+    let mut writer = Told::new(output);
+    match serve_store(&mut reader, &mut writer, &mut [0; 256], hosted, TURNS) {
+        Ok(Some(outcome)) => Ok(ending_of(alloc, outcome)?),
+        Ok(None) => Err(Trouble::Breaks("a served session has no outcome")),
+        Err(fault) => Ok(format!(in alloc; "{fault}\n")?),
+    }
+}
+
+/// Serves the chunks over a store with the answers of the repository, whose packs come from readers.
+pub fn served(
+    alloc: Global,
+    setup: &sessions::Setup<'_>,
+    pieces: &[&[u8]],
+) -> Result<Run, Trouble> {
+    let contents = setup.contents;
+    let repo = repository(alloc, contents)?;
+    let offer = offer(repo.format(), setup.features);
+    let limits = limits(setup.limit);
+    let filtered = contents.filtered.map(Cursor::new);
+    let store = RepoStore::new(alloc, repo, Cursor::new(contents.pack), filtered);
+    let mut hosted = Hosted::new(alloc, store, offer, limits, setup.advertises);
+    let mut given = Vec::new(alloc);
+    let ending = serve_pieces(alloc, &mut hosted, pieces, &mut given)?;
+    Ok(Run::new(alloc, given, ending, None))
+}
