@@ -1,0 +1,181 @@
+/*
+ * The part of the library that is written in C, since Rattle exports nothing of the kind: memory for handles, texts that last, and where the
+ * parts of an event and a payload are. Nothing here is proved. It is linked with libgitwire.a, whose calls `_init`, `_clear`, `_words` and
+ * `_text` below are not in the header.
+ */
+#include <gitwire.h>
+
+#include <stdlib.h>
+#include <string.h>
+
+/* What the library's calls take by the address of a handle. Zeroed memory has nothing in it. */
+struct handle {
+	void *at;
+	bool is_made;
+};
+GITWIRE_STATIC_ASSERT(sizeof(struct handle) == 2 * sizeof(void *) && offsetof(struct handle, is_made) == sizeof(void *), "a handle");
+
+/* Gets memory for a handle with nothing in it, lets `init` give it something, and sets `place` to it, or to NULL if that was not DONE. */
+#define MAKE(place, init) \
+	do { \
+		gitwire_result result = GITWIRE_OUT_OF_MEMORY; \
+		void *made = calloc(1, sizeof(struct handle)); \
+		if (made != NULL) \
+			result = init; \
+		if (result != GITWIRE_DONE) { \
+			free(made); \
+			made = NULL; \
+		} \
+		*place = made; \
+		return result; \
+	} while (0)
+
+/* Defines the call `_free` of a kind of handle. */
+#define FREES(kind) \
+	void kind##_clear(kind *handle); \
+	void kind##_free(kind *handle) \
+	{ \
+		if (handle == NULL) \
+			return; \
+		kind##_clear(handle); \
+		free(handle); \
+	}
+
+FREES(gitwire_packet_reader)
+FREES(gitwire_request_reader)
+FREES(gitwire_request)
+FREES(gitwire_repository)
+FREES(gitwire_server)
+FREES(gitwire_host)
+FREES(gitwire_client)
+FREES(gitwire_writer)
+
+gitwire_result gitwire_packet_reader_init(gitwire_packet_reader *reader);
+gitwire_result gitwire_packet_reader_new(gitwire_packet_reader **reader)
+{
+	MAKE(reader, gitwire_packet_reader_init(made));
+}
+
+gitwire_result gitwire_request_reader_init(gitwire_request_reader *reader, gitwire_format format, uint32_t features, uint32_t limit);
+gitwire_result gitwire_request_reader_new(gitwire_request_reader **reader, gitwire_format format, uint32_t features, uint32_t limit)
+{
+	MAKE(reader, gitwire_request_reader_init(made, format, features, limit));
+}
+
+gitwire_result gitwire_request_init(gitwire_request *request, gitwire_command command, gitwire_format format, uint32_t limit);
+gitwire_result gitwire_request_new(gitwire_request **request, gitwire_command command, gitwire_format format, uint32_t limit)
+{
+	MAKE(request, gitwire_request_init(made, command, format, limit));
+}
+
+gitwire_result gitwire_request_empty(gitwire_request **request)
+{
+	MAKE(request, GITWIRE_DONE);
+}
+
+gitwire_result gitwire_server_init(gitwire_server *server, gitwire_repository *repository, uint32_t limit, bool advertise);
+gitwire_result gitwire_server_new(gitwire_server **server, gitwire_repository *repository, uint32_t limit, bool advertise)
+{
+	MAKE(server, gitwire_server_init(made, repository, limit, advertise));
+}
+
+gitwire_result gitwire_host_init(gitwire_host *host, gitwire_format format, uint32_t features, uint32_t limit, bool advertise);
+gitwire_result gitwire_host_new(gitwire_host **host, gitwire_format format, uint32_t features, uint32_t limit, bool advertise)
+{
+	MAKE(host, gitwire_host_init(made, format, features, limit, advertise));
+}
+
+gitwire_result gitwire_client_init(gitwire_client *client, gitwire_format format, gitwire_ending ending);
+gitwire_result gitwire_client_new(gitwire_client **client, gitwire_format format, gitwire_ending ending)
+{
+	MAKE(client, gitwire_client_init(made, format, ending));
+}
+
+gitwire_result gitwire_writer_init(gitwire_writer *writer);
+gitwire_result gitwire_writer_new(gitwire_writer **writer)
+{
+	MAKE(writer, gitwire_writer_init(made));
+}
+
+/* Keeps a repository's handle if it was made, and otherwise frees its memory. */
+static gitwire_answer kept(gitwire_repository **repository, void *made, gitwire_answer answer)
+{
+	if (answer.kind != GITWIRE_DONE) {
+		free(made);
+		made = NULL;
+	}
+	*repository = made;
+	return answer;
+}
+
+static const gitwire_answer no_memory = { .kind = GITWIRE_OUT_OF_MEMORY };
+
+gitwire_answer gitwire_repository_init(gitwire_repository *repository, const char *text, size_t text_length, const uint8_t *pack,
+	size_t pack_length);
+gitwire_answer gitwire_repository_new(gitwire_repository **repository, const char *text, size_t text_length, const uint8_t *pack,
+	size_t pack_length)
+{
+	void *made = calloc(1, sizeof(struct handle));
+
+	return kept(repository, made, made == NULL ? no_memory : gitwire_repository_init(made, text, text_length, pack, pack_length));
+}
+
+gitwire_answer gitwire_repository_init_filtered(gitwire_repository *repository, const char *text, size_t text_length, const uint8_t *pack,
+	size_t pack_length, const uint8_t *filtered, size_t filtered_length);
+gitwire_answer gitwire_repository_new_filtered(gitwire_repository **repository, const char *text, size_t text_length, const uint8_t *pack,
+	size_t pack_length, const uint8_t *filtered, size_t filtered_length)
+{
+	void *made = calloc(1, sizeof(struct handle));
+
+	return kept(repository, made, made == NULL ? no_memory : gitwire_repository_init_filtered(made, text, text_length, pack,
+		pack_length, filtered, filtered_length));
+}
+
+const uint8_t *gitwire_payload(const gitwire_answer *packet, const uint8_t *chunk, const uint8_t *buffer)
+{
+	return packet->length <= packet->used ? chunk + (packet->used - packet->length) : buffer;
+}
+
+gitwire_text gitwire_event_part(const gitwire_event *event, gitwire_part part, const uint8_t *chunk, const uint8_t *buffer)
+{
+	const size_t lengths[] = { event->id_length, event->name_length, event->text_length, event->peeled_length };
+	const uint8_t *parts = event->kind == GITWIRE_PACK || event->kind == GITWIRE_PROGRESS ? chunk : buffer;
+	gitwire_text found = { NULL, 0 };
+	size_t before = 0;
+
+	if (part < GITWIRE_PART_ID || part > GITWIRE_PART_PEELED)
+		return found;
+	found.length = lengths[part - GITWIRE_PART_ID];
+	if (found.length == 0 && !(part == GITWIRE_PART_TEXT && event->has_text))
+		return found;
+	for (gitwire_part other = GITWIRE_PART_ID; other < part; other++)
+		before += lengths[other - GITWIRE_PART_ID];
+	found.at = (const char *)parts + event->offset + before;
+	return found;
+}
+
+void gitwire_version_text(gitwire_text *text);
+const char *gitwire_version(void)
+{
+	gitwire_text text = { "", 0 };
+
+	gitwire_version_text(&text);
+	return text.at;
+}
+
+/* The name of an error and its sentence, each with a NUL at its end; both are empty if there is no such error. */
+void gitwire_fault_words(gitwire_fault fault, gitwire_text *text);
+const char *gitwire_fault_name(gitwire_fault fault)
+{
+	gitwire_text text = { "", 0 };
+
+	gitwire_fault_words(fault, &text);
+	return text.at;
+}
+
+const char *gitwire_fault_sentence(gitwire_fault fault)
+{
+	const char *name = gitwire_fault_name(fault);
+
+	return name + strlen(name) + 1;
+}
