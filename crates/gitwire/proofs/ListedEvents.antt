@@ -15,9 +15,9 @@ use Rattle.git_client.specs.declared.events.Event.{Event}
 use Rattle.git_client.specs.declared.events.Event.TheVariants as Event
 use Rattle.git_client.specs.declared.events.HeardGot.TheVariants as Got
 use Rattle.gitwire.specs.ClientAnswers.{LieInPiece}
-use Rattle.gitwire.specs.EventLists.{EndsHere, FeedsEach, GivesEvent, GivesNext, ListsEvents, Pauses, copied_of, listed_as, passed_of}
+use Rattle.gitwire.specs.EventLists.{EndsHere, FeedsEach, GivesEvent, GivesNext, ListsEvents, Pauses}
 use Rattle.gitwire.specs.Answers.{answering_packet}
-use Rattle.gitwire.specs.EventAnswers.{bytes_shown, telling_parts}
+use Rattle.gitwire.specs.EventAnswers.{bytes_shown, copied_of, passed_of, shown_at, telling_parts}
 use Rattle.gitwire.specs.Rooms.{put_before}
 use Rattle.gitwire.specs.declared.answer.GitwireAnswer.{GitwireAnswer}
 use Rattle.gitwire.specs.declared.answer.What.TheVariants as What
@@ -36,7 +36,7 @@ copied_others event no_pack no_progress = refl
 
 pub listed_others : (event : Event) (end texts : ℕ) → ((bytes : Bor (List ℕ)) → event ≡ Event.Pack bytes → ⊥)
     → ((bytes : Bor (List ℕ)) → event ≡ Event.Progress bytes → ⊥)
-    → listed_as event end texts ≡ record (telling_parts end (parts_of event)) { offset = texts }
+    → shown_at event end texts ≡ record (telling_parts end (parts_of event)) { offset = texts }
 listed_others (Event.Pack bytes) end texts no_pack no_progress = absurd (no_pack bytes refl)
 listed_others (Event.Progress bytes) end texts no_pack no_progress = absurd (no_progress bytes refl)
 listed_others event end texts no_pack no_progress = refl
@@ -135,8 +135,8 @@ pub listed_more : (old mid new : Client Global) (piece : List ℕ) (events : Lis
     → ListedSoFar old piece events room new one.event.used (count + 1) one.texts next then
 listed_more old mid new piece events room used count texts filled next written then one h within gives sets =
     let end : one.event.used ≡ used + gives.used = ap (λ (e : GitwireEvent). e.used) gives.event_is in
-    let e_is : one.event ≡ listed_as gives.event (used + gives.used) (length h.bytes) =
-    gives.event_is ∙ ap (listed_as gives.event (used + gives.used)) h.long in
+    let e_is : one.event ≡ shown_at gives.event (used + gives.used) (length h.bytes) =
+    gives.event_is ∙ ap (shown_at gives.event (used + gives.used)) h.long in
     let more : FeedsEach old piece 0 [] (h.listed ++ one.event ∷ []) new (used + gives.used) (h.bytes ++ copied_of gives.event) =
     feeds_more h.listed old mid new piece 0 used [] h.bytes h.feeds gives.event gives.used one.event
     (record { feeds = gives.feeds; lies = gives.lies; listed_is = e_is }) in

@@ -11,7 +11,7 @@ use Rattle.git_client.specs.EventParts.{Parts, parts_of}
 use Rattle.git_client.specs.Events.{EventValue, all_parts_length, parts_length, pack, progress}
 use Rattle.git_client.specs.Machine.Turns.{values_of}
 use Rattle.git_client.specs.declared.events.Event.{Event}
-use Rattle.gitwire.specs.EventAnswers.{bytes_shown, digits_shown, telling_parts, text_shown}
+use Rattle.gitwire.specs.EventAnswers.{bytes_shown, digits_shown, shown_at, text_shown}
 use Rattle.gitwire.specs.declared.event.GitwireEvent.{GitwireEvent}
 
 digits_fit_in : (id : Option ObjectName) → length (digits_shown id) ≤ option_map_or (λ (o : ObjectName). digits_of o.format) id 0
@@ -71,7 +71,7 @@ shown_fits Event.Ready = omega arith
 shown_fits Event.Ended = omega arith
 
 -- no more bytes are reported to C than a payload has
-pub answer_fits : (used : ℕ) (event : Event) (p : Parts) (answer : GitwireEvent) → all_parts_length (values_of event) ≤ longest_payload
-    → p ≡ parts_of event → answer ≡ telling_parts used p
+pub answer_fits : (used at : ℕ) (event : Event) (answer : GitwireEvent) → all_parts_length (values_of event) ≤ longest_payload
+    → answer ≡ shown_at event used at
     → answer.id_length + answer.name_length + answer.text_length + answer.peeled_length ≤ longest_payload
-answer_fits used event p answer fits same tells = rw (tells, same) (omega (arith, shown_length (parts_of event), shown_fits event, fits))
+answer_fits used at event answer fits tells = rw tells (omega (arith, shown_length (parts_of event), shown_fits event, fits))

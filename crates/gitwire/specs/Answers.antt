@@ -5,7 +5,7 @@ use Rattle.git_pkt.specs.declared.fault.Fault.{Fault}
 use Rattle.git_client.specs.declared.event_parts.EventKind.{EventKind}
 use Rattle.gitwire.specs.declared.answer.GitwireAnswer.{GitwireAnswer}
 use Rattle.gitwire.specs.declared.answer.What.{What}
-use Rattle.gitwire.specs.declared.answer.What.TheVariants.{Done, More, Failed, NoHandle, RoomTooSmall, NotNow, OutOfMemory, BadValue, Nothing}
+use Rattle.gitwire.specs.declared.answer.What.TheVariants.{Done, More, Failed, NoHandle, BufferTooSmall, NotNow, OutOfMemory, BadValue, Nothing}
 use Rattle.gitwire.specs.declared.answer.What.TheVariants.{Payload, Flush, Delim, ResponseEnd, Request, Stop, Packet, NeedInput, EndedByFlush}
 use Rattle.gitwire.specs.declared.answer.What.TheVariants.{EndedByClose, CanAsk, Finished, Event}
 use Rattle.gitwire.specs.declared.answer.What.TheVariants.{Asked, NeedWant, NeedWantRef, NeedHave, NeedReady, NeedBoundary, NeedPack, NeedReference, NeedSize}
@@ -17,7 +17,7 @@ what_number Done = 0
 what_number More = 1
 what_number Failed = 2
 what_number NoHandle = 3
-what_number RoomTooSmall = 4
+what_number BufferTooSmall = 4
 what_number NotNow = 5
 what_number OutOfMemory = 6
 what_number BadValue = 7

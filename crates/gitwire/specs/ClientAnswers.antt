@@ -1,5 +1,5 @@
 -- What is reported to C for a client's calls.
-use Rattle.std.specs.Prelude.{◌≡◌, ℕ, ◌+◌, ◌<◌, ◌≤◌, Bool, true, false, List, [], ◌∷◌, ◌++◌, length, take, Option, Some, None, MatchOption, IsSomeAnd}
+use Rattle.std.specs.Prelude.{◌≡◌, ℕ, ◌+◌, ◌<◌, ◌≤◌, Bool, true, false, List, [], ◌∷◌, ◌++◌, length, take, Option, Some, None, MatchOption, IsSomeAnd, unwrap_or}
 use Rattle.std.specs.Global.{Global}
 use Rattle.git_names.specs.declared.object_format.Format.{Format}
 use Rattle.git_pkt.specs.Packets.{longest_payload}
@@ -12,7 +12,6 @@ use Rattle.git_client.specs.Machine.Client.{Asks, Converses, EndsWithMessage, En
 use Rattle.git_client.specs.Machine.Client.{can_ask, caps_of, fault_of, given_by, nothing_yet, wants_input}
 use Rattle.git_client.specs.Conversation.{HasNoted}
 use Rattle.git_client.specs.Parts.{Terms, terms_of}
-use Rattle.git_client.specs.EventParts.{parts_of}
 use Rattle.git_client.specs.declared.client.Client.{Client}
 use Rattle.git_client.specs.declared.events.Ending.{Ending}
 use Rattle.git_client.specs.declared.events.Ending.TheVariants.{FlushOnly, ResponseEnd}
@@ -21,11 +20,11 @@ use Rattle.git_client.specs.declared.events.Heard.{Heard}
 use Rattle.git_client.specs.declared.events.HeardGot.{HeardGot}
 use Rattle.git_client.specs.declared.events.HeardGot.TheVariants as Got
 use Rattle.git_client.specs.declared.events.Sent.{Sent}
-use Rattle.gitwire.specs.EventAnswers.{bytes_shown, telling_none, telling_parts, answering_refusal}
+use Rattle.gitwire.specs.EventAnswers.{answering_refusal, copied_of, shown_at, telling_none}
+use Rattle.gitwire.specs.Numbers.{numbered}
 use Rattle.gitwire.specs.Offers.{features_shown}
 use Rattle.gitwire.specs.Rooms.{put_before}
 use Rattle.gitwire.specs.Answers.{more_of, answering, answering_fault, answering_packet, what_number}
-use Rattle.gitwire.specs.declared.client.GitwireCaps.{GitwireCaps}
 use Rattle.gitwire.specs.declared.event.GitwireEvent.{GitwireEvent}
 use Rattle.gitwire.specs.declared.answer.GitwireAnswer.{GitwireAnswer}
 use Rattle.gitwire.specs.declared.answer.What.TheVariants as What
@@ -47,20 +46,14 @@ BeginsBy format ending old answer new = (answer ≡ what_number What.BadValue) �
 -- what is reported to C for what was received, by whether bytes were expected
 abbrev pub answer_of : Bool → ℕ → HeardGot → GitwireEvent
 answer_of due used Got.More = telling_none used (more_of due)
-answer_of due used (Got.Event event) = telling_parts used (parts_of event)
+answer_of due used (Got.Event event) = shown_at event used 0
 answer_of due used (Got.Failed fault) = answering_refusal used fault
 
--- the buffer: the texts of an event are at its front
+-- the buffer: the texts of an event are at its front, except for those that stay in the chunk
 abbrev pub filled_by : HeardGot → List ℕ → List ℕ
 filled_by Got.More room = room
-filled_by (Got.Event event) room = put_before (bytes_shown (parts_of event)) room
+filled_by (Got.Event event) room = put_before (copied_of event) room
 filled_by (Got.Failed fault) room = room
-
--- the buffer if bytes that pass are left in the chunk: it is unchanged for theirs
-abbrev pub filled_beside : HeardGot → List ℕ → List ℕ
-filled_beside (Got.Event (Event.Pack bytes)) room = room
-filled_beside (Got.Event (Event.Progress bytes)) room = room
-filled_beside got room = filled_by got room
 
 -- bytes of the pack or of the progress are the last of those used of the chunk
 abbrev pub LieInPiece : HeardGot → ℕ → List ℕ → Type 0
@@ -69,21 +62,19 @@ LieInPiece (Got.Event (Event.Progress bytes)) used piece = (front : List ℕ) ×
 LieInPiece got used piece = Unit {0}
 
 -- the client receives more, and what came is reported to C; its texts have at most as many bytes as a payload, and it determines the buffer
-pub record FeedsAnswers (filled_with : HeardGot → List ℕ → List ℕ) (old : Client Global) (piece room : List ℕ) (answer : GitwireEvent) (filled : List ℕ)
-    (new : Client Global) : Type 0 where
+pub record FeedsAnswers (old : Client Global) (piece room : List ℕ) (answer : GitwireEvent) (filled : List ℕ) (new : Client Global) : Type 0 where
   pub heard : Heard
   pub feeds : Feeds old piece heard new
   pub within : heard.used ≤ length piece
   pub fits : answer.id_length + answer.name_length + answer.text_length + answer.peeled_length ≤ longest_payload
   pub answer_is : answer ≡ answer_of (wants_input old) heard.used heard.got
-  pub room_is : filled ≡ filled_with heard.got room
+  pub room_is : filled ≡ filled_by heard.got room
   pub lies : LieInPiece heard.got heard.used piece
 
 -- nothing happens if the buffer is too small for the parts of some event
-pub record FeedsInRoom (filled_with : HeardGot → List ℕ → List ℕ) (old : Client Global) (piece room : List ℕ) (answer : GitwireEvent) (filled : List ℕ)
-    (new : Client Global) : Type 0 where
-  pub small : length room < longest_payload → (answer ≡ telling_none 0 What.RoomTooSmall) × (filled ≡ room) × (new ≡ old)
-  pub large : longest_payload ≤ length room → FeedsAnswers filled_with old piece room answer filled new
+pub record FeedsInRoom (old : Client Global) (piece room : List ℕ) (answer : GitwireEvent) (filled : List ℕ) (new : Client Global) : Type 0 where
+  pub small : length room < longest_payload → (answer ≡ telling_none 0 What.BufferTooSmall) × (filled ≡ room) × (new ≡ old)
+  pub large : longest_payload ≤ length room → FeedsAnswers old piece room answer filled new
 
 -- the handle has nothing: that is reported, and the buffer is unchanged
 abbrev pub HearsNone : List ℕ → GitwireEvent → List ℕ → Type 0
@@ -112,7 +103,7 @@ pub record PullsAnswers (old : Client Global) (room : List ℕ) (answer : Gitwir
 
 -- nothing happens if the buffer is too small for the longest packet
 pub record PullsInRoom (old : Client Global) (room : List ℕ) (answer : GitwireAnswer) (filled : List ℕ) (new : Client Global) : Type 0 where
-  pub small : length room < 65520 → (answer ≡ answering What.RoomTooSmall) × (filled ≡ room) × (new ≡ old)
+  pub small : length room < 65520 → (answer ≡ answering What.BufferTooSmall) × (filled ≡ room) × (new ≡ old)
   pub large : 65520 ≤ length room → PullsAnswers old room answer filled new
 
 -- a request that the client takes
@@ -165,7 +156,7 @@ pub record ClosesAnswers (old : Client Global) (answer : GitwireAnswer) (new : C
 
 -- a message, if there is one, is written to the buffer, if that is large enough
 pub record PutsMessage (message room : List ℕ) (answer : GitwireAnswer) (filled : List ℕ) : Type 0 where
-  pub small : length room < length message → (answer ≡ answering What.RoomTooSmall) × (filled ≡ room)
+  pub small : length room < length message → (answer ≡ answering What.BufferTooSmall) × (filled ≡ room)
   pub large : length message ≤ length room → (answer ≡ answering_packet 0 0 (length message) What.Done) × (filled ≡ put_before message room)
 
 abbrev pub PutsMaybe : Option (List ℕ) → List ℕ → GitwireAnswer → List ℕ → Type 0
@@ -179,19 +170,20 @@ pub record MessageAnswers (client : Client Global) (room : List ℕ) (answer : G
       → MatchOption message (EndsWithoutMessage client) (λ said. EndsWithMessage t h.asked h.used said)
   pub puts : PutsMaybe message room answer filled
 
--- what was noted, as C sees it
-abbrev pub caps_shown : Caps → GitwireCaps
-caps_shown caps = record {
-  features = features_shown caps;
-  agent = caps.agent;
-  ls_refs = caps.ls_refs;
-  fetch = caps.fetch;
-  object_format = caps.object_format;
-  sha1 = caps.sha1;
-  sha256 = caps.sha256;
-}
-
 -- what was noted of the advertisement so far
-pub record CapsAnswers (client : Client Global) (answer : GitwireCaps) : Type 0 where
-  pub answer_is : answer ≡ caps_shown (caps_of client)
+pub record Noted (client : Client Global) : Type 0 where
   pub noted : (t : Terms) (h : History) → Converses t h client → HasNoted t h.asked h.used (caps_of client)
+
+-- the features that were noted
+pub record FeaturesAnswer (client : Client Global) (answer : ℕ) : Type 0 where
+  pub answer_is : answer ≡ features_shown (caps_of client)
+  pub noted : Noted client
+
+-- whether each key was noted: the first has the number 1
+abbrev pub keys_noted : Caps → List Bool
+keys_noted caps = caps.agent ∷ caps.ls_refs ∷ caps.fetch ∷ caps.object_format ∷ caps.sha1 ∷ caps.sha256 ∷ []
+
+-- whether the key of this number was noted; a number of no key was not
+pub record AdvertisesAnswer (key : ℕ) (client : Client Global) (answer : Bool) : Type 0 where
+  pub answer_is : answer ≡ unwrap_or (numbered (keys_noted (caps_of client)) key) false
+  pub noted : Noted client

@@ -4,7 +4,7 @@ use Rattle.git_pkt.specs.Escape.{escaped_of}
 use Rattle.gitwire.specs.Answers.{answering, answering_packet}
 use Rattle.gitwire.specs.Rooms.{put_before}
 use Rattle.gitwire.specs.declared.answer.GitwireAnswer.{GitwireAnswer}
-use Rattle.gitwire.specs.declared.answer.What.TheVariants.{Done, More, RoomTooSmall}
+use Rattle.gitwire.specs.declared.answer.What.TheVariants.{Done, More, BufferTooSmall}
 
 -- this many bytes of the text, the first ones, are escaped, and their escapes are at the front of the buffer: all of them, or as many as
 -- fit
@@ -19,4 +19,4 @@ pub record EscapesFront (bytes room : List ℕ) (used : ℕ) (answer : GitwireAn
 -- as many bytes are escaped as fit into the buffer; it is too small if the longest escape does not fit
 pub record Escapes (bytes room : List ℕ) (answer : GitwireAnswer) (filled : List ℕ) : Type 0 where
   pub escaped : 4 ≤ length room → EscapesFront bytes room answer.used answer filled
-  pub too_small : length room < 4 → (answer ≡ answering RoomTooSmall) × (filled ≡ room)
+  pub too_small : length room < 4 → (answer ≡ answering BufferTooSmall) × (filled ≡ room)

@@ -1,10 +1,12 @@
 -- How C is shown an event.
-use Rattle.std.specs.Prelude.{ℕ, false, List, [], ◌++◌, length, Option, is_some, unwrap_or}
+use Rattle.std.specs.Prelude.{ℕ, ◌-◌, false, List, [], ◌++◌, length, Option, is_some, unwrap_or}
 use Rattle.std.specs.Option.{option_map_or}
 use Rattle.git_names.specs.ObjectName.{ObjectName, hex_of}
 use Rattle.git_pkt.specs.FaultNames.{kind_number}
 use Rattle.git_pkt.specs.declared.fault.Fault.{Fault}
-use Rattle.git_client.specs.EventParts.{Parts}
+use Rattle.git_client.specs.EventParts.{Parts, parts_of}
+use Rattle.git_client.specs.declared.events.Event.{Event}
+use Rattle.git_client.specs.declared.events.Event.TheVariants as Event
 use Rattle.gitwire.specs.Answers.{what_number}
 use Rattle.gitwire.specs.declared.event.GitwireEvent.{GitwireEvent}
 use Rattle.gitwire.specs.declared.answer.What.{What}
@@ -36,6 +38,28 @@ telling_parts used p = record {
   has_text = is_some p.text;
   has_size = is_some p.size;
 }
+
+-- the bytes of an event that are written to the buffer: those of the pack and of the progress stay in the chunk
+abbrev pub copied_of : Event → List ℕ
+copied_of (Event.Pack bytes) = []
+copied_of (Event.Progress bytes) = []
+copied_of event = bytes_shown (parts_of event)
+
+-- the bytes of an event that stay in the chunk
+abbrev pub passed_of : Event → List ℕ
+passed_of (Event.Pack bytes) = bytes.now
+passed_of (Event.Progress bytes) = bytes.now
+passed_of event = []
+
+-- where the texts of an event begin: in the chunk, if they stay there, or else in the buffer after those of earlier events
+abbrev pub place_of : Event → ℕ → ℕ → ℕ
+place_of (Event.Pack bytes) end texts = end - length bytes.now
+place_of (Event.Progress bytes) end texts = end - length bytes.now
+place_of event end texts = texts
+
+-- an event as C is shown it: how many bytes of the chunk were used up to its end, and where its texts begin
+abbrev pub shown_at : Event → ℕ → ℕ → GitwireEvent
+shown_at event end texts = record (telling_parts end (parts_of event)) { offset = place_of event end texts }
 
 -- no event
 abbrev pub telling_none : ℕ → What → GitwireEvent

@@ -1,51 +1,27 @@
 -- Several events of one call of C: those that calls of `feed` give one after another.
-use Rattle.std.specs.Prelude.{◌≡◌, ℕ, ◌+◌, ◌-◌, ◌<◌, ◌≤◌, ◌⊎◌, Bool, true, false, List, [], ◌∷◌, ◌++◌, length, take, drop}
+use Rattle.std.specs.Prelude.{◌≡◌, ℕ, ◌+◌, ◌<◌, ◌≤◌, ◌⊎◌, Bool, true, false, List, [], ◌∷◌, ◌++◌, length, take, drop}
 use Rattle.std.specs.Global.{Global}
 use Rattle.git_pkt.specs.Packets.{longest_payload}
 use Rattle.git_client.specs.Machine.Client.{Feeds, can_ask, wants_input}
-use Rattle.git_client.specs.EventParts.{parts_of}
 use Rattle.git_client.specs.declared.client.Client.{Client}
 use Rattle.git_client.specs.declared.events.Event.{Event}
-use Rattle.git_client.specs.declared.events.Event.TheVariants as Event
 use Rattle.git_client.specs.declared.events.HeardGot.{HeardGot}
 use Rattle.git_client.specs.declared.events.HeardGot.TheVariants as Got
 use Rattle.gitwire.specs.Answers.{answering, answering_fault, answering_packet, more_of}
 use Rattle.gitwire.specs.ClientAnswers.{LieInPiece}
-use Rattle.gitwire.specs.EventAnswers.{bytes_shown, telling_parts}
+use Rattle.gitwire.specs.EventAnswers.{copied_of, shown_at}
 use Rattle.gitwire.specs.Rooms.{put_before}
 use Rattle.gitwire.specs.declared.answer.GitwireAnswer.{GitwireAnswer}
 use Rattle.gitwire.specs.declared.answer.What.TheVariants as What
 use Rattle.gitwire.specs.declared.event.GitwireEvent.{GitwireEvent}
 use Rattle.gitwire.specs.declared.event_list.Listed.{Listed}
 
--- the bytes of an event that are written to the buffer: those of the pack and of the progress stay in the chunk
-abbrev pub copied_of : Event → List ℕ
-copied_of (Event.Pack bytes) = []
-copied_of (Event.Progress bytes) = []
-copied_of event = bytes_shown (parts_of event)
-
--- the bytes of an event that stay in the chunk
-abbrev pub passed_of : Event → List ℕ
-passed_of (Event.Pack bytes) = bytes.now
-passed_of (Event.Progress bytes) = bytes.now
-passed_of event = []
-
--- where the texts of an event begin: in the chunk, if they stay there, or else in the buffer after those of earlier events
-abbrev pub place_of : Event → ℕ → ℕ → ℕ
-place_of (Event.Pack bytes) end texts = end - length bytes.now
-place_of (Event.Progress bytes) end texts = end - length bytes.now
-place_of event end texts = texts
-
--- an event in the array: how many bytes of the chunk were used up to its end, and where its texts begin
-abbrev pub listed_as : Event → ℕ → ℕ → GitwireEvent
-listed_as event end texts = record (telling_parts end (parts_of event)) { offset = place_of event end texts }
-
 -- a call of `feed` on the bytes of the chunk from this place on gives this event, which is listed so, after events with these texts in the buffer
 pub record GivesNext (old : Client Global) (piece : List ℕ) (from : ℕ) (texts : List ℕ) (listed : GitwireEvent) (event : Event) (used : ℕ)
     (new : Client Global) : Type 0 where
   pub feeds : Feeds old (drop from piece) (record { used = used; got = Got.Event event }) new
   pub lies : LieInPiece (Got.Event event) (from + used) piece
-  pub listed_is : listed ≡ listed_as event (from + used) (length texts)
+  pub listed_is : listed ≡ shown_at event (from + used) (length texts)
 
 -- calls of `feed` one after another, each on the bytes of the chunk that no earlier one used, give these events. The first call begins at the
 -- place `from`, and with these texts in the buffer; the last one ends at the place `end`, with those.
@@ -98,7 +74,7 @@ pub record ListsEvents (old : Client Global) (piece : List ℕ) (events : List G
 pub record ListsInRoom (old : Client Global) (piece : List ℕ) (events : List GitwireEvent) (room : List ℕ) (answer : GitwireAnswer)
     (filled : List GitwireEvent) (written : List ℕ) (new : Client Global) : Type 0 where
   pub small : (length events ≡ 0) ⊎ (length room < longest_payload)
-      → (answer ≡ answering What.RoomTooSmall) × (filled ≡ events) × (written ≡ room) × (new ≡ old)
+      → (answer ≡ answering What.BufferTooSmall) × (filled ≡ events) × (written ≡ room) × (new ≡ old)
   pub large : 0 < length events → longest_payload ≤ length room → ListsEvents old piece events room answer filled written new
 
 -- the handle has nothing: that is reported, and the array and the buffer are unchanged
@@ -113,7 +89,7 @@ pub record GivesEvent (old : Client Global) (piece : List ℕ) (from texts : ℕ
   pub feeds : Feeds old (drop from piece) (record { used = used; got = Got.Event event }) new
   pub within : from + used ≤ length piece
   pub lies : LieInPiece (Got.Event event) (from + used) piece
-  pub event_is : listed.event ≡ listed_as event (from + used) texts
+  pub event_is : listed.event ≡ shown_at event (from + used) texts
   pub texts_are : listed.texts ≡ texts + length (copied_of event)
   pub texts_fit : listed.texts ≤ length room
   pub room_is : written ≡ take texts room ++ copied_of event ++ drop (texts + length (copied_of event)) room

@@ -1,6 +1,6 @@
--- The names and texts of errors, by their numbers.
+-- What users see of errors, by their numbers.
 use Rattle.std.specs.Prelude.{◌≡◌, ◌≢◌, ℕ, List, Option, Some, None}
-use Rattle.git_pkt.specs.FaultNames.{fault_text, kind_name, kind_number}
+use Rattle.git_pkt.specs.FaultNames.{fault_text, kind_number}
 use Rattle.git_pkt.specs.declared.fault.Kind.{Kind}
 use Rattle.gitwire.specs.Rooms.{Puts}
 
@@ -14,11 +14,7 @@ abbrev pub PutsOf : (Kind → List ℕ) → Option Kind → List ℕ → ℕ →
 PutsOf text None room answer filled = (answer ≡ 0) × (filled ≡ room)
 PutsOf text (Some kind) room answer filled = Puts (text kind) room answer filled
 
--- the name of the error with this number
-abbrev pub TellsName : ℕ → List ℕ → ℕ → List ℕ → Type 0
-TellsName number room answer filled = (kind : Option Kind) × IsKindOf number kind × PutsOf kind_name kind room answer filled
-
--- what users see of it
+-- what users see of the error with this number
 abbrev pub TellsText : ℕ → ℕ → List ℕ → ℕ → List ℕ → Type 0
 TellsText number offset room answer filled =
     (kind : Option Kind) × IsKindOf number kind × PutsOf (λ kind. fault_text (record { kind = kind; offset = offset })) kind room answer filled

@@ -34,26 +34,25 @@ use Rattle.gitwire.specs.declared.answer.GitwireAnswer.{GitwireAnswer}
 use Rattle.gitwire.specs.declared.answer.What.TheVariants as What
 use Rattle.gitwire.specs.declared.host_texts.Unread.{Unread}
 use Rattle.gitwire.specs.declared.numbers.ItemList.{ItemList}
-use Rattle.gitwire.specs.declared.offer.GitwireOffer.{GitwireOffer}
 
 -- ---- a session begins
 
--- the offer has no format or a bit of no feature, or the limit is above the maximum
-abbrev pub MeanNoHost : GitwireOffer → ℕ → Type 0
-MeanNoHost offer limit = (offer_meant offer ≡ None) ⊎ (most_limit < limit)
+-- the number means no format or a bit no feature, or the limit is above the maximum
+abbrev pub MeanNoHost : ℕ → ℕ → ℕ → Type 0
+MeanNoHost format features limit = (offer_meant format features ≡ None) ⊎ (most_limit < limit)
 
 -- a host's server at the beginning of a session, with the offer and the limit that these values mean
-pub record MeanHost (offer : GitwireOffer) (limit : ℕ) (advertise : Bool) (host : HostServer Global) : Type 0 where
+pub record MeanHost (format features limit : ℕ) (advertise : Bool) (host : HostServer Global) : Type 0 where
   pub meant : Offer
-  pub offer_is : offer_meant offer ≡ Some meant
+  pub offer_is : offer_meant format features ≡ Some meant
   pub in_range : limit ≤ most_limit
   pub begins : Hosts (setting_of meant limit advertise) [] false [] [] host
 
 -- it is made, or nothing changes
-abbrev pub MakesHost : GitwireOffer → ℕ → Bool → Option (HostServer Global) → ℕ → Option (HostServer Global) → Type 0
-MakesHost offer limit advertise old answer new =
-    (MeanNoHost offer limit × (answer ≡ what_number What.BadValue) × (new ≡ old))
-    ⊎ ((host : HostServer Global) × MeanHost offer limit advertise host × HasOrNone answer host new)
+abbrev pub MakesHost : ℕ → ℕ → ℕ → Bool → Option (HostServer Global) → ℕ → Option (HostServer Global) → Type 0
+MakesHost format features limit advertise old answer new =
+    (MeanNoHost format features limit × (answer ≡ what_number What.BadValue) × (new ≡ old))
+    ⊎ ((host : HostServer Global) × MeanHost format features limit advertise host × HasOrNone answer host new)
 
 -- ---- the client's bytes
 
@@ -120,7 +119,7 @@ pub record PullsAnswers (old : HostServer Global) (room : List ℕ) (answer : Gi
 
 -- nothing happens, and it is reported that the buffer is too small
 abbrev pub IsTooSmall : HostServer Global → List ℕ → GitwireAnswer → List ℕ → HostServer Global → Type 0
-IsTooSmall old room answer filled new = (answer ≡ answering What.RoomTooSmall) × (filled ≡ room) × (new ≡ old)
+IsTooSmall old room answer filled new = (answer ≡ answering What.BufferTooSmall) × (filled ≡ room) × (new ≡ old)
 
 -- nothing happens if the buffer is too small for the longest packet
 pub record PullsInRoom (old : HostServer Global) (room : List ℕ) (answer : GitwireAnswer) (filled : List ℕ) (new : HostServer Global) : Type 0 where

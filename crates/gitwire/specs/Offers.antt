@@ -5,25 +5,24 @@ use Rattle.std.specs.Option.{option_map}
 use Rattle.git_msg.specs.declared.offers.Caps.{Caps}
 use Rattle.git_msg.specs.declared.offers.Offer.{Offer}
 use Rattle.gitwire.specs.Numbers.{formats, numbered}
-use Rattle.gitwire.specs.declared.offer.GitwireOffer.{GitwireOffer}
 
 -- the bit of a feature is set
 abbrev pub has_feature : ℕ → ℕ → Bool
 has_feature features bit = not (bit_and features bit == 0)
 
--- the offer that these numbers mean, if the format's number means one and each bit is a feature's
-abbrev pub offer_meant : GitwireOffer → Option Offer
-offer_meant o =
-    if nat_lt 127 o.features then None else option_map (λ format. record {
+-- the offer that a format's number and the sum of features mean, if the number means a format and each bit is a feature's
+abbrev pub offer_meant : ℕ → ℕ → Option Offer
+offer_meant number features =
+    if nat_lt 127 features then None else option_map (λ format. record {
       format = format;
-      unborn = has_feature o.features 1;
-      shallow = has_feature o.features 2;
-      ref_in_want = has_feature o.features 4;
-      wait_for_done = has_feature o.features 8;
-      filter = has_feature o.features 64;
-      object_info = has_feature o.features 32;
-      server_option = has_feature o.features 16;
-    }) (numbered formats o.format)
+      unborn = has_feature features 1;
+      shallow = has_feature features 2;
+      ref_in_want = has_feature features 4;
+      wait_for_done = has_feature features 8;
+      filter = has_feature features 64;
+      object_info = has_feature features 32;
+      server_option = has_feature features 16;
+    }) (numbered formats number)
 
 -- a bit, if its feature was noted
 abbrev pub where_shown : Bool → ℕ → ℕ

@@ -47,7 +47,7 @@ pub record FeedsAnswers (old : PacketReader) (piece room : List ℕ) (answer : G
 
 -- nothing happens if the buffer is too small for the longest payload
 pub record FeedsInRoom (old : PacketReader) (piece room : List ℕ) (answer : GitwireAnswer) (filled : List ℕ) (new : PacketReader) : Type 0 where
-  pub small : length room < longest_payload → (answer ≡ answering What.RoomTooSmall) × (filled ≡ room) × (new ≡ old)
+  pub small : length room < longest_payload → (answer ≡ answering What.BufferTooSmall) × (filled ≡ room) × (new ≡ old)
   pub large : longest_payload ≤ length room → FeedsAnswers old piece room answer filled new
 
 -- an error at the end: the one that the reader had, or that a packet is cut off

@@ -74,7 +74,7 @@ pub record ListsPackets (old : PacketReader) (piece : List ℕ) (packets : List 
 pub record ListsInRoom (old : PacketReader) (piece : List ℕ) (packets : List GitwireAnswer) (room : List ℕ) (answer : GitwireAnswer)
     (filled : List GitwireAnswer) (written : List ℕ) (new : PacketReader) : Type 0 where
   pub small : (length packets ≡ 0) ⊎ (length room < longest_payload)
-      → (answer ≡ answering What.RoomTooSmall) × (filled ≡ packets) × (written ≡ room) × (new ≡ old)
+      → (answer ≡ answering What.BufferTooSmall) × (filled ≡ packets) × (written ≡ room) × (new ≡ old)
   pub large : 0 < length packets → longest_payload ≤ length room → ListsPackets old piece packets room answer filled written new
 
 -- the handle has nothing: that is reported, and the array and the buffer are unchanged

@@ -15,27 +15,26 @@ use Rattle.git_msg.specs.declared.streams.RequestStream.{RequestStream}
 use Rattle.gitwire.specs.Offers.{offer_meant}
 use Rattle.gitwire.specs.RequestAnswers.{HasOrNone}
 use Rattle.gitwire.specs.Answers.{more_of, answering, answering_fault, answering_used, what_number}
-use Rattle.gitwire.specs.declared.offer.GitwireOffer.{GitwireOffer}
 use Rattle.gitwire.specs.declared.answer.GitwireAnswer.{GitwireAnswer}
 use Rattle.gitwire.specs.declared.answer.What.TheVariants as What
 
--- the offer has no format or a bit of no feature, or the limit is above the maximum
-abbrev pub MeanNoReader : GitwireOffer → ℕ → Type 0
-MeanNoReader offer limit = (offer_meant offer ≡ None) ⊎ (most_limit < limit)
+-- the number means no format or a bit no feature, or the limit is above the maximum
+abbrev pub MeanNoReader : ℕ → ℕ → ℕ → Type 0
+MeanNoReader format features limit = (offer_meant format features ≡ None) ⊎ (most_limit < limit)
 
 -- the reader is one before the first byte, with the offer and the limit that these values mean
-pub record MeanReader (offer : GitwireOffer) (limit : ℕ) (reader : RequestStream Global) : Type 0 where
-  pub offer_is : offer_meant offer ≡ Some (offer_of reader)
+pub record MeanReader (format features limit : ℕ) (reader : RequestStream Global) : Type 0 where
+  pub offer_is : offer_meant format features ≡ Some (offer_of reader)
   pub in_range : limit ≤ most_limit
   pub limit_is : limit_of reader ≡ limit
   pub reads : HasRead [] [] reader
   pub waits : wants_input reader ≡ true
 
 -- a reader is made, or nothing changes
-abbrev pub MakesReader : GitwireOffer → ℕ → Option (RequestStream Global) → ℕ → Option (RequestStream Global) → Type 0
-MakesReader offer limit old answer new =
-    (MeanNoReader offer limit × (answer ≡ what_number What.BadValue) × (new ≡ old))
-    ⊎ ((reader : RequestStream Global) × MeanReader offer limit reader × HasOrNone answer reader new)
+abbrev pub MakesReader : ℕ → ℕ → ℕ → Option (RequestStream Global) → ℕ → Option (RequestStream Global) → Type 0
+MakesReader format features limit old answer new =
+    (MeanNoReader format features limit × (answer ≡ what_number What.BadValue) × (new ≡ old))
+    ⊎ ((reader : RequestStream Global) × MeanReader format features limit reader × HasOrNone answer reader new)
 
 -- what is reported to C for an answer, by whether input was expected
 abbrev pub telling_read : Bool → ℕ → ReadGot Global → GitwireAnswer

@@ -86,5 +86,5 @@ pub record PullsAnswers (old : Server SharedRepo Global) (room : List ℕ) (answ
 -- nothing happens if the buffer is too small for the longest packet
 pub record PullsInRoom (old : Server SharedRepo Global) (room : List ℕ) (answer : GitwireAnswer) (filled : List ℕ)
     (new : Server SharedRepo Global) : Type 0 where
-  pub small : length room < 65520 → (answer ≡ answering What.RoomTooSmall) × (filled ≡ room) × (new ≡ old)
+  pub small : length room < 65520 → (answer ≡ answering What.BufferTooSmall) × (filled ≡ room) × (new ≡ old)
   pub large : 65520 ≤ length room → PullsAnswers old room answer filled new

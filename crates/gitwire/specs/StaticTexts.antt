@@ -6,7 +6,7 @@ use Rattle.gitwire.specs.FaultAnswers.{IsKindOf}
 
 -- the version of the library
 abbrev pub version_text : List ℕ
-version_text = codes "0.2.0" ++ 0 ∷ []
+version_text = codes "0.3.0" ++ 0 ∷ []
 
 -- the meaning of an error, and what to look at
 abbrev pub kind_sentence : Kind → List ℕ

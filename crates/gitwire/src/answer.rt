@@ -30,10 +30,11 @@ pub enum What {
     More,
     /// The library refuses: `fault` is why, and `offset` where.
     Failed,
-    /// The handle has nothing: it was never made, or was freed.
+    /// The handle has nothing: it was never made, its request was taken, or it was freed. A program in C has only handles of requests with
+    /// nothing in them, so its name there is `NoRequest`.
     NoHandle,
     /// The buffer is too small. Nothing was used or changed.
-    RoomTooSmall,
+    BufferTooSmall,
     /// The call may not be made at this moment. Nothing changed.
     NotNow,
     /// Memory ran out.
@@ -114,7 +115,7 @@ impl What {
             What::More => 1,
             What::Failed => 2,
             What::NoHandle => 3,
-            What::RoomTooSmall => 4,
+            What::BufferTooSmall => 4,
             What::NotNow => 5,
             What::OutOfMemory => 6,
             What::BadValue => 7,

@@ -1,22 +1,20 @@
 //! A client that C holds.
 
-ghost use Rattle.std.specs.Prelude.{◌≡◌, ◌≤◌, None, MatchResult, length};
-ghost use Rattle.git_client.specs.EventParts.{parts_of};
-ghost use Rattle.git_client.specs.declared.events.HeardGot.TheVariants as Got;
+ghost use Rattle.std.specs.Prelude.{◌≡◌, None, MatchResult, false};
 ghost use Rattle.gitwire.specs.Calls.{HasNone, Of, On};
-ghost use Rattle.gitwire.specs.ClientAnswers.{AsksIn, BeginsBy, CapsAnswers, ClosesAnswers, FeedsInRoom, HearsNone, filled_beside, filled_by};
+ghost use Rattle.gitwire.specs.ClientAnswers.{AdvertisesAnswer, AsksIn, BeginsBy, ClosesAnswers, FeaturesAnswer, FeedsInRoom, HearsNone};
 ghost use Rattle.gitwire.specs.ClientAnswers.{LeavesRequest, LeavesAnswers, MessageAnswers, PullsInRoom, TakesRequest, endings};
-ghost use Rattle.gitwire.specs.EventAnswers.{bytes_shown, telling_parts};
 ghost use Rattle.gitwire.specs.Handles.{client_in, request_in};
 ghost use Rattle.gitwire.specs.Numbers.{formats, numbered};
 ghost use Rattle.gitwire.specs.Answers.{answering, what_number};
 
 use crate::answer::{GitwireAnswer, What};
 use crate::event::GitwireEvent;
+use crate::event_list::list;
 use crate::handles::{GitwireClient, GitwireRequest, Holds, fill};
 use crate::numbers::format_numbered;
 use crate::offer::features_noted;
-use git_client::{Client, Ending, Event, EventKind, HeardGot, Sent};
+use git_client::{Client, Ending, HeardGot, Sent};
 use git_msg::{Command, Limits, Request};
 use git_names::{Format, Steps};
 use git_pkt::LONGEST_PACKET;
@@ -26,30 +24,10 @@ use std::mem::replace;
 /// The maximum length of the parts of an event: that of the longest payload.
 pub(crate) const LONGEST_PARTS: usize = 65_516;
 
-/// What was noted of an advertisement.
-#[repr(C)]
-#[derive(Clone, Copy, Debug)]
-pub struct GitwireCaps {
-    /// The sum of the features that were noted, as in an offer.
-    pub features: u32,
-    /// The key `agent`.
-    pub agent: bool,
-    /// The command `ls-refs`.
-    pub ls_refs: bool,
-    /// The command `fetch`.
-    pub fetch: bool,
-    /// The key `object-format`, with any value or none.
-    pub object_format: bool,
-    /// The line `object-format=sha1`.
-    pub sha1: bool,
-    /// The line `object-format=sha256`.
-    pub sha256: bool,
-}
-
 /// Makes the handle's client a new one, before the first byte of the advertisement. What it had before is freed. `Done`; `BadValue`, and
 /// the handle is unchanged, for a number that means no format or no ending; or `OutOfMemory`, and the handle has none.
 #[unsafe(no_mangle)]
-pub extern "C" fn gitwire_client_new(
+pub extern "C" fn gitwire_client_init(
     alloc: Global,
     client: &mut GitwireClient,
     format: u32,
@@ -81,8 +59,9 @@ fn ending_numbered(number: u32) -> Option<Ending>
     }
 }
 
-/// Reads up to the next event, and writes its texts to the front of the buffer. `More`, `Failed` or the event: `Capability` to `Ended`;
-/// `NotNow` if no bytes are expected; `NoHandle`; and `RoomTooSmall` if the buffer has fewer than 65,516 bytes.
+/// Reads up to the next event, and writes its texts to the front of the buffer; but the bytes of `Pack` and `Progress` stay where they are, the
+/// last `text_length` of those used of the chunk, and the buffer is unchanged for them. `More`, `Failed` or the event: `Capability` to
+/// `Ended`; `NotNow` if no bytes are expected; `NoHandle`; and `BufferTooSmall` if the buffer has fewer than 65,516 bytes.
 #[unsafe(no_mangle)]
 pub extern "C" fn gitwire_client_feed(
     alloc: Global,
@@ -90,7 +69,7 @@ pub extern "C" fn gitwire_client_feed(
     piece: &[u8],
     room: &mut [u8],
 ) -> GitwireEvent
-    ensures { On (client_in client.old) (client_in client.new) (λ old new. FeedsInRoom filled_by old piece.now room.old result room.new new)
+    ensures { On (client_in client.old) (client_in client.new) (λ old new. FeedsInRoom old piece.now room.old result room.new new)
         (HearsNone room.old result room.new) }
 {
     let Some(mut taken) = client.take(alloc) else {
@@ -101,71 +80,23 @@ pub extern "C" fn gitwire_client_feed(
     answer
 }
 
-/// Reads as `gitwire_client_feed` does, but leaves the bytes of `Pack` and `Progress` where they are: the last `text_length` of those used
-/// of the chunk. The buffer is unchanged then.
-#[unsafe(no_mangle)]
-pub extern "C" fn gitwire_client_feed_in_place(
-    alloc: Global,
-    client: &mut GitwireClient,
-    piece: &[u8],
-    room: &mut [u8],
-) -> GitwireEvent
-    ensures { On (client_in client.old) (client_in client.new) (λ old new. FeedsInRoom filled_beside old piece.now room.old result room.new new)
-        (HearsNone room.old result room.new) }
-{
-    let Some(mut taken) = client.take(alloc) else {
-        return GitwireEvent::none(0, What::NoHandle);
-    };
-    let answer = feed_in_place(&mut taken.inner, piece, room);
-    client.put(taken);
-    answer
-}
-
 fn feed(client: &mut Client<Global>, piece: &[u8], room: &mut [u8]) -> GitwireEvent
-    ensures { FeedsInRoom filled_by client.old piece.now room.old result room.new client.new }
+    ensures { FeedsInRoom client.old piece.now room.old result room.new client.new }
 {
     if room.len() < LONGEST_PARTS {
-        return GitwireEvent::none(0, What::RoomTooSmall);
+        return GitwireEvent::none(0, What::BufferTooSmall);
     }
     let due = client.wants_input();
     let heard = client.feed(piece, &mut Steps::new());
     match heard.got {
         HeardGot::More => GitwireEvent::none(heard.used, What::more(due)),
-        HeardGot::Event(event) => GitwireEvent::of_parts(heard.used, event.parts(), room),
+        HeardGot::Event(event) => list(event, heard.used, room, 0).event,
         HeardGot::Failed(fault) => GitwireEvent::of_fault(heard.used, fault),
-    }
-}
-
-fn feed_in_place(client: &mut Client<Global>, piece: &[u8], room: &mut [u8]) -> GitwireEvent
-    ensures { FeedsInRoom filled_beside client.old piece.now room.old result room.new client.new }
-{
-    if room.len() < LONGEST_PARTS {
-        return GitwireEvent::none(0, What::RoomTooSmall);
-    }
-    let due = client.wants_input();
-    let heard = client.feed(piece, &mut Steps::new());
-    match heard.got {
-        HeardGot::More => GitwireEvent::none(heard.used, What::more(due)),
-        HeardGot::Event(event) => show_in_place(event, heard.used, room),
-        HeardGot::Failed(fault) => GitwireEvent::of_fault(heard.used, fault),
-    }
-}
-
-/// Shows an event; bytes that pass stay where they are.
-fn show_in_place(event: Event<'_>, used: usize, room: &mut [u8]) -> GitwireEvent
-    requires { length (bytes_shown (parts_of event)) ≤ length room.old }
-    ensures answer { result ≡ telling_parts used (parts_of event.entry) }
-    ensures room { room.new ≡ filled_beside (Got.Event event.entry) room.old }
-{
-    match event {
-        Event::Pack(bytes) => GitwireEvent::of_bytes(used, EventKind::Pack, bytes.len()),
-        Event::Progress(bytes) => GitwireEvent::of_bytes(used, EventKind::Progress, bytes.len()),
-        _ => GitwireEvent::of_parts(used, event.parts(), room),
     }
 }
 
 /// What to do next: `Packet`, and the packet to be sent is at the front of the buffer; `NeedInput`, `CanAsk`, `Finished` or `Failed`;
-/// `NoHandle`; and `RoomTooSmall` if the buffer has fewer than 65,520 bytes.
+/// `NoHandle`; and `BufferTooSmall` if the buffer has fewer than 65,520 bytes.
 #[unsafe(no_mangle)]
 pub extern "C" fn gitwire_client_pull(
     alloc: Global,
@@ -186,7 +117,7 @@ fn pull(client: &mut Client<Global>, room: &mut [u8]) -> GitwireAnswer
     ensures { PullsInRoom client.old room.old result room.new client.new }
 {
     if room.len() < LONGEST_PACKET {
-        return GitwireAnswer::of(What::RoomTooSmall);
+        return GitwireAnswer::of(What::BufferTooSmall);
     }
     match client.pull() {
         Sent::Packet(bytes) => {
@@ -298,7 +229,7 @@ fn close(client: &mut Client<Global>) -> GitwireAnswer
 }
 
 /// Writes the server's message about the error that ended the conversation to the front of the buffer. `Done`, `Nothing` if there is none,
-/// `RoomTooSmall` or `NoHandle`.
+/// `BufferTooSmall` or `NoHandle`.
 #[unsafe(no_mangle)]
 pub extern "C" fn gitwire_client_message(
     alloc: Global,
@@ -322,42 +253,62 @@ fn message(client: &Client<Global>, room: &mut [u8]) -> GitwireAnswer
         return GitwireAnswer::of(What::Nothing);
     };
     if room.len() < message.len() {
-        return GitwireAnswer::of(What::RoomTooSmall);
+        return GitwireAnswer::of(What::BufferTooSmall);
     }
     room[..message.len()].copy_from_slice(message);
     GitwireAnswer::of_packet(0, 0, message.len(), What::Done)
 }
 
-/// What was noted of the advertisement so far. `Done`, or `NoHandle`: then nothing is written.
+/// The sum of the features that were noted of the advertisement so far; 0 for a handle without a client.
 #[unsafe(no_mangle)]
-pub extern "C" fn gitwire_client_caps(
-    alloc: Global,
-    client: &mut GitwireClient,
-    caps: &mut GitwireCaps,
-) -> u32
-    ensures { Of (client_in client.old) (client_in client.new) (λ had. (result ≡ what_number What.Done) × CapsAnswers had caps.new)
-        ((result ≡ what_number What.NoHandle) × (caps.new ≡ caps.old)) }
+pub extern "C" fn gitwire_client_features(alloc: Global, client: &mut GitwireClient) -> u32
+    ensures { Of (client_in client.old) (client_in client.new) (λ had. FeaturesAnswer had result) (result ≡ 0) }
 {
     let Some(taken) = client.take(alloc) else {
-        return What::NoHandle.number();
+        return 0;
     };
-    *caps = noted(&taken.inner);
+    let answer = features(&taken.inner);
     client.put(taken);
-    What::Done.number()
+    answer
 }
 
-fn noted(client: &Client<Global>) -> GitwireCaps
-    ensures { CapsAnswers client.now result }
+fn features(client: &Client<Global>) -> u32
+    ensures { FeaturesAnswer client.now result }
 {
     let caps = client.caps();
-    GitwireCaps {
-        features: features_noted(&caps),
-        agent: caps.agent,
-        ls_refs: caps.ls_refs,
-        fetch: caps.fetch,
-        object_format: caps.object_format,
-        sha1: caps.sha1,
-        sha256: caps.sha256,
+    features_noted(&caps)
+}
+
+/// Whether a line of the advertisement so far has the key of this number: `AGENT`, `LS_REFS`, `FETCH`, `OBJECT_FORMAT`, or that with the value
+/// of `SHA1` or `SHA256`. For another number, and for a handle without a client, it is false.
+#[unsafe(no_mangle)]
+pub extern "C" fn gitwire_client_advertises(
+    alloc: Global,
+    client: &mut GitwireClient,
+    key: u32,
+) -> bool
+    ensures { Of (client_in client.old) (client_in client.new) (λ had. AdvertisesAnswer key had result) (result ≡ false) }
+{
+    let Some(taken) = client.take(alloc) else {
+        return false;
+    };
+    let answer = advertises(&taken.inner, key);
+    client.put(taken);
+    answer
+}
+
+fn advertises(client: &Client<Global>, key: u32) -> bool
+    ensures { AdvertisesAnswer key client.now result }
+{
+    let caps = client.caps();
+    match key {
+        1 => caps.agent,
+        2 => caps.ls_refs,
+        3 => caps.fetch,
+        4 => caps.object_format,
+        5 => caps.sha1,
+        6 => caps.sha256,
+        _ => false,
     }
 }
 

@@ -9,13 +9,13 @@ use git_pkt::{escape_into, put_at};
 const LONGEST_ESCAPE: usize = 4;
 
 /// Writes the escapes of the bytes to the front of the buffer, of as many bytes as fit: `Done` if these are all, and else `More`.
-/// `RoomTooSmall` if the buffer has fewer than 4 bytes.
+/// `BufferTooSmall` if the buffer has fewer than 4 bytes.
 #[unsafe(no_mangle)]
 pub extern "C" fn gitwire_escape(bytes: &[u8], room: &mut [u8]) -> GitwireAnswer
     ensures { Escapes bytes.now room.old result room.new }
 {
     if room.len() < LONGEST_ESCAPE {
-        return GitwireAnswer::of(What::RoomTooSmall);
+        return GitwireAnswer::of(What::BufferTooSmall);
     }
     let mut end = 0;
     for (used, byte) in bytes.iter().enumerate() {

@@ -11,15 +11,15 @@ use git_client::{EventKind, EventParts};
 use git_names::Oid;
 use git_pkt::{Fault, put_at};
 
-/// The result of one call of `gitwire_client_feed`, and the event that came. Fields without a meaning are 0 or false. The texts are at the
-/// front of the buffer, one after another: the object's name in lower case digits, the name, the text, and the digits of the object that a
-/// tag peels to.
+/// The result of one call of `gitwire_client_feed`, and the event that came. Fields without a meaning are 0 or false. The texts are one after
+/// another in the buffer: the object's name in lower case digits, the name, the text, and the digits of the object that a tag peels to. The
+/// bytes of `Pack` and `Progress` are in the chunk.
 #[repr(C)]
 #[derive(Clone, Copy, Debug)]
 pub struct GitwireEvent {
     /// How many bytes of the chunk were used.
     pub used: usize,
-    /// The offset of the error in the stream.
+    /// Where the texts begin in the buffer or in the chunk; or the offset of the error in the stream.
     pub offset: u64,
     /// How many digits the object's name has: none if there is no object, as for an unborn reference.
     pub id_length: usize,

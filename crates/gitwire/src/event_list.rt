@@ -6,8 +6,8 @@ ghost use Rattle.gitwire.specs.Calls.{On};
 ghost use Rattle.git_client.specs.EventParts.{of_text};
 ghost use Rattle.git_client.specs.Machine.Client.{can_ask};
 ghost use Rattle.gitwire.specs.Answers.{answering_packet};
-ghost use Rattle.gitwire.specs.EventAnswers.{telling_parts};
-ghost use Rattle.gitwire.specs.EventLists.{EndsHere, GivesEvent, ListsEvents, ListsInRoom, ListsNothing, copied_of, listed_as, passed_of};
+ghost use Rattle.gitwire.specs.EventAnswers.{copied_of, passed_of, shown_at, telling_parts};
+ghost use Rattle.gitwire.specs.EventLists.{EndsHere, GivesEvent, ListsEvents, ListsInRoom, ListsNothing};
 ghost use Rattle.gitwire.specs.Handles.{client_in};
 
 use crate::answer::{GitwireAnswer, What};
@@ -29,18 +29,18 @@ struct Extent {
     texts: usize,
 }
 
-/// An event of the array, and how many bytes of the buffer the texts up to its end have.
+/// An event as it is shown, and how many bytes of the buffer the texts up to its end have.
 #[derive(Clone, Copy, Debug)]
-struct Listed {
-    event: GitwireEvent,
+pub(crate) struct Listed {
+    pub(crate) event: GitwireEvent,
     texts: usize,
 }
 
-/// Fills the array with the events of the chunk: those that `gitwire_client_feed_in_place` would give, call after call. Their texts are
+/// Fills the array with the events of the chunk: those that `gitwire_client_feed` would give, call after call. Their texts are
 /// written to the buffer one after another, and bytes of the pack and of progress stay in the chunk. `length` is how many events are in the
 /// array, and `used` how many bytes were used. `More`: the chunk is used up, the array is full, or the buffer has fewer than 65,516 bytes
 /// left; `CanAsk`: a request can be asked after the last event; `Failed`; `NotNow` if no bytes are expected; `NoHandle`; and
-/// `RoomTooSmall` if the array has no place, or the buffer has fewer than 65,516 bytes.
+/// `BufferTooSmall` if the array has no place, or the buffer has fewer than 65,516 bytes.
 #[unsafe(no_mangle)]
 pub extern "C" fn gitwire_client_events(
     alloc: Global,
@@ -70,7 +70,7 @@ fn list_events(
     ensures { ListsInRoom client.old piece.now events.old room.old result events.new room.new client.new }
 {
     if events.is_empty() || room.len() < LONGEST_PARTS {
-        return GitwireAnswer::of(What::RoomTooSmall);
+        return GitwireAnswer::of(What::BufferTooSmall);
     }
     fill_events(client, piece, events, room)
 }
@@ -149,12 +149,12 @@ fn next(
     }
 }
 
-/// The event as it is listed, when so many bytes of the chunk are used. Its texts are written to the buffer from this place on.
+/// The event as it is shown, when so many bytes of the chunk are used. Its texts are written to the buffer from this place on.
 #[inline(always)]
-fn list(event: Event<'_>, used: usize, room: &mut [u8], at: usize) -> Listed
+pub(crate) fn list(event: Event<'_>, used: usize, room: &mut [u8], at: usize) -> Listed
     requires copied { at + length (copied_of event) ≤ length room.old }
     requires passed { length (passed_of event) ≤ used }
-    ensures event { result.event ≡ listed_as event.entry used at }
+    ensures event { result.event ≡ shown_at event.entry used at }
     ensures texts { result.texts ≡ at + length (copied_of event.entry) }
     ensures room { room.new ≡ take at room.old ++ copied_of event.entry ++ drop (at + length (copied_of event.entry)) room.old }
 {

@@ -1,21 +1,9 @@
-//! The names and texts of errors, by their numbers.
+//! What users see of errors, by their numbers.
 
-ghost use Rattle.gitwire.specs.FaultAnswers.{IsKindOf, TellsName, TellsText};
+ghost use Rattle.gitwire.specs.FaultAnswers.{IsKindOf, TellsText};
 
 use crate::rooms::put_bytes;
 use git_pkt::{Fault, Kind};
-
-/// Writes an error's name, such as `Truncated`, to the front of the buffer, and returns its length: 0 if no error has the number, or the
-/// buffer is too small.
-#[unsafe(no_mangle)]
-pub extern "C" fn gitwire_fault_name(fault: u32, room: &mut [u8]) -> usize
-    ensures { TellsName fault room.old result room.new }
-{
-    let Some(kind) = kind_of(fault) else {
-        return 0;
-    };
-    put_bytes(kind.name().as_bytes(), room)
-}
 
 /// Writes what users see of an error, such as `Truncated at 994`, to the front of the buffer, and returns its length: 0 if no error has the
 /// number, or the buffer is too small.

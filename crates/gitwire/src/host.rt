@@ -13,7 +13,7 @@ ghost use Rattle.gitwire.specs.Rooms.{put_before};
 use crate::answer::{GitwireAnswer, What};
 use crate::handles::{GitwireHost, Holds, fill};
 use crate::numbers::number_of_command;
-use crate::offer::GitwireOffer;
+use crate::offer::offer_numbered;
 use crate::request::MOST_LIMIT;
 use crate::rooms::put_bytes;
 use git_host::{HostServer, HostStep, LONGEST_REFUSAL, Need};
@@ -24,21 +24,22 @@ use git_server::Outcome;
 use std::alloc::Global;
 use std::mem::replace;
 
-/// Makes the handle's server a new one over a store that is asked. It advertises this offer, keeps at most `limit` bytes of a request's
-/// arguments, and sends the advertisement first if `advertise` is set. What the handle had before is freed. `Done`; `BadValue`, and the
-/// handle is unchanged, if the offer has no format or a bit of no feature, or the limit is above 1,073,741,824; or `OutOfMemory`, and the
-/// handle has none.
+/// Makes the handle's server a new one over a store that is asked. It advertises this format and the features of this sum, keeps at most
+/// `limit` bytes of a request's arguments, and sends the advertisement first if `advertise` is set. What the handle had before is freed.
+/// `Done`; `BadValue`, and the handle is unchanged, if the format's number means none, a bit no feature, or the limit is above
+/// 1,073,741,824; or `OutOfMemory`, and the handle has none.
 #[unsafe(no_mangle)]
-pub extern "C" fn gitwire_host_new(
+pub extern "C" fn gitwire_host_init(
     alloc: Global,
     host: &mut GitwireHost,
-    offer: GitwireOffer,
+    format: u32,
+    features: u32,
     limit: u32,
     advertise: bool,
 ) -> u32
-    ensures { MakesHost offer limit advertise (host_in host.old) result (host_in host.new) }
+    ensures { MakesHost format features limit advertise (host_in host.old) result (host_in host.new) }
 {
-    let Some(meant) = host_meant(alloc, offer, limit, advertise) else {
+    let Some(meant) = host_meant(alloc, format, features, limit, advertise) else {
         return What::BadValue.number();
     };
     *host = GitwireHost::none(alloc);
@@ -48,16 +49,17 @@ pub extern "C" fn gitwire_host_new(
     fill(host, alloc, made).number()
 }
 
-/// The server that these values mean; none if the offer is none or the limit is above the maximum.
+/// The server that these values mean; none if they mean no offer or the limit is above the maximum.
 fn host_meant(
     alloc: Global,
-    offer: GitwireOffer,
+    format: u32,
+    features: u32,
     limit: u32,
     advertise: bool,
 ) -> Option<HostServer<Global>>
-    ensures { MatchOption result (MeanNoHost offer limit) (MeanHost offer limit advertise) }
+    ensures { MatchOption result (MeanNoHost format features limit) (MeanHost format features limit advertise) }
 {
-    let Some(offer) = offer.meant() else {
+    let Some(offer) = offer_numbered(format, features) else {
         return None;
     };
     if limit > MOST_LIMIT {
@@ -122,7 +124,7 @@ fn done_where(done: bool) -> u32
 }
 
 /// The next packet to be sent, copied to the front of the buffer, or what to do instead. `Packet`, `NeedInput`, `Asked`, `NeedWant` to
-/// `NeedSize`, `EndedByFlush`, `EndedByClose` or `Failed`; `NoHandle`; and `RoomTooSmall` if the buffer has fewer than 65,520 bytes.
+/// `NeedSize`, `EndedByFlush`, `EndedByClose` or `Failed`; `NoHandle`; and `BufferTooSmall` if the buffer has fewer than 65,520 bytes.
 #[unsafe(no_mangle)]
 pub extern "C" fn gitwire_host_pull(
     alloc: Global,
@@ -143,7 +145,7 @@ fn pull(server: &mut HostServer<Global>, room: &mut [u8]) -> GitwireAnswer
     ensures { PullsInRoom server.old room.old result room.new server.new }
 {
     if room.len() < LONGEST_PACKET {
-        return GitwireAnswer::of(What::RoomTooSmall);
+        return GitwireAnswer::of(What::BufferTooSmall);
     }
     let step = server.next();
     show(server, step, room)
@@ -231,7 +233,7 @@ fn accept(server: &mut HostServer<Global>) -> u32
 }
 
 /// Refuses the request that came: `Packet`, an error packet with this text is at the front of the buffer, and the session is over. `NotNow`
-/// if none is `Asked`; `Failed` by `BadLine` for a text of more than 65,511 bytes; `RoomTooSmall` if the buffer has fewer than 65,520
+/// if none is `Asked`; `Failed` by `BadLine` for a text of more than 65,511 bytes; `BufferTooSmall` if the buffer has fewer than 65,520
 /// bytes; or `NoHandle`: nothing changed.
 #[unsafe(no_mangle)]
 pub extern "C" fn gitwire_host_refuse(
@@ -255,7 +257,7 @@ fn refuse(server: &mut HostServer<Global>, text: &[u8], room: &mut [u8]) -> Gitw
     ensures { RefusesInRoom text.now server.old room.old result room.new server.new }
 {
     if room.len() < LONGEST_PACKET {
-        return GitwireAnswer::of(What::RoomTooSmall);
+        return GitwireAnswer::of(What::BufferTooSmall);
     }
     if text.len() > LONGEST_REFUSAL {
         return refused_as(Kind::BadLine);

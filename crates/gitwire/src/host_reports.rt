@@ -249,7 +249,7 @@ pub extern "C" fn gitwire_host_fail(
 }
 
 // Takes what the host reports, and copies its packet to the front of the buffer, if it has one. `Packet`, `More`, `NotNow`, `OutOfOrder`,
-// `NotShallow`, `OutOfMemory` or `Failed`; `RoomTooSmall` if the buffer has fewer than 65,520 bytes; or `NoHandle`.
+// `NotShallow`, `OutOfMemory` or `Failed`; `BufferTooSmall` if the buffer has fewer than 65,520 bytes; or `NoHandle`.
 fn report_in(
     alloc: Global,
     host: &mut GitwireHost,
@@ -275,7 +275,7 @@ fn report_within(
     ensures { ReportsInRoom report.entry server.old room.old result room.new server.new }
 {
     if room.len() < LONGEST_PACKET {
-        return GitwireAnswer::of(What::RoomTooSmall);
+        return GitwireAnswer::of(What::BufferTooSmall);
     }
     report_to(server, report, room)
 }
@@ -337,7 +337,7 @@ fn want_ref(server: &mut HostServer<Global>, id: &[u8], room: &mut [u8]) -> Gitw
     ensures { ReportsMeantInRoom (MeansWantRef (format_of server.old) id.now) server.old room.old result room.new server.new }
 {
     if room.len() < LONGEST_PACKET {
-        return GitwireAnswer::of(What::RoomTooSmall);
+        return GitwireAnswer::of(What::BufferTooSmall);
     }
     match read_given_id(server.format(), id) {
         Ok(id) => report_to(server, Report::WantRef(id), room),
@@ -354,7 +354,7 @@ fn boundary(
     ensures { ReportsMeantInRoom (MeansBoundary (format_of server.old) shallow id.now) server.old room.old result room.new server.new }
 {
     if room.len() < LONGEST_PACKET {
-        return GitwireAnswer::of(What::RoomTooSmall);
+        return GitwireAnswer::of(What::BufferTooSmall);
     }
     match Oid::read(server.format(), id, &mut Steps::new()) {
         Ok(id) => report_to(server, Report::Boundary(boundary_of(shallow, id)), room),
@@ -366,7 +366,7 @@ fn unborn(server: &mut HostServer<Global>, target: &[u8], room: &mut [u8]) -> Gi
     ensures { ReportsMeantInRoom (MeansUnborn target.now) server.old room.old result room.new server.new }
 {
     if room.len() < LONGEST_PACKET {
-        return GitwireAnswer::of(What::RoomTooSmall);
+        return GitwireAnswer::of(What::BufferTooSmall);
     }
     match RefName::read(target, &mut Steps::new()) {
         Ok(target) => report_to(server, Report::Unborn(target), room),
@@ -387,7 +387,7 @@ fn reference(
         room.new server.new }
 {
     if room.len() < LONGEST_PACKET {
-        return GitwireAnswer::of(What::RoomTooSmall);
+        return GitwireAnswer::of(What::BufferTooSmall);
     }
     match read_entry(alloc, server.format(), id, name, target, peeled) {
         Ok(entry) => report_to(server, Report::Reference(entry), room),

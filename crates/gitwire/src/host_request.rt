@@ -116,7 +116,7 @@ fn given_number(request: &RequestAtHand<'_, Global>, which: u32) -> GitwireAnswe
 
 /// Writes the text at an index of a list of the request that is asked about or answered, from `REF_PREFIXES` to `FILTERS`, to the front of
 /// the buffer, an object name as its digits. `Done`, and `length` is how many bytes it has; `Nothing` past the end of the list, and if
-/// there is no request; `RoomTooSmall`; `BadValue`; or `NoHandle`.
+/// there is no request; `BufferTooSmall`; `BadValue`; or `NoHandle`.
 #[unsafe(no_mangle)]
 pub extern "C" fn gitwire_host_item(
     alloc: Global,

@@ -4,7 +4,6 @@ ghost use Rattle.std.specs.Prelude.{◌≡◌, ℕ, Bool, List};
 ghost use Rattle.gitwire.specs.Offers.{offer_meant};
 ghost use Rattle.gitwire.specs.WrittenForC.{Advertises, IsDetermined, MeansAck, MeansBand, MeansBoundary, MeansError, MeansInfo};
 ghost use Rattle.gitwire.specs.WrittenForC.{MeansLine, MeansPacket, MeansReference, MeansWanted};
-ghost use Rattle.gitwire.specs.declared.offer.GitwireOffer.{GitwireOffer};
 ghost use Rattle.gitwire.specs.declared.answer.GitwireAnswer.{GitwireAnswer};
 
 /// The values that C passes and the buffer determine what a writer reports and what it leaves in the buffer.
@@ -18,6 +17,7 @@ pub fn writers_tell_one_thing()
     ensures boundary { (format : ℕ) (shallow : Bool) (id : List ℕ) → IsDetermined (MeansBoundary format shallow id) }
     ensures wanted { (format : ℕ) (id name : List ℕ) → IsDetermined (MeansWanted format id name) }
     ensures info { (format : ℕ) (id : List ℕ) (has_size : Bool) (size : ℕ) → IsDetermined (MeansInfo format id has_size size) }
-    ensures advertisement { (offer : GitwireOffer) (room : List ℕ) (answer other : GitwireAnswer) (filled others : List ℕ)
-        → Advertises (offer_meant offer) room answer filled → Advertises (offer_meant offer) room other others → (answer ≡ other) × (filled ≡ others) }
+    ensures advertisement { (format features : ℕ) (room : List ℕ) (answer other : GitwireAnswer) (filled others : List ℕ)
+        → Advertises (offer_meant format features) room answer filled → Advertises (offer_meant format features) room other others
+        → (answer ≡ other) × (filled ≡ others) }
 {}

@@ -37,12 +37,10 @@ mod writers;
 mod written;
 
 pub use answer::{GitwireAnswer, What};
-pub use client::GitwireCaps;
 pub use event::GitwireEvent;
 pub use handles::{
     GitwireClient, GitwireHost, GitwirePacketReader, GitwireRepository, GitwireRequest,
     GitwireRequestReader, GitwireServer, GitwireWriter,
 };
-pub use offer::GitwireOffer;
 pub use static_texts::GitwireText;
 pub use threads::handles_are_send;

@@ -1,7 +1,7 @@
-//! What a server advertises, as C passes it.
+//! What a server advertises, as C passes it: the number of a format, and the sum of features.
 
 ghost use Rattle.std.specs.Prelude.{◌≡◌, ◌≤◌};
-ghost use Rattle.gitwire.specs.Offers.{features_shown, where_shown};
+ghost use Rattle.gitwire.specs.Offers.{features_shown, has_feature, offer_meant, where_shown};
 
 use crate::numbers::format_numbered;
 use git_msg::{Caps, Offer};
@@ -30,47 +30,34 @@ pub const FILTER: u32 = 64;
 /// The sum of all features.
 pub const ALL_FEATURES: u32 = 127;
 
-/// What a server advertises beside `agent` and the commands `ls-refs` and `fetch`, which it always advertises.
-#[repr(C)]
-#[derive(Clone, Copy)]
-pub struct GitwireOffer {
-    /// The sum of the features that are advertised, [`UNBORN`] to [`FILTER`].
-    pub features: u32,
-    /// The number of the format of object names: `SHA1` or `SHA256`.
-    pub format: u32,
+/// The offer that these numbers mean, of the features of this sum, [`UNBORN`] to [`FILTER`]; none if the format's number means none, or a bit is no
+/// feature's.
+pub(crate) fn offer_numbered(format: u32, features: u32) -> Option<Offer>
+    ensures { result ≡ offer_meant format features }
+{
+    if features > ALL_FEATURES {
+        return None;
+    }
+    let Some(format) = format_numbered(format) else {
+        return None;
+    };
+    Some(Offer {
+        format,
+        unborn: has(features, UNBORN),
+        shallow: has(features, SHALLOW),
+        ref_in_want: has(features, REF_IN_WANT),
+        wait_for_done: has(features, WAIT_FOR_DONE),
+        filter: has(features, FILTER),
+        object_info: has(features, OBJECT_INFO),
+        server_option: has(features, SERVER_OPTION),
+    })
 }
 
-impl GitwireOffer {
-    ghost use Rattle.gitwire.specs.Offers.{has_feature, offer_meant};
-
-    /// The offer that these numbers mean; none if the format's number means none, or a bit is no feature's.
-    pub(crate) fn meant(self) -> Option<Offer>
-        ensures { result ≡ offer_meant self }
-    {
-        if self.features > ALL_FEATURES {
-            return None;
-        }
-        let Some(format) = format_numbered(self.format) else {
-            return None;
-        };
-        Some(Offer {
-            format,
-            unborn: self.has(UNBORN),
-            shallow: self.has(SHALLOW),
-            ref_in_want: self.has(REF_IN_WANT),
-            wait_for_done: self.has(WAIT_FOR_DONE),
-            filter: self.has(FILTER),
-            object_info: self.has(OBJECT_INFO),
-            server_option: self.has(SERVER_OPTION),
-        })
-    }
-
-    // Whether a feature is advertised.
-    fn has(self, feature: u32) -> bool
-        ensures { result ≡ has_feature self.features feature }
-    {
-        self.features & feature != 0
-    }
+// Whether a feature is in the sum.
+fn has(features: u32, feature: u32) -> bool
+    ensures { result ≡ has_feature features feature }
+{
+    features & feature != 0
 }
 
 /// The sum of the features that were noted of an advertisement.

@@ -17,7 +17,7 @@ use std::alloc::Global;
 /// Fills the array with the packets of the chunk: those that `gitwire_packet_reader_feed` would give, call after call, but for `used`, which is
 /// how many bytes of the chunk are used up to the packet's end. Their payloads stay in the chunk, as the last of these bytes; a payload that has more
 /// bytes than these, which only the first packet can have, is written to the front of the buffer. `length` is how many packets are in the array,
-/// and `used` how many bytes were used. `More`: the chunk is used up, or the array is full; `Failed`; `NoHandle`; and `RoomTooSmall` if
+/// and `used` how many bytes were used. `More`: the chunk is used up, or the array is full; `Failed`; `NoHandle`; and `BufferTooSmall` if
 /// the array has no place, or the buffer has fewer than 65,516 bytes.
 #[unsafe(no_mangle)]
 pub extern "C" fn gitwire_packet_reader_packets(
@@ -48,7 +48,7 @@ fn list_packets(
     ensures { ListsInRoom gatherer.old.reader piece.now packets.old room.old result packets.new room.new gatherer.new.reader }
 {
     if packets.is_empty() || room.len() < LONGEST_PAYLOAD {
-        return GitwireAnswer::of(What::RoomTooSmall);
+        return GitwireAnswer::of(What::BufferTooSmall);
     }
     fill_packets(gatherer, piece, packets, room)
 }

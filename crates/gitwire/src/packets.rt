@@ -20,7 +20,7 @@ pub(crate) const LONGEST_PAYLOAD: usize = 65_516;
 /// Makes the handle's reader a new one, of a stream that starts at offset 0. What it had before is freed. `Done`; or
 /// `OutOfMemory`, and the handle has none.
 #[unsafe(no_mangle)]
-pub extern "C" fn gitwire_packet_reader_new(alloc: Global, reader: &mut GitwirePacketReader) -> u32
+pub extern "C" fn gitwire_packet_reader_init(alloc: Global, reader: &mut GitwirePacketReader) -> u32
     ensures { Begins result (packet_reader_in reader.new) }
 {
     *reader = GitwirePacketReader::none(alloc);
@@ -34,7 +34,7 @@ pub extern "C" fn gitwire_packet_reader_new(alloc: Global, reader: &mut GitwireP
 }
 
 /// Reads up to the end of the next packet, and copies its payload to the front of the buffer. `More`, `Payload`, `Flush`, `Delim`,
-/// `ResponseEnd` or `Failed`; `NoHandle`; and `RoomTooSmall` if the buffer has fewer than 65,516 bytes.
+/// `ResponseEnd` or `Failed`; `NoHandle`; and `BufferTooSmall` if the buffer has fewer than 65,516 bytes.
 #[unsafe(no_mangle)]
 pub extern "C" fn gitwire_packet_reader_feed(
     alloc: Global,
@@ -57,7 +57,7 @@ fn feed(gatherer: &mut Gatherer, piece: &[u8], room: &mut [u8]) -> GitwireAnswer
     ensures { FeedsInRoom gatherer.old.reader piece.now room.old result room.new gatherer.new.reader }
 {
     if room.len() < LONGEST_PAYLOAD {
-        return GitwireAnswer::of(What::RoomTooSmall);
+        return GitwireAnswer::of(What::BufferTooSmall);
     }
     let fed = gatherer.reader.feed(piece, &mut Steps::new());
     match fed.got {

@@ -17,7 +17,7 @@ use std::mem::replace;
 /// Makes the handle's repository that of the text, with `pack` for every fetch. What it had before is freed. `Done`; or `Failed`, and
 /// `offset` is the line of the text that is refused, counted from 1; or `OutOfMemory`. If it is not `Done`, the handle has none.
 #[unsafe(no_mangle)]
-pub extern "C" fn gitwire_repository_new(
+pub extern "C" fn gitwire_repository_init(
     alloc: Global,
     repository: &mut GitwireRepository,
     text: &[u8],
@@ -30,7 +30,7 @@ pub extern "C" fn gitwire_repository_new(
 
 /// The same, but with the pack `filtered` for each fetch that has a filter, and `pack` for the others.
 #[unsafe(no_mangle)]
-pub extern "C" fn gitwire_repository_new_filtered(
+pub extern "C" fn gitwire_repository_init_filtered(
     alloc: Global,
     repository: &mut GitwireRepository,
     text: &[u8],

@@ -28,7 +28,7 @@ pub(crate) const MOST_LIMIT: u32 = 1_073_741_824;
 /// bytes of its argument lines. What it had before is freed. `Done`; `BadValue`, and the handle is unchanged, if a number means nothing or
 /// the limit is above 1,073,741,824; or `OutOfMemory`, and the handle has none.
 #[unsafe(no_mangle)]
-pub extern "C" fn gitwire_request_new(
+pub extern "C" fn gitwire_request_init(
     alloc: Global,
     request: &mut GitwireRequest,
     command: u32,
@@ -220,7 +220,7 @@ fn given_number(request: &Request<Global>, which: u32) -> GitwireAnswer
 }
 
 /// Writes the text at an index of a list, from `REF_PREFIXES` to `FILTERS`, to the front of the buffer, an object name as its digits.
-/// `Done`, and `length` is how many bytes it has; `Nothing` past the end of the list; `RoomTooSmall`; `BadValue`; or `NoHandle`.
+/// `Done`, and `length` is how many bytes it has; `Nothing` past the end of the list; `BufferTooSmall`; `BadValue`; or `NoHandle`.
 #[unsafe(no_mangle)]
 pub extern "C" fn gitwire_request_item(
     alloc: Global,

@@ -8,26 +8,27 @@ ghost use Rattle.gitwire.specs.Answers.{answering};
 
 use crate::answer::{GitwireAnswer, What};
 use crate::handles::{GitwireRequest, GitwireRequestReader, Holds, Taken, fill};
-use crate::offer::GitwireOffer;
+use crate::offer::offer_numbered;
 use crate::request::MOST_LIMIT;
 use git_msg::{Command, Limits, ReadGot, ReadRequest, Request, RequestStream};
 use git_names::{Format, Steps};
 use std::alloc::Global;
 use std::mem::replace;
 
-/// Makes the handle's reader a new one, which reads requests against this offer, with this limit on the bytes of a request's argument
-/// lines. What it had before is freed. `Done`; `BadValue`, and the handle is unchanged, if the offer has no format or a bit of no feature,
-/// or the limit is above 1,073,741,824; or `OutOfMemory`, and the handle has none.
+/// Makes the handle's reader a new one, which reads requests to a server of this format that advertises the features of this sum, with this
+/// limit on the bytes of a request's argument lines. What it had before is freed. `Done`; `BadValue`, and the handle is unchanged, if the
+/// format's number means none, a bit no feature, or the limit is above 1,073,741,824; or `OutOfMemory`, and the handle has none.
 #[unsafe(no_mangle)]
-pub extern "C" fn gitwire_request_reader_new(
+pub extern "C" fn gitwire_request_reader_init(
     alloc: Global,
     reader: &mut GitwireRequestReader,
-    offer: GitwireOffer,
+    format: u32,
+    features: u32,
     limit: u32,
 ) -> u32
-    ensures { MakesReader offer limit (request_reader_in reader.old) result (request_reader_in reader.new) }
+    ensures { MakesReader format features limit (request_reader_in reader.old) result (request_reader_in reader.new) }
 {
-    let Some(meant) = reader_meant(alloc, offer, limit) else {
+    let Some(meant) = reader_meant(alloc, format, features, limit) else {
         return What::BadValue.number();
     };
     *reader = GitwireRequestReader::none(alloc);
@@ -37,11 +38,16 @@ pub extern "C" fn gitwire_request_reader_new(
     fill(reader, alloc, made).number()
 }
 
-/// The reader that these values mean; none if the offer is none or the limit is above the maximum.
-fn reader_meant(alloc: Global, offer: GitwireOffer, limit: u32) -> Option<RequestStream<Global>>
-    ensures { MatchOption result (MeanNoReader offer limit) (MeanReader offer limit) }
+/// The reader that these values mean; none if they mean no offer or the limit is above the maximum.
+fn reader_meant(
+    alloc: Global,
+    format: u32,
+    features: u32,
+    limit: u32,
+) -> Option<RequestStream<Global>>
+    ensures { MatchOption result (MeanNoReader format features limit) (MeanReader format features limit) }
 {
-    let Some(offer) = offer.meant() else {
+    let Some(offer) = offer_numbered(format, features) else {
         return None;
     };
     if limit > MOST_LIMIT {

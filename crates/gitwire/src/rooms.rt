@@ -20,7 +20,7 @@ pub(crate) fn fill(bytes: &[u8], room: &mut [u8]) -> GitwireAnswer
     ensures { Fills bytes.now room.old result room.new }
 {
     if room.len() < bytes.len() {
-        return GitwireAnswer::of(What::RoomTooSmall);
+        return GitwireAnswer::of(What::BufferTooSmall);
     }
     GitwireAnswer::of_packet(0, 0, put_bytes(bytes, room), What::Done)
 }

@@ -23,7 +23,7 @@ const MOST_KEPT: u32 = 1_073_741_824;
 /// freed. `Done`; `NoHandle` if there is no repository and `BadValue` if the limit is above 1,073,741,824, and the handle is unchanged; or
 /// `OutOfMemory`, and the handle has none.
 #[unsafe(no_mangle)]
-pub extern "C" fn gitwire_server_new(
+pub extern "C" fn gitwire_server_init(
     alloc: Global,
     server: &mut GitwireServer,
     repository: &mut GitwireRepository,
@@ -130,7 +130,7 @@ fn close(server: &mut Server<SharedRepo, Global>) -> u32
 }
 
 /// The next packet to be sent, copied to the front of the buffer, or what to do instead. `Packet`, `NeedInput`, `EndedByFlush`,
-/// `EndedByClose` or `Failed`; `NoHandle`; and `RoomTooSmall` if the buffer has fewer than 65,520 bytes.
+/// `EndedByClose` or `Failed`; `NoHandle`; and `BufferTooSmall` if the buffer has fewer than 65,520 bytes.
 #[unsafe(no_mangle)]
 pub extern "C" fn gitwire_server_pull(
     alloc: Global,
@@ -151,7 +151,7 @@ fn pull(server: &mut Server<SharedRepo, Global>, room: &mut [u8]) -> GitwireAnsw
     ensures { PullsInRoom server.old room.old result room.new server.new }
 {
     if room.len() < LONGEST_PACKET {
-        return GitwireAnswer::of(What::RoomTooSmall);
+        return GitwireAnswer::of(What::BufferTooSmall);
     }
     match server.pull() {
         Pulled::NeedInput => GitwireAnswer::of(What::NeedInput),

@@ -1,4 +1,4 @@
-//! Texts of the library's own, which C may read as long as the library is loaded.
+//! Texts of the library's own, which C may read as long as the library is loaded: `c/gitwire.c` returns them to programs.
 
 ghost use Rattle.std.specs.Prelude.{◌≡◌, Some};
 ghost use Rattle.gitwire.specs.StaticTexts.{HasWords, version_text, words_of};
@@ -19,7 +19,7 @@ pub struct GitwireText {
 pub extern "C" fn gitwire_version_text(text: &mut GitwireText)
     ensures { text.new.bytes.now ≡ version_text }
 {
-    *text = GitwireText { bytes: b"0.2.0\0" };
+    *text = GitwireText { bytes: b"0.3.0\0" };
 }
 
 /// The name of the error with this number, a NUL, its sentence, which states what it means and what to look at, and a NUL. Both are

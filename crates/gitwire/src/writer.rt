@@ -13,7 +13,7 @@ use std::mem::replace;
 
 /// Makes the handle's writer a new one. What it had before is freed. `Done`; or `OutOfMemory`, and the handle has none.
 #[unsafe(no_mangle)]
-pub extern "C" fn gitwire_writer_new(alloc: Global, writer: &mut GitwireWriter) -> u32
+pub extern "C" fn gitwire_writer_init(alloc: Global, writer: &mut GitwireWriter) -> u32
     ensures { BeginsToWrite result (writer_in writer.new) }
 {
     *writer = GitwireWriter::none(alloc);

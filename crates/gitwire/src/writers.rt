@@ -9,7 +9,7 @@ ghost use Rattle.gitwire.specs.WrittenForC.{Advertises, Makes, MeansBand, MeansE
 
 use crate::answer::{GitwireAnswer, What};
 use crate::handles::{GitwireWriter, Holds};
-use crate::offer::GitwireOffer;
+use crate::offer::offer_numbered;
 use crate::packets::LONGEST_PAYLOAD;
 use crate::rooms::fill;
 use crate::written::{Unwritten, hand_out};
@@ -103,29 +103,30 @@ pub extern "C" fn gitwire_put_error(
     answer
 }
 
-/// Writes the whole advertisement of an offer, each packet up to its flush, to the front of the buffer: fewer than 200 bytes. An offer
-/// without a format or with a bit of no feature is BadValue.
+/// Writes the whole advertisement of a format and the features of a sum, each packet up to its flush, to the front of the buffer: fewer than
+/// 200 bytes. A number of no format and a bit of no feature are BadValue.
 #[unsafe(no_mangle)]
 pub extern "C" fn gitwire_put_advertisement(
     alloc: Global,
     writer: &mut GitwireWriter,
-    offer: GitwireOffer,
+    format: u32,
+    features: u32,
     room: &mut [u8],
 ) -> GitwireAnswer
-    ensures { WritesIn (writer_in writer.old) (Advertises (offer_meant offer)) room.old result room.new (writer_in writer.new) }
+    ensures { WritesIn (writer_in writer.old) (Advertises (offer_meant format features)) room.old result room.new (writer_in writer.new) }
 {
     let Some(mut taken) = writer.take(alloc) else {
         return GitwireAnswer::of(What::NoHandle);
     };
-    let answer = advertise(&mut taken.inner.hold, offer, room);
+    let answer = advertise(&mut taken.inner.hold, format, features, room);
     writer.put(taken);
     answer
 }
 
-fn advertise(hold: &mut Hold, offer: GitwireOffer, room: &mut [u8]) -> GitwireAnswer
-    ensures { Advertises (offer_meant offer) room.old result room.new }
+fn advertise(hold: &mut Hold, format: u32, features: u32, room: &mut [u8]) -> GitwireAnswer
+    ensures { Advertises (offer_meant format features) room.old result room.new }
 {
-    let Some(offer) = offer.meant() else {
+    let Some(offer) = offer_numbered(format, features) else {
         return GitwireAnswer::of(What::BadValue);
     };
     put_advertisement(hold, &offer);

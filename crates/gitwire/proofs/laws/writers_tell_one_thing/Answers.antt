@@ -17,5 +17,5 @@ returns c = record {
   boundary = λ format shallow id. determined _ (one_line_of format id (λ named. boundary_text (boundary_of shallow named)));
   wanted = λ format id name. determined _ (one_wanted format id name);
   info = λ format id has_size size. determined _ (one_line_of format id (λ named. info_text (info_of (then_some has_size size) named)));
-  advertisement = λ offer. advertised_once (offer_meant offer);
+  advertisement = λ format features. advertised_once (offer_meant format features);
 }

@@ -1,6 +1,6 @@
 use Rattle.std.proofs.Common.{inr}
 use Rattle.gitwire.proofs.Making.{made}
-use Rattle.gitwire.proofs.request_reader.gitwire_request_reader_new.Goals as goal
+use Rattle.gitwire.proofs.host.gitwire_host_init.Goals as goal
 
 pub returns-in_default-new : goal.returns-in_default-new
 returns-in_default-new c = inr (c.in-Some.meant, c.in-Some.ensures, inr (c.number-in_default-new.ensures, c.none.ensures))
