@@ -6,7 +6,7 @@ PREFIX ?= /usr/local
 PROGRAM ?= crates/git2show/out/git2show
 LIBRARY ?= crates/gitwire/out/libgitwire.a
 KIT = $(shell dirname "$$($(RT) doc)")
-VERSION = 0.2.0
+VERSION = 0.3.0
 
 .PHONY: run program library install test test-program test-git-suite test-peers audit mutants cases bench format
 
@@ -34,8 +34,8 @@ program:
 	@echo 'make program: proves and builds the program, which takes half an hour and more the first time'
 	$(call prove,git2show,run -- --version)
 
-# Proves and builds the library for programs in C. What it takes memory by is in the kit's own archive, which a program has to
-# link as well; `make install` puts both into one.
+# Proves and builds the library for programs in C, without its part in C, c/gitwire.c. A program has to link that as well, and the kit's own archive,
+# by which the library takes memory; `make install` puts all three into one.
 library:
 	$(call prove,gitwire,lib)
 
@@ -43,7 +43,7 @@ library:
 # on the protocol and on what is promised, the script that writes a repository text, the examples), and what pkg-config prints for it: a C
 # program is then built with `pkg-config --cflags --libs gitwire` and nothing of this folder. It has the library twice: as an archive, and
 # as a shared library of the same objects, which shows the calls of the header alone. What was built is taken as it is; what was not is
-# proved first, and each is reported.
+# proved first, and each is reported. The library's part in C is compiled here.
 install: prefix = $(abspath $(PREFIX))
 install: to = $(DESTDIR)$(prefix)
 install: $(PROGRAM) $(LIBRARY)
@@ -59,6 +59,7 @@ install: $(PROGRAM) $(LIBRARY)
 	@install -D -m 644 -t "$(to)/share/fish/vendor_completions.d" completions/git2show.fish
 	@install -D -m 644 docs/gitwire.3 "$(to)/share/man/man3/gitwire.3"
 	@install -D -m 644 include/gitwire.h "$(to)/include/gitwire.h"
+	@install -D -m 644 -t "$(to)/include/gitwire" include/gitwire/*.h
 	@install -D -m 644 -t "$(to)/share/doc/gitwire" docs/PROTOCOL.md docs/PROMISES.md docs/STEPS.md
 	@install -D -m 755 sample/repository-text.sh "$(to)/share/doc/gitwire/repository-text.sh"
 	@install -D -m 644 -t "$(to)/share/doc/gitwire/examples" $(filter-out %.sh %.py,$(wildcard examples/*))
@@ -67,6 +68,7 @@ install: $(PROGRAM) $(LIBRARY)
 	@sed -i 's|@PREFIX@|$(prefix)|' "$(to)/lib/pkgconfig/gitwire.pc"
 	@install -D -m 644 "$(LIBRARY)" "$(to)/lib/libgitwire.a"
 	@objects=$$(mktemp -d) && (cd "$$objects" && ar x "$(KIT)/c/liblibc_c.a") && \
+		$(CC) -std=c11 -O2 -fPIC -Wall -Wextra -Iinclude -c -o "$$objects/gitwire_in_c.o" c/gitwire.c && \
 		ar qs "$(to)/lib/libgitwire.a" "$$objects"/*.o && rm -r "$$objects"
 	@$(CC) -shared -o "$(to)/lib/libgitwire.so.$(VERSION)" -Wl,-soname,libgitwire.so.1,--version-script=gitwire.map \
 		-Wl,-z,defs,-z,relro,-z,now,--whole-archive "$(to)/lib/libgitwire.a" -Wl,--no-whole-archive
@@ -123,7 +125,7 @@ bench:
 # Git's own tests of version 2, with examples/upload-pack.c in the place of Git's server: no part of what a merge waits for. It fetches and builds
 # the source package of the installed Git, once, in the folder that GIT_SUITE names. TESTS names some of its test files, where not all are to run.
 test-git-suite: $(LIBRARY)
-	@$(CC) -std=c11 -O2 -Iinclude -o /tmp/gitwire-upload-pack examples/upload-pack.c "$(LIBRARY)" "$(KIT)/c/liblibc_c.a"
+	@$(CC) -std=c11 -O2 -Iinclude -o /tmp/gitwire-upload-pack examples/upload-pack.c c/gitwire.c "$(LIBRARY)" "$(KIT)/c/liblibc_c.a"
 	@tests/git-suite.sh /tmp/gitwire-upload-pack $(TESTS)
 
 # Other Gits, dulwich, JGit and others of Debian's registry as clients and servers of ours (docs/PEERS.md): no part of what a merge waits for. They are

@@ -18,7 +18,7 @@ write_examples() {
     compile library_arrays "$top/tests/library_arrays.c"
     compile library_writers "$top/tests/library_writers.c"
     compile library_host "$top/tests/library_host.c"
-    compile refused_memory "$top/tests/refused_memory.c" -Wl,--wrap=malloc,--wrap=realloc,--wrap=free
+    compile refused_memory "$top/tests/refused_memory.c" -Wl,--wrap=malloc,--wrap=calloc,--wrap=realloc,--wrap=free
 }
 
 # of_library OPTION..: what pkg-config prints for the installed library, or would print if there were a pkg-config.
@@ -57,27 +57,27 @@ under_valgrind() {
 
 case_library_is_installed_whole() {
     local file line
-    for file in bin/git2show lib/libgitwire.a lib/libgitwire.so include/gitwire.h lib/pkgconfig/gitwire.pc share/man/man1/git2show.1 \
+    for file in bin/git2show lib/libgitwire.a lib/libgitwire.so lib/pkgconfig/gitwire.pc share/man/man1/git2show.1 \
         share/man/man5/git2show.5 share/man/man3/gitwire.3 share/bash-completion/completions/git2show share/zsh/site-functions/_git2show \
         share/fish/vendor_completions.d/git2show.fish share/doc/gitwire/{PROTOCOL,PROMISES,STEPS}.md share/doc/gitwire/repository-text.sh \
-        $(cd "$top" && printf 'share/doc/gitwire/%s ' examples/*); do
+        $(cd "$top" && printf 'share/doc/gitwire/%s ' examples/* && find include -name '*.h'); do
         [ -s "$installed/$file" ] || differs "no $file"
     done
     for file in bin/git2show share/doc/gitwire/{repository-text.sh,examples/http-backend.sh,examples/packets.py}; do
         [ -x "$installed/$file" ] || differs "no program $file"
     done
     run "$installed/bin/git2show" --version
-    expect 0 <(echo 'git2show 0.2.0') /dev/null
+    expect 0 <(echo 'git2show 0.3.0') /dev/null
     expect_same 'the library of pkg-config' <(echo "-I$installed/include -L$installed/lib -lgitwire") \
         <(of_library --cflags --libs | sed 's/ *$//')
     expect_same 'the archive of pkg-config' <(echo "$installed/lib/libgitwire.a") <(of_library --variable=archive)
-    for line in "prefix=$installed" 'libdir=${prefix}/lib' 'includedir=${prefix}/include' 'archive=${libdir}/libgitwire.a' 'Version: 0.2.0' \
+    for line in "prefix=$installed" 'libdir=${prefix}/lib' 'includedir=${prefix}/include' 'archive=${libdir}/libgitwire.a' 'Version: 0.3.0' \
         'Libs: -L${libdir} -lgitwire' 'Cflags: -I${includedir}'; do
         expect_line 'what pkg-config tells' "$line" "$installed/lib/pkgconfig/gitwire.pc"
     done
     printf '#include <gitwire.h>\nGITWIRE_VERSION %s\n' 'GITWIRE_VERSION_MAJOR GITWIRE_VERSION_MINOR GITWIRE_VERSION_PATCH' |
         gcc -E -P -I"$installed/include" - > preprocessed
-    expect_same 'the version of the header' <(echo '"0.2.0" 0 2 0') <(tail -n 1 preprocessed)
+    expect_same 'the version of the header' <(echo '"0.3.0" 0 3 0') <(tail -n 1 preprocessed)
 }
 
 # DESTDIR comes before each path, and in no file.
@@ -96,7 +96,7 @@ case_library_is_installed_below_another_folder() {
 case_library_that_is_not_built_is_told() {
     local told='is not there: it is proved with all that it stands on, and built, which can take half an hour and more'
     mkdir -p unbuilt/crates/{git_names,git_pkt,git2show,gitwire}/src
-    cp -r "$top"/{Makefile,crates.txt,gitwire.map,gitwire.pc.in,completions,docs,include,sample,examples} unbuilt
+    cp -r "$top"/{Makefile,crates.txt,gitwire.map,gitwire.pc.in,c,completions,docs,include,sample,examples} unbuilt
     printf '%s\n' '#!/bin/sh' 'case $1 in' "doc) exec ${RT:-rt} doc ;;" "lib) it=libgitwire.a from=$library ;;" \
         "run) it=git2show from=$program ;;" esac 'mkdir -p out && cp "$from" "out/$it"' > bin/no-rt
     chmod +x bin/no-rt
@@ -113,21 +113,23 @@ case_library_that_is_not_built_is_told() {
     expect_same 'what is installed' <(cd "$installed" && find . ! -type d | sort) <(cd built && find . ! -type d | sort)
 }
 
-# calls_of_the_header FREEING: their names. What frees a handle ends with that: `_clear` is the library's, and `_free` the header's over it. With `_free`
-# the other functions of the header itself are among them.
+# calls_of_the_header: their names.
 calls_of_the_header() {
-    {
-        [ "$1" = _clear ] || sed -n 's/^static inline .*\(gitwire_[a-z_]*\)(.*/\1/p' "$installed/include/gitwire.h"
-        sed -n 's/^[a-z_0-9]* \(gitwire_[a-z_]*\)(.*/\1/p' "$installed/include/gitwire.h"
-        sed -n "s/^GITWIRE_FREES(\(gitwire_[a-z_]*\))\$/\1$1/p" "$installed/include/gitwire.h"
-    } | sort
+    sed -n 's/^[a-z_0-9 ]* \**\(gitwire_[a-z_]*\)(.*/\1/p' "$installed"/include/gitwire/*.h | sort
+}
+
+# calls_for_c: the names of the calls that only c/gitwire.c makes: `_clear` of each kind of handle, and what it declares itself.
+calls_for_c() {
+    sed -n -e 's/^FREES(\(gitwire_[a-z_]*\))$/\1_clear/p' -e 's/^[a-z_]* \(gitwire_[a-z_]*_\(init\|init_filtered\|words\|text\)\)(.*/\1/p' "$top/c/gitwire.c"
 }
 
 case_library_has_the_calls_of_its_header() {
-    calls_of_the_header _clear > wanted
+    calls_of_the_header > calls
+    [ -s calls ] || differs 'no call in the header'
+    calls_for_c > calls_inside
+    [ "$(wc -l < calls_inside)" -ge 18 ] || differs 'too few calls that are not in the header' calls_inside
     nm -g --defined-only "$installed/lib/libgitwire.a" | awk '$2 == "T" && $3 ~ /^gitwire_/ { print $3 }' | sort > written
-    [ -s wanted ] || differs 'no call in the header'
-    expect_same 'the calls of the library' wanted written
+    expect_same 'the calls of the library' <(sort calls calls_inside) written
 }
 
 # The shared library has the name that programs look for, shows the calls of the header with their version and nothing else, and depends only on
@@ -135,12 +137,12 @@ case_library_has_the_calls_of_its_header() {
 case_shared_library_shows_the_calls_of_its_header_alone() {
     local it=$installed/lib/libgitwire.so
     readelf -W --dyn-syms "$it" | awk '$5 == "GLOBAL" && $7 != "UND" && $7 != "ABS" { print $8 }' | sort > written
-    expect_same 'what the shared library shows' <(calls_of_the_header _clear | sed 's/$/@@GITWIRE_0.3/' | sort) written
+    expect_same 'what the shared library shows' <(calls_of_the_header | sed 's/$/@@GITWIRE_0.3/' | sort) written
     objdump -p "$it" > parts
     expect_same 'what it is called' <(echo libgitwire.so.1) <(awk '$1 == "SONAME" { print $2 }' parts)
     expect_same 'what it needs' <(echo libc.so.6) <(awk '$1 == "NEEDED" { print $2 }' parts)
     ! grep -q TEXTREL parts || differs 'code that is written to' parts
-    expect_same 'the links to it' <(printf '%s\n' libgitwire.so.1 libgitwire.so.0.2.0) \
+    expect_same 'the links to it' <(printf '%s\n' libgitwire.so.1 libgitwire.so.0.3.0) \
         <(readlink "$it" "$installed/lib/libgitwire.so.1")
 }
 
@@ -167,15 +169,30 @@ case_programs_take_the_shared_library() {
     expect 0 <(git ls-remote --symref ./history-sha1) /dev/null
 }
 
+# Each part of the header compiles alone, and all of them do together.
 case_library_header_stands_alone() {
-    local language
+    local language part
     for language in c:c11 c:c17 c++:c++11 c++:c++17; do
         [ "${language%%:*}" = c ] || command -v g++ > /dev/null || continue
-        run gcc -x "${language%%:*}" -std="${language##*:}" -pedantic -Wall -Wextra -Wconversion -Werror -fsyntax-only - \
-            -I"$installed/include" <<< '#include <gitwire.h>
-            gitwire_client client = GITWIRE_NONE;'
-        expect 0 /dev/null /dev/null
+        for part in $(cd "$installed/include" && printf '%s ' gitwire.h gitwire/*.h); do
+            run gcc -x "${language%%:*}" -std="${language##*:}" -pedantic -Wall -Wextra -Wconversion -Werror -fsyntax-only - \
+                -I"$installed/include" <<< "#include <$part>
+                extern gitwire_answer answer;"
+            expect 0 /dev/null /dev/null
+        done
     done
+}
+
+# The calls, numbers and structs of 0.3.0 are as they were: the page with them compiles with the header, and the shared library has its calls, each with
+# its version; no call is missing in it.
+case_library_keeps_the_interface_of_0_3() {
+    run gcc -x c -std=c11 -Wall -Wextra -Werror -fsyntax-only -I"$installed/include" "$top/tests/abi-0.3"
+    expect 0 /dev/null /dev/null
+    sed -n -e '/^\/\* GITWIRE_/h' -e '/^[a-z_0-9 ]* \**gitwire_[a-z_]*(/{s/^[a-z_0-9 ]* \**\(gitwire_[a-z_]*\)(.*/\1/;G;s/\n\/\* \([A-Z_0-9.]*\).*/@@\1/;p}' \
+        "$top/tests/abi-0.3" | sort > wanted
+    [ "$(wc -l < wanted)" -ge 83 ] || differs 'too few calls in tests/abi-0.3' wanted
+    readelf -W --dyn-syms "$installed/lib/libgitwire.so" | awk '$8 ~ /^gitwire_/ { print $8 }' | sort > written
+    expect_same 'the calls of the shared library' wanted written
 }
 
 # compiles COMPILER LANGUAGE:STANDARD STATEMENTS: runs a compiler on a function with these statements.
@@ -183,13 +200,15 @@ compiles() {
     local language=$2
     run "$1" -x "${language%%:*}" -std="${language##*:}" -pedantic -Wall -Wextra -Wconversion -Werror -fsyntax-only - -I"$installed/include" <<< "
         #include <gitwire.h>
-        extern gitwire_client client;
-        extern gitwire_request request;
-        extern gitwire_host host;
-        extern gitwire_writer writer;
+        extern gitwire_client *client;
+        extern gitwire_request *request;
+        extern gitwire_host *host;
+        extern gitwire_writer *writer;
+        extern gitwire_event event;
         extern gitwire_format format;
         extern gitwire_ending ending;
-        extern uint8_t room[GITWIRE_PACKET_ROOM];
+        extern uint8_t buffer[GITWIRE_PACKET_SIZE];
+        extern char text[GITWIRE_REFERENCE_NAME_SIZE];
         bool is_well(void);
         bool is_well(void) { $3 }"
 }
@@ -203,24 +222,30 @@ statements_with_numbers() {
 { return gitwire_client_new(&client, GITWIRE_ENDS_BY_FLUSH, GITWIRE_SHA1) == GITWIRE_DONE; }
 { return gitwire_request_new(&request, GITWIRE_FETCH, GITWIRE_SHA1, 0) == GITWIRE_DONE; }
 { return gitwire_request_new(&request, GITWIRE_SHA1, GITWIRE_FETCH, 0) == GITWIRE_DONE; }
-{ gitwire_command command = gitwire_request_command(&request); return command == GITWIRE_FETCH; }
-{ gitwire_result command = gitwire_request_command(&request); return command == GITWIRE_DONE; }
-{ gitwire_format its_format = gitwire_request_format(&request); return its_format == format; }
-{ gitwire_command its_format = gitwire_request_format(&request); return its_format == GITWIRE_FETCH; }
-{ gitwire_command command = gitwire_host_command(&host); return command == GITWIRE_LS_REFS; }
-{ gitwire_ending command = gitwire_host_command(&host); return command == ending; }
-{ return gitwire_request_flag(&request, GITWIRE_FLAG_PEEL); }
-{ return gitwire_request_flag(&request, GITWIRE_LIST_WANTS); }
-{ return gitwire_request_number(&request, GITWIRE_NUMBER_DEEPEN).kind == GITWIRE_DONE; }
-{ return gitwire_request_number(&request, GITWIRE_FLAG_DEEPEN_RELATIVE).kind == GITWIRE_DONE; }
-{ return gitwire_host_item(&host, GITWIRE_LIST_WANTS, 0, room, sizeof room).kind == GITWIRE_DONE; }
-{ return gitwire_host_item(&host, GITWIRE_FLAG_PEEL, 0, room, sizeof room).kind == GITWIRE_DONE; }
-{ return gitwire_put_band(&writer, GITWIRE_BAND_PACK, room, 1, room, 0).kind == GITWIRE_DONE; }
-{ return gitwire_put_band(&writer, GITWIRE_PACK, room, 1, room, 0).kind == GITWIRE_DONE; }
-{ gitwire_fault fault = gitwire_host_pull(&host, room, sizeof room).fault; return fault == GITWIRE_FAULT_NOT_OURS; }
-{ gitwire_fault fault = gitwire_host_pull(&host, room, sizeof room).kind; return fault == GITWIRE_FAULT_NOT_OURS; }
-{ return gitwire_fault_name(GITWIRE_FAULT_TRUNCATED, room, sizeof room) > 0; }
-{ return gitwire_fault_name(GITWIRE_FAILED, room, sizeof room) > 0; }
+{ return gitwire_host_new(&host, GITWIRE_SHA1, GITWIRE_FEATURE_SHALLOW, 0, true) == GITWIRE_DONE; }
+{ return gitwire_host_new(&host, GITWIRE_FEATURE_SHALLOW, GITWIRE_SHA1, 0, true) == GITWIRE_DONE; }
+{ gitwire_command command = gitwire_request_command(request); return command == GITWIRE_FETCH; }
+{ gitwire_result command = gitwire_request_command(request); return command == GITWIRE_DONE; }
+{ gitwire_format its_format = gitwire_request_format(request); return its_format == format; }
+{ gitwire_command its_format = gitwire_request_format(request); return its_format == GITWIRE_FETCH; }
+{ gitwire_command command = gitwire_host_command(host); return command == GITWIRE_LS_REFS; }
+{ gitwire_ending command = gitwire_host_command(host); return command == ending; }
+{ return gitwire_request_flag(request, GITWIRE_FLAG_PEEL); }
+{ return gitwire_request_flag(request, GITWIRE_LIST_WANTS); }
+{ return gitwire_request_number(request, GITWIRE_NUMBER_DEEPEN).kind == GITWIRE_DONE; }
+{ return gitwire_request_number(request, GITWIRE_FLAG_DEEPEN_RELATIVE).kind == GITWIRE_DONE; }
+{ return gitwire_host_item(host, GITWIRE_LIST_WANTS, 0, text, sizeof text).kind == GITWIRE_DONE; }
+{ return gitwire_host_item(host, GITWIRE_FLAG_PEEL, 0, text, sizeof text).kind == GITWIRE_DONE; }
+{ return gitwire_client_advertises(client, GITWIRE_KEY_AGENT); }
+{ return gitwire_client_advertises(client, GITWIRE_FEATURE_UNBORN); }
+{ return gitwire_event_part(&event, GITWIRE_PART_NAME, buffer, buffer).length > 0; }
+{ return gitwire_event_part(&event, GITWIRE_KEY_AGENT, buffer, buffer).length > 0; }
+{ return gitwire_put_band(writer, GITWIRE_BAND_PACK, buffer, 1, buffer, 0).kind == GITWIRE_DONE; }
+{ return gitwire_put_band(writer, GITWIRE_PACK, buffer, 1, buffer, 0).kind == GITWIRE_DONE; }
+{ gitwire_fault fault = gitwire_host_pull(host, buffer, sizeof buffer).fault; return fault == GITWIRE_FAULT_NOT_OURS; }
+{ gitwire_fault fault = gitwire_host_pull(host, buffer, sizeof buffer).kind; return fault == GITWIRE_FAULT_NOT_OURS; }
+{ return *gitwire_fault_name(GITWIRE_FAULT_TRUNCATED) != 0; }
+{ return *gitwire_fault_name(GITWIRE_FAILED) != 0; }
 end
 }
 
@@ -272,7 +297,7 @@ is_well_written() {
 }
 
 case_manual_page_has_each_call() {
-    expect_same 'the calls of the manual page' <(calls_of_the_header _free) \
+    expect_same 'the calls of the manual page' <(calls_of_the_header) \
         <(sed -n 's/^\.BR \(gitwire_[a-z_]*\) ().*/\1/p' "$installed/share/man/man3/gitwire.3" | sort)
     is_well_written man3/gitwire.3
 }

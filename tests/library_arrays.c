@@ -21,7 +21,7 @@ struct stream {
 struct way {
 	size_t first, next;
 	size_t places;
-	size_t room;
+	size_t buffer;
 };
 
 /* All that a run gave. */
@@ -34,7 +34,7 @@ static struct stream requests, responses;
 static struct log single, filled;
 static gitwire_format format;
 static gitwire_ending ending;
-static uint8_t large_room[GITWIRE_EVENTS_ROOM(MOST_BYTES)];
+static uint8_t large_buffer[GITWIRE_EVENTS_SIZE(MOST_BYTES)];
 
 static void note(struct log *log, const char *words, ...)
 {
@@ -49,12 +49,13 @@ static void note(struct log *log, const char *words, ...)
 	}
 }
 
-static void note_bytes(struct log *log, const uint8_t *bytes, size_t length)
+static void note_bytes(struct log *log, const void *bytes, size_t length)
 {
 	note(log, " %zu:", length);
 	if (sizeof log->text - log->length <= length)
 		exit(1);
-	memcpy(log->text + log->length, bytes, length);
+	if (length > 0)
+		memcpy(log->text + log->length, bytes, length);
 	log->length += length;
 }
 
@@ -74,13 +75,16 @@ static void note_packet(struct log *log, gitwire_answer packet, size_t end, cons
 	note(log, "\n");
 }
 
-static void note_event(struct log *log, gitwire_event event, size_t end, const uint8_t *texts)
+/* An event of this chunk, whose other texts are in the large buffer. */
+static void note_event(struct log *log, const gitwire_event *event, size_t end, const uint8_t *chunk)
 {
-	note(log, "%zu event %u %d %d %zu", end, event.kind, event.has_text, event.has_size, (size_t)event.size);
-	note_bytes(log, texts, event.id_length);
-	note_bytes(log, texts + event.id_length, event.name_length);
-	note_bytes(log, texts + event.id_length + event.name_length, event.text_length);
-	note_bytes(log, texts + event.id_length + event.name_length + event.text_length, event.peeled_length);
+	note(log, "%zu event %u %d %d %zu", end, event->kind, event->has_text, event->has_size, (size_t)event->size);
+	for (gitwire_part number = GITWIRE_PART_ID; number <= GITWIRE_PART_PEELED; number++) {
+		gitwire_text part = gitwire_event_part(event, number, chunk, large_buffer);
+
+		note(log, " %d", part.at != NULL);
+		note_bytes(log, part.at, part.length);
+	}
 	note(log, "\n");
 }
 
@@ -104,14 +108,14 @@ static bool left_alone(const void *places, size_t size, size_t count)
 static void read_packets_singly(struct log *log, gitwire_packet_reader *reader, const struct stream *stream, size_t at, size_t end)
 {
 	while (at < end) {
-		gitwire_answer answer = gitwire_packet_reader_feed(reader, stream->bytes + at, end - at, large_room, sizeof large_room);
+		gitwire_answer answer = gitwire_packet_reader_feed(reader, stream->bytes + at, end - at, large_buffer, sizeof large_buffer);
 
 		at += answer.used;
 		note_end(log, answer.kind, answer.fault, answer.offset, at);
 		if (answer.kind == GITWIRE_FAILED)
 			return;
 		if (answer.kind != GITWIRE_MORE)
-			note_packet(log, answer, at, large_room);
+			note_packet(log, answer, at, large_buffer);
 	}
 }
 
@@ -120,14 +124,14 @@ static void read_packets(struct log *log, gitwire_packet_reader *reader, const s
 	static gitwire_answer packets[MOST_ELEMENTS];
 
 	while (at < end) {
-		const uint8_t *piece = stream->bytes + at;
+		const uint8_t *chunk = stream->bytes + at;
 
 		memset(packets, 0, sizeof packets);
-		gitwire_answer answer = gitwire_packet_reader_packets(reader, piece, end - at, packets, way->places, large_room, GITWIRE_PAYLOAD_ROOM);
+		gitwire_answer answer = gitwire_packet_reader_packets(reader, chunk, end - at, packets, way->places, large_buffer, GITWIRE_PAYLOAD_SIZE);
 		EXPECT(answer.length <= way->places && left_alone(packets, sizeof *packets, answer.length));
 		EXPECT(answer.kind == GITWIRE_FAILED || answer.used == end - at || (answer.kind == GITWIRE_MORE && answer.length == way->places));
 		for (size_t i = 0; i < answer.length; i++)
-			note_packet(log, packets[i], at + packets[i].used, gitwire_payload(packets[i], piece, large_room));
+			note_packet(log, packets[i], at + packets[i].used, gitwire_payload(&packets[i], chunk, large_buffer));
 		at += answer.used;
 		note_end(log, answer.kind, answer.fault, answer.offset, at);
 		if (answer.kind == GITWIRE_FAILED)
@@ -138,7 +142,7 @@ static void read_packets(struct log *log, gitwire_packet_reader *reader, const s
 /* Reads the packets of a stream. */
 static void run_reader(struct log *log, const struct stream *stream, const struct way *way)
 {
-	gitwire_packet_reader reader = GITWIRE_NONE;
+	gitwire_packet_reader *reader = NULL;
 	gitwire_answer answer;
 
 	log->length = 0;
@@ -146,19 +150,19 @@ static void run_reader(struct log *log, const struct stream *stream, const struc
 	for (size_t at = 0, end; at < stream->length; at = end) {
 		end = end_of_chunk(way, at, stream->length);
 		if (way->places == 0)
-			read_packets_singly(log, &reader, stream, at, end);
+			read_packets_singly(log, reader, stream, at, end);
 		else
-			read_packets(log, &reader, stream, way, at, end);
+			read_packets(log, reader, stream, way, at, end);
 	}
-	answer = gitwire_packet_reader_close(&reader);
+	answer = gitwire_packet_reader_close(reader);
 	note_end(log, answer.kind, answer.fault, answer.offset, stream->length);
-	gitwire_packet_reader_free(&reader);
+	gitwire_packet_reader_free(reader);
 }
 
 /* A client that asks the requests of the conversation. */
 struct talk {
-	gitwire_client client;
-	gitwire_request_reader reader;
+	gitwire_client *client;
+	gitwire_request_reader *reader;
 	size_t asked;   /* how many bytes of the requests have been asked */
 	size_t at, end; /* the bytes of the chunk that are still to be used */
 };
@@ -166,44 +170,44 @@ struct talk {
 /* Asks the next request, or leaves. */
 static void go_on(struct talk *talk)
 {
-	gitwire_request request = GITWIRE_NONE;
+	gitwire_request *request = NULL;
 	gitwire_answer answer = { .kind = GITWIRE_STOP };
 
 	if (talk->asked < requests.length)
-		answer = gitwire_request_reader_feed(&talk->reader, &request, requests.bytes + talk->asked, requests.length - talk->asked);
+		answer = gitwire_request_reader_feed(talk->reader, request, requests.bytes + talk->asked, requests.length - talk->asked);
 	talk->asked += answer.used;
-	if (answer.kind != GITWIRE_REQUEST || gitwire_client_ask(&talk->client, &request).kind != GITWIRE_DONE)
-		EXPECT(gitwire_client_leave(&talk->client) == GITWIRE_DONE);
-	gitwire_request_free(&request);
+	if (answer.kind != GITWIRE_REQUEST || gitwire_client_ask(talk->client, request).kind != GITWIRE_DONE)
+		EXPECT(gitwire_client_leave(talk->client) == GITWIRE_DONE);
+	gitwire_request_free(request);
 }
 
 static void hear_singly(struct log *log, struct talk *talk)
 {
-	gitwire_event event = gitwire_client_feed_in_place(&talk->client, responses.bytes + talk->at, talk->end - talk->at, large_room, sizeof large_room);
-	bool passes = event.kind == GITWIRE_PACK || event.kind == GITWIRE_PROGRESS;
+	const uint8_t *chunk = responses.bytes + talk->at;
+	gitwire_event event = gitwire_client_feed(talk->client, chunk, talk->end - talk->at, large_buffer, sizeof large_buffer);
 
 	talk->at += event.used;
 	note_end(log, event.kind, event.fault, event.offset, talk->at);
 	if (event.kind != GITWIRE_MORE && event.kind != GITWIRE_FAILED)
-		note_event(log, event, talk->at, passes ? responses.bytes + talk->at - event.text_length : large_room);
+		note_event(log, &event, talk->at, chunk);
 }
 
 static void hear(struct log *log, struct talk *talk, const struct way *way)
 {
 	static gitwire_event events[MOST_ELEMENTS];
-	const uint8_t *piece = responses.bytes + talk->at;
+	const uint8_t *chunk = responses.bytes + talk->at;
 	size_t length = talk->end - talk->at;
 	gitwire_answer answer;
 
 	memset(events, 0, sizeof events);
-	answer = gitwire_client_events(&talk->client, piece, length, events, way->places, large_room, way->room);
+	answer = gitwire_client_events(talk->client, chunk, length, events, way->places, large_buffer, way->buffer);
 	EXPECT(answer.length <= way->places && left_alone(events, sizeof *events, answer.length));
 	EXPECT(answer.kind != GITWIRE_MORE || answer.used == length || answer.length == way->places
-		|| (answer.length > 0 && way->room < GITWIRE_EVENTS_ROOM(length)));
+		|| (answer.length > 0 && way->buffer < GITWIRE_EVENTS_SIZE(length)));
 	if (answer.kind == GITWIRE_CAN_ASK)
 		EXPECT(answer.length > 0 && (events[answer.length - 1].kind == GITWIRE_OFFERED || events[answer.length - 1].kind == GITWIRE_ENDED));
 	for (size_t i = 0; i < answer.length; i++)
-		note_event(log, events[i], talk->at + events[i].used, gitwire_texts(events[i], piece, large_room));
+		note_event(log, &events[i], talk->at + events[i].used, chunk);
 	talk->at += answer.used;
 	note_end(log, answer.kind, answer.fault, answer.offset, talk->at);
 }
@@ -213,7 +217,7 @@ static bool give(struct log *log, struct talk *talk, const struct way *way)
 {
 	if (talk->at == talk->end) {
 		if (talk->at == responses.length) {
-			gitwire_answer answer = gitwire_client_close(&talk->client);
+			gitwire_answer answer = gitwire_client_close(talk->client);
 
 			note_end(log, answer.kind, answer.fault, answer.offset, talk->at);
 			return false;
@@ -230,15 +234,14 @@ static bool give(struct log *log, struct talk *talk, const struct way *way)
 /* Receives the responses. */
 static void run_client(struct log *log, const struct way *way)
 {
-	struct talk talk = { .client = GITWIRE_NONE, .reader = GITWIRE_NONE };
-	gitwire_offer offer = { .features = GITWIRE_FEATURES_ALL, .format = format };
+	struct talk talk = { .client = NULL };
 	bool goes_on = true;
 
 	log->length = 0;
 	EXPECT(gitwire_client_new(&talk.client, format, ending) == GITWIRE_DONE);
-	EXPECT(gitwire_request_reader_new(&talk.reader, offer, GITWIRE_USUAL_LIMIT) == GITWIRE_DONE);
+	EXPECT(gitwire_request_reader_new(&talk.reader, format, GITWIRE_FEATURES_ALL, GITWIRE_DEFAULT_LIMIT) == GITWIRE_DONE);
 	while (goes_on) {
-		gitwire_answer answer = gitwire_client_pull(&talk.client, ROOM);
+		gitwire_answer answer = gitwire_client_pull(talk.client, BUFFER);
 
 		if (answer.kind == GITWIRE_CAN_ASK)
 			go_on(&talk);
@@ -248,8 +251,8 @@ static void run_client(struct log *log, const struct way *way)
 			goes_on = answer.kind == GITWIRE_PACKET;
 	}
 	note(log, "%zu used\n", talk.at);
-	gitwire_client_free(&talk.client);
-	gitwire_request_reader_free(&talk.reader);
+	gitwire_client_free(talk.client);
+	gitwire_request_reader_free(talk.reader);
 }
 
 static bool same_logs(void)
@@ -266,7 +269,7 @@ static void compare(size_t first, size_t next)
 	run_client(&single, &way);
 	for (size_t i = 0; i < sizeof places / sizeof *places; i++) {
 		way.places = places[i];
-		way.room = i == 1 ? GITWIRE_PAYLOAD_ROOM : sizeof large_room;
+		way.buffer = i == 1 ? GITWIRE_PAYLOAD_SIZE : sizeof large_buffer;
 		run_client(&filled, &way);
 		EXPECT(same_logs());
 	}
@@ -286,38 +289,36 @@ static void compare(size_t first, size_t next)
 /* What is returned where nothing is read, and where nothing more is. */
 static void try_answers(void)
 {
-	gitwire_packet_reader reader = GITWIRE_NONE;
-	gitwire_client client = GITWIRE_NONE;
+	gitwire_packet_reader *reader = NULL;
+	gitwire_client *client = NULL;
 	static gitwire_answer packets[2];
 	static gitwire_event events[2];
 	uint8_t line[32];
 	size_t length;
 
 	EXPECT(gitwire_writer_new(&writer) == GITWIRE_DONE);
-	length = gitwire_put_line(&writer, TEXT("version 2"), line, sizeof line).length;
-	gitwire_writer_free(&writer);
-	EXPECT(tells(gitwire_packet_reader_packets(&reader, line, length, packets, 2, ROOM), GITWIRE_NO_HANDLE, 0, 0, 0));
+	length = gitwire_put_line(writer, TEXT("version 2"), line, sizeof line).length;
+	gitwire_writer_free(writer);
 	EXPECT(gitwire_packet_reader_new(&reader) == GITWIRE_DONE);
-	EXPECT(tells(gitwire_packet_reader_packets(&reader, line, length, packets, 0, ROOM), GITWIRE_ROOM_TOO_SMALL, 0, 0, 0));
-	EXPECT(tells(gitwire_packet_reader_packets(&reader, line, length, packets, 2, room, GITWIRE_PAYLOAD_ROOM - 1), GITWIRE_ROOM_TOO_SMALL, 0, 0, 0));
-	EXPECT(tells(gitwire_packet_reader_packets(&reader, line, length, packets, 2, ROOM), GITWIRE_MORE, length, 0, 1));
-	EXPECT(tells(packets[0], GITWIRE_PAYLOAD, length, 0, 10) && memcmp(gitwire_payload(packets[0], line, room), "version 2\n", 10) == 0);
-	EXPECT(tells(gitwire_packet_reader_packets(&reader, NULL, 0, packets, 2, ROOM), GITWIRE_MORE, 0, 0, 0));
-	EXPECT(tells_fault(gitwire_packet_reader_packets(&reader, TEXT("00x"), packets, 2, ROOM), GITWIRE_FAULT_BAD_DIGIT, 3, length + 2));
-	EXPECT(tells_fault(gitwire_packet_reader_packets(&reader, line, length, packets, 2, ROOM), GITWIRE_FAULT_BAD_DIGIT, 0, length + 2));
-	gitwire_packet_reader_free(&reader);
-	EXPECT(tells(gitwire_client_events(&client, line, length, events, 2, ROOM), GITWIRE_NO_HANDLE, 0, 0, 0));
+	EXPECT(tells(gitwire_packet_reader_packets(reader, line, length, packets, 0, BUFFER), GITWIRE_BUFFER_TOO_SMALL, 0, 0, 0));
+	EXPECT(tells(gitwire_packet_reader_packets(reader, line, length, packets, 2, buffer, GITWIRE_PAYLOAD_SIZE - 1), GITWIRE_BUFFER_TOO_SMALL, 0, 0, 0));
+	EXPECT(tells(gitwire_packet_reader_packets(reader, line, length, packets, 2, BUFFER), GITWIRE_MORE, length, 0, 1));
+	EXPECT(tells(packets[0], GITWIRE_PAYLOAD, length, 0, 10) && memcmp(gitwire_payload(&packets[0], line, buffer), "version 2\n", 10) == 0);
+	EXPECT(tells(gitwire_packet_reader_packets(reader, NULL, 0, packets, 2, BUFFER), GITWIRE_MORE, 0, 0, 0));
+	EXPECT(tells_fault(gitwire_packet_reader_packets(reader, BYTES("00x"), packets, 2, BUFFER), GITWIRE_FAULT_BAD_DIGIT, 3, length + 2));
+	EXPECT(tells_fault(gitwire_packet_reader_packets(reader, line, length, packets, 2, BUFFER), GITWIRE_FAULT_BAD_DIGIT, 0, length + 2));
+	gitwire_packet_reader_free(reader);
 	EXPECT(gitwire_client_new(&client, GITWIRE_SHA1, GITWIRE_ENDS_BY_FLUSH) == GITWIRE_DONE);
-	EXPECT(tells(gitwire_client_events(&client, line, length, events, 0, ROOM), GITWIRE_ROOM_TOO_SMALL, 0, 0, 0));
-	EXPECT(tells(gitwire_client_events(&client, line, length, events, 2, room, GITWIRE_PAYLOAD_ROOM - 1), GITWIRE_ROOM_TOO_SMALL, 0, 0, 0));
-	EXPECT(tells(gitwire_client_events(&client, line, length, events, 2, ROOM), GITWIRE_MORE, length, 0, 0));
+	EXPECT(tells(gitwire_client_events(client, line, length, events, 0, BUFFER), GITWIRE_BUFFER_TOO_SMALL, 0, 0, 0));
+	EXPECT(tells(gitwire_client_events(client, line, length, events, 2, buffer, GITWIRE_PAYLOAD_SIZE - 1), GITWIRE_BUFFER_TOO_SMALL, 0, 0, 0));
+	EXPECT(tells(gitwire_client_events(client, line, length, events, 2, BUFFER), GITWIRE_MORE, length, 0, 0));
 	/* This buffer is too small for the texts of a second event, whatever it is. */
-	EXPECT(tells(gitwire_client_events(&client, TEXT("000cls-refs\n000a"), events, 2, ROOM), GITWIRE_MORE, 12, 0, 1));
-	EXPECT(tells(gitwire_client_events(&client, TEXT("000afetch\n00000000"), events, 2, large_room, sizeof large_room), GITWIRE_CAN_ASK, 14, 0, 2));
+	EXPECT(tells(gitwire_client_events(client, BYTES("000cls-refs\n000a"), events, 2, BUFFER), GITWIRE_MORE, 12, 0, 1));
+	EXPECT(tells(gitwire_client_events(client, BYTES("000afetch\n00000000"), events, 2, large_buffer, sizeof large_buffer), GITWIRE_CAN_ASK, 14, 0, 2));
 	EXPECT(events[0].kind == GITWIRE_CAPABILITY && events[0].used == 10 && events[0].name_length == 5 && !events[0].has_text);
 	EXPECT(events[1].kind == GITWIRE_OFFERED && events[1].used == 14);
-	EXPECT(tells(gitwire_client_events(&client, TEXT("0000"), events, 2, ROOM), GITWIRE_NOT_NOW, 0, 0, 0));
-	gitwire_client_free(&client);
+	EXPECT(tells(gitwire_client_events(client, BYTES("0000"), events, 2, BUFFER), GITWIRE_NOT_NOW, 0, 0, 0));
+	gitwire_client_free(client);
 }
 
 static void *try_all(void *nothing)

@@ -11,121 +11,131 @@
 
 static void try_packets(void)
 {
-	gitwire_packet_reader reader = GITWIRE_NONE;
+	gitwire_packet_reader *reader = NULL;
 
-	gitwire_packet_reader_free(&reader);
-	EXPECT(tells(gitwire_packet_reader_feed(&reader, TEXT("0000"), ROOM), GITWIRE_NO_HANDLE, 0, 0, 0));
-	EXPECT(tells(gitwire_packet_reader_close(&reader), GITWIRE_NO_HANDLE, 0, 0, 0));
+	gitwire_packet_reader_free(reader);
+	EXPECT(gitwire_packet_reader_new(&reader) == GITWIRE_DONE && reader != NULL);
+	EXPECT(tells(gitwire_packet_reader_feed(reader, BYTES("0000"), buffer, GITWIRE_PAYLOAD_SIZE - 1), GITWIRE_BUFFER_TOO_SMALL, 0, 0, 0));
+	EXPECT(tells(gitwire_packet_reader_feed(reader, BYTES("0008word00000001"), buffer, GITWIRE_PAYLOAD_SIZE), GITWIRE_PAYLOAD, 8, 0, 4));
+	EXPECT(memcmp(buffer, "word#", 5) == 0);
+	EXPECT(tells(gitwire_packet_reader_feed(reader, BYTES("0000"), BUFFER), GITWIRE_FLUSH, 4, 8, 0));
+	EXPECT(tells(gitwire_packet_reader_feed(reader, BYTES("0001"), BUFFER), GITWIRE_DELIM, 4, 12, 0));
+	EXPECT(tells(gitwire_packet_reader_feed(reader, BYTES("0002"), BUFFER), GITWIRE_RESPONSE_END, 4, 16, 0));
+	EXPECT(tells(gitwire_packet_reader_feed(reader, BYTES("0004"), BUFFER), GITWIRE_PAYLOAD, 4, 20, 0));
+	EXPECT(tells(gitwire_packet_reader_feed(reader, NULL, 0, BUFFER), GITWIRE_MORE, 0, 0, 0));
+	EXPECT(tells(gitwire_packet_reader_close(reader), GITWIRE_DONE, 0, 0, 0));
+	EXPECT(tells(gitwire_packet_reader_feed(reader, BYTES("0008wo"), BUFFER), GITWIRE_MORE, 6, 0, 0));
+	EXPECT(tells_fault(gitwire_packet_reader_close(reader), GITWIRE_FAULT_TRUNCATED, 0, 24));
+	EXPECT(tells_fault(gitwire_packet_reader_feed(reader, BYTES("rd"), BUFFER), GITWIRE_FAULT_TRUNCATED, 0, 24));
+	gitwire_packet_reader_free(reader);
 	EXPECT(gitwire_packet_reader_new(&reader) == GITWIRE_DONE);
-	EXPECT(tells(gitwire_packet_reader_feed(&reader, TEXT("0000"), room, GITWIRE_PAYLOAD_ROOM - 1), GITWIRE_ROOM_TOO_SMALL, 0, 0, 0));
-	EXPECT(tells(gitwire_packet_reader_feed(&reader, TEXT("0008word00000001"), room, GITWIRE_PAYLOAD_ROOM), GITWIRE_PAYLOAD, 8, 0, 4));
-	EXPECT(memcmp(room, "word#", 5) == 0);
-	EXPECT(tells(gitwire_packet_reader_feed(&reader, TEXT("0000"), ROOM), GITWIRE_FLUSH, 4, 8, 0));
-	EXPECT(tells(gitwire_packet_reader_feed(&reader, TEXT("0001"), ROOM), GITWIRE_DELIM, 4, 12, 0));
-	EXPECT(tells(gitwire_packet_reader_feed(&reader, TEXT("0002"), ROOM), GITWIRE_RESPONSE_END, 4, 16, 0));
-	EXPECT(tells(gitwire_packet_reader_feed(&reader, TEXT("0004"), ROOM), GITWIRE_PAYLOAD, 4, 20, 0));
-	EXPECT(tells(gitwire_packet_reader_feed(&reader, NULL, 0, ROOM), GITWIRE_MORE, 0, 0, 0));
-	EXPECT(tells(gitwire_packet_reader_close(&reader), GITWIRE_DONE, 0, 0, 0));
-	EXPECT(tells(gitwire_packet_reader_feed(&reader, TEXT("0008wo"), ROOM), GITWIRE_MORE, 6, 0, 0));
-	EXPECT(tells_fault(gitwire_packet_reader_close(&reader), GITWIRE_FAULT_TRUNCATED, 0, 24));
-	EXPECT(tells_fault(gitwire_packet_reader_feed(&reader, TEXT("rd"), ROOM), GITWIRE_FAULT_TRUNCATED, 0, 24));
-	EXPECT(gitwire_packet_reader_new(&reader) == GITWIRE_DONE); /* what it had is freed */
-	EXPECT(tells_fault(gitwire_packet_reader_feed(&reader, TEXT("00x0"), ROOM), GITWIRE_FAULT_BAD_DIGIT, 3, 2));
-	EXPECT(tells_fault(gitwire_packet_reader_close(&reader), GITWIRE_FAULT_BAD_DIGIT, 0, 2));
-	gitwire_packet_reader_free(&reader);
-	EXPECT(tells(gitwire_packet_reader_close(&reader), GITWIRE_NO_HANDLE, 0, 0, 0));
-	gitwire_packet_reader_free(&reader);
-	memset(room, '#', sizeof room);
+	EXPECT(tells_fault(gitwire_packet_reader_feed(reader, BYTES("00x0"), BUFFER), GITWIRE_FAULT_BAD_DIGIT, 3, 2));
+	EXPECT(tells_fault(gitwire_packet_reader_close(reader), GITWIRE_FAULT_BAD_DIGIT, 0, 2));
+	gitwire_packet_reader_free(reader);
+	memset(buffer, '#', sizeof buffer);
 }
 
 static bool has_item(gitwire_request *request, gitwire_list list, size_t index, const char *item)
 {
-	return wrote(gitwire_request_item(request, list, index, ROOM), item);
+	return wrote(gitwire_request_item(request, list, index, CHARACTERS), item);
 }
 
 static void try_a_request_for_references(void)
 {
-	gitwire_request request = GITWIRE_NONE;
+	gitwire_request *request = NULL;
 
-	gitwire_request_free(&request);
-	EXPECT(tells(gitwire_request_add(&request, TEXT("peel")), GITWIRE_NO_HANDLE, 0, 0, 0));
-	EXPECT(tells(gitwire_request_end(&request), GITWIRE_NO_HANDLE, 0, 0, 0));
-	EXPECT(gitwire_request_command(&request) == 0 && gitwire_request_format(&request) == 0);
-	EXPECT(tells(gitwire_request_number(&request, GITWIRE_NUMBER_DEEPEN), GITWIRE_NO_HANDLE, 0, 0, 0));
-	EXPECT(tells(gitwire_request_item(&request, GITWIRE_LIST_WANTS, 0, ROOM), GITWIRE_NO_HANDLE, 0, 0, 0));
-	EXPECT(!gitwire_request_flag(&request, GITWIRE_FLAG_PEEL));
-	EXPECT(gitwire_request_new(&request, 0, GITWIRE_SHA1, 0) == GITWIRE_BAD_VALUE);
-	EXPECT(gitwire_request_new(&request, GITWIRE_LS_REFS, 0, 0) == GITWIRE_BAD_VALUE);
-	EXPECT(gitwire_request_new(&request, GITWIRE_LS_REFS, GITWIRE_SHA1, GITWIRE_MOST_LIMIT + 1) == GITWIRE_BAD_VALUE);
+	gitwire_request_free(request);
+	EXPECT(gitwire_request_new(&request, 0, GITWIRE_SHA1, 0) == GITWIRE_BAD_VALUE && request == NULL);
+	EXPECT(gitwire_request_new(&request, GITWIRE_LS_REFS, 0, 0) == GITWIRE_BAD_VALUE && request == NULL);
+	EXPECT(gitwire_request_new(&request, GITWIRE_LS_REFS, GITWIRE_SHA1, GITWIRE_MAXIMUM_LIMIT + 1) == GITWIRE_BAD_VALUE && request == NULL);
 	EXPECT(gitwire_request_new(&request, GITWIRE_LS_REFS, GITWIRE_SHA256, 40) == GITWIRE_DONE);
-	EXPECT(gitwire_request_command(&request) == GITWIRE_LS_REFS && gitwire_request_format(&request) == GITWIRE_SHA256);
-	EXPECT(tells(gitwire_request_add(&request, TEXT("peel")), GITWIRE_DONE, 0, 0, 0));
-	EXPECT(tells(gitwire_request_add(&request, TEXT("ref-prefix refs/tags/")), GITWIRE_DONE, 0, 0, 0));
-	EXPECT(tells(gitwire_request_add(&request, TEXT("ref-prefix ")), GITWIRE_DONE, 0, 0, 0));
-	EXPECT(tells_fault(gitwire_request_add(&request, TEXT("ref-prefix refs/heads/")), GITWIRE_FAULT_TOO_MUCH_KEPT, 0, 0));
-	EXPECT(tells_fault(gitwire_request_add(&request, TEXT("done")), GITWIRE_FAULT_UNKNOWN_ARGUMENT, 0, 0));
-	EXPECT(tells_fault(gitwire_request_add(&request, NULL, 0), GITWIRE_FAULT_UNKNOWN_ARGUMENT, 0, 0));
-	EXPECT(gitwire_request_flag(&request, GITWIRE_FLAG_PEEL) && !gitwire_request_flag(&request, GITWIRE_FLAG_SYMREFS));
-	EXPECT(!gitwire_request_flag(&request, GITWIRE_FLAG_DONE) && !gitwire_request_flag(&request, GITWIRE_FLAG_UNBORN));
-	EXPECT(has_item(&request, GITWIRE_LIST_REF_PREFIXES, 0, "refs/tags/"));
-	EXPECT(has_item(&request, GITWIRE_LIST_REF_PREFIXES, 1, ""));
-	EXPECT(tells(gitwire_request_item(&request, GITWIRE_LIST_REF_PREFIXES, 2, ROOM), GITWIRE_NOTHING, 0, 0, 0));
-	EXPECT(tells(gitwire_request_item(&request, GITWIRE_LIST_REF_PREFIXES, 0, room, 9), GITWIRE_ROOM_TOO_SMALL, 0, 0, 0));
-	EXPECT(tells(gitwire_request_item(&request, GITWIRE_LIST_WANTS, 0, ROOM), GITWIRE_NOTHING, 0, 0, 0));
-	EXPECT(tells(gitwire_request_item(&request, GITWIRE_LIST_FILTERS, 0, ROOM), GITWIRE_NOTHING, 0, 0, 0));
-	EXPECT(tells(gitwire_request_item(&request, 0, 0, ROOM), GITWIRE_BAD_VALUE, 0, 0, 0));
-	EXPECT(tells(gitwire_request_end(&request), GITWIRE_DONE, 0, 0, 0));
-	EXPECT(gitwire_request_new(&request, 0, GITWIRE_SHA1, 0) == GITWIRE_BAD_VALUE); /* the handle stays as it was */
-	EXPECT(gitwire_request_flag(&request, GITWIRE_FLAG_PEEL));
-	gitwire_request_free(&request);
-	gitwire_request_free(&request);
+	EXPECT(gitwire_request_command(request) == GITWIRE_LS_REFS && gitwire_request_format(request) == GITWIRE_SHA256);
+	EXPECT(tells(gitwire_request_add(request, TEXT("peel")), GITWIRE_DONE, 0, 0, 0));
+	EXPECT(tells(gitwire_request_add(request, TEXT("ref-prefix refs/tags/")), GITWIRE_DONE, 0, 0, 0));
+	EXPECT(tells(gitwire_request_add(request, TEXT("ref-prefix ")), GITWIRE_DONE, 0, 0, 0));
+	EXPECT(tells_fault(gitwire_request_add(request, TEXT("ref-prefix refs/heads/")), GITWIRE_FAULT_TOO_MUCH_KEPT, 0, 0));
+	EXPECT(tells_fault(gitwire_request_add(request, TEXT("done")), GITWIRE_FAULT_UNKNOWN_ARGUMENT, 0, 0));
+	EXPECT(tells_fault(gitwire_request_add(request, NULL, 0), GITWIRE_FAULT_UNKNOWN_ARGUMENT, 0, 0));
+	EXPECT(gitwire_request_flag(request, GITWIRE_FLAG_PEEL) && !gitwire_request_flag(request, GITWIRE_FLAG_SYMREFS));
+	EXPECT(!gitwire_request_flag(request, GITWIRE_FLAG_DONE) && !gitwire_request_flag(request, GITWIRE_FLAG_UNBORN));
+	EXPECT(has_item(request, GITWIRE_LIST_REF_PREFIXES, 0, "refs/tags/"));
+	EXPECT(has_item(request, GITWIRE_LIST_REF_PREFIXES, 1, ""));
+	EXPECT(tells(gitwire_request_item(request, GITWIRE_LIST_REF_PREFIXES, 2, CHARACTERS), GITWIRE_NOTHING, 0, 0, 0));
+	EXPECT(tells(gitwire_request_item(request, GITWIRE_LIST_REF_PREFIXES, 0, (char *)buffer, 9), GITWIRE_BUFFER_TOO_SMALL, 0, 0, 0));
+	EXPECT(tells(gitwire_request_item(request, GITWIRE_LIST_WANTS, 0, CHARACTERS), GITWIRE_NOTHING, 0, 0, 0));
+	EXPECT(tells(gitwire_request_item(request, GITWIRE_LIST_FILTERS, 0, CHARACTERS), GITWIRE_NOTHING, 0, 0, 0));
+	EXPECT(tells(gitwire_request_item(request, 0, 0, CHARACTERS), GITWIRE_BAD_VALUE, 0, 0, 0));
+	EXPECT(tells(gitwire_request_end(request), GITWIRE_DONE, 0, 0, 0));
+	gitwire_request_free(request);
+}
+
+/* A handle without a request: each call reports that, and changes nothing. */
+static bool has_no_request(gitwire_request *request)
+{
+	bool is_it = tells(gitwire_request_add(request, TEXT("peel")), GITWIRE_NO_REQUEST, 0, 0, 0);
+
+	is_it = is_it && tells(gitwire_request_end(request), GITWIRE_NO_REQUEST, 0, 0, 0);
+	is_it = is_it && gitwire_request_command(request) == 0 && gitwire_request_format(request) == 0;
+	is_it = is_it && tells(gitwire_request_number(request, GITWIRE_NUMBER_DEEPEN), GITWIRE_NO_REQUEST, 0, 0, 0);
+	is_it = is_it && tells(gitwire_request_item(request, GITWIRE_LIST_WANTS, 0, CHARACTERS), GITWIRE_NO_REQUEST, 0, 0, 0);
+	return is_it && !gitwire_request_flag(request, GITWIRE_FLAG_PEEL) && buffer[0] == '#';
+}
+
+static void try_an_empty_handle(void)
+{
+	gitwire_request *request = NULL;
+
+	EXPECT(gitwire_request_empty(&request) == GITWIRE_DONE && request != NULL);
+	EXPECT(has_no_request(request));
+	gitwire_request_free(request);
 }
 
 static void try_a_request_for_a_pack(void)
 {
-	gitwire_request request = GITWIRE_NONE;
+	gitwire_request *request = NULL;
 	static const char *const lines[] = { "thin-pack", "no-progress", "include-tag", "ofs-delta", "shallow " TWO, "deepen 007",
 		"deepen-relative", "want-ref refs/heads/main", "filter blob:none", "filter  ", "have " TWO, "have " ONE, "done" };
 
-	EXPECT(gitwire_request_new(&request, GITWIRE_FETCH, GITWIRE_SHA1, GITWIRE_USUAL_LIMIT) == GITWIRE_DONE);
-	EXPECT(tells_fault(gitwire_request_end(&request), GITWIRE_FAULT_NO_WANTS, 0, 0));
-	EXPECT(tells_fault(gitwire_request_add(&request, TEXT("want 1111")), GITWIRE_FAULT_BAD_OBJECT_NAME, 0, 0));
-	EXPECT(tells_fault(gitwire_request_add(&request, TEXT("want-ref main")), GITWIRE_FAULT_BAD_REF_NAME, 0, 0));
-	EXPECT(tells_fault(gitwire_request_add(&request, TEXT("deepen 0")), GITWIRE_FAULT_BAD_NUMBER, 0, 0));
-	EXPECT(tells_fault(gitwire_request_add(&request, TEXT("filter ")), GITWIRE_FAULT_BAD_LINE, 0, 0));
-	EXPECT(tells(gitwire_request_number(&request, GITWIRE_NUMBER_DEEPEN), GITWIRE_NOTHING, 0, 0, 0));
-	EXPECT(tells(gitwire_request_add(&request, TEXT("want " ONE)), GITWIRE_DONE, 0, 0, 0));
+	EXPECT(gitwire_request_new(&request, GITWIRE_FETCH, GITWIRE_SHA1, GITWIRE_DEFAULT_LIMIT) == GITWIRE_DONE);
+	EXPECT(tells_fault(gitwire_request_end(request), GITWIRE_FAULT_NO_WANTS, 0, 0));
+	EXPECT(tells_fault(gitwire_request_add(request, TEXT("want 1111")), GITWIRE_FAULT_BAD_OBJECT_NAME, 0, 0));
+	EXPECT(tells_fault(gitwire_request_add(request, TEXT("want-ref main")), GITWIRE_FAULT_BAD_REF_NAME, 0, 0));
+	EXPECT(tells_fault(gitwire_request_add(request, TEXT("deepen 0")), GITWIRE_FAULT_BAD_NUMBER, 0, 0));
+	EXPECT(tells_fault(gitwire_request_add(request, TEXT("filter ")), GITWIRE_FAULT_BAD_LINE, 0, 0));
+	EXPECT(tells(gitwire_request_number(request, GITWIRE_NUMBER_DEEPEN), GITWIRE_NOTHING, 0, 0, 0));
+	EXPECT(tells(gitwire_request_add(request, TEXT("want " ONE)), GITWIRE_DONE, 0, 0, 0));
 	for (size_t i = 0; i < sizeof lines / sizeof *lines; i++)
-		EXPECT(tells(gitwire_request_add(&request, TEXT(lines[i])), GITWIRE_DONE, 0, 0, 0));
+		EXPECT(tells(gitwire_request_add(request, TEXT(lines[i])), GITWIRE_DONE, 0, 0, 0));
 	for (gitwire_flag flag = 0; flag <= GITWIRE_FLAG_WAIT_FOR_DONE; flag++)
-		EXPECT(gitwire_request_flag(&request, flag) == (flag >= GITWIRE_FLAG_DONE && flag <= GITWIRE_FLAG_DEEPEN_RELATIVE));
-	EXPECT(has_item(&request, GITWIRE_LIST_WANTS, 0, ONE));
-	EXPECT(has_item(&request, GITWIRE_LIST_HAVES, 0, TWO));
-	EXPECT(has_item(&request, GITWIRE_LIST_HAVES, 1, ONE));
-	EXPECT(has_item(&request, GITWIRE_LIST_SHALLOWS, 0, TWO));
-	EXPECT(has_item(&request, GITWIRE_LIST_WANT_REFS, 0, "refs/heads/main"));
-	EXPECT(has_item(&request, GITWIRE_LIST_FILTERS, 0, "blob:none"));
-	EXPECT(has_item(&request, GITWIRE_LIST_FILTERS, 1, " "));
-	EXPECT(tells(gitwire_request_item(&request, GITWIRE_LIST_FILTERS, 2, ROOM), GITWIRE_NOTHING, 0, 0, 0));
-	EXPECT(tells(gitwire_request_item(&request, GITWIRE_LIST_DEEPEN_NOTS, 0, ROOM), GITWIRE_NOTHING, 0, 0, 0));
-	EXPECT(tells(gitwire_request_item(&request, GITWIRE_LIST_WANTS, 1, ROOM), GITWIRE_NOTHING, 0, 0, 0));
-	EXPECT(tells(gitwire_request_item(&request, GITWIRE_LIST_WANTS, SIZE_MAX, ROOM), GITWIRE_NOTHING, 0, 0, 0));
-	EXPECT(tells(gitwire_request_item(&request, GITWIRE_LIST_WANTS, 0, room, 39), GITWIRE_ROOM_TOO_SMALL, 0, 0, 0));
-	EXPECT(tells(gitwire_request_number(&request, GITWIRE_NUMBER_DEEPEN), GITWIRE_DONE, 0, 7, 0));
-	EXPECT(tells(gitwire_request_number(&request, GITWIRE_NUMBER_DEEPEN_SINCE), GITWIRE_NOTHING, 0, 0, 0));
-	EXPECT(tells(gitwire_request_number(&request, 0), GITWIRE_BAD_VALUE, 0, 0, 0));
-	EXPECT(tells(gitwire_request_end(&request), GITWIRE_DONE, 0, 0, 0));
-	EXPECT(tells(gitwire_request_add(&request, TEXT("deepen-since 9223372036854775807")), GITWIRE_DONE, 0, 0, 0));
-	EXPECT(tells(gitwire_request_add(&request, TEXT("deepen-not v1")), GITWIRE_DONE, 0, 0, 0));
-	EXPECT(tells(gitwire_request_number(&request, GITWIRE_NUMBER_DEEPEN_SINCE), GITWIRE_DONE, 0, INT64_MAX, 0));
-	EXPECT(has_item(&request, GITWIRE_LIST_DEEPEN_NOTS, 0, "v1"));
-	EXPECT(tells_fault(gitwire_request_end(&request), GITWIRE_FAULT_DEEPEN_CONFLICT, 0, 0));
-	EXPECT(gitwire_request_new(&request, GITWIRE_OBJECT_INFO, GITWIRE_SHA1, 100) == GITWIRE_DONE); /* what it had is freed */
-	EXPECT(tells(gitwire_request_add(&request, TEXT("oid " TWO)), GITWIRE_DONE, 0, 0, 0));
-	EXPECT(tells_fault(gitwire_request_end(&request), GITWIRE_FAULT_NO_SIZE, 0, 0));
-	EXPECT(tells(gitwire_request_add(&request, TEXT("size")), GITWIRE_DONE, 0, 0, 0));
-	EXPECT(gitwire_request_flag(&request, GITWIRE_FLAG_SIZE) && has_item(&request, GITWIRE_LIST_OIDS, 0, TWO));
-	gitwire_request_free(&request);
+		EXPECT(gitwire_request_flag(request, flag) == (flag >= GITWIRE_FLAG_DONE && flag <= GITWIRE_FLAG_DEEPEN_RELATIVE));
+	EXPECT(has_item(request, GITWIRE_LIST_WANTS, 0, ONE));
+	EXPECT(has_item(request, GITWIRE_LIST_HAVES, 0, TWO));
+	EXPECT(has_item(request, GITWIRE_LIST_HAVES, 1, ONE));
+	EXPECT(has_item(request, GITWIRE_LIST_SHALLOWS, 0, TWO));
+	EXPECT(has_item(request, GITWIRE_LIST_WANT_REFS, 0, "refs/heads/main"));
+	EXPECT(has_item(request, GITWIRE_LIST_FILTERS, 0, "blob:none"));
+	EXPECT(has_item(request, GITWIRE_LIST_FILTERS, 1, " "));
+	EXPECT(tells(gitwire_request_item(request, GITWIRE_LIST_FILTERS, 2, CHARACTERS), GITWIRE_NOTHING, 0, 0, 0));
+	EXPECT(tells(gitwire_request_item(request, GITWIRE_LIST_DEEPEN_NOTS, 0, CHARACTERS), GITWIRE_NOTHING, 0, 0, 0));
+	EXPECT(tells(gitwire_request_item(request, GITWIRE_LIST_WANTS, 1, CHARACTERS), GITWIRE_NOTHING, 0, 0, 0));
+	EXPECT(tells(gitwire_request_item(request, GITWIRE_LIST_WANTS, SIZE_MAX, CHARACTERS), GITWIRE_NOTHING, 0, 0, 0));
+	EXPECT(tells(gitwire_request_item(request, GITWIRE_LIST_WANTS, 0, (char *)buffer, 39), GITWIRE_BUFFER_TOO_SMALL, 0, 0, 0));
+	EXPECT(tells(gitwire_request_number(request, GITWIRE_NUMBER_DEEPEN), GITWIRE_DONE, 0, 7, 0));
+	EXPECT(tells(gitwire_request_number(request, GITWIRE_NUMBER_DEEPEN_SINCE), GITWIRE_NOTHING, 0, 0, 0));
+	EXPECT(tells(gitwire_request_number(request, 0), GITWIRE_BAD_VALUE, 0, 0, 0));
+	EXPECT(tells(gitwire_request_end(request), GITWIRE_DONE, 0, 0, 0));
+	EXPECT(tells(gitwire_request_add(request, TEXT("deepen-since 9223372036854775807")), GITWIRE_DONE, 0, 0, 0));
+	EXPECT(tells(gitwire_request_add(request, TEXT("deepen-not v1")), GITWIRE_DONE, 0, 0, 0));
+	EXPECT(tells(gitwire_request_number(request, GITWIRE_NUMBER_DEEPEN_SINCE), GITWIRE_DONE, 0, INT64_MAX, 0));
+	EXPECT(has_item(request, GITWIRE_LIST_DEEPEN_NOTS, 0, "v1"));
+	EXPECT(tells_fault(gitwire_request_end(request), GITWIRE_FAULT_DEEPEN_CONFLICT, 0, 0));
+	gitwire_request_free(request);
+	EXPECT(gitwire_request_new(&request, GITWIRE_OBJECT_INFO, GITWIRE_SHA1, 100) == GITWIRE_DONE);
+	EXPECT(tells(gitwire_request_add(request, TEXT("oid " TWO)), GITWIRE_DONE, 0, 0, 0));
+	EXPECT(tells_fault(gitwire_request_end(request), GITWIRE_FAULT_NO_SIZE, 0, 0));
+	EXPECT(tells(gitwire_request_add(request, TEXT("size")), GITWIRE_DONE, 0, 0, 0));
+	EXPECT(gitwire_request_flag(request, GITWIRE_FLAG_SIZE) && has_item(request, GITWIRE_LIST_OIDS, 0, TWO));
+	gitwire_request_free(request);
 }
 
 /* Each flag is set by its own line, and by no other. */
@@ -144,13 +154,13 @@ static void try_flags(void)
 	};
 
 	for (size_t i = 0; i < sizeof cases / sizeof *cases; i++) {
-		gitwire_request request = GITWIRE_NONE;
+		gitwire_request *request = NULL;
 
 		EXPECT(gitwire_request_new(&request, cases[i].command, GITWIRE_SHA1, 100) == GITWIRE_DONE);
-		EXPECT(gitwire_request_add(&request, TEXT(cases[i].line)).kind == GITWIRE_DONE);
+		EXPECT(gitwire_request_add(request, TEXT(cases[i].line)).kind == GITWIRE_DONE);
 		for (gitwire_flag flag = 0; flag <= GITWIRE_FLAG_WAIT_FOR_DONE; flag++)
-			EXPECT(gitwire_request_flag(&request, flag) == (flag == cases[i].flag));
-		gitwire_request_free(&request);
+			EXPECT(gitwire_request_flag(request, flag) == (flag == cases[i].flag));
+		gitwire_request_free(request);
 	}
 }
 
@@ -158,57 +168,56 @@ static void try_flags(void)
 #define OBJECT_INFO "0018command=object-info\n" "0001" "0009size\n" "0000"
 #define FILTERED "0012command=fetch\n" "0001" "0015filter blob:none\n" "0032want " ONE "\n" "0009done\n" "0000"
 
+/* A reader of requests to a server that advertises these features, in the place of this one. */
+static void read_anew(gitwire_request_reader **reader, uint32_t features)
+{
+	gitwire_request_reader_free(*reader);
+	EXPECT(gitwire_request_reader_new(reader, GITWIRE_SHA1, features, 100) == GITWIRE_DONE && *reader != NULL);
+}
+
 static void try_a_reader_of_requests(void)
 {
-	gitwire_request_reader reader = GITWIRE_NONE;
-	gitwire_request request = GITWIRE_NONE;
-	gitwire_offer offer = { .format = GITWIRE_SHA1 }, bad = { .features = 0 };
-	gitwire_offer unknown = { .features = GITWIRE_FEATURES_ALL + 1, .format = GITWIRE_SHA1 };
+	gitwire_request_reader *reader = NULL;
+	gitwire_request *request = NULL;
 	const uint8_t *whole = (const uint8_t *)LS_REFS LS_REFS;
 	const size_t first = strlen(LS_REFS);
 
-	gitwire_request_reader_free(&reader);
-	EXPECT(tells(gitwire_request_reader_feed(&reader, &request, TEXT(LS_REFS)), GITWIRE_NO_HANDLE, 0, 0, 0));
-	EXPECT(tells(gitwire_request_reader_close(&reader), GITWIRE_NO_HANDLE, 0, 0, 0));
-	EXPECT(gitwire_request_end(&request).kind == GITWIRE_NO_HANDLE);
-	EXPECT(gitwire_request_reader_new(&reader, bad, 0) == GITWIRE_BAD_VALUE);
-	EXPECT(gitwire_request_reader_new(&reader, unknown, 0) == GITWIRE_BAD_VALUE);
-	EXPECT(gitwire_request_reader_new(&reader, offer, GITWIRE_MOST_LIMIT + 1) == GITWIRE_BAD_VALUE);
-	EXPECT(gitwire_request_reader_new(&reader, offer, 100) == GITWIRE_DONE);
-	EXPECT(gitwire_request_reader_new(&reader, bad, 0) == GITWIRE_BAD_VALUE); /* the handle stays as it was */
-	EXPECT(tells(gitwire_request_reader_close(&reader), GITWIRE_DONE, 0, 0, 0));
-	EXPECT(tells(gitwire_request_reader_feed(&reader, &request, whole, 8), GITWIRE_MORE, 8, 0, 0));
-	EXPECT(tells(gitwire_request_end(&request), GITWIRE_DONE, 0, 0, 0)); /* an empty one, which nobody asked for */
-	EXPECT(tells(gitwire_request_reader_feed(&reader, &request, whole + 8, first), GITWIRE_REQUEST, first - 8, 0, 0));
-	EXPECT(gitwire_request_command(&request) == GITWIRE_LS_REFS);
-	EXPECT(gitwire_request_flag(&request, GITWIRE_FLAG_PEEL));
+	EXPECT(gitwire_request_empty(&request) == GITWIRE_DONE);
+	EXPECT(gitwire_request_reader_new(&reader, 0, 0, 0) == GITWIRE_BAD_VALUE && reader == NULL);
+	EXPECT(gitwire_request_reader_new(&reader, GITWIRE_SHA1, GITWIRE_FEATURES_ALL + 1, 0) == GITWIRE_BAD_VALUE && reader == NULL);
+	EXPECT(gitwire_request_reader_new(&reader, GITWIRE_SHA1, 0, GITWIRE_MAXIMUM_LIMIT + 1) == GITWIRE_BAD_VALUE && reader == NULL);
+	read_anew(&reader, 0);
+	EXPECT(tells(gitwire_request_reader_close(reader), GITWIRE_DONE, 0, 0, 0));
+	EXPECT(has_no_request(request));
+	EXPECT(tells(gitwire_request_reader_feed(reader, request, whole, 8), GITWIRE_MORE, 8, 0, 0));
+	EXPECT(tells(gitwire_request_end(request), GITWIRE_DONE, 0, 0, 0)); /* an empty one, which nobody asked for */
+	EXPECT(tells(gitwire_request_reader_feed(reader, request, whole + 8, first), GITWIRE_REQUEST, first - 8, 0, 0));
+	EXPECT(gitwire_request_command(request) == GITWIRE_LS_REFS);
+	EXPECT(gitwire_request_flag(request, GITWIRE_FLAG_PEEL));
 	/* It has the reader's limit: of 100 bytes its argument has four, and a line here 75. */
-	EXPECT(tells(gitwire_request_add(&request, TEXT("ref-prefix " LONG_ONE)), GITWIRE_DONE, 0, 0, 0));
-	EXPECT(tells_fault(gitwire_request_add(&request, TEXT("ref-prefix " LONG_ONE)), GITWIRE_FAULT_TOO_MUCH_KEPT, 0, 0));
-	EXPECT(tells(gitwire_request_reader_feed(&reader, &request, TEXT("0000")), GITWIRE_STOP, 4, 0, 0));
-	EXPECT(tells(gitwire_request_reader_feed(&reader, &request, TEXT("0000")), GITWIRE_NOT_NOW, 0, 0, 0));
-	EXPECT(tells(gitwire_request_reader_close(&reader), GITWIRE_NOT_NOW, 0, 0, 0));
+	EXPECT(tells(gitwire_request_add(request, TEXT("ref-prefix " LONG_ONE)), GITWIRE_DONE, 0, 0, 0));
+	EXPECT(tells_fault(gitwire_request_add(request, TEXT("ref-prefix " LONG_ONE)), GITWIRE_FAULT_TOO_MUCH_KEPT, 0, 0));
+	EXPECT(tells(gitwire_request_reader_feed(reader, request, BYTES("0000")), GITWIRE_STOP, 4, 0, 0));
+	EXPECT(tells(gitwire_request_reader_feed(reader, request, BYTES("0000")), GITWIRE_NOT_NOW, 0, 0, 0));
+	EXPECT(tells(gitwire_request_reader_close(reader), GITWIRE_NOT_NOW, 0, 0, 0));
 	/* What is advertised is accepted, and nothing else. */
-	EXPECT(gitwire_request_reader_new(&reader, offer, 100) == GITWIRE_DONE);
-	EXPECT(tells_fault(gitwire_request_reader_feed(&reader, &request, TEXT(OBJECT_INFO)), GITWIRE_FAULT_NOT_ADVERTISED, 24, 0));
-	EXPECT(tells(gitwire_request_reader_close(&reader), GITWIRE_NOT_NOW, 0, 0, 0));
-	offer.features = GITWIRE_FEATURE_OBJECT_INFO;
-	EXPECT(gitwire_request_reader_new(&reader, offer, 100) == GITWIRE_DONE);
-	EXPECT(tells(gitwire_request_reader_feed(&reader, &request, TEXT(OBJECT_INFO)), GITWIRE_REQUEST, strlen(OBJECT_INFO), 0, 0));
-	EXPECT(gitwire_request_command(&request) == GITWIRE_OBJECT_INFO);
-	EXPECT(gitwire_request_reader_new(&reader, offer, 100) == GITWIRE_DONE);
-	EXPECT(tells_fault(gitwire_request_reader_feed(&reader, &request, TEXT(FILTERED)), GITWIRE_FAULT_NOT_ADVERTISED, 43, 22));
-	offer.features |= GITWIRE_FEATURE_FILTER;
-	EXPECT(gitwire_request_reader_new(&reader, offer, 100) == GITWIRE_DONE);
-	EXPECT(tells(gitwire_request_reader_feed(&reader, &request, TEXT(FILTERED)), GITWIRE_REQUEST, strlen(FILTERED), 0, 0));
-	EXPECT(has_item(&request, GITWIRE_LIST_FILTERS, 0, "blob:none"));
-	EXPECT(gitwire_request_reader_new(&reader, offer, 100) == GITWIRE_DONE);
-	EXPECT(tells(gitwire_request_reader_feed(&reader, &request, TEXT(OBJECT_INFO)), GITWIRE_REQUEST, strlen(OBJECT_INFO), 0, 0));
-	EXPECT(tells(gitwire_request_reader_feed(&reader, &request, TEXT("0014")), GITWIRE_MORE, 4, 0, 0));
-	EXPECT(tells_fault(gitwire_request_reader_close(&reader), GITWIRE_FAULT_TRUNCATED, 0, strlen(OBJECT_INFO)));
-	gitwire_request_free(&request);
-	gitwire_request_reader_free(&reader);
-	gitwire_request_reader_free(&reader);
+	read_anew(&reader, 0);
+	EXPECT(tells_fault(gitwire_request_reader_feed(reader, request, BYTES(OBJECT_INFO)), GITWIRE_FAULT_NOT_ADVERTISED, 24, 0));
+	EXPECT(tells(gitwire_request_reader_close(reader), GITWIRE_NOT_NOW, 0, 0, 0));
+	read_anew(&reader, GITWIRE_FEATURE_OBJECT_INFO);
+	EXPECT(tells(gitwire_request_reader_feed(reader, request, BYTES(OBJECT_INFO)), GITWIRE_REQUEST, strlen(OBJECT_INFO), 0, 0));
+	EXPECT(gitwire_request_command(request) == GITWIRE_OBJECT_INFO);
+	read_anew(&reader, GITWIRE_FEATURE_OBJECT_INFO);
+	EXPECT(tells_fault(gitwire_request_reader_feed(reader, request, BYTES(FILTERED)), GITWIRE_FAULT_NOT_ADVERTISED, 43, 22));
+	read_anew(&reader, GITWIRE_FEATURE_OBJECT_INFO | GITWIRE_FEATURE_FILTER);
+	EXPECT(tells(gitwire_request_reader_feed(reader, request, BYTES(FILTERED)), GITWIRE_REQUEST, strlen(FILTERED), 0, 0));
+	EXPECT(has_item(request, GITWIRE_LIST_FILTERS, 0, "blob:none"));
+	read_anew(&reader, GITWIRE_FEATURE_OBJECT_INFO | GITWIRE_FEATURE_FILTER);
+	EXPECT(tells(gitwire_request_reader_feed(reader, request, BYTES(OBJECT_INFO)), GITWIRE_REQUEST, strlen(OBJECT_INFO), 0, 0));
+	EXPECT(tells(gitwire_request_reader_feed(reader, request, BYTES("0014")), GITWIRE_MORE, 4, 0, 0));
+	EXPECT(tells_fault(gitwire_request_reader_close(reader), GITWIRE_FAULT_TRUNCATED, 0, strlen(OBJECT_INFO)));
+	gitwire_request_free(request);
+	gitwire_request_reader_free(reader);
 }
 
 #define SMALL_TEXT "format sha1\n" \
@@ -223,98 +232,92 @@ static void try_a_reader_of_requests(void)
 
 static void try_a_server(void)
 {
-	gitwire_repository repository = GITWIRE_NONE;
-	gitwire_server server = GITWIRE_NONE, other = GITWIRE_NONE;
+	gitwire_repository *repository = NULL;
+	gitwire_server *server = NULL, *other = NULL;
 	gitwire_answer answer;
 
-	gitwire_repository_free(&repository);
-	gitwire_server_free(&server);
-	EXPECT(gitwire_server_new(&server, &repository, 0, true) == GITWIRE_NO_HANDLE);
-	EXPECT(tells(gitwire_server_feed(&server, TEXT("0000")), GITWIRE_NO_HANDLE, 0, 0, 0));
-	EXPECT(tells(gitwire_server_pull(&server, ROOM), GITWIRE_NO_HANDLE, 0, 0, 0));
-	EXPECT(gitwire_server_close(&server) == GITWIRE_NO_HANDLE);
-	EXPECT(tells(gitwire_repository_new(&repository, NULL, 0, NULL, 0), GITWIRE_FAILED, 0, 1, 0));
-	EXPECT(tells(gitwire_repository_new(&repository, TEXT(SMALL_TEXT), TEXT("PACK")), GITWIRE_DONE, 0, 0, 0));
-	answer = gitwire_repository_new(&repository, TEXT("format sha1\nref here\n"), TEXT("PACK"));
-	EXPECT(tells(answer, GITWIRE_FAILED, 0, 2, 0));
-	EXPECT(gitwire_server_new(&server, &repository, 0, true) == GITWIRE_NO_HANDLE); /* what it had is freed */
-	EXPECT(tells(gitwire_repository_new(&repository, TEXT(SMALL_TEXT), TEXT("PACK")), GITWIRE_DONE, 0, 0, 0));
-	EXPECT(gitwire_server_new(&server, &repository, GITWIRE_MOST_LIMIT + 1, true) == GITWIRE_BAD_VALUE);
-	EXPECT(gitwire_server_new(&server, &repository, 100, true) == GITWIRE_DONE);
-	EXPECT(gitwire_server_new(&other, &repository, 100, false) == GITWIRE_DONE);
-	EXPECT(gitwire_server_new(&other, &repository, GITWIRE_MOST_LIMIT + 1, true) == GITWIRE_BAD_VALUE); /* the handle stays as it was */
-	gitwire_repository_free(&repository); /* the servers keep it */
-	gitwire_repository_free(&repository);
-	EXPECT(gitwire_server_new(&server, &repository, 100, false) == GITWIRE_NO_HANDLE); /* the handle stays as it was */
-	EXPECT(tells(gitwire_server_pull(&server, room, GITWIRE_PACKET_ROOM - 1), GITWIRE_ROOM_TOO_SMALL, 0, 0, 0));
-	EXPECT(tells(gitwire_server_feed(&server, TEXT(LS_REFS)), GITWIRE_NOT_NOW, 0, 0, 0));
-	EXPECT(tells(gitwire_server_feed(&server, NULL, 0), GITWIRE_NOT_NOW, 0, 0, 0));
-	EXPECT(gitwire_server_close(&server) == GITWIRE_NOT_NOW);
-	answer = gitwire_server_pull(&server, ROOM);
-	EXPECT(tells(answer, GITWIRE_PACKET, 0, 0, 14) && memcmp(room, "000eversion 2\n#", 15) == 0);
+	gitwire_repository_free(repository);
+	gitwire_server_free(server);
+	EXPECT(tells(gitwire_repository_new(&repository, NULL, 0, NULL, 0), GITWIRE_FAILED, 0, 1, 0) && repository == NULL);
+	answer = gitwire_repository_new(&repository, TEXT("format sha1\nref here\n"), BYTES("PACK"));
+	EXPECT(tells(answer, GITWIRE_FAILED, 0, 2, 0) && repository == NULL);
+	EXPECT(tells(gitwire_repository_new(&repository, TEXT(SMALL_TEXT), BYTES("PACK")), GITWIRE_DONE, 0, 0, 0) && repository != NULL);
+	EXPECT(gitwire_server_new(&server, repository, GITWIRE_MAXIMUM_LIMIT + 1, true) == GITWIRE_BAD_VALUE && server == NULL);
+	EXPECT(gitwire_server_new(&server, repository, 100, true) == GITWIRE_DONE && server != NULL);
+	EXPECT(gitwire_server_new(&other, repository, 100, false) == GITWIRE_DONE);
+	gitwire_repository_free(repository); /* the servers keep it */
+	EXPECT(tells(gitwire_server_pull(server, buffer, GITWIRE_PACKET_SIZE - 1), GITWIRE_BUFFER_TOO_SMALL, 0, 0, 0));
+	EXPECT(tells(gitwire_server_feed(server, BYTES(LS_REFS)), GITWIRE_NOT_NOW, 0, 0, 0));
+	EXPECT(tells(gitwire_server_feed(server, NULL, 0), GITWIRE_NOT_NOW, 0, 0, 0));
+	EXPECT(gitwire_server_close(server) == GITWIRE_NOT_NOW);
+	answer = gitwire_server_pull(server, BUFFER);
+	EXPECT(tells(answer, GITWIRE_PACKET, 0, 0, 14) && memcmp(buffer, "000eversion 2\n#", 15) == 0);
 	while (answer.kind == GITWIRE_PACKET)
-		answer = gitwire_server_pull(&server, ROOM);
+		answer = gitwire_server_pull(server, BUFFER);
 	EXPECT(tells(answer, GITWIRE_NEED_INPUT, 0, 0, 0));
-	EXPECT(tells(gitwire_server_feed(&server, TEXT(LS_REFS LS_REFS)), GITWIRE_MORE, strlen(LS_REFS), 0, 0));
-	answer = gitwire_server_pull(&server, ROOM);
-	EXPECT(tells(answer, GITWIRE_PACKET, 0, 0, 50) && memcmp(room, "0032" ONE " HEAD\n", 50) == 0);
+	EXPECT(tells(gitwire_server_feed(server, BYTES(LS_REFS LS_REFS)), GITWIRE_MORE, strlen(LS_REFS), 0, 0));
+	answer = gitwire_server_pull(server, BUFFER);
+	EXPECT(tells(answer, GITWIRE_PACKET, 0, 0, 50) && memcmp(buffer, "0032" ONE " HEAD\n", 50) == 0);
 	while (answer.kind == GITWIRE_PACKET)
-		answer = gitwire_server_pull(&server, ROOM);
-	EXPECT(tells(gitwire_server_feed(&server, TEXT("0000")), GITWIRE_MORE, 4, 0, 0));
-	EXPECT(tells(gitwire_server_pull(&server, ROOM), GITWIRE_ENDED_BY_FLUSH, 0, 0, 0));
-	EXPECT(tells(gitwire_server_feed(&server, TEXT("0000")), GITWIRE_NOT_NOW, 0, 0, 0));
-	EXPECT(gitwire_server_close(&server) == GITWIRE_NOT_NOW);
-	gitwire_server_free(&server);
-	gitwire_server_free(&server);
-	memset(room, '#', sizeof room);
-	EXPECT(tells(gitwire_server_pull(&other, ROOM), GITWIRE_NEED_INPUT, 0, 0, 0));
-	EXPECT(gitwire_server_close(&other) == GITWIRE_DONE);
-	EXPECT(tells(gitwire_server_pull(&other, ROOM), GITWIRE_ENDED_BY_CLOSE, 0, 0, 0));
-	gitwire_server_free(&other);
+		answer = gitwire_server_pull(server, BUFFER);
+	EXPECT(tells(gitwire_server_feed(server, BYTES("0000")), GITWIRE_MORE, 4, 0, 0));
+	EXPECT(tells(gitwire_server_pull(server, BUFFER), GITWIRE_ENDED_BY_FLUSH, 0, 0, 0));
+	EXPECT(tells(gitwire_server_feed(server, BYTES("0000")), GITWIRE_NOT_NOW, 0, 0, 0));
+	EXPECT(gitwire_server_close(server) == GITWIRE_NOT_NOW);
+	gitwire_server_free(server);
+	memset(buffer, '#', sizeof buffer);
+	EXPECT(tells(gitwire_server_pull(other, BUFFER), GITWIRE_NEED_INPUT, 0, 0, 0));
+	EXPECT(gitwire_server_close(other) == GITWIRE_DONE);
+	EXPECT(tells(gitwire_server_pull(other, BUFFER), GITWIRE_ENDED_BY_CLOSE, 0, 0, 0));
+	gitwire_server_free(other);
 }
 
 static void try_a_refused_session(void)
 {
-	gitwire_repository repository = GITWIRE_NONE;
-	gitwire_server server = GITWIRE_NONE;
+	gitwire_repository *repository = NULL;
+	gitwire_server *server = NULL;
 	gitwire_answer answer;
 
 	EXPECT(tells(gitwire_repository_new(&repository, TEXT("format sha256"), NULL, 0), GITWIRE_DONE, 0, 0, 0));
-	EXPECT(gitwire_server_new(&server, &repository, 100, false) == GITWIRE_DONE);
-	EXPECT(tells(gitwire_server_feed(&server, TEXT("0014command=ls-refs\n0009peel\n")), GITWIRE_MORE, 29, 0, 0));
-	answer = gitwire_server_pull(&server, ROOM);
-	EXPECT(tells(answer, GITWIRE_PACKET, 0, 0, 28) && memcmp(room, "001cERR NotAdvertised at 20\n", 28) == 0);
-	EXPECT(tells_fault(gitwire_server_pull(&server, ROOM), GITWIRE_FAULT_NOT_ADVERTISED, 0, 20));
-	EXPECT(tells_fault(gitwire_server_pull(&server, ROOM), GITWIRE_FAULT_NOT_ADVERTISED, 0, 20));
-	gitwire_repository_free(&repository);
-	gitwire_server_free(&server);
-	memset(room, '#', sizeof room);
+	EXPECT(gitwire_server_new(&server, repository, 100, false) == GITWIRE_DONE);
+	EXPECT(tells(gitwire_server_feed(server, BYTES("0014command=ls-refs\n0009peel\n")), GITWIRE_MORE, 29, 0, 0));
+	answer = gitwire_server_pull(server, BUFFER);
+	EXPECT(tells(answer, GITWIRE_PACKET, 0, 0, 28) && memcmp(buffer, "001cERR NotAdvertised at 20\n", 28) == 0);
+	EXPECT(tells_fault(gitwire_server_pull(server, BUFFER), GITWIRE_FAULT_NOT_ADVERTISED, 0, 20));
+	EXPECT(tells_fault(gitwire_server_pull(server, BUFFER), GITWIRE_FAULT_NOT_ADVERTISED, 0, 20));
+	gitwire_repository_free(repository);
+	gitwire_server_free(server);
+	memset(buffer, '#', sizeof buffer);
 }
 
 /* A server and a client that talk to each other, and what the client receives: an event to a line. */
 struct talk {
-	gitwire_server server;
-	gitwire_client client;
+	gitwire_server *server;
+	gitwire_client *client;
 	char heard[4096];
 	size_t length;
 };
 
-static void hear(struct talk *t, gitwire_event e)
+/* Notes an event of this chunk, whose other texts are in the buffer. */
+static void hear(struct talk *t, gitwire_event e, const uint8_t *chunk)
 {
 	static const char *const names[] = { [GITWIRE_CAPABILITY] = "capability", [GITWIRE_OFFERED] = "offered",
 		[GITWIRE_REFERENCE] = "reference", [GITWIRE_ACK] = "ack", [GITWIRE_NAK] = "nak", [GITWIRE_READY] = "ready",
 		[GITWIRE_SHALLOW] = "shallow", [GITWIRE_UNSHALLOW] = "unshallow", [GITWIRE_WANTED_REF] = "wanted", [GITWIRE_INFO] = "info",
 		[GITWIRE_PACK] = "pack", [GITWIRE_PROGRESS] = "progress", [GITWIRE_ENDED] = "ended" };
-	const char *part = (const char *)room;
-	const size_t lengths[] = { e.id_length, e.name_length, e.text_length, e.peeled_length };
+	bool is_passed = e.kind == GITWIRE_PACK || e.kind == GITWIRE_PROGRESS;
 
-	EXPECT(e.kind < sizeof names / sizeof *names && names[e.kind] != NULL && e.fault == 0 && e.offset == 0);
+	EXPECT(e.kind < sizeof names / sizeof *names && names[e.kind] != NULL && e.fault == 0);
+	EXPECT(e.offset == (is_passed ? e.used - e.text_length : 0));
 	t->length += (size_t)sprintf(t->heard + t->length, "%s", names[e.kind]);
-	for (int i = 0; i < 4; i++) {
-		if (lengths[i] > 0)
-			t->length += (size_t)sprintf(t->heard + t->length, " %.*s", (int)lengths[i], part);
-		part += lengths[i];
+	for (gitwire_part number = GITWIRE_PART_ID; number <= GITWIRE_PART_PEELED; number++) {
+		gitwire_text part = gitwire_event_part(&e, number, chunk, buffer);
+
+		EXPECT((part.at != NULL) == (part.length > 0 || (number == GITWIRE_PART_TEXT && e.has_text)));
+		if (part.length > 0)
+			t->length += (size_t)sprintf(t->heard + t->length, " %.*s", (int)part.length, part.at);
 	}
+	EXPECT(gitwire_event_part(&e, (gitwire_part)0, chunk, buffer).at == NULL && gitwire_event_part(&e, (gitwire_part)5, chunk, buffer).at == NULL);
 	if (e.has_text)
 		t->length += (size_t)sprintf(t->heard + t->length, " has-text");
 	if (e.has_size)
@@ -325,28 +328,28 @@ static void hear(struct talk *t, gitwire_event e)
 /* Passes on what each side has to send, until a request can be asked or everything was sent. Returns the kind that the client returns then. */
 static gitwire_result go_on(struct talk *t)
 {
-	static uint8_t packet[GITWIRE_PACKET_ROOM];
+	static uint8_t packet[GITWIRE_PACKET_SIZE];
 	gitwire_answer answer;
 
 	t->length = 0;
 	for (;;) {
-		answer = gitwire_client_pull(&t->client, packet, sizeof packet);
+		answer = gitwire_client_pull(t->client, packet, sizeof packet);
 		if (answer.kind == GITWIRE_PACKET) {
-			EXPECT(gitwire_server_feed(&t->server, packet, answer.length).used == answer.length);
+			EXPECT(gitwire_server_feed(t->server, packet, answer.length).used == answer.length);
 			continue;
 		}
 		if (answer.kind != GITWIRE_NEED_INPUT)
 			return answer.kind;
-		answer = gitwire_server_pull(&t->server, packet, sizeof packet);
+		answer = gitwire_server_pull(t->server, packet, sizeof packet);
 		if (answer.kind != GITWIRE_PACKET)
 			return answer.kind;
 		for (size_t used = 0; used < answer.length;) {
-			gitwire_event event = gitwire_client_feed(&t->client, packet + used, answer.length - used, ROOM);
-			used += event.used;
+			gitwire_event event = gitwire_client_feed(t->client, packet + used, answer.length - used, BUFFER);
 			if (event.kind == GITWIRE_FAILED)
 				return GITWIRE_FAILED;
 			if (event.kind != GITWIRE_MORE)
-				hear(t, event);
+				hear(t, event, packet + used);
+			used += event.used;
 		}
 	}
 }
@@ -354,15 +357,15 @@ static gitwire_result go_on(struct talk *t)
 /* Asks a request of these lines, up to a NULL, and returns what the client returns for it. */
 static gitwire_answer ask(struct talk *t, gitwire_command command, const char *const *lines)
 {
-	gitwire_request request = GITWIRE_NONE;
+	gitwire_request *request = NULL;
 	gitwire_answer answer;
 
-	EXPECT(gitwire_request_new(&request, command, GITWIRE_SHA1, GITWIRE_USUAL_LIMIT) == GITWIRE_DONE);
+	EXPECT(gitwire_request_new(&request, command, GITWIRE_SHA1, GITWIRE_DEFAULT_LIMIT) == GITWIRE_DONE);
 	for (; *lines != NULL; lines++)
-		EXPECT(gitwire_request_add(&request, TEXT(*lines)).kind == GITWIRE_DONE);
-	answer = gitwire_client_ask(&t->client, &request);
-	EXPECT(gitwire_request_end(&request).kind == (answer.kind == GITWIRE_DONE ? GITWIRE_NO_HANDLE : GITWIRE_DONE));
-	gitwire_request_free(&request);
+		EXPECT(gitwire_request_add(request, TEXT(*lines)).kind == GITWIRE_DONE);
+	answer = gitwire_client_ask(t->client, request);
+	EXPECT(gitwire_request_end(request).kind == (answer.kind == GITWIRE_DONE ? GITWIRE_NO_REQUEST : GITWIRE_DONE));
+	gitwire_request_free(request);
 	return answer;
 }
 
@@ -377,10 +380,10 @@ static bool hears(struct talk *t, gitwire_command command, const char *const *li
 	return false;
 }
 
-/* Begins with this repository, whose handle is empty then. */
+/* Begins with this repository, whose handle is freed. */
 static void begin_talk_over(struct talk *t, gitwire_repository *repository)
 {
-	*t = (struct talk){ .server = GITWIRE_NONE, .client = GITWIRE_NONE };
+	*t = (struct talk){ .server = NULL };
 	EXPECT(gitwire_server_new(&t->server, repository, 1000, true) == GITWIRE_DONE);
 	EXPECT(gitwire_client_new(&t->client, GITWIRE_SHA1, GITWIRE_ENDS_BY_FLUSH) == GITWIRE_DONE);
 	gitwire_repository_free(repository);
@@ -388,10 +391,10 @@ static void begin_talk_over(struct talk *t, gitwire_repository *repository)
 
 static void begin_talk(struct talk *t)
 {
-	gitwire_repository repository = GITWIRE_NONE;
+	gitwire_repository *repository = NULL;
 
-	EXPECT(tells(gitwire_repository_new(&repository, TEXT(SMALL_TEXT), TEXT("PACK")), GITWIRE_DONE, 0, 0, 0));
-	begin_talk_over(t, &repository);
+	EXPECT(tells(gitwire_repository_new(&repository, TEXT(SMALL_TEXT), BYTES("PACK")), GITWIRE_DONE, 0, 0, 0));
+	begin_talk_over(t, repository);
 }
 
 static void try_a_conversation(void)
@@ -402,10 +405,9 @@ static void try_a_conversation(void)
 	static const char *const shallow[] = { "want-ref refs/tags/v1", "have " ONE, "shallow " TWO, "deepen 1", NULL };
 	static const char *const nothing[] = { NULL };
 	struct talk t;
-	gitwire_caps caps;
 
 	begin_talk(&t);
-	EXPECT(gitwire_client_leave(&t.client) == GITWIRE_NOT_NOW);
+	EXPECT(gitwire_client_leave(t.client) == GITWIRE_NOT_NOW);
 	EXPECT(ask(&t, GITWIRE_LS_REFS, nothing).kind == GITWIRE_NOT_NOW);
 	EXPECT(go_on(&t) == GITWIRE_CAN_ASK);
 	t.heard[t.length] = 0;
@@ -413,11 +415,11 @@ static void try_a_conversation(void)
 		"capability fetch shallow ref-in-want wait-for-done filter has-text\n" "capability server-option\n"
 		"capability object-format sha1 has-text\n"
 		"capability object-info\n" "offered\n") == 0);
-	EXPECT(gitwire_client_caps(&t.client, &caps) == GITWIRE_DONE);
-	EXPECT(caps.features == GITWIRE_FEATURES_ALL && caps.agent && caps.ls_refs && caps.fetch && caps.object_format && caps.sha1
-		&& !caps.sha256);
-	EXPECT(gitwire_client_close(&t.client).kind == GITWIRE_NOT_NOW);
-	EXPECT(gitwire_client_message(&t.client, ROOM).kind == GITWIRE_NOTHING);
+	EXPECT(gitwire_client_features(t.client) == GITWIRE_FEATURES_ALL);
+	for (gitwire_key key = GITWIRE_KEY_AGENT; key <= GITWIRE_KEY_SHA256; key++)
+		EXPECT(gitwire_client_advertises(t.client, key) == (key != GITWIRE_KEY_SHA256));
+	EXPECT(gitwire_client_close(t.client).kind == GITWIRE_NOT_NOW);
+	EXPECT(gitwire_client_message(t.client, CHARACTERS).kind == GITWIRE_NOTHING);
 	EXPECT(hears(&t, GITWIRE_LS_REFS, references, "reference " ONE " HEAD refs/heads/main has-text\n"
 		"reference " ONE " refs/heads/main\n" "reference " TWO " refs/tags/v1 " ONE "\n" "ended\n"));
 	EXPECT(hears(&t, GITWIRE_OBJECT_INFO, sizes, "info " TWO " size 140\n"
@@ -425,14 +427,13 @@ static void try_a_conversation(void)
 	EXPECT(hears(&t, GITWIRE_FETCH, common, "nak\n" "ended\n"));
 	EXPECT(hears(&t, GITWIRE_FETCH, shallow, "ack " ONE "\n" "ready\n" "shallow " ONE "\n" "unshallow " TWO "\n"
 		"wanted " TWO " refs/tags/v1\n" "pack PACK has-text\n" "ended\n"));
-	EXPECT(gitwire_client_leave(&t.client) == GITWIRE_DONE);
-	EXPECT(gitwire_client_leave(&t.client) == GITWIRE_NOT_NOW);
+	EXPECT(gitwire_client_leave(t.client) == GITWIRE_DONE);
+	EXPECT(gitwire_client_leave(t.client) == GITWIRE_NOT_NOW);
 	EXPECT(go_on(&t) == GITWIRE_FINISHED);
-	EXPECT(tells(gitwire_server_pull(&t.server, ROOM), GITWIRE_ENDED_BY_FLUSH, 0, 0, 0));
-	gitwire_client_free(&t.client);
-	gitwire_client_free(&t.client);
-	gitwire_server_free(&t.server);
-	memset(room, '#', sizeof room);
+	EXPECT(tells(gitwire_server_pull(t.server, BUFFER), GITWIRE_ENDED_BY_FLUSH, 0, 0, 0));
+	gitwire_client_free(t.client);
+	gitwire_server_free(t.server);
+	memset(buffer, '#', sizeof buffer);
 }
 
 /* Asks for a pack without filters, then with some, and then without again. Returns whether exactly these come. */
@@ -450,71 +451,69 @@ static bool gives_packs(gitwire_repository *repository, const char *pack, const 
 	EXPECT(go_on(&t) == GITWIRE_CAN_ASK);
 	are_they = hears(&t, GITWIRE_FETCH, wants, heard) && hears(&t, GITWIRE_FETCH, filters, heard_filtered)
 		&& hears(&t, GITWIRE_FETCH, wants, heard);
-	gitwire_client_free(&t.client);
-	gitwire_server_free(&t.server);
+	gitwire_client_free(t.client);
+	gitwire_server_free(t.server);
 	return are_they;
 }
 
 /* A repository may have a pack of its own for fetches with a filter, which may be empty; otherwise there is one for all. */
 static void try_filtered_packs(void)
 {
-	gitwire_repository repository = GITWIRE_NONE;
-	gitwire_server server = GITWIRE_NONE;
+	gitwire_repository *repository = NULL;
 
-	EXPECT(tells(gitwire_repository_new_filtered(&repository, NULL, 0, NULL, 0, NULL, 0), GITWIRE_FAILED, 0, 1, 0));
-	EXPECT(tells(gitwire_repository_new_filtered(&repository, TEXT(SMALL_TEXT), TEXT("PACK"), TEXT("TINY")), GITWIRE_DONE, 0, 0, 0));
-	EXPECT(gives_packs(&repository, "pack PACK has-text\n", "pack TINY has-text\n"));
-	EXPECT(tells(gitwire_repository_new_filtered(&repository, TEXT(SMALL_TEXT), TEXT("PACK"), NULL, 0), GITWIRE_DONE, 0, 0, 0));
-	EXPECT(gives_packs(&repository, "pack PACK has-text\n", ""));
-	EXPECT(tells(gitwire_repository_new_filtered(&repository, TEXT(SMALL_TEXT), NULL, 0, TEXT("TINY")), GITWIRE_DONE, 0, 0, 0));
-	EXPECT(gives_packs(&repository, "", "pack TINY has-text\n"));
-	EXPECT(tells(gitwire_repository_new(&repository, TEXT(SMALL_TEXT), TEXT("PACK")), GITWIRE_DONE, 0, 0, 0));
-	EXPECT(gives_packs(&repository, "pack PACK has-text\n", "pack PACK has-text\n"));
-	EXPECT(tells(gitwire_repository_new(&repository, TEXT(SMALL_TEXT), TEXT("PACK")), GITWIRE_DONE, 0, 0, 0));
-	EXPECT(tells(gitwire_repository_new_filtered(&repository, TEXT("format sha1\nref"), TEXT("PACK"), TEXT("TINY")), GITWIRE_FAILED,
-		0, 2, 0));
-	EXPECT(gitwire_server_new(&server, &repository, 0, true) == GITWIRE_NO_HANDLE); /* what it had is freed */
-	EXPECT(gitwire_repository_new_filtered(&repository, TEXT(SMALL_TEXT), TEXT("PACK"), TEXT("TINY")).kind == GITWIRE_DONE);
-	gitwire_repository_free(&repository);
-	memset(room, '#', sizeof room);
+	EXPECT(tells(gitwire_repository_new_filtered(&repository, NULL, 0, NULL, 0, NULL, 0), GITWIRE_FAILED, 0, 1, 0) && repository == NULL);
+	EXPECT(tells(gitwire_repository_new_filtered(&repository, TEXT(SMALL_TEXT), BYTES("PACK"), BYTES("TINY")), GITWIRE_DONE, 0, 0, 0));
+	EXPECT(gives_packs(repository, "pack PACK has-text\n", "pack TINY has-text\n"));
+	EXPECT(tells(gitwire_repository_new_filtered(&repository, TEXT(SMALL_TEXT), BYTES("PACK"), NULL, 0), GITWIRE_DONE, 0, 0, 0));
+	EXPECT(gives_packs(repository, "pack PACK has-text\n", ""));
+	EXPECT(tells(gitwire_repository_new_filtered(&repository, TEXT(SMALL_TEXT), NULL, 0, BYTES("TINY")), GITWIRE_DONE, 0, 0, 0));
+	EXPECT(gives_packs(repository, "", "pack TINY has-text\n"));
+	EXPECT(tells(gitwire_repository_new(&repository, TEXT(SMALL_TEXT), BYTES("PACK")), GITWIRE_DONE, 0, 0, 0));
+	EXPECT(gives_packs(repository, "pack PACK has-text\n", "pack PACK has-text\n"));
+	EXPECT(tells(gitwire_repository_new_filtered(&repository, TEXT("format sha1\nref"), BYTES("PACK"), BYTES("TINY")), GITWIRE_FAILED,
+		0, 2, 0) && repository == NULL);
+	memset(buffer, '#', sizeof buffer);
 }
 
 /* What comes beside a pack, and a fatal error in its middle, with its message. */
 static void try_bands(void)
 {
 	static const char *const wants[] = { "want " ONE, "done", NULL };
+	static const uint8_t progress[] = "0008\00250%", pack[] = "0009\001PACK";
 	struct talk t;
 	gitwire_event event;
 
 	begin_talk(&t);
 	EXPECT(go_on(&t) == GITWIRE_CAN_ASK);
 	EXPECT(tells(ask(&t, GITWIRE_FETCH, wants), GITWIRE_DONE, 0, 0, 0));
-	while (gitwire_client_pull(&t.client, ROOM).kind == GITWIRE_PACKET)
+	while (gitwire_client_pull(t.client, BUFFER).kind == GITWIRE_PACKET)
 		;
 	t.length = 0;
-	EXPECT(gitwire_client_feed(&t.client, TEXT("000dpackfile\n"), ROOM).kind == GITWIRE_MORE);
-	hear(&t, gitwire_client_feed(&t.client, TEXT("0008\00250%"), ROOM));
-	hear(&t, gitwire_client_feed(&t.client, TEXT("0009\001PACK"), ROOM));
+	EXPECT(gitwire_client_feed(t.client, BYTES("000dpackfile\n"), BUFFER).kind == GITWIRE_MORE);
+	hear(&t, gitwire_client_feed(t.client, progress, sizeof progress - 1, BUFFER), progress);
+	hear(&t, gitwire_client_feed(t.client, pack, sizeof pack - 1, BUFFER), pack);
 	t.heard[t.length] = 0;
 	EXPECT(strcmp(t.heard, "progress 50% has-text\n" "pack PACK has-text\n") == 0);
-	event = gitwire_client_feed(&t.client, TEXT("0009\003gone"), ROOM);
+	event = gitwire_client_feed(t.client, BYTES("0009\003gone"), BUFFER);
 	EXPECT(event.kind == GITWIRE_FAILED && event.fault == GITWIRE_FAULT_REMOTE_FATAL && event.used == 9);
-	memset(room, '#', sizeof room);
-	EXPECT(wrote(gitwire_client_message(&t.client, ROOM), "gone"));
-	gitwire_client_free(&t.client);
-	gitwire_server_free(&t.server);
+	memset(buffer, '#', sizeof buffer);
+	EXPECT(wrote(gitwire_client_message(t.client, CHARACTERS), "gone"));
+	gitwire_client_free(t.client);
+	gitwire_server_free(t.server);
 }
 
 /* An event whose text is the last of the bytes used of the chunk; the buffer is unchanged. */
-static bool lies_in(gitwire_event event, const char *piece, gitwire_result kind, size_t used, const char *text)
+static bool lies_in(gitwire_event event, const char *chunk, gitwire_result kind, size_t used, const char *text)
 {
-	static uint8_t kept[sizeof room];
+	static uint8_t kept[sizeof buffer];
+	gitwire_text part = gitwire_event_part(&event, GITWIRE_PART_TEXT, (const uint8_t *)chunk, buffer);
 
 	memset(kept, '#', sizeof kept);
 	return event.kind == kind && event.used == used && event.has_text && event.text_length == strlen(text)
 		&& event.id_length == 0 && event.name_length == 0 && event.peeled_length == 0
-		&& memcmp(piece + event.used - event.text_length, text, event.text_length) == 0
-		&& memcmp(room, kept, sizeof room) == 0;
+		&& event.offset == used - event.text_length && part.at == chunk + event.offset && part.length == event.text_length
+		&& memcmp(part.at, text, part.length) == 0
+		&& memcmp(buffer, kept, sizeof buffer) == 0;
 }
 
 /* Bytes of the pack and of the progress stay in the chunk, however it is cut; the texts of other events go to the buffer. */
@@ -523,189 +522,192 @@ static void try_bands_in_place(void)
 	static const char *const wants[] = { "want " ONE, "done", NULL };
 	static const char pack[] = "0008\00250%0009\001PACK";
 	struct talk t;
-	gitwire_client none = GITWIRE_NONE;
 	gitwire_event event;
 
 	begin_talk(&t);
 	EXPECT(go_on(&t) == GITWIRE_CAN_ASK);
 	EXPECT(tells(ask(&t, GITWIRE_FETCH, wants), GITWIRE_DONE, 0, 0, 0));
-	while (gitwire_client_pull(&t.client, ROOM).kind == GITWIRE_PACKET)
+	while (gitwire_client_pull(t.client, BUFFER).kind == GITWIRE_PACKET)
 		;
-	EXPECT(gitwire_client_feed_in_place(&t.client, TEXT("000dpackfile\n"), ROOM).kind == GITWIRE_MORE);
-	memset(room, '#', sizeof room);
-	event = gitwire_client_feed_in_place(&t.client, (const uint8_t *)pack, 15, ROOM);
+	EXPECT(gitwire_client_feed(t.client, BYTES("000dpackfile\n"), BUFFER).kind == GITWIRE_MORE);
+	memset(buffer, '#', sizeof buffer);
+	event = gitwire_client_feed(t.client, (const uint8_t *)pack, 15, BUFFER);
 	EXPECT(lies_in(event, pack, GITWIRE_PROGRESS, 8, "50%"));
-	event = gitwire_client_feed_in_place(&t.client, (const uint8_t *)pack + 8, 7, ROOM);
+	event = gitwire_client_feed(t.client, (const uint8_t *)pack + 8, 7, BUFFER);
 	EXPECT(lies_in(event, pack + 8, GITWIRE_PACK, 7, "PA"));
-	event = gitwire_client_feed_in_place(&t.client, (const uint8_t *)pack + 15, 2, ROOM);
+	event = gitwire_client_feed(t.client, (const uint8_t *)pack + 15, 2, BUFFER);
 	EXPECT(lies_in(event, pack + 15, GITWIRE_PACK, 2, "CK"));
-	event = gitwire_client_feed_in_place(&t.client, TEXT("0000"), ROOM);
+	event = gitwire_client_feed(t.client, BYTES("0000"), BUFFER);
 	EXPECT(event.kind == GITWIRE_ENDED && event.used == 4);
-	EXPECT(gitwire_client_feed_in_place(&t.client, TEXT("0000"), room, GITWIRE_PAYLOAD_ROOM - 1).kind == GITWIRE_ROOM_TOO_SMALL);
-	EXPECT(gitwire_client_feed_in_place(&none, TEXT("0000"), ROOM).kind == GITWIRE_NO_HANDLE);
+	EXPECT(gitwire_client_feed(t.client, BYTES("0000"), buffer, GITWIRE_PAYLOAD_SIZE - 1).kind == GITWIRE_BUFFER_TOO_SMALL);
+	gitwire_client_free(t.client);
 	EXPECT(gitwire_client_new(&t.client, GITWIRE_SHA1, GITWIRE_ENDS_BY_FLUSH) == GITWIRE_DONE);
-	EXPECT(gitwire_client_feed_in_place(&t.client, TEXT("000eversion 2\n"), ROOM).kind == GITWIRE_MORE);
-	event = gitwire_client_feed_in_place(&t.client, TEXT("0013agent=git/2.39\n"), ROOM);
-	EXPECT(event.kind == GITWIRE_CAPABILITY && event.name_length == 5 && memcmp(room, "agentgit/2.3", 12) == 0);
-	gitwire_client_free(&t.client);
-	gitwire_server_free(&t.server);
-	memset(room, '#', sizeof room);
+	EXPECT(gitwire_client_feed(t.client, BYTES("000eversion 2\n"), BUFFER).kind == GITWIRE_MORE);
+	event = gitwire_client_feed(t.client, BYTES("0013agent=git/2.39\n"), BUFFER);
+	EXPECT(event.kind == GITWIRE_CAPABILITY && event.name_length == 5 && memcmp(buffer, "agentgit/2.3", 12) == 0);
+	gitwire_client_free(t.client);
+	gitwire_server_free(t.server);
+	memset(buffer, '#', sizeof buffer);
 }
 
 static void try_refusals_of_a_client(void)
 {
-	gitwire_client client = GITWIRE_NONE;
-	gitwire_request request = GITWIRE_NONE;
-	gitwire_caps caps = { .sha256 = true };
+	gitwire_client *client = NULL;
+	gitwire_request *request = NULL;
 	gitwire_event event;
 
-	gitwire_client_free(&client);
-	EXPECT(gitwire_client_feed(&client, TEXT("0000"), ROOM).kind == GITWIRE_NO_HANDLE);
-	EXPECT(gitwire_client_pull(&client, ROOM).kind == GITWIRE_NO_HANDLE);
-	EXPECT(gitwire_client_ask(&client, &request).kind == GITWIRE_NO_HANDLE);
-	EXPECT(gitwire_client_leave(&client) == GITWIRE_NO_HANDLE);
-	EXPECT(gitwire_client_close(&client).kind == GITWIRE_NO_HANDLE);
-	EXPECT(gitwire_client_message(&client, ROOM).kind == GITWIRE_NO_HANDLE);
-	EXPECT(gitwire_client_caps(&client, &caps) == GITWIRE_NO_HANDLE && !caps.agent && caps.sha256);
-	EXPECT(gitwire_client_new(&client, 0, GITWIRE_ENDS_BY_FLUSH) == GITWIRE_BAD_VALUE);
-	EXPECT(gitwire_client_new(&client, GITWIRE_SHA1, 0) == GITWIRE_BAD_VALUE);
+	gitwire_client_free(client);
+	EXPECT(gitwire_client_new(&client, 0, GITWIRE_ENDS_BY_FLUSH) == GITWIRE_BAD_VALUE && client == NULL);
+	EXPECT(gitwire_client_new(&client, GITWIRE_SHA1, 0) == GITWIRE_BAD_VALUE && client == NULL);
 	EXPECT(gitwire_client_new(&client, GITWIRE_SHA1, GITWIRE_ENDS_BY_RESPONSE_END) == GITWIRE_DONE);
-	EXPECT(gitwire_client_pull(&client, room, GITWIRE_PACKET_ROOM - 1).kind == GITWIRE_ROOM_TOO_SMALL);
-	EXPECT(gitwire_client_feed(&client, TEXT("000eversion 2\n"), room, GITWIRE_PAYLOAD_ROOM - 1).kind == GITWIRE_ROOM_TOO_SMALL);
-	event = gitwire_client_feed(&client, TEXT("000eversion 2\n" "0009size\n" "0000"), ROOM);
+	EXPECT(gitwire_client_pull(client, buffer, GITWIRE_PACKET_SIZE - 1).kind == GITWIRE_BUFFER_TOO_SMALL);
+	EXPECT(gitwire_client_feed(client, BYTES("000eversion 2\n"), buffer, GITWIRE_PAYLOAD_SIZE - 1).kind == GITWIRE_BUFFER_TOO_SMALL);
+	event = gitwire_client_feed(client, BYTES("000eversion 2\n" "0009size\n" "0000"), BUFFER);
 	EXPECT(event.kind == GITWIRE_CAPABILITY && event.used == 23 && event.name_length == 4 && !event.has_text);
-	event = gitwire_client_feed(&client, TEXT("0000"), ROOM);
+	event = gitwire_client_feed(client, BYTES("0000"), BUFFER);
 	EXPECT(event.kind == GITWIRE_OFFERED && event.used == 4);
-	event = gitwire_client_feed(&client, TEXT("0000"), ROOM); /* it waits for no input */
+	event = gitwire_client_feed(client, BYTES("0000"), BUFFER); /* it waits for no input */
 	EXPECT(event.kind == GITWIRE_NOT_NOW && event.used == 0);
-	EXPECT(gitwire_client_ask(&client, &request).kind == GITWIRE_NO_HANDLE);
+	EXPECT(gitwire_request_empty(&request) == GITWIRE_DONE);
+	EXPECT(gitwire_client_ask(client, request).kind == GITWIRE_NO_REQUEST);
+	gitwire_request_free(request);
 	EXPECT(gitwire_request_new(&request, GITWIRE_LS_REFS, GITWIRE_SHA1, 0) == GITWIRE_DONE);
-	EXPECT(tells_fault(gitwire_client_ask(&client, &request), GITWIRE_FAULT_NOT_ADVERTISED, 0, 27));
+	EXPECT(tells_fault(gitwire_client_ask(client, request), GITWIRE_FAULT_NOT_ADVERTISED, 0, 27));
+	gitwire_request_free(request);
 	EXPECT(gitwire_request_new(&request, GITWIRE_LS_REFS, GITWIRE_SHA256, 0) == GITWIRE_DONE);
-	EXPECT(tells_fault(gitwire_client_ask(&client, &request), GITWIRE_FAULT_WRONG_FORMAT, 0, 27));
-	EXPECT(gitwire_request_format(&request) == GITWIRE_SHA256);
-	gitwire_request_free(&request);
-	EXPECT(gitwire_client_new(&client, GITWIRE_SHA1, GITWIRE_ENDS_BY_FLUSH) == GITWIRE_DONE); /* what it had is freed */
-	event = gitwire_client_feed(&client, TEXT("000cERR gone"), ROOM);
-	EXPECT(event.kind == GITWIRE_FAILED && event.used == 12 && event.fault == GITWIRE_FAULT_REMOTE_ERROR && event.offset == 0);
-	event = gitwire_client_feed(&client, TEXT("0000"), ROOM);
-	EXPECT(event.kind == GITWIRE_FAILED && event.used == 0 && event.fault == GITWIRE_FAULT_REMOTE_ERROR && event.offset == 0);
-	EXPECT(tells_fault(gitwire_client_pull(&client, ROOM), GITWIRE_FAULT_REMOTE_ERROR, 0, 0));
-	EXPECT(gitwire_client_new(&client, 0, GITWIRE_ENDS_BY_FLUSH) == GITWIRE_BAD_VALUE); /* the handle stays as it was */
-	EXPECT(gitwire_client_new(&client, GITWIRE_SHA1, 0) == GITWIRE_BAD_VALUE);
-	memset(room, '#', sizeof room);
-	EXPECT(wrote(gitwire_client_message(&client, ROOM), "gone"));
-	EXPECT(gitwire_client_message(&client, room, 3).kind == GITWIRE_ROOM_TOO_SMALL);
-	EXPECT(gitwire_client_close(&client).kind == GITWIRE_NOT_NOW);
+	EXPECT(tells_fault(gitwire_client_ask(client, request), GITWIRE_FAULT_WRONG_FORMAT, 0, 27));
+	EXPECT(gitwire_request_format(request) == GITWIRE_SHA256);
+	gitwire_request_free(request);
+	gitwire_client_free(client);
 	EXPECT(gitwire_client_new(&client, GITWIRE_SHA1, GITWIRE_ENDS_BY_FLUSH) == GITWIRE_DONE);
-	EXPECT(gitwire_client_feed(&client, TEXT("000eversion 2\n" "00"), ROOM).used == 16);
-	EXPECT(tells_fault(gitwire_client_close(&client), GITWIRE_FAULT_TRUNCATED, 0, 14));
-	gitwire_client_free(&client);
-	memset(room, '#', sizeof room);
+	event = gitwire_client_feed(client, BYTES("000cERR gone"), BUFFER);
+	EXPECT(event.kind == GITWIRE_FAILED && event.used == 12 && event.fault == GITWIRE_FAULT_REMOTE_ERROR && event.offset == 0);
+	event = gitwire_client_feed(client, BYTES("0000"), BUFFER);
+	EXPECT(event.kind == GITWIRE_FAILED && event.used == 0 && event.fault == GITWIRE_FAULT_REMOTE_ERROR && event.offset == 0);
+	EXPECT(tells_fault(gitwire_client_pull(client, BUFFER), GITWIRE_FAULT_REMOTE_ERROR, 0, 0));
+	memset(buffer, '#', sizeof buffer);
+	EXPECT(wrote(gitwire_client_message(client, CHARACTERS), "gone"));
+	EXPECT(gitwire_client_message(client, (char *)buffer, 3).kind == GITWIRE_BUFFER_TOO_SMALL);
+	EXPECT(gitwire_client_close(client).kind == GITWIRE_NOT_NOW);
+	gitwire_client_free(client);
+	EXPECT(gitwire_client_new(&client, GITWIRE_SHA1, GITWIRE_ENDS_BY_FLUSH) == GITWIRE_DONE);
+	EXPECT(gitwire_client_feed(client, BYTES("000eversion 2\n" "00"), BUFFER).used == 16);
+	EXPECT(tells_fault(gitwire_client_close(client), GITWIRE_FAULT_TRUNCATED, 0, 14));
+	gitwire_client_free(client);
+	memset(buffer, '#', sizeof buffer);
 }
 
-/* Each line is noted in its own fields and bits, and in no others. */
+/* Each line is noted by its own keys and features, and by no others. */
 static void try_what_is_noted(void)
 {
+	enum { AGENT = 1 << GITWIRE_KEY_AGENT, LS_REFS_KEY = 1 << GITWIRE_KEY_LS_REFS, FETCH_KEY = 1 << GITWIRE_KEY_FETCH,
+		FORMAT = 1 << GITWIRE_KEY_OBJECT_FORMAT, SHA1 = 1 << GITWIRE_KEY_SHA1, SHA256 = 1 << GITWIRE_KEY_SHA256 };
 	static const struct {
 		const char *line;
-		gitwire_caps caps;
+		int keys;
+		uint32_t features;
 	} cases[] = {
-		{ "agent=git/2", { .agent = true } }, { "ls-refs", { .ls_refs = true } }, { "fetch", { .fetch = true } },
-		{ "ls-refs=unborn", { .ls_refs = true, .features = GITWIRE_FEATURE_UNBORN } },
-		{ "fetch=shallow", { .fetch = true, .features = GITWIRE_FEATURE_SHALLOW } },
-		{ "fetch=ref-in-want", { .fetch = true, .features = GITWIRE_FEATURE_REF_IN_WANT } },
-		{ "fetch=wait-for-done", { .fetch = true, .features = GITWIRE_FEATURE_WAIT_FOR_DONE } },
-		{ "fetch=filter", { .fetch = true, .features = GITWIRE_FEATURE_FILTER } },
-		{ "server-option", { .features = GITWIRE_FEATURE_SERVER_OPTION } },
-		{ "object-info", { .features = GITWIRE_FEATURE_OBJECT_INFO } },
-		{ "object-format", { .object_format = true } }, { "object-format=sha1", { .object_format = true, .sha1 = true } },
-		{ "object-format=sha256", { .object_format = true, .sha256 = true } },
+		{ "agent=git/2", AGENT, 0 }, { "ls-refs", LS_REFS_KEY, 0 }, { "fetch", FETCH_KEY, 0 },
+		{ "ls-refs=unborn", LS_REFS_KEY, GITWIRE_FEATURE_UNBORN }, { "fetch=shallow", FETCH_KEY, GITWIRE_FEATURE_SHALLOW },
+		{ "fetch=ref-in-want", FETCH_KEY, GITWIRE_FEATURE_REF_IN_WANT },
+		{ "fetch=wait-for-done", FETCH_KEY, GITWIRE_FEATURE_WAIT_FOR_DONE }, { "fetch=filter", FETCH_KEY, GITWIRE_FEATURE_FILTER },
+		{ "server-option", 0, GITWIRE_FEATURE_SERVER_OPTION }, { "object-info", 0, GITWIRE_FEATURE_OBJECT_INFO },
+		{ "object-format", FORMAT, 0 }, { "object-format=sha1", FORMAT | SHA1, 0 }, { "object-format=sha256", FORMAT | SHA256, 0 },
 	};
-	static uint8_t packet[GITWIRE_PACKET_ROOM];
+	static uint8_t packet[GITWIRE_PACKET_SIZE];
 
 	for (size_t i = 0; i < sizeof cases / sizeof *cases; i++) {
-		gitwire_client client = GITWIRE_NONE;
-		gitwire_caps caps = { .agent = false };
-		gitwire_answer line = gitwire_put_line(&writer, TEXT(cases[i].line), packet, sizeof packet);
+		gitwire_client *client = NULL;
+		gitwire_answer line = gitwire_put_line(writer, TEXT(cases[i].line), packet, sizeof packet);
 
 		EXPECT(gitwire_client_new(&client, GITWIRE_SHA1, GITWIRE_ENDS_BY_FLUSH) == GITWIRE_DONE);
-		EXPECT(gitwire_client_feed(&client, TEXT("000eversion 2\n"), ROOM).kind == GITWIRE_MORE);
-		EXPECT(gitwire_client_feed(&client, packet, line.length, ROOM).kind == GITWIRE_CAPABILITY);
-		EXPECT(gitwire_client_caps(&client, &caps) == GITWIRE_DONE && memcmp(&caps, &cases[i].caps, sizeof caps) == 0);
-		gitwire_client_free(&client);
+		EXPECT(gitwire_client_features(client) == 0 && !gitwire_client_advertises(client, GITWIRE_KEY_AGENT));
+		EXPECT(gitwire_client_feed(client, BYTES("000eversion 2\n"), BUFFER).kind == GITWIRE_MORE);
+		EXPECT(gitwire_client_feed(client, packet, line.length, BUFFER).kind == GITWIRE_CAPABILITY);
+		EXPECT(gitwire_client_features(client) == cases[i].features);
+		for (unsigned key = 0; key < 30; key++)
+			EXPECT(gitwire_client_advertises(client, (gitwire_key)key) == ((cases[i].keys >> key & 1) == 1));
+		EXPECT(!gitwire_client_advertises(client, (gitwire_key)(256 + GITWIRE_KEY_AGENT)));
+		gitwire_client_free(client);
 	}
-	memset(room, '#', sizeof room);
+	memset(buffer, '#', sizeof buffer);
+}
+
+/* The handles with a limit. */
+static void try_each_value_with(gitwire_format format, gitwire_repository *repository, uint32_t limit)
+{
+	for (gitwire_command command = GITWIRE_LS_REFS; command <= GITWIRE_OBJECT_INFO; command++) {
+		gitwire_request *request = NULL;
+
+		EXPECT(gitwire_request_new(&request, command, format, limit) == GITWIRE_DONE);
+		EXPECT(gitwire_request_command(request) == command && gitwire_request_format(request) == format);
+		gitwire_request_free(request);
+	}
+	for (int advertise = 0; advertise < 2; advertise++) {
+		gitwire_server *server = NULL;
+
+		EXPECT(gitwire_server_new(&server, repository, limit, advertise == 1) == GITWIRE_DONE);
+		gitwire_server_free(server);
+	}
+	for (uint32_t features = 0; features <= GITWIRE_FEATURES_ALL; features++) {
+		gitwire_request_reader *reader = NULL;
+
+		EXPECT(gitwire_request_reader_new(&reader, format, features, limit) == GITWIRE_DONE);
+		gitwire_request_reader_free(reader);
+	}
 }
 
 /* Each handle is made with each value that it may have, also with the limits of these. */
 static void try_each_value(void)
 {
 	static const gitwire_format formats[] = { GITWIRE_SHA1, GITWIRE_SHA256 };
-	static const gitwire_command commands[] = { GITWIRE_LS_REFS, GITWIRE_FETCH, GITWIRE_OBJECT_INFO };
 	static const gitwire_ending endings[] = { GITWIRE_ENDS_BY_FLUSH, GITWIRE_ENDS_BY_RESPONSE_END };
-	static const uint32_t limits[] = { 0, 1, GITWIRE_USUAL_LIMIT, GITWIRE_MOST_LIMIT };
-	gitwire_request_reader reader = GITWIRE_NONE;
-	gitwire_request request = GITWIRE_NONE;
-	gitwire_repository repository = GITWIRE_NONE;
-	gitwire_server server = GITWIRE_NONE;
-	gitwire_client client = GITWIRE_NONE;
-
+	static const uint32_t limits[] = { 0, 1, GITWIRE_DEFAULT_LIMIT, GITWIRE_MAXIMUM_LIMIT };
 	for (int i = 0; i < 2; i++) {
 		const char *text = formats[i] == GITWIRE_SHA1 ? "format sha1\n" : "format sha256\n";
+		gitwire_repository *repository = NULL;
 
 		EXPECT(gitwire_repository_new(&repository, TEXT(text), NULL, 0).kind == GITWIRE_DONE);
-		for (int j = 0; j < 2; j++)
-			EXPECT(gitwire_client_new(&client, formats[i], endings[j]) == GITWIRE_DONE);
-		for (int k = 0; k < 4; k++) {
-			for (int j = 0; j < 3; j++)
-				EXPECT(gitwire_request_new(&request, commands[j], formats[i], limits[k]) == GITWIRE_DONE);
-			for (int j = 0; j < 2; j++)
-				EXPECT(gitwire_server_new(&server, &repository, limits[k], j == 1) == GITWIRE_DONE);
-			for (uint32_t features = 0; features <= GITWIRE_FEATURES_ALL; features++) {
-				gitwire_offer offer = { features, formats[i] };
+		for (int j = 0; j < 2; j++) {
+			gitwire_client *client = NULL;
 
-				EXPECT(gitwire_request_reader_new(&reader, offer, limits[k]) == GITWIRE_DONE);
-			}
+			EXPECT(gitwire_client_new(&client, formats[i], endings[j]) == GITWIRE_DONE);
+			gitwire_client_free(client);
 		}
+		for (int k = 0; k < 4; k++)
+			try_each_value_with(formats[i], repository, limits[k]);
+		gitwire_repository_free(repository);
 	}
-	gitwire_request_reader_free(&reader);
-	gitwire_request_free(&request);
-	gitwire_repository_free(&repository);
-	gitwire_server_free(&server);
-	gitwire_client_free(&client);
 }
 
 /* A number that means nothing is refused, 0 and those that would mean something if their higher bits were cut off. */
 static void try_numbers_that_mean_nothing(void)
 {
 	static const unsigned numbers[] = { 0, 100, 255, 256, 257, 258, 259, 65536, 65537, 0x01000001, 0x80000001, 0xffffffff };
-	gitwire_request request = GITWIRE_NONE;
-	gitwire_request_reader reader = GITWIRE_NONE;
-	gitwire_client client = GITWIRE_NONE;
+	gitwire_request *request = NULL, *other = NULL;
+	gitwire_request_reader *reader = NULL;
+	gitwire_client *client = NULL;
 
 	EXPECT(gitwire_request_new(&request, GITWIRE_FETCH, GITWIRE_SHA1, 100) == GITWIRE_DONE);
-	EXPECT(tells(gitwire_request_add(&request, TEXT("done")), GITWIRE_DONE, 0, 0, 0));
+	EXPECT(tells(gitwire_request_add(request, TEXT("done")), GITWIRE_DONE, 0, 0, 0));
 	for (size_t i = 0; i < sizeof numbers / sizeof *numbers; i++) {
 		unsigned number = numbers[i];
-		gitwire_offer offer = { .format = (gitwire_format)number };
 
-		EXPECT(gitwire_client_new(&client, (gitwire_format)number, GITWIRE_ENDS_BY_FLUSH) == GITWIRE_BAD_VALUE);
-		EXPECT(gitwire_client_new(&client, GITWIRE_SHA1, (gitwire_ending)number) == GITWIRE_BAD_VALUE);
-		EXPECT(gitwire_request_reader_new(&reader, offer, 0) == GITWIRE_BAD_VALUE);
-		EXPECT(gitwire_request_new(&request, (gitwire_command)number, GITWIRE_SHA1, 0) == GITWIRE_BAD_VALUE);
-		EXPECT(gitwire_request_new(&request, GITWIRE_LS_REFS, (gitwire_format)number, 0) == GITWIRE_BAD_VALUE);
-		EXPECT(!gitwire_request_flag(&request, (gitwire_flag)number));
-		EXPECT(tells(gitwire_request_number(&request, (gitwire_number)number), GITWIRE_BAD_VALUE, 0, 0, 0));
-		EXPECT(tells(gitwire_request_item(&request, (gitwire_list)number, 0, ROOM), GITWIRE_BAD_VALUE, 0, 0, 0));
-		EXPECT(tells(gitwire_put_band(&writer, (gitwire_band)number, TEXT("x"), ROOM), GITWIRE_BAD_VALUE, 0, 0, 0));
-		EXPECT(tells(gitwire_put_ack(&writer, (gitwire_format)number, TEXT(ONE), ROOM), GITWIRE_BAD_VALUE, 0, 0, 0));
-		EXPECT(tells(gitwire_put_packet(&writer, (gitwire_result)number, NULL, 0, ROOM), GITWIRE_BAD_VALUE, 0, 0, 0));
+		EXPECT(gitwire_client_new(&client, (gitwire_format)number, GITWIRE_ENDS_BY_FLUSH) == GITWIRE_BAD_VALUE && client == NULL);
+		EXPECT(gitwire_client_new(&client, GITWIRE_SHA1, (gitwire_ending)number) == GITWIRE_BAD_VALUE && client == NULL);
+		EXPECT(gitwire_request_reader_new(&reader, (gitwire_format)number, 0, 0) == GITWIRE_BAD_VALUE && reader == NULL);
+		EXPECT(gitwire_request_new(&other, (gitwire_command)number, GITWIRE_SHA1, 0) == GITWIRE_BAD_VALUE && other == NULL);
+		EXPECT(gitwire_request_new(&other, GITWIRE_LS_REFS, (gitwire_format)number, 0) == GITWIRE_BAD_VALUE && other == NULL);
+		EXPECT(!gitwire_request_flag(request, (gitwire_flag)number));
+		EXPECT(tells(gitwire_request_number(request, (gitwire_number)number), GITWIRE_BAD_VALUE, 0, 0, 0));
+		EXPECT(tells(gitwire_request_item(request, (gitwire_list)number, 0, CHARACTERS), GITWIRE_BAD_VALUE, 0, 0, 0));
+		EXPECT(tells(gitwire_put_band(writer, (gitwire_band)number, BYTES("x"), BUFFER), GITWIRE_BAD_VALUE, 0, 0, 0));
+		EXPECT(tells(gitwire_put_ack(writer, (gitwire_format)number, TEXT(ONE), BUFFER), GITWIRE_BAD_VALUE, 0, 0, 0));
+		EXPECT(tells(gitwire_put_packet(writer, (gitwire_result)number, NULL, 0, BUFFER), GITWIRE_BAD_VALUE, 0, 0, 0));
 	}
-	EXPECT(tells(gitwire_put_packet(&writer, (gitwire_result)(256 + GITWIRE_FLUSH), NULL, 0, ROOM), GITWIRE_BAD_VALUE, 0, 0, 0));
-	EXPECT(!gitwire_request_flag(&request, (gitwire_flag)(256 + GITWIRE_FLAG_DONE)) && gitwire_request_flag(&request, GITWIRE_FLAG_DONE));
-	EXPECT(!client.is_made_ && !reader.is_made_);
-	gitwire_request_free(&request);
+	EXPECT(tells(gitwire_put_packet(writer, (gitwire_result)(256 + GITWIRE_FLUSH), NULL, 0, BUFFER), GITWIRE_BAD_VALUE, 0, 0, 0));
+	EXPECT(!gitwire_request_flag(request, (gitwire_flag)(256 + GITWIRE_FLAG_DONE)) && gitwire_request_flag(request, GITWIRE_FLAG_DONE));
+	gitwire_request_free(request);
 }
 
 /* A text of many lines is read whole, and each of its references is sent. */
@@ -714,34 +716,35 @@ static void try_many_references(void)
 	enum { COUNT = 20000, LINE = 80 };
 	char *text = malloc((COUNT + 1) * LINE);
 	size_t length = 0, answer = 0;
-	gitwire_repository repository = GITWIRE_NONE;
-	gitwire_server server = GITWIRE_NONE;
+	gitwire_repository *repository = NULL;
+	gitwire_server *server = NULL;
 
 	if (text == NULL)
 		exit(1);
 	length += (size_t)sprintf(text + length, "format sha1\n");
 	for (int i = 0; i < COUNT; i++)
 		length += (size_t)sprintf(text + length, "ref " ONE " refs/heads/%05d\n", i);
-	EXPECT(gitwire_repository_new(&repository, (const uint8_t *)text, length, NULL, 0).kind == GITWIRE_DONE);
+	EXPECT(gitwire_repository_new(&repository, text, length, NULL, 0).kind == GITWIRE_DONE);
 	free(text);
-	EXPECT(gitwire_server_new(&server, &repository, 0, false) == GITWIRE_DONE);
-	gitwire_repository_free(&repository);
-	EXPECT(gitwire_server_feed(&server, TEXT("0014command=ls-refs\n" "0000")).used == 24);
-	for (char line[LINE]; gitwire_server_pull(&server, ROOM).kind == GITWIRE_PACKET; answer++) {
+	EXPECT(gitwire_server_new(&server, repository, 0, false) == GITWIRE_DONE);
+	gitwire_repository_free(repository);
+	EXPECT(gitwire_server_feed(server, BYTES("0014command=ls-refs\n" "0000")).used == 24);
+	for (char line[LINE]; gitwire_server_pull(server, BUFFER).kind == GITWIRE_PACKET; answer++) {
 		sprintf(line, answer < COUNT ? "003e" ONE " refs/heads/%05d\n" : "0000", (int)answer);
-		EXPECT(memcmp(room, line, strlen(line)) == 0);
+		EXPECT(memcmp(buffer, line, strlen(line)) == 0);
 	}
 	EXPECT(answer == COUNT + 1);
-	gitwire_server_free(&server);
-	memset(room, '#', sizeof room);
+	gitwire_server_free(server);
+	memset(buffer, '#', sizeof buffer);
 }
 
 static void *try_all(void *nothing)
 {
-	memset(room, '#', sizeof room);
+	memset(buffer, '#', sizeof buffer);
 	EXPECT(gitwire_writer_new(&writer) == GITWIRE_DONE);
 	try_packets();
 	try_a_request_for_references();
+	try_an_empty_handle();
 	try_a_request_for_a_pack();
 	try_flags();
 	try_a_reader_of_requests();
@@ -756,7 +759,7 @@ static void *try_all(void *nothing)
 	try_each_value();
 	try_numbers_that_mean_nothing();
 	try_many_references();
-	gitwire_writer_free(&writer);
+	gitwire_writer_free(writer);
 	return nothing;
 }
 

@@ -18,16 +18,18 @@ static int failures;
 #define EXPECT(condition) \
 	((condition) ? (void)0 : (void)(failures++, printf("%s:%d: %s\n", __FILE__, __LINE__, #condition)))
 
-/* A text, as its pointer and its length. */
-#define TEXT(text) (const uint8_t *)(text), strlen(text)
-#define ROOM room, sizeof room
+/* A text, and bytes, as a pointer and a length; and the buffer, for bytes and for a text. */
+#define TEXT(text) (text), strlen(text)
+#define BYTES(text) (const uint8_t *)(text), strlen(text)
+#define BUFFER buffer, sizeof buffer
+#define CHARACTERS (char *)buffer, sizeof buffer
 
 #define ONE "1111111111111111111111111111111111111111"
 #define TWO "2222222222222222222222222222222222222222"
 #define LONG_ONE "1111111111111111111111111111111111111111111111111111111111111111"
 
-static uint8_t room[GITWIRE_PACKET_ROOM];
-static gitwire_writer writer = GITWIRE_NONE;
+static uint8_t buffer[GITWIRE_PACKET_SIZE];
+static gitwire_writer *writer = NULL;
 
 /* Whether exactly these fields are set, and the others are 0. */
 static bool tells(gitwire_answer answer, gitwire_result kind, size_t used, uint64_t offset, size_t length)
@@ -43,11 +45,11 @@ static inline bool tells_fault(gitwire_answer answer, gitwire_fault fault, size_
 /* Whether a whole text was put at the front of the buffer, and the bytes after it were left alone. */
 static inline bool wrote(gitwire_answer answer, const char *text)
 {
-	bool is_it = tells(answer, GITWIRE_DONE, 0, 0, strlen(text)) && memcmp(room, text, strlen(text)) == 0;
+	bool is_it = tells(answer, GITWIRE_DONE, 0, 0, strlen(text)) && memcmp(buffer, text, strlen(text)) == 0;
 
-	for (size_t i = answer.length; i < sizeof room; i++)
-		is_it = is_it && room[i] == '#';
-	memset(room, '#', sizeof room);
+	for (size_t i = answer.length; i < sizeof buffer; i++)
+		is_it = is_it && buffer[i] == '#';
+	memset(buffer, '#', sizeof buffer);
 	return is_it;
 }
 

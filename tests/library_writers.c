@@ -3,120 +3,95 @@
  */
 #include "library_calls.h"
 
-/* Without a writer nothing is written. */
-static void try_no_writer(void)
-{
-	gitwire_offer offer = { .format = GITWIRE_SHA1 };
-
-	gitwire_writer_free(&writer);
-	EXPECT(tells(gitwire_put_packet(&writer, GITWIRE_FLUSH, NULL, 0, ROOM), GITWIRE_NO_HANDLE, 0, 0, 0));
-	EXPECT(tells(gitwire_put_advertisement(&writer, offer, ROOM), GITWIRE_NO_HANDLE, 0, 0, 0));
-	EXPECT(tells(gitwire_put_reference(&writer, GITWIRE_SHA1, TEXT(ONE), TEXT("HEAD"), NULL, 0, NULL, 0, ROOM), GITWIRE_NO_HANDLE, 0, 0, 0));
-	EXPECT(tells(gitwire_put_ack(&writer, GITWIRE_SHA1, TEXT(ONE), ROOM), GITWIRE_NO_HANDLE, 0, 0, 0));
-	EXPECT(tells(gitwire_put_boundary(&writer, GITWIRE_SHA1, true, TEXT(ONE), ROOM), GITWIRE_NO_HANDLE, 0, 0, 0));
-	EXPECT(tells(gitwire_put_wanted(&writer, GITWIRE_SHA1, TEXT(ONE), TEXT("HEAD"), ROOM), GITWIRE_NO_HANDLE, 0, 0, 0));
-	EXPECT(tells(gitwire_put_info(&writer, GITWIRE_SHA1, TEXT(ONE), true, 7, ROOM), GITWIRE_NO_HANDLE, 0, 0, 0));
-	EXPECT(tells(gitwire_put_band(&writer, GITWIRE_BAND_PACK, TEXT("PACK"), ROOM), GITWIRE_NO_HANDLE, 0, 0, 0));
-	EXPECT(tells(gitwire_put_error(&writer, TEXT("not here"), ROOM), GITWIRE_NO_HANDLE, 0, 0, 0));
-	EXPECT(tells(gitwire_put_line(&writer, TEXT("NAK"), ROOM), GITWIRE_NO_HANDLE, 0, 0, 0));
-	for (size_t i = 0; i < sizeof room; i++)
-		EXPECT(room[i] == '#');
-	EXPECT(gitwire_writer_new(&writer) == GITWIRE_DONE);
-	EXPECT(gitwire_writer_new(&writer) == GITWIRE_DONE); /* what it had is freed */
-}
-
 static void try_writers_of_packets(void)
 {
-	static uint8_t longest[GITWIRE_PAYLOAD_ROOM + 1];
+	static uint8_t longest[GITWIRE_PAYLOAD_SIZE + 1];
 
-	EXPECT(wrote(gitwire_put_packet(&writer, GITWIRE_PAYLOAD, TEXT("word"), ROOM), "0008word"));
-	EXPECT(wrote(gitwire_put_packet(&writer, GITWIRE_FLUSH, NULL, 0, ROOM), "0000"));
-	EXPECT(wrote(gitwire_put_packet(&writer, GITWIRE_DELIM, NULL, 0, ROOM), "0001"));
-	EXPECT(wrote(gitwire_put_packet(&writer, GITWIRE_RESPONSE_END, NULL, 0, ROOM), "0002"));
-	EXPECT(gitwire_put_packet(&writer, GITWIRE_FLUSH, TEXT("word"), ROOM).kind == GITWIRE_BAD_VALUE);
-	EXPECT(gitwire_put_packet(&writer, GITWIRE_DONE, NULL, 0, ROOM).kind == GITWIRE_BAD_VALUE);
-	EXPECT(gitwire_put_packet(&writer, GITWIRE_PAYLOAD, TEXT("word"), room, 7).kind == GITWIRE_ROOM_TOO_SMALL);
-	EXPECT(tells_fault(gitwire_put_packet(&writer, GITWIRE_PAYLOAD, longest, sizeof longest, ROOM), GITWIRE_FAULT_TOO_LONG, 0, 0));
-	EXPECT(tells(gitwire_put_packet(&writer, GITWIRE_PAYLOAD, longest, sizeof longest - 1, ROOM), GITWIRE_DONE, 0, 0, GITWIRE_PACKET_ROOM));
-	memset(room, '#', sizeof room);
-	EXPECT(wrote(gitwire_put_band(&writer, GITWIRE_BAND_PACK, TEXT("PACK"), ROOM), "0009\001PACK"));
-	EXPECT(wrote(gitwire_put_band(&writer, GITWIRE_BAND_PROGRESS, TEXT("50%"), ROOM), "0008\00250%"));
-	EXPECT(wrote(gitwire_put_band(&writer, GITWIRE_BAND_FATAL, TEXT("gone"), ROOM), "0009\003gone"));
-	EXPECT(gitwire_put_band(&writer, 0, TEXT("gone"), ROOM).kind == GITWIRE_BAD_VALUE);
-	EXPECT(tells_fault(gitwire_put_band(&writer, GITWIRE_BAND_PACK, longest, sizeof longest - 1, ROOM), GITWIRE_FAULT_TOO_LONG, 0, 0));
-	EXPECT(wrote(gitwire_put_line(&writer, TEXT("NAK"), ROOM), "0008NAK\n"));
-	EXPECT(wrote(gitwire_put_line(&writer, NULL, 0, ROOM), "0005\n"));
-	EXPECT(tells_fault(gitwire_put_line(&writer, longest, sizeof longest - 1, ROOM), GITWIRE_FAULT_BAD_LINE, 0, 0));
-	EXPECT(wrote(gitwire_put_error(&writer, TEXT("not here"), ROOM), "0011ERR not here\n"));
-	EXPECT(tells_fault(gitwire_put_error(&writer, longest, sizeof longest - 5, ROOM), GITWIRE_FAULT_BAD_LINE, 0, 0));
+	EXPECT(wrote(gitwire_put_packet(writer, GITWIRE_PAYLOAD, BYTES("word"), BUFFER), "0008word"));
+	EXPECT(wrote(gitwire_put_packet(writer, GITWIRE_FLUSH, NULL, 0, BUFFER), "0000"));
+	EXPECT(wrote(gitwire_put_packet(writer, GITWIRE_DELIM, NULL, 0, BUFFER), "0001"));
+	EXPECT(wrote(gitwire_put_packet(writer, GITWIRE_RESPONSE_END, NULL, 0, BUFFER), "0002"));
+	EXPECT(gitwire_put_packet(writer, GITWIRE_FLUSH, BYTES("word"), BUFFER).kind == GITWIRE_BAD_VALUE);
+	EXPECT(gitwire_put_packet(writer, GITWIRE_DONE, NULL, 0, BUFFER).kind == GITWIRE_BAD_VALUE);
+	EXPECT(gitwire_put_packet(writer, GITWIRE_PAYLOAD, BYTES("word"), buffer, 7).kind == GITWIRE_BUFFER_TOO_SMALL);
+	EXPECT(tells_fault(gitwire_put_packet(writer, GITWIRE_PAYLOAD, longest, sizeof longest, BUFFER), GITWIRE_FAULT_TOO_LONG, 0, 0));
+	EXPECT(tells(gitwire_put_packet(writer, GITWIRE_PAYLOAD, longest, sizeof longest - 1, BUFFER), GITWIRE_DONE, 0, 0, GITWIRE_PACKET_SIZE));
+	memset(buffer, '#', sizeof buffer);
+	EXPECT(wrote(gitwire_put_band(writer, GITWIRE_BAND_PACK, BYTES("PACK"), BUFFER), "0009\001PACK"));
+	EXPECT(wrote(gitwire_put_band(writer, GITWIRE_BAND_PROGRESS, BYTES("50%"), BUFFER), "0008\00250%"));
+	EXPECT(wrote(gitwire_put_band(writer, GITWIRE_BAND_FATAL, BYTES("gone"), BUFFER), "0009\003gone"));
+	EXPECT(gitwire_put_band(writer, 0, BYTES("gone"), BUFFER).kind == GITWIRE_BAD_VALUE);
+	EXPECT(tells_fault(gitwire_put_band(writer, GITWIRE_BAND_PACK, longest, sizeof longest - 1, BUFFER), GITWIRE_FAULT_TOO_LONG, 0, 0));
+	EXPECT(wrote(gitwire_put_line(writer, TEXT("NAK"), BUFFER), "0008NAK\n"));
+	EXPECT(wrote(gitwire_put_line(writer, NULL, 0, BUFFER), "0005\n"));
+	EXPECT(tells_fault(gitwire_put_line(writer, (const char *)longest, sizeof longest - 1, BUFFER), GITWIRE_FAULT_BAD_LINE, 0, 0));
+	EXPECT(wrote(gitwire_put_error(writer, TEXT("not here"), BUFFER), "0011ERR not here\n"));
+	EXPECT(tells_fault(gitwire_put_error(writer, (const char *)longest, sizeof longest - 5, BUFFER), GITWIRE_FAULT_BAD_LINE, 0, 0));
 }
 
 static void try_writers_of_advertisements(void)
 {
-	gitwire_offer offer = { .format = GITWIRE_SHA256, .features = GITWIRE_FEATURE_SHALLOW | GITWIRE_FEATURE_OBJECT_INFO };
-
-	EXPECT(wrote(gitwire_put_advertisement(&writer, offer, ROOM), "000eversion 2\n" "0011agent=git2/1\n" "000cls-refs\n"
+	EXPECT(wrote(gitwire_put_advertisement(writer, GITWIRE_SHA256, GITWIRE_FEATURE_SHALLOW | GITWIRE_FEATURE_OBJECT_INFO, BUFFER),
+		"000eversion 2\n" "0011agent=git2/1\n" "000cls-refs\n"
 		"0012fetch=shallow\n" "0019object-format=sha256\n" "0010object-info\n" "0000"));
-	offer = (gitwire_offer){ .features = GITWIRE_FEATURE_REF_IN_WANT | GITWIRE_FEATURE_SERVER_OPTION, .format = GITWIRE_SHA1 };
-	EXPECT(wrote(gitwire_put_advertisement(&writer, offer, ROOM), "000eversion 2\n" "0011agent=git2/1\n" "000cls-refs\n"
+	EXPECT(wrote(gitwire_put_advertisement(writer, GITWIRE_SHA1, GITWIRE_FEATURE_REF_IN_WANT | GITWIRE_FEATURE_SERVER_OPTION, BUFFER),
+		"000eversion 2\n" "0011agent=git2/1\n" "000cls-refs\n"
 		"0016fetch=ref-in-want\n" "0012server-option\n" "0017object-format=sha1\n" "0000"));
-	EXPECT(gitwire_put_advertisement(&writer, offer, room, 20).kind == GITWIRE_ROOM_TOO_SMALL);
-	offer = (gitwire_offer){ .format = GITWIRE_SHA256, .features = GITWIRE_FEATURES_ALL };
-	EXPECT(gitwire_put_advertisement(&writer, offer, room, GITWIRE_ADVERTISEMENT_ROOM).kind == GITWIRE_DONE);
-	memset(room, '#', sizeof room);
-	offer.features++;
-	EXPECT(gitwire_put_advertisement(&writer, offer, ROOM).kind == GITWIRE_BAD_VALUE);
-	offer.features--;
-	offer.format = 0;
-	EXPECT(gitwire_put_advertisement(&writer, offer, ROOM).kind == GITWIRE_BAD_VALUE);
+	EXPECT(gitwire_put_advertisement(writer, GITWIRE_SHA1, 0, buffer, 20).kind == GITWIRE_BUFFER_TOO_SMALL);
+	EXPECT(gitwire_put_advertisement(writer, GITWIRE_SHA256, GITWIRE_FEATURES_ALL, buffer, GITWIRE_ADVERTISEMENT_SIZE).kind == GITWIRE_DONE);
+	memset(buffer, '#', sizeof buffer);
+	EXPECT(gitwire_put_advertisement(writer, GITWIRE_SHA256, GITWIRE_FEATURES_ALL + 1, BUFFER).kind == GITWIRE_BAD_VALUE);
+	EXPECT(gitwire_put_advertisement(writer, GITWIRE_SHA256, UINT32_MAX, BUFFER).kind == GITWIRE_BAD_VALUE);
+	EXPECT(gitwire_put_advertisement(writer, 0, GITWIRE_FEATURES_ALL, BUFFER).kind == GITWIRE_BAD_VALUE);
 }
 
-/* Each field and bit of the offer is where the library looks for it. */
-static void try_offers_of_one_thing(void)
+/* Each feature is the bit that the library takes it for. */
+static void try_features_alone(void)
 {
 	static const struct {
-		gitwire_offer offer;
+		gitwire_format format;
+		uint32_t features;
 		const char *lines;
 	} cases[] = {
-		{ { .format = GITWIRE_SHA256 }, "000cls-refs\n" "000afetch\n" "0019object-format=sha256\n" },
-		{ { .features = GITWIRE_FEATURE_UNBORN, .format = GITWIRE_SHA1 }, "0013ls-refs=unborn\n" "000afetch\n" "0017object-format=sha1\n" },
-		{ { .features = GITWIRE_FEATURE_SHALLOW, .format = GITWIRE_SHA1 }, "000cls-refs\n" "0012fetch=shallow\n" "0017object-format=sha1\n" },
-		{ { .features = GITWIRE_FEATURE_REF_IN_WANT, .format = GITWIRE_SHA1 }, "000cls-refs\n" "0016fetch=ref-in-want\n" "0017object-format=sha1\n" },
-		{ { .features = GITWIRE_FEATURE_WAIT_FOR_DONE, .format = GITWIRE_SHA1 }, "000cls-refs\n" "0018fetch=wait-for-done\n" "0017object-format=sha1\n" },
-		{ { .features = GITWIRE_FEATURE_FILTER, .format = GITWIRE_SHA1 }, "000cls-refs\n" "0011fetch=filter\n" "0017object-format=sha1\n" },
-		{ { .features = GITWIRE_FEATURE_OBJECT_INFO, .format = GITWIRE_SHA1 }, "000cls-refs\n" "000afetch\n" "0017object-format=sha1\n" "0010object-info\n" },
-		{ { .features = GITWIRE_FEATURE_SERVER_OPTION, .format = GITWIRE_SHA1 }, "000cls-refs\n" "000afetch\n" "0012server-option\n" "0017object-format=sha1\n" },
+		{ GITWIRE_SHA256, 0, "000cls-refs\n" "000afetch\n" "0019object-format=sha256\n" },
+		{ GITWIRE_SHA1, GITWIRE_FEATURE_UNBORN, "0013ls-refs=unborn\n" "000afetch\n" "0017object-format=sha1\n" },
+		{ GITWIRE_SHA1, GITWIRE_FEATURE_SHALLOW, "000cls-refs\n" "0012fetch=shallow\n" "0017object-format=sha1\n" },
+		{ GITWIRE_SHA1, GITWIRE_FEATURE_REF_IN_WANT, "000cls-refs\n" "0016fetch=ref-in-want\n" "0017object-format=sha1\n" },
+		{ GITWIRE_SHA1, GITWIRE_FEATURE_WAIT_FOR_DONE, "000cls-refs\n" "0018fetch=wait-for-done\n" "0017object-format=sha1\n" },
+		{ GITWIRE_SHA1, GITWIRE_FEATURE_FILTER, "000cls-refs\n" "0011fetch=filter\n" "0017object-format=sha1\n" },
+		{ GITWIRE_SHA1, GITWIRE_FEATURE_OBJECT_INFO, "000cls-refs\n" "000afetch\n" "0017object-format=sha1\n" "0010object-info\n" },
+		{ GITWIRE_SHA1, GITWIRE_FEATURE_SERVER_OPTION, "000cls-refs\n" "000afetch\n" "0012server-option\n" "0017object-format=sha1\n" },
 	};
-	char wanted[GITWIRE_ADVERTISEMENT_ROOM];
+	char wanted[GITWIRE_ADVERTISEMENT_SIZE];
 
 	for (size_t i = 0; i < sizeof cases / sizeof *cases; i++) {
 		snprintf(wanted, sizeof wanted, "000eversion 2\n" "0011agent=git2/1\n" "%s" "0000", cases[i].lines);
-		EXPECT(wrote(gitwire_put_advertisement(&writer, cases[i].offer, ROOM), wanted));
+		EXPECT(wrote(gitwire_put_advertisement(writer, cases[i].format, cases[i].features, BUFFER), wanted));
 	}
 }
 
 static void try_writers_of_lines(void)
 {
-	EXPECT(wrote(gitwire_put_reference(&writer, GITWIRE_SHA1, TEXT(ONE), TEXT("HEAD"), TEXT("refs/heads/main"), NULL, 0, ROOM),
+	EXPECT(wrote(gitwire_put_reference(writer, GITWIRE_SHA1, TEXT(ONE), TEXT("HEAD"), TEXT("refs/heads/main"), NULL, 0, BUFFER),
 		"0050" ONE " HEAD symref-target:refs/heads/main\n"));
-	EXPECT(wrote(gitwire_put_reference(&writer, GITWIRE_SHA1, TEXT(ONE), TEXT("refs/tags/v1"), NULL, 0, TEXT(TWO), ROOM),
+	EXPECT(wrote(gitwire_put_reference(writer, GITWIRE_SHA1, TEXT(ONE), TEXT("refs/tags/v1"), NULL, 0, TEXT(TWO), BUFFER),
 		"006a" ONE " refs/tags/v1 peeled:" TWO "\n"));
-	EXPECT(wrote(gitwire_put_reference(&writer, GITWIRE_SHA256, TEXT(LONG_ONE), TEXT("HEAD"), NULL, 0, NULL, 0, ROOM),
+	EXPECT(wrote(gitwire_put_reference(writer, GITWIRE_SHA256, TEXT(LONG_ONE), TEXT("HEAD"), NULL, 0, NULL, 0, BUFFER),
 		"004a" LONG_ONE " HEAD\n"));
-	EXPECT(tells_fault(gitwire_put_reference(&writer, GITWIRE_SHA256, TEXT(ONE), TEXT("HEAD"), NULL, 0, NULL, 0, ROOM),
+	EXPECT(tells_fault(gitwire_put_reference(writer, GITWIRE_SHA256, TEXT(ONE), TEXT("HEAD"), NULL, 0, NULL, 0, BUFFER),
 		GITWIRE_FAULT_BAD_OBJECT_NAME, 0, 0));
-	EXPECT(tells_fault(gitwire_put_reference(&writer, GITWIRE_SHA1, TEXT(ONE), TEXT("HEAD"), TEXT("main"), NULL, 0, ROOM),
+	EXPECT(tells_fault(gitwire_put_reference(writer, GITWIRE_SHA1, TEXT(ONE), TEXT("HEAD"), TEXT("main"), NULL, 0, BUFFER),
 		GITWIRE_FAULT_BAD_REF_NAME, 0, 0));
-	EXPECT(gitwire_put_reference(&writer, 0, TEXT(ONE), TEXT("HEAD"), NULL, 0, NULL, 0, ROOM).kind == GITWIRE_BAD_VALUE);
-	EXPECT(wrote(gitwire_put_ack(&writer, GITWIRE_SHA1, TEXT(ONE), ROOM), "0031ACK " ONE "\n"));
-	EXPECT(gitwire_put_ack(&writer, GITWIRE_SHA1, TEXT(ONE), room, 48).kind == GITWIRE_ROOM_TOO_SMALL);
-	EXPECT(wrote(gitwire_put_boundary(&writer, GITWIRE_SHA1, true, TEXT(ONE), ROOM), "0035shallow " ONE "\n"));
-	EXPECT(wrote(gitwire_put_boundary(&writer, GITWIRE_SHA1, false, TEXT(ONE), ROOM), "0037unshallow " ONE "\n"));
-	EXPECT(wrote(gitwire_put_wanted(&writer, GITWIRE_SHA1, TEXT(ONE), TEXT("refs/heads/a"), ROOM), "003a" ONE " refs/heads/a\n"));
-	EXPECT(tells_fault(gitwire_put_wanted(&writer, GITWIRE_SHA1, TEXT(ONE), TEXT("refs/heads/a b"), ROOM), GITWIRE_FAULT_BAD_REF_NAME, 0, 0));
-	EXPECT(wrote(gitwire_put_info(&writer, GITWIRE_SHA1, TEXT(ONE), true, UINT64_MAX, ROOM), "0042" ONE " 18446744073709551615\n"));
-	EXPECT(wrote(gitwire_put_info(&writer, GITWIRE_SHA1, TEXT(ONE), false, 7, ROOM), "002e" ONE " \n"));
-	EXPECT(tells_fault(gitwire_put_info(&writer, GITWIRE_SHA1, NULL, 0, false, 7, ROOM), GITWIRE_FAULT_BAD_OBJECT_NAME, 0, 0));
+	EXPECT(gitwire_put_reference(writer, 0, TEXT(ONE), TEXT("HEAD"), NULL, 0, NULL, 0, BUFFER).kind == GITWIRE_BAD_VALUE);
+	EXPECT(wrote(gitwire_put_ack(writer, GITWIRE_SHA1, TEXT(ONE), BUFFER), "0031ACK " ONE "\n"));
+	EXPECT(gitwire_put_ack(writer, GITWIRE_SHA1, TEXT(ONE), buffer, 48).kind == GITWIRE_BUFFER_TOO_SMALL);
+	EXPECT(wrote(gitwire_put_boundary(writer, GITWIRE_SHA1, true, TEXT(ONE), BUFFER), "0035shallow " ONE "\n"));
+	EXPECT(wrote(gitwire_put_boundary(writer, GITWIRE_SHA1, false, TEXT(ONE), BUFFER), "0037unshallow " ONE "\n"));
+	EXPECT(wrote(gitwire_put_wanted(writer, GITWIRE_SHA1, TEXT(ONE), TEXT("refs/heads/a"), BUFFER), "003a" ONE " refs/heads/a\n"));
+	EXPECT(tells_fault(gitwire_put_wanted(writer, GITWIRE_SHA1, TEXT(ONE), TEXT("refs/heads/a b"), BUFFER), GITWIRE_FAULT_BAD_REF_NAME, 0, 0));
+	EXPECT(wrote(gitwire_put_info(writer, GITWIRE_SHA1, TEXT(ONE), true, UINT64_MAX, BUFFER), "0042" ONE " 18446744073709551615\n"));
+	EXPECT(wrote(gitwire_put_info(writer, GITWIRE_SHA1, TEXT(ONE), false, 7, BUFFER), "002e" ONE " \n"));
+	EXPECT(tells_fault(gitwire_put_info(writer, GITWIRE_SHA1, NULL, 0, false, 7, BUFFER), GITWIRE_FAULT_BAD_OBJECT_NAME, 0, 0));
 }
 
 /* Each error has the name that its constant has. */
@@ -140,53 +115,55 @@ static void try_names_of_faults(void)
 		[GITWIRE_FAULT_READ_FAULT] = "ReadFault", [GITWIRE_FAULT_WRITE_FAULT] = "WriteFault",
 		[GITWIRE_FAULT_READ_LIMIT] = "ReadLimit" };
 
-	for (unsigned fault = 1; fault < sizeof names / sizeof *names; fault++) {
-		size_t length = gitwire_fault_name((gitwire_fault)fault, ROOM);
-
-		EXPECT(length == strlen(names[fault]) && memcmp(room, names[fault], length) == 0);
-	}
-	memset(room, '#', sizeof room);
+	for (unsigned fault = 1; fault < sizeof names / sizeof *names; fault++)
+		EXPECT(strcmp(gitwire_fault_name((gitwire_fault)fault), names[fault]) == 0);
+	EXPECT(sizeof names / sizeof *names == GITWIRE_FAULT_READ_LIMIT + 1);
 }
 
+/* They last: what is returned for one error is there after others were asked for. */
 static void try_texts_of_faults(void)
 {
+	const char *first = gitwire_fault_name(GITWIRE_FAULT_BAD_DIGIT), *its_sentence = gitwire_fault_sentence(GITWIRE_FAULT_BAD_DIGIT);
 	size_t longest = 0;
 
 	for (unsigned fault = 0; fault < 1024; fault++) {
-		size_t length = gitwire_fault_name((gitwire_fault)fault, ROOM);
+		const char *name = gitwire_fault_name((gitwire_fault)fault), *sentence = gitwire_fault_sentence((gitwire_fault)fault);
+		size_t length = strlen(name);
 
 		EXPECT((length > 0) == (fault >= 1 && fault <= GITWIRE_FAULT_READ_LIMIT));
-		EXPECT(gitwire_fault_text((gitwire_fault)fault, UINT64_MAX, ROOM) == (length > 0 ? length + 24 : 0));
-		EXPECT(strlen(gitwire_fault_string((gitwire_fault)fault)) == length && memcmp(gitwire_fault_string((gitwire_fault)fault), room, length) == 0);
-		EXPECT((strlen(gitwire_fault_sentence((gitwire_fault)fault)) > 20) == (length > 0));
+		EXPECT((strlen(sentence) > 20) == (length > 0) && (strlen(sentence) > 0) == (length > 0));
+		EXPECT(gitwire_fault_text((gitwire_fault)fault, UINT64_MAX, CHARACTERS) == (length > 0 ? length + 24 : 0));
+		EXPECT(memcmp(buffer, name, length) == 0);
 		longest = length > longest ? length : longest;
 	}
-	EXPECT(longest <= GITWIRE_FAULT_NAME_ROOM && longest + 24 <= GITWIRE_FAULT_TEXT_ROOM);
-	EXPECT(strcmp(gitwire_fault_sentence(0), "") == 0 && strcmp(gitwire_version(), GITWIRE_VERSION) == 0);
-	EXPECT(gitwire_fault_name(GITWIRE_FAULT_TRUNCATED, room, 8) == 0);
-	EXPECT(gitwire_fault_text(GITWIRE_FAULT_TRUNCATED, 994, ROOM) == 16 && memcmp(room, "Truncated at 994", 16) == 0);
-	EXPECT(gitwire_fault_text(GITWIRE_FAULT_TRUNCATED, 994, room, 15) == 0);
-	memset(room, '#', sizeof room);
+	EXPECT(longest + 24 <= GITWIRE_FAULT_TEXT_SIZE);
+	EXPECT(strcmp(first, "BadDigit") == 0 && strncmp(its_sentence, "a byte of a packet's length is no hexadecimal digit", 51) == 0);
+	EXPECT(strcmp(gitwire_version(), GITWIRE_VERSION) == 0);
+	EXPECT(gitwire_fault_text(GITWIRE_FAULT_TRUNCATED, 994, CHARACTERS) == 16 && memcmp(buffer, "Truncated at 994", 16) == 0);
+	EXPECT(gitwire_fault_text(GITWIRE_FAULT_TRUNCATED, 994, (char *)buffer, 15) == 0);
+	memset(buffer, '#', sizeof buffer);
 }
 
 static void try_names_of_kinds(void)
 {
 	for (unsigned kind = 0; kind < 1024; kind++) {
-		size_t length = gitwire_kind_name((gitwire_result)kind, ROOM);
+		size_t length = gitwire_kind_name((gitwire_result)kind, CHARACTERS);
 
-		EXPECT((length > 0) == (kind <= GITWIRE_NOT_SHALLOW) && length <= GITWIRE_KIND_NAME_ROOM);
+		EXPECT((length > 0) == (kind <= GITWIRE_NOT_SHALLOW) && length <= GITWIRE_KIND_NAME_SIZE);
 	}
-	EXPECT(gitwire_kind_name(GITWIRE_NEED_INPUT, ROOM) == 9 && memcmp(room, "NeedInput", 9) == 0);
-	EXPECT(gitwire_kind_name(GITWIRE_NEED_INPUT, room, 8) == 0);
-	memset(room, '#', sizeof room);
+	EXPECT(gitwire_kind_name(GITWIRE_NEED_INPUT, CHARACTERS) == 9 && memcmp(buffer, "NeedInput", 9) == 0);
+	EXPECT(gitwire_kind_name(GITWIRE_NEED_INPUT, (char *)buffer, 8) == 0);
+	EXPECT(gitwire_kind_name(GITWIRE_NO_REQUEST, CHARACTERS) == 9 && memcmp(buffer, "NoRequest", 9) == 0);
+	EXPECT(gitwire_kind_name(GITWIRE_BUFFER_TOO_SMALL, CHARACTERS) == 14 && memcmp(buffer, "BufferTooSmall", 14) == 0);
+	memset(buffer, '#', sizeof buffer);
 }
 
 /* Whether so many bytes were escaped, with this escape at the front of the buffer and the bytes after it unchanged. */
 static bool escapes(gitwire_answer answer, gitwire_result kind, size_t used, const char *escape)
 {
-	bool is_it = tells(answer, kind, used, 0, strlen(escape)) && memcmp(room, escape, strlen(escape)) == 0 && room[answer.length] == '#';
+	bool is_it = tells(answer, kind, used, 0, strlen(escape)) && memcmp(buffer, escape, strlen(escape)) == 0 && buffer[answer.length] == '#';
 
-	memset(room, '#', sizeof room);
+	memset(buffer, '#', sizeof buffer);
 	return is_it;
 }
 
@@ -194,36 +171,36 @@ static void try_escapes(void)
 {
 	static const char some[] = "a\x1b]0;b\a \xc3\xa4~\x7f\\\n";
 
-	EXPECT(escapes(gitwire_escape(NULL, 0, ROOM), GITWIRE_DONE, 0, ""));
-	EXPECT(escapes(gitwire_escape(TEXT(some), ROOM), GITWIRE_DONE, strlen(some), "a\\x1b]0;b\\x07 \\xc3\\xa4~\\x7f\\\\\\n"));
-	EXPECT(escapes(gitwire_escape(TEXT(some), room, 8), GITWIRE_MORE, 5, "a\\x1b]0;"));
-	EXPECT(escapes(gitwire_escape(TEXT("a\n\\"), room, GITWIRE_ESCAPE_ROOM), GITWIRE_MORE, 2, "a\\n"));
-	EXPECT(escapes(gitwire_escape(TEXT("a\n"), room, GITWIRE_ESCAPE_ROOM), GITWIRE_DONE, 2, "a\\n"));
-	EXPECT(escapes(gitwire_escape(TEXT("a"), room, GITWIRE_ESCAPE_ROOM - 1), GITWIRE_ROOM_TOO_SMALL, 0, ""));
+	EXPECT(escapes(gitwire_escape(NULL, 0, CHARACTERS), GITWIRE_DONE, 0, ""));
+	EXPECT(escapes(gitwire_escape(BYTES(some), CHARACTERS), GITWIRE_DONE, strlen(some), "a\\x1b]0;b\\x07 \\xc3\\xa4~\\x7f\\\\\\n"));
+	EXPECT(escapes(gitwire_escape(BYTES(some), (char *)buffer, 8), GITWIRE_MORE, 5, "a\\x1b]0;"));
+	EXPECT(escapes(gitwire_escape(BYTES("a\n\\"), (char *)buffer, GITWIRE_ESCAPE_SIZE), GITWIRE_MORE, 2, "a\\n"));
+	EXPECT(escapes(gitwire_escape(BYTES("a\n"), (char *)buffer, GITWIRE_ESCAPE_SIZE), GITWIRE_DONE, 2, "a\\n"));
+	EXPECT(escapes(gitwire_escape(BYTES("a"), (char *)buffer, GITWIRE_ESCAPE_SIZE - 1), GITWIRE_BUFFER_TOO_SMALL, 0, ""));
 	for (unsigned byte = 0; byte < 256; byte++) {
 		bool is_plain = byte >= ' ' && byte <= '~' && byte != '\\';
 		const uint8_t one = (uint8_t)byte;
-		char escape[GITWIRE_ESCAPE_ROOM + 1];
+		char escape[GITWIRE_ESCAPE_SIZE + 1];
 
 		snprintf(escape, sizeof escape, is_plain ? "%c" : byte == '\n' ? "\\n" : byte == '\\' ? "\\\\" : "\\x%02x", byte);
-		EXPECT(escapes(gitwire_escape(&one, 1, room, GITWIRE_ESCAPE_ROOM), GITWIRE_DONE, 1, escape));
+		EXPECT(escapes(gitwire_escape(&one, 1, (char *)buffer, GITWIRE_ESCAPE_SIZE), GITWIRE_DONE, 1, escape));
 	}
 }
 
 static void *try_all(void *nothing)
 {
-	memset(room, '#', sizeof room);
-	try_no_writer();
+	memset(buffer, '#', sizeof buffer);
+	EXPECT(gitwire_writer_new(&writer) == GITWIRE_DONE && writer != NULL);
 	try_writers_of_packets();
 	try_writers_of_advertisements();
-	try_offers_of_one_thing();
+	try_features_alone();
 	try_writers_of_lines();
 	try_names_of_faults();
 	try_texts_of_faults();
 	try_names_of_kinds();
 	try_escapes();
-	gitwire_writer_free(&writer);
-	gitwire_writer_free(&writer);
+	gitwire_writer_free(writer);
+	gitwire_writer_free(NULL);
 	return nothing;
 }
 

@@ -143,7 +143,7 @@ case_help_goes_to_standard_output() {
 
 case_version_goes_to_standard_output() {
     run git2show --version
-    expect 0 <(echo 'git2show 0.2.0') /dev/null
+    expect 0 <(echo 'git2show 0.3.0') /dev/null
 }
 
 case_words_that_are_no_command_are_refused() {

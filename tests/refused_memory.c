@@ -2,7 +2,7 @@
  * Runs each kind of handle while memory is refused, at the first request for some, at the second, and so on: once only there, and once from
  * there on. Each call has to return what the header states, and all memory has to be freed.
  *
- * Linked with --wrap=malloc, --wrap=realloc and --wrap=free, so that those of the library come here. It prints how many requests for memory
+ * Linked with --wrap=malloc, --wrap=calloc, --wrap=realloc and --wrap=free, so that those of the library come here. It prints how many requests for memory
  * there were, and what was not as expected; the status is 1 if there was anything.
  */
 #include <gitwire.h>
@@ -12,9 +12,11 @@
 #include <string.h>
 
 void *__real_malloc(size_t size);
+void *__real_calloc(size_t count, size_t size);
 void *__real_realloc(void *block, size_t size);
 void __real_free(void *block);
 void *__wrap_malloc(size_t size);
+void *__wrap_calloc(size_t count, size_t size);
 void *__wrap_realloc(void *block, size_t size);
 void __wrap_free(void *block);
 
@@ -23,7 +25,6 @@ static long refused_at = -1;  /* which of them is refused */
 static bool refused_after;    /* and whether all after it are */
 static long refused;          /* how many were */
 static long live;             /* how many blocks are allocated */
-static long live_then;        /* how many were at the next request for memory after this was -1 */
 static int failures;
 
 static bool is_refused(void)
@@ -32,14 +33,20 @@ static bool is_refused(void)
 
 	asked++;
 	refused += is_it;
-	if (live_then < 0)
-		live_then = live;
 	return is_it;
 }
 
 void *__wrap_malloc(size_t size)
 {
 	void *block = is_refused() ? NULL : __real_malloc(size);
+
+	live += block != NULL;
+	return block;
+}
+
+void *__wrap_calloc(size_t count, size_t size)
+{
+	void *block = is_refused() ? NULL : __real_calloc(count, size);
 
 	live += block != NULL;
 	return block;
@@ -67,10 +74,16 @@ static void expect(bool holds, const char *what)
 	printf("request %ld for memory refused%s: %s\n", refused_at, refused_after ? ", and all after it" : "", what);
 }
 
-/* Whether a call went well, or reported that memory was refused. */
-static bool is_made(gitwire_result answer, const char *what)
+/* Whether a call set a handle, or reported that memory was refused: then it kept no memory, and set the handle to NULL. */
+#define IS_MADE(handle, call, what) is_made(live, call, &(handle), what)
+
+static bool is_made(long before, gitwire_result answer, void *handle, const char *what)
 {
-	expect(answer == GITWIRE_DONE || (answer == GITWIRE_OUT_OF_MEMORY && refused > 0), what);
+	void *made;
+
+	memcpy(&made, handle, sizeof made);
+	expect((answer == GITWIRE_DONE && made != NULL)
+		|| (answer == GITWIRE_OUT_OF_MEMORY && refused > 0 && made == NULL && live == before), what);
 	return answer == GITWIRE_DONE;
 }
 
@@ -80,7 +93,8 @@ static void expect_none_asked(long before, const char *what)
 	expect(asked == before, what);
 }
 
-#define TEXT(text) (const uint8_t *)(text), strlen(text)
+#define TEXT(text) (text), strlen(text)
+#define BYTES(text) (const uint8_t *)(text), strlen(text)
 #define ONE "1111111111111111111111111111111111111111"
 #define TWO "2222222222222222222222222222222222222222"
 #define FETCH "0012command=fetch\n" "0001" "0032want " ONE "\n" "0032have " ONE "\n" "0016deepen-not refs/a\n" \
@@ -91,34 +105,36 @@ static void expect_none_asked(long before, const char *what)
 #define ANSWER "000dpackfile\n" "0007\001AB" "0008\002hi\n" "0008\003no\n"
 #define ALL_PACKETS 6 /* the command, the delimiter, a revision, a wanted object, `done`, and the flush */
 
-static uint8_t room[GITWIRE_PACKET_ROOM];
+static uint8_t buffer[GITWIRE_PACKET_SIZE];
 
 static void run_packet_reader(void)
 {
-	gitwire_packet_reader reader = GITWIRE_NONE;
-	bool made = is_made(gitwire_packet_reader_new(&reader), "a packet reader");
-	long before = asked;
-	gitwire_answer answer = gitwire_packet_reader_feed(&reader, TEXT("0009hello"), room, sizeof room);
+	gitwire_packet_reader *reader = NULL;
+	gitwire_answer answer;
+	long before;
 
-	expect_none_asked(before, "memory for a packet");
-	expect(answer.kind == (made ? GITWIRE_PAYLOAD : GITWIRE_NO_HANDLE), "a packet");
-	made = is_made(gitwire_packet_reader_new(&reader), "a further packet reader");
-	expect(reader.is_made_ == made, "what a handle has");
-	gitwire_packet_reader_free(&reader);
+	if (IS_MADE(reader, gitwire_packet_reader_new(&reader), "a packet reader")) {
+		before = asked;
+		answer = gitwire_packet_reader_feed(reader, BYTES("0009hello"), buffer, sizeof buffer);
+		expect_none_asked(before, "memory for a packet");
+		expect(answer.kind == GITWIRE_PAYLOAD, "a packet");
+	}
+	gitwire_packet_reader_free(reader);
 }
 
 static void run_writer(void)
 {
-	gitwire_writer writer = GITWIRE_NONE;
-	bool made = is_made(gitwire_writer_new(&writer), "a writer");
-	long before = asked;
-	gitwire_answer answer = gitwire_put_line(&writer, TEXT("NAK"), room, sizeof room);
+	gitwire_writer *writer = NULL;
+	gitwire_answer answer;
+	long before;
 
-	expect_none_asked(before, "memory for a line");
-	expect(answer.kind == (made ? GITWIRE_DONE : GITWIRE_NO_HANDLE), "a line");
-	made = is_made(gitwire_writer_new(&writer), "a further writer");
-	expect(writer.is_made_ == made, "what a writer's handle has");
-	gitwire_writer_free(&writer);
+	if (IS_MADE(writer, gitwire_writer_new(&writer), "a writer")) {
+		before = asked;
+		answer = gitwire_put_line(writer, TEXT("NAK"), buffer, sizeof buffer);
+		expect_none_asked(before, "memory for a line");
+		expect(answer.kind == GITWIRE_DONE, "a line");
+	}
+	gitwire_writer_free(writer);
 }
 
 /* Whether a request is received, or it is refused as OutOfMemory, and stays refused. */
@@ -127,14 +143,14 @@ static void hear_request(gitwire_request_reader *reader, gitwire_request *reques
 	gitwire_answer answer, after;
 
 	do
-		answer = gitwire_request_reader_feed(reader, request, TEXT(text));
+		answer = gitwire_request_reader_feed(reader, request, BYTES(text));
 	while (answer.kind == GITWIRE_OUT_OF_MEMORY && answer.used == 0 && !refused_after);
 	if (answer.kind == GITWIRE_REQUEST) {
 		expect(answer.used == strlen(text), "a whole request");
 		return;
 	}
 	expect(refused > 0, "a request");
-	after = gitwire_request_reader_feed(reader, request, TEXT(text));
+	after = gitwire_request_reader_feed(reader, request, BYTES(text));
 	if (answer.kind == GITWIRE_FAILED)
 		expect(answer.fault == GITWIRE_FAULT_OUT_OF_MEMORY && after.kind == GITWIRE_FAILED && after.used == 0
 			&& after.fault == answer.fault && after.offset == answer.offset, "a refused request");
@@ -142,18 +158,23 @@ static void hear_request(gitwire_request_reader *reader, gitwire_request *reques
 		expect(answer.kind == GITWIRE_OUT_OF_MEMORY && answer.used == 0, "nothing used");
 }
 
+static bool make_reader(gitwire_request_reader **reader)
+{
+	return IS_MADE(*reader, gitwire_request_reader_new(reader, GITWIRE_SHA1, GITWIRE_FEATURE_SHALLOW | GITWIRE_FEATURE_FILTER,
+		GITWIRE_DEFAULT_LIMIT), "a reader of requests");
+}
+
 static void run_request_reader(void)
 {
-	gitwire_request_reader reader = GITWIRE_NONE;
-	gitwire_request request = GITWIRE_NONE;
-	gitwire_offer offer = { .features = GITWIRE_FEATURE_SHALLOW | GITWIRE_FEATURE_FILTER, .format = GITWIRE_SHA1 };
+	gitwire_request_reader *reader = NULL;
+	gitwire_request *request = NULL;
 
-	if (is_made(gitwire_request_reader_new(&reader, offer, GITWIRE_USUAL_LIMIT), "a reader of requests")) {
-		hear_request(&reader, &request, FETCH);
-		hear_request(&reader, &request, LS_REFS);
+	if (make_reader(&reader) && IS_MADE(request, gitwire_request_empty(&request), "a handle without a request")) {
+		hear_request(reader, request, FETCH);
+		hear_request(reader, request, LS_REFS);
 	}
-	gitwire_request_reader_free(&reader);
-	gitwire_request_free(&request);
+	gitwire_request_reader_free(reader);
+	gitwire_request_free(request);
 }
 
 static bool add(gitwire_request *request, const char *line)
@@ -178,22 +199,22 @@ static void add_without_memory(gitwire_request *request, const char *line)
 /* An argument that was refused is not in the request, and those before it are. */
 static void run_request(void)
 {
-	gitwire_request request = GITWIRE_NONE;
+	gitwire_request *request = NULL;
 	bool first, second, third;
 
-	if (is_made(gitwire_request_new(&request, GITWIRE_FETCH, GITWIRE_SHA1, 1000), "a request")) {
-		first = add(&request, "want " ONE);
-		expect(gitwire_request_item(&request, GITWIRE_LIST_WANTS, 0, room, sizeof room).kind
+	if (IS_MADE(request, gitwire_request_new(&request, GITWIRE_FETCH, GITWIRE_SHA1, 1000), "a request")) {
+		first = add(request, "want " ONE);
+		expect(gitwire_request_item(request, GITWIRE_LIST_WANTS, 0, (char *)buffer, sizeof buffer).kind
 			== (first ? GITWIRE_DONE : GITWIRE_NOTHING), "a want");
-		second = add(&request, "deepen-not refs/a");
-		expect(gitwire_request_item(&request, GITWIRE_LIST_DEEPEN_NOTS, 0, room, sizeof room).kind
+		second = add(request, "deepen-not refs/a");
+		expect(gitwire_request_item(request, GITWIRE_LIST_DEEPEN_NOTS, 0, (char *)buffer, sizeof buffer).kind
 			== (second ? GITWIRE_DONE : GITWIRE_NOTHING), "a revision");
-		add(&request, "want-ref refs/heads/main");
-		third = add(&request, "filter blob:none");
-		expect(gitwire_request_item(&request, GITWIRE_LIST_FILTERS, 0, room, sizeof room).kind
+		add(request, "want-ref refs/heads/main");
+		third = add(request, "filter blob:none");
+		expect(gitwire_request_item(request, GITWIRE_LIST_FILTERS, 0, (char *)buffer, sizeof buffer).kind
 			== (third ? GITWIRE_DONE : GITWIRE_NOTHING), "a filter");
 	}
-	gitwire_request_free(&request);
+	gitwire_request_free(request);
 }
 
 /* Each flag of a command, and each number, takes no memory. */
@@ -208,80 +229,69 @@ static void run_flags(void)
 			"deepen 1", "deepen-since 1" } },
 		{ GITWIRE_OBJECT_INFO, { "size" } },
 	};
-	gitwire_request request = GITWIRE_NONE;
 
-	for (size_t i = 0; i < sizeof all / sizeof *all; i++)
-		if (is_made(gitwire_request_new(&request, all[i].command, GITWIRE_SHA1, 1000), "a request of flags"))
+	for (size_t i = 0; i < sizeof all / sizeof *all; i++) {
+		gitwire_request *request = NULL;
+
+		if (IS_MADE(request, gitwire_request_new(&request, all[i].command, GITWIRE_SHA1, 1000), "a request of flags"))
 			for (const char *const *line = all[i].lines; *line; line++)
-				add_without_memory(&request, *line);
-	gitwire_request_free(&request);
+				add_without_memory(request, *line);
+		gitwire_request_free(request);
+	}
 }
 
 static const char *const small = "format sha1\n" "ref " ONE " HEAD symref-target:refs/heads/main\n" "ref " ONE " refs/heads/main\n"
 	"object " ONE " 230\n" "ready 1\n" "shallow " ONE "\n";
 
-static bool make_repository(gitwire_repository *repository)
+static bool make_repository(gitwire_repository **repository)
 {
-	return is_made(gitwire_repository_new(repository, TEXT(small), TEXT("PACK")).kind, "a repository");
+	return IS_MADE(*repository, gitwire_repository_new(repository, TEXT(small), BYTES("PACK")).kind, "a repository");
 }
 
-/* What a handle had is freed before it is made anew: there are never two repositories at once. */
 static void run_repository(void)
 {
-	gitwire_repository repository = GITWIRE_NONE;
-	bool made;
+	gitwire_repository *repository = NULL;
 
 	make_repository(&repository);
-	live_then = -1;
-	made = make_repository(&repository);
-	expect(live_then == 0, "the repository before");
-	expect(repository.is_made_ == made, "what a repository's handle has");
-	gitwire_repository_free(&repository);
+	gitwire_repository_free(repository);
 }
 
-/* One with a pack of its own for fetches with a filter, after another one. */
+/* One with a pack of its own for fetches with a filter. */
 static void run_filtered_repository(void)
 {
-	gitwire_repository repository = GITWIRE_NONE;
-	gitwire_answer answer;
-	bool made;
+	gitwire_repository *repository = NULL;
 
-	make_repository(&repository);
-	live_then = -1;
-	answer = gitwire_repository_new_filtered(&repository, TEXT(small), TEXT("PACK"), TEXT("TINY"));
-	made = is_made(answer.kind, "a repository with two packs");
-	expect(live_then == 0, "the repository before one with two packs");
-	expect(repository.is_made_ == made, "what its handle has");
-	gitwire_repository_free(&repository);
+	IS_MADE(repository, gitwire_repository_new_filtered(&repository, TEXT(small), BYTES("PACK"), BYTES("TINY")).kind,
+		"a repository with two packs");
+	gitwire_repository_free(repository);
 }
 
 /* A session ends with the client's flush, or is refused as OutOfMemory. */
 static void run_server(void)
 {
 	static const char *const said = LS_REFS FETCH "0000";
-	gitwire_repository repository = GITWIRE_NONE;
-	gitwire_server server = GITWIRE_NONE;
+	gitwire_repository *repository = NULL;
+	gitwire_server *server = NULL;
 	gitwire_answer answer = { .kind = GITWIRE_PACKET };
 	size_t used = 0;
-	bool made;
 
-	if (make_repository(&repository) && is_made(gitwire_server_new(&server, &repository, 1000, true), "a server")) {
+	if (make_repository(&repository) && IS_MADE(server, gitwire_server_new(&server, repository, 1000, true), "a server")) {
 		while (answer.kind == GITWIRE_PACKET || answer.kind == GITWIRE_NEED_INPUT) {
 			long before = asked;
 
-			answer = gitwire_server_pull(&server, room, sizeof room);
+			answer = gitwire_server_pull(server, buffer, sizeof buffer);
 			expect_none_asked(before, "memory for an answer");
 			if (answer.kind == GITWIRE_NEED_INPUT && used < strlen(said))
-				used += gitwire_server_feed(&server, (const uint8_t *)said + used, strlen(said) - used).used;
+				used += gitwire_server_feed(server, (const uint8_t *)said + used, strlen(said) - used).used;
 			else if (answer.kind == GITWIRE_NEED_INPUT)
-				gitwire_server_close(&server);
+				gitwire_server_close(server);
 		}
 		expect(answer.kind == GITWIRE_ENDED_BY_FLUSH || (answer.fault == GITWIRE_FAULT_OUT_OF_MEMORY && refused > 0), "a session");
-		made = is_made(gitwire_server_new(&server, &repository, 1000, true), "a further server");
-		expect(server.is_made_ == made, "what its handle has");
+		gitwire_server_free(server);
+		IS_MADE(server, gitwire_server_new(&server, repository, 1000, true), "a further server");
 	}
-	gitwire_repository_free(&repository);
-	gitwire_server_free(&server);
+	gitwire_repository_free(repository);
+	gitwire_server_free(server);
 }
 
 /* Whether a report is accepted, once there is memory for it: if memory is refused nothing changes, and the report is made again. */
@@ -298,98 +308,90 @@ static void expect_reported(gitwire_host *host, gitwire_result kind, gitwire_ans
 
 static gitwire_answer report_reference(gitwire_host *host)
 {
-	return gitwire_host_reference(host, TEXT(ONE), TEXT("refs/heads/a-name-of-more-than-32-bytes"), TEXT("refs/a"), NULL, 0, room, sizeof room);
+	return gitwire_host_reference(host, TEXT(ONE), TEXT("refs/heads/a-name-of-more-than-32-bytes"), TEXT("refs/a"), NULL, 0, buffer, sizeof buffer);
 }
 
 static gitwire_answer report_wanted(gitwire_host *host)
 {
-	return gitwire_host_want_ref(host, TEXT(ONE), room, sizeof room);
+	return gitwire_host_want_ref(host, TEXT(ONE), buffer, sizeof buffer);
 }
 
 /* A session over a store that answers questions: references, and a wanted one. It ends well, or is refused as OutOfMemory. */
 static void run_host(void)
 {
 	static const char *const said = LS_REFS "0012command=fetch\n" "0001" "0014want-ref refs/a\n" "0009done\n" "0000";
-	gitwire_host host = GITWIRE_NONE;
-	gitwire_offer offer = { .features = GITWIRE_FEATURES_ALL, .format = GITWIRE_SHA1 };
+	gitwire_host *host = NULL;
 	gitwire_answer answer = { .kind = GITWIRE_PACKET };
 	size_t used = 0;
-	bool made;
 
-	if (is_made(gitwire_host_new(&host, offer, 1000, true), "a host's server")) {
+	if (IS_MADE(host, gitwire_host_new(&host, GITWIRE_SHA1, GITWIRE_FEATURES_ALL, 1000, true), "a host's server")) {
 		while (answer.kind != GITWIRE_ENDED_BY_CLOSE && answer.kind != GITWIRE_FAILED && answer.kind != GITWIRE_NEED_BOUNDARY) {
-			answer = gitwire_host_pull(&host, room, sizeof room);
+			answer = gitwire_host_pull(host, buffer, sizeof buffer);
 			if (answer.kind == GITWIRE_NEED_INPUT && used < strlen(said))
-				used += gitwire_host_feed(&host, (const uint8_t *)said + used, strlen(said) - used).used;
+				used += gitwire_host_feed(host, (const uint8_t *)said + used, strlen(said) - used).used;
 			else if (answer.kind == GITWIRE_NEED_INPUT)
-				gitwire_host_close(&host);
+				gitwire_host_close(host);
 			else if (answer.kind == GITWIRE_ASKED)
-				expect(gitwire_host_accept(&host) == GITWIRE_DONE, "a request that is accepted");
+				expect(gitwire_host_accept(host) == GITWIRE_DONE, "a request that is accepted");
 			else if (answer.kind == GITWIRE_NEED_REFERENCE) {
-				expect_reported(&host, GITWIRE_PACKET, report_reference);
-				expect(gitwire_host_references_end(&host, room, sizeof room).kind == GITWIRE_PACKET, "the end of references");
+				expect_reported(host, GITWIRE_PACKET, report_reference);
+				expect(gitwire_host_references_end(host, buffer, sizeof buffer).kind == GITWIRE_PACKET, "the end of references");
 			} else if (answer.kind == GITWIRE_NEED_WANT_REF) {
-				expect_reported(&host, GITWIRE_MORE, report_wanted);
+				expect_reported(host, GITWIRE_MORE, report_wanted);
 				if (refused_after && refused > 0)
 					break;
 			}
 		}
 		expect(answer.kind != GITWIRE_FAILED || (answer.fault == GITWIRE_FAULT_OUT_OF_MEMORY && refused > 0), "a session of a host");
-		made = is_made(gitwire_host_new(&host, offer, 1000, true), "a further host's server");
-		expect(host.is_made_ == made, "what a host's handle has");
 	}
-	gitwire_host_free(&host);
+	gitwire_host_free(host);
 }
 
 static void run_client(void)
 {
-	gitwire_client client = GITWIRE_NONE;
-	gitwire_request request = GITWIRE_NONE;
+	gitwire_client *client = NULL;
+	gitwire_request *request = NULL;
 	gitwire_event event;
 	gitwire_answer answer;
-	bool made;
 	long before;
 
-	if (is_made(gitwire_client_new(&client, GITWIRE_SHA1, GITWIRE_ENDS_BY_FLUSH), "a client")) {
+	if (IS_MADE(client, gitwire_client_new(&client, GITWIRE_SHA1, GITWIRE_ENDS_BY_FLUSH), "a client")) {
 		before = asked;
-		event = gitwire_client_feed(&client, TEXT("000eversion 2\n"), room, sizeof room);
-		event = gitwire_client_feed(&client, TEXT("000cls-refs\n"), room, sizeof room);
-		event = gitwire_client_feed(&client, TEXT("0000"), room, sizeof room);
+		event = gitwire_client_feed(client, BYTES("000eversion 2\n"), buffer, sizeof buffer);
+		event = gitwire_client_feed(client, BYTES("000cls-refs\n"), buffer, sizeof buffer);
+		event = gitwire_client_feed(client, BYTES("0000"), buffer, sizeof buffer);
 		expect(event.kind == GITWIRE_OFFERED, "an advertisement");
 		expect_none_asked(before, "memory for an advertisement");
-		if (is_made(gitwire_request_new(&request, GITWIRE_LS_REFS, GITWIRE_SHA1, 1000), "a request to ask")) {
-			add(&request, "ref-prefix refs/heads/");
+		if (IS_MADE(request, gitwire_request_new(&request, GITWIRE_LS_REFS, GITWIRE_SHA1, 1000), "a request to ask")) {
+			add(request, "ref-prefix refs/heads/");
 			before = asked;
-			answer = gitwire_client_ask(&client, &request);
+			answer = gitwire_client_ask(client, request);
 			expect(answer.kind == GITWIRE_DONE || refused > 0, "a request");
 			do
-				answer = gitwire_client_pull(&client, room, sizeof room);
+				answer = gitwire_client_pull(client, buffer, sizeof buffer);
 			while (answer.kind == GITWIRE_PACKET);
 			expect(answer.kind == GITWIRE_NEED_INPUT || refused > 0, "what is sent for it");
 			expect_none_asked(before, "memory for a request");
 		}
-		made = is_made(gitwire_client_new(&client, GITWIRE_SHA1, GITWIRE_ENDS_BY_FLUSH), "a further client");
-		expect(client.is_made_ == made, "what its handle has");
 	}
-	gitwire_client_free(&client);
-	gitwire_request_free(&request);
+	gitwire_client_free(client);
+	gitwire_request_free(request);
 }
 
 /* A reader of requests is freed wherever its input breaks off: so many bytes of two requests come. */
 static void break_requests_off(size_t length)
 {
 	static const char *const said = LS_REFS FETCH;
-	gitwire_request_reader reader = GITWIRE_NONE;
-	gitwire_request request = GITWIRE_NONE;
-	gitwire_offer offer = { .features = GITWIRE_FEATURE_SHALLOW | GITWIRE_FEATURE_FILTER, .format = GITWIRE_SHA1 };
+	gitwire_request_reader *reader = NULL;
+	gitwire_request *request = NULL;
 	gitwire_answer answer = { .kind = GITWIRE_MORE };
 
-	if (is_made(gitwire_request_reader_new(&reader, offer, GITWIRE_USUAL_LIMIT), "a reader of requests that break off"))
+	if (make_reader(&reader) && IS_MADE(request, gitwire_request_empty(&request), "a handle for requests that break off"))
 		for (size_t used = 0; used < length && (answer.kind == GITWIRE_MORE || answer.kind == GITWIRE_REQUEST); used += answer.used)
-			answer = gitwire_request_reader_feed(&reader, &request, (const uint8_t *)said + used, length - used);
+			answer = gitwire_request_reader_feed(reader, request, (const uint8_t *)said + used, length - used);
 	expect(answer.kind == GITWIRE_MORE || answer.kind == GITWIRE_REQUEST || refused > 0, "requests that break off");
-	gitwire_request_reader_free(&reader);
-	gitwire_request_free(&request);
+	gitwire_request_reader_free(reader);
+	gitwire_request_free(request);
 	expect(live == 0, "what a reader of requests kept");
 }
 
@@ -403,23 +405,23 @@ static void run_broken_requests(void)
 static void break_session_off(size_t length)
 {
 	static const char *const said = REFUSED;
-	gitwire_repository repository = GITWIRE_NONE;
-	gitwire_server server = GITWIRE_NONE;
+	gitwire_repository *repository = NULL;
+	gitwire_server *server = NULL;
 	gitwire_answer answer = { .kind = GITWIRE_NEED_INPUT };
 
-	if (make_repository(&repository) && is_made(gitwire_server_new(&server, &repository, 1000, false), "a server to break off")) {
+	if (make_repository(&repository) && IS_MADE(server, gitwire_server_new(&server, repository, 1000, false), "a server to break off")) {
 		for (size_t used = 0; used < length && answer.kind == GITWIRE_NEED_INPUT;) {
-			used += gitwire_server_feed(&server, (const uint8_t *)said + used, length - used).used;
+			used += gitwire_server_feed(server, (const uint8_t *)said + used, length - used).used;
 			do
-				answer = gitwire_server_pull(&server, room, sizeof room);
+				answer = gitwire_server_pull(server, buffer, sizeof buffer);
 			while (answer.kind == GITWIRE_PACKET);
 		}
 		expect((answer.kind == GITWIRE_NEED_INPUT && length < strlen(said))
 			|| (answer.fault == GITWIRE_FAULT_NOT_OURS && length == strlen(said))
 			|| (answer.fault == GITWIRE_FAULT_OUT_OF_MEMORY && refused > 0), "a session that breaks off");
 	}
-	gitwire_repository_free(&repository);
-	gitwire_server_free(&server);
+	gitwire_repository_free(repository);
+	gitwire_server_free(server);
 	expect(live == 0, "what a server kept");
 }
 
@@ -437,7 +439,7 @@ static gitwire_event hear(gitwire_client *client, const char *said, size_t lengt
 	long before = asked;
 
 	for (size_t used = 0; used < length && event.kind != GITWIRE_FAILED; used += event.used)
-		event = gitwire_client_feed(client, (const uint8_t *)said + used, length - used, room, sizeof room);
+		event = gitwire_client_feed(client, (const uint8_t *)said + used, length - used, buffer, sizeof buffer);
 	expect_none_asked(before, "memory for what is received");
 	return event;
 }
@@ -451,29 +453,29 @@ static void ask_and_hear(gitwire_client *client, gitwire_request *request, int p
 	hear(client, OFFERED, strlen(OFFERED));
 	before = asked;
 	expect(gitwire_client_ask(client, request).kind == GITWIRE_DONE, "a pack that is asked for");
-	while (packets-- > 0 && gitwire_client_pull(client, room, sizeof room).kind == GITWIRE_PACKET)
+	while (packets-- > 0 && gitwire_client_pull(client, buffer, sizeof buffer).kind == GITWIRE_PACKET)
 		;
 	expect_none_asked(before, "memory for a pack that is asked for");
 	event = hear(client, ANSWER, length);
 	if (length < strlen(ANSWER))
 		return;
 	expect(event.kind == GITWIRE_FAILED && event.fault == GITWIRE_FAULT_REMOTE_FATAL, "the server's fault");
-	expect(gitwire_client_message(client, room, sizeof room).length == 3, "the server's message for it");
+	expect(gitwire_client_message(client, (char *)buffer, sizeof buffer).length == 3, "the server's message for it");
 	expect_none_asked(before, "memory for a server's message");
 }
 
 /* A client is freed wherever its conversation breaks off: while it asks, and in the answer, whose last packet reports an error. */
 static void break_conversation_off(int packets, size_t length)
 {
-	gitwire_client client = GITWIRE_NONE;
-	gitwire_request request = GITWIRE_NONE;
+	gitwire_client *client = NULL;
+	gitwire_request *request = NULL;
 
-	if (is_made(gitwire_client_new(&client, GITWIRE_SHA1, GITWIRE_ENDS_BY_FLUSH), "a client to break off")
-		&& is_made(gitwire_request_new(&request, GITWIRE_FETCH, GITWIRE_SHA1, 1000), "a request for a pack")
-		&& add(&request, "want " ONE) && add(&request, "deepen-not refs/a") && add(&request, "done"))
-		ask_and_hear(&client, &request, packets, length);
-	gitwire_client_free(&client);
-	gitwire_request_free(&request);
+	if (IS_MADE(client, gitwire_client_new(&client, GITWIRE_SHA1, GITWIRE_ENDS_BY_FLUSH), "a client to break off")
+		&& IS_MADE(request, gitwire_request_new(&request, GITWIRE_FETCH, GITWIRE_SHA1, 1000), "a request for a pack")
+		&& add(request, "want " ONE) && add(request, "deepen-not refs/a") && add(request, "done"))
+		ask_and_hear(client, request, packets, length);
+	gitwire_client_free(client);
+	gitwire_request_free(request);
 	expect(live == 0, "what a client kept");
 }
 

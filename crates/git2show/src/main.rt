@@ -60,7 +60,7 @@ static FORMATS: [&str; 2] = ["sha1", "sha256"];
 /// The words that may follow the program's name.
 fn command<'a>(alloc: Global) -> Result<Command<'a>, AllocError> {
     Command::new(alloc, "git2show")
-        .version("0.2.0")
+        .version("0.3.0")
         .about(
             "Shows, checks, serves, fetches and plays conversations of Git's wire protocol, version 2",
         )

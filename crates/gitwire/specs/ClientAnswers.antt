@@ -1,5 +1,5 @@
 -- What is reported to C for a client's calls.
-use Rattle.std.specs.Prelude.{◌≡◌, ℕ, ◌+◌, ◌<◌, ◌≤◌, Bool, true, false, List, [], ◌∷◌, ◌++◌, length, take, Option, Some, None, MatchOption, IsSomeAnd, unwrap_or}
+use Rattle.std.specs.Prelude.{◌≡◌, ℕ, ◌+◌, ◌<◌, ◌≤◌, Bool, true, false, List, [], ◌∷◌, ◌++◌, length, take, Option, Some, None, MatchOption, IsSomeAnd}
 use Rattle.std.specs.Global.{Global}
 use Rattle.git_names.specs.declared.object_format.Format.{Format}
 use Rattle.git_pkt.specs.Packets.{longest_payload}
@@ -21,8 +21,7 @@ use Rattle.git_client.specs.declared.events.HeardGot.{HeardGot}
 use Rattle.git_client.specs.declared.events.HeardGot.TheVariants as Got
 use Rattle.git_client.specs.declared.events.Sent.{Sent}
 use Rattle.gitwire.specs.EventAnswers.{answering_refusal, copied_of, shown_at, telling_none}
-use Rattle.gitwire.specs.Numbers.{numbered}
-use Rattle.gitwire.specs.Offers.{features_shown}
+use Rattle.gitwire.specs.Offers.{features_shown, is_noted}
 use Rattle.gitwire.specs.Rooms.{put_before}
 use Rattle.gitwire.specs.Answers.{more_of, answering, answering_fault, answering_packet, what_number}
 use Rattle.gitwire.specs.declared.event.GitwireEvent.{GitwireEvent}
@@ -179,11 +178,7 @@ pub record FeaturesAnswer (client : Client Global) (answer : ℕ) : Type 0 where
   pub answer_is : answer ≡ features_shown (caps_of client)
   pub noted : Noted client
 
--- whether each key was noted: the first has the number 1
-abbrev pub keys_noted : Caps → List Bool
-keys_noted caps = caps.agent ∷ caps.ls_refs ∷ caps.fetch ∷ caps.object_format ∷ caps.sha1 ∷ caps.sha256 ∷ []
-
--- whether the key of this number was noted; a number of no key was not
+-- whether the key of this number was noted
 pub record AdvertisesAnswer (key : ℕ) (client : Client Global) (answer : Bool) : Type 0 where
-  pub answer_is : answer ≡ unwrap_or (numbered (keys_noted (caps_of client)) key) false
+  pub answer_is : answer ≡ is_noted key (caps_of client)
   pub noted : Noted client

@@ -1,5 +1,5 @@
 -- What a server advertises, as C passes it, and what was noted of an advertisement, as C is shown it: a bit for each feature.
-use Rattle.std.specs.Prelude.{ℕ, ◌+◌, Bool, true, false, not, ◌==◌, nat_lt, if◌then◌else◌, Option, None}
+use Rattle.std.specs.Prelude.{ℕ, ◌+◌, Bool, true, false, not, ◌==◌, nat_lt, if◌then◌else◌, List, [], ◌∷◌, Option, None, unwrap_or}
 use Rattle.std.specs.Int.Bits.{bit_and}
 use Rattle.std.specs.Option.{option_map}
 use Rattle.git_msg.specs.declared.offers.Caps.{Caps}
@@ -34,3 +34,11 @@ abbrev pub features_shown : Caps → ℕ
 features_shown caps =
     where_shown caps.unborn 1 + where_shown caps.shallow 2 + where_shown caps.ref_in_want 4 + where_shown caps.wait_for_done 8
     + where_shown caps.server_option 16 + where_shown caps.object_info 32 + where_shown caps.filter 64
+
+-- whether each key was noted: the first has the number 1
+abbrev pub keys_noted : Caps → List Bool
+keys_noted caps = caps.agent ∷ caps.ls_refs ∷ caps.fetch ∷ caps.object_format ∷ caps.sha1 ∷ caps.sha256 ∷ []
+
+-- whether the key of this number was noted; a number of no key was not
+abbrev pub is_noted : ℕ → Caps → Bool
+is_noted key caps = unwrap_or (numbered (keys_noted caps) key) false

@@ -13,7 +13,7 @@ use crate::event::GitwireEvent;
 use crate::event_list::list;
 use crate::handles::{GitwireClient, GitwireRequest, Holds, fill};
 use crate::numbers::format_numbered;
-use crate::offer::features_noted;
+use crate::offer::{features_noted, key_noted};
 use git_client::{Client, Ending, HeardGot, Sent};
 use git_msg::{Command, Limits, Request};
 use git_names::{Format, Steps};
@@ -301,15 +301,7 @@ fn advertises(client: &Client<Global>, key: u32) -> bool
     ensures { AdvertisesAnswer key client.now result }
 {
     let caps = client.caps();
-    match key {
-        1 => caps.agent,
-        2 => caps.ls_refs,
-        3 => caps.fetch,
-        4 => caps.object_format,
-        5 => caps.sha1,
-        6 => caps.sha256,
-        _ => false,
-    }
+    key_noted(&caps, key)
 }
 
 /// Frees the client. The handle has none from then on.

@@ -1,7 +1,8 @@
-//! What a server advertises, as C passes it: the number of a format, and the sum of features.
+//! What a server advertises, as C passes it, and what a client noted of that, as C asks for it: the number of a format, the sum of features, and
+//! the numbers of keys.
 
 ghost use Rattle.std.specs.Prelude.{◌≡◌, ◌≤◌};
-ghost use Rattle.gitwire.specs.Offers.{features_shown, has_feature, offer_meant, where_shown};
+ghost use Rattle.gitwire.specs.Offers.{features_shown, has_feature, is_noted, offer_meant, where_shown};
 
 use crate::numbers::format_numbered;
 use git_msg::{Caps, Offer};
@@ -79,4 +80,19 @@ fn where_noted(noted: bool, feature: u32) -> u32
     ensures small { result ≤ feature }
 {
     if noted { feature } else { 0 }
+}
+
+/// Whether the key of this number was noted of an advertisement; a number of no key was not.
+pub(crate) fn key_noted(caps: &Caps, key: u32) -> bool
+    ensures { result ≡ is_noted key caps.now }
+{
+    match key {
+        1 => caps.agent,
+        2 => caps.ls_refs,
+        3 => caps.fetch,
+        4 => caps.object_format,
+        5 => caps.sha1,
+        6 => caps.sha256,
+        _ => false,
+    }
 }
