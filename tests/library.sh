@@ -18,6 +18,7 @@ write_examples() {
     compile library_arrays "$top/tests/library_arrays.c"
     compile library_writers "$top/tests/library_writers.c"
     compile library_host "$top/tests/library_host.c"
+    compile library_threads "$top/tests/library_threads.c"
     compile refused_memory "$top/tests/refused_memory.c" -Wl,--wrap=malloc,--wrap=calloc,--wrap=realloc,--wrap=free
 }
 
@@ -269,7 +270,7 @@ case_library_header_has_a_type_for_each_kind_of_number() {
 
 case_library_programs_compile_without_a_word() {
     local name
-    for name in daemon fetch list packets upload-pack watch library_calls library_arrays library_writers library_host refused_memory; do
+    for name in daemon fetch list packets upload-pack watch library_calls library_arrays library_writers library_host library_threads refused_memory; do
         expect_same "what the compiler prints for $name" /dev/null "$name.said"
     done
 }
@@ -329,6 +330,19 @@ case_library_arrays_have_what_single_calls_give() {
     reads_alike library_arrays-watched sha1 flush "$sessions/shallow"
     run library_arrays sha1 flush
     expect_status 2
+}
+
+# The thread sanitizer sees what a program and c/gitwire.c touch, and the order of locks and of memory's calls; of the library's own code it sees nothing.
+case_library_serves_in_two_threads() {
+    local flags
+    run library_threads-watched
+    expect 0 /dev/null /dev/null
+    under_valgrind bin/library_threads
+    expect 0 /dev/null /dev/null
+    read -r -a flags <<< "$(of_library --cflags) $(of_library --variable=archive)"
+    gcc -O1 -g -fsanitize=thread -o bin/library_threads-tsan "$top/tests/library_threads.c" "$top/c/gitwire.c" "${flags[@]}"
+    run library_threads-tsan
+    expect 0 /dev/null /dev/null
 }
 
 case_library_frees_all_where_memory_is_refused() {
