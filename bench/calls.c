@@ -13,65 +13,62 @@
 #include <stdio.h>
 #include <unistd.h>
 
-#define PIECE_BYTES 65536
+#define CHUNK_BYTES 65536
 #define MOST_PACKETS 256
 
-static uint8_t piece[PIECE_BYTES], room[GITWIRE_PAYLOAD_ROOM];
+static uint8_t bytes_read[CHUNK_BYTES], buffer[GITWIRE_PAYLOAD_SIZE];
 static gitwire_answer listed[MOST_PACKETS];
 static uint64_t packets, bytes, checksum;
 
 /* What one packet adds to the checksum: for data the first byte (0 if there is none) and the length. */
-static uint64_t mark(gitwire_answer packet, const uint8_t *payload)
+static uint64_t mark(const gitwire_answer *packet, const uint8_t *payload)
 {
-	if (packet.kind != GITWIRE_PAYLOAD)
-		return UINT64_C(0x1000000) + (uint64_t)(packet.kind - GITWIRE_FLUSH);
-	uint64_t first = packet.length ? payload[0] : 0;
-	return first * 65536 + packet.length;
+	if (packet->kind != GITWIRE_PAYLOAD)
+		return UINT64_C(0x1000000) + (uint64_t)(packet->kind - GITWIRE_FLUSH);
+	uint64_t first = packet->length ? payload[0] : 0;
+	return first * 65536 + packet->length;
 }
 
-static void count_packet(gitwire_answer packet, const uint8_t *payload)
+static void count_packet(const gitwire_answer *packet, const uint8_t *payload)
 {
 	packets++;
-	bytes += packet.length;
+	bytes += packet->length;
 	checksum = checksum * 31 + mark(packet, payload);
 }
 
 static int tell_fault(gitwire_answer answer)
 {
-	uint8_t text[GITWIRE_FAULT_TEXT_ROOM];
-	size_t length = gitwire_fault_text(answer.fault, answer.offset, text, sizeof text);
-
-	fprintf(stderr, "bench_packets: %.*s\n", (int)length, (const char *)text);
+	fprintf(stderr, "bench_packets: %s at %" PRIu64 "\n", gitwire_fault_name(answer.fault), answer.offset);
 	return 1;
 }
 
 int main(void)
 {
-	gitwire_packet_reader reader = GITWIRE_NONE;
+	gitwire_packet_reader *reader;
 	gitwire_answer answer;
 	ssize_t count;
 
 	if (gitwire_packet_reader_new(&reader) != GITWIRE_DONE)
 		return 1;
-	while ((count = read(STDIN_FILENO, piece, sizeof piece)) != 0) {
+	while ((count = read(STDIN_FILENO, bytes_read, sizeof bytes_read)) != 0) {
 		if (count < 0 && errno == EINTR)
 			continue;
 		if (count < 0)
 			return 1;
 		for (size_t used = 0; used < (size_t)count; used += answer.used) {
-			const uint8_t *part = piece + used;
+			const uint8_t *chunk = bytes_read + used;
 
-			answer = gitwire_packet_reader_packets(&reader, part, (size_t)count - used, listed, MOST_PACKETS, room, sizeof room);
+			answer = gitwire_packet_reader_packets(reader, chunk, (size_t)count - used, listed, MOST_PACKETS, buffer, sizeof buffer);
 			for (size_t i = 0; i < answer.length; i++)
-				count_packet(listed[i], gitwire_payload(listed[i], part, room));
+				count_packet(&listed[i], gitwire_payload(&listed[i], chunk, buffer));
 			if (answer.kind == GITWIRE_FAILED)
 				return tell_fault(answer);
 		}
 	}
-	answer = gitwire_packet_reader_close(&reader);
+	answer = gitwire_packet_reader_close(reader);
 	if (answer.kind == GITWIRE_FAILED)
 		return tell_fault(answer);
 	printf("%" PRIu64 " %" PRIu64 " %" PRIu64 "\n", packets, bytes, checksum);
-	gitwire_packet_reader_free(&reader);
+	gitwire_packet_reader_free(reader);
 	return 0;
 }

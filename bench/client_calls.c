@@ -12,54 +12,49 @@
 
 #include "pack_counts.h"
 
-#define PIECE_BYTES 65536
+#define CHUNK_BYTES 65536
 #define MOST_EVENTS 256
 
-static uint8_t piece[PIECE_BYTES], room[GITWIRE_EVENTS_ROOM(PIECE_BYTES)];
+static uint8_t bytes[CHUNK_BYTES], buffer[GITWIRE_EVENTS_SIZE(CHUNK_BYTES)];
 static gitwire_event events[MOST_EVENTS];
 static size_t at, end;           /* the bytes of the chunk that are still to be used */
-static gitwire_client client = GITWIRE_NONE;
-static gitwire_request request = GITWIRE_NONE;
+static gitwire_client *client;
+static gitwire_request *request;
 static bool has_asked;
 
 static bool add(const char *line)
 {
-	return gitwire_request_add(&request, (const uint8_t *)line, strlen(line)).kind == GITWIRE_DONE;
+	return gitwire_request_add(request, line, strlen(line)).kind == GITWIRE_DONE;
 }
 
 /* A client, and a request for the pack of one object. */
 static bool begin(void)
 {
 	return gitwire_client_new(&client, GITWIRE_SHA1, GITWIRE_ENDS_BY_FLUSH) == GITWIRE_DONE
-		&& gitwire_request_new(&request, GITWIRE_FETCH, GITWIRE_SHA1, GITWIRE_USUAL_LIMIT) == GITWIRE_DONE
+		&& gitwire_request_new(&request, GITWIRE_FETCH, GITWIRE_SHA1, GITWIRE_DEFAULT_LIMIT) == GITWIRE_DONE
 		&& add("want 1111111111111111111111111111111111111111") && add("done");
 }
 
-static bool tell_fault(gitwire_fault fault, uint64_t offset)
+static bool tell_fault(gitwire_answer answer)
 {
-	uint8_t text[GITWIRE_FAULT_TEXT_ROOM];
-	size_t length = gitwire_fault_text(fault, offset, text, sizeof text);
-
-	fprintf(stderr, "bench_client: %.*s\n", (int)length, (const char *)text);
+	fprintf(stderr, "bench_client: %s at %" PRIu64 "\n", gitwire_fault_name(answer.fault), answer.offset);
 	return false;
 }
 
 /* Reads the next chunk, if one was used up. At the end of the input the client is closed, if it expected more. */
-static bool read_piece(void)
+static bool read_chunk(void)
 {
 	ssize_t count;
 
 	if (at < end)
 		return true;
 	do
-		count = read(STDIN_FILENO, piece, sizeof piece);
+		count = read(STDIN_FILENO, bytes, sizeof bytes);
 	while (count < 0 && errno == EINTR);
 	if (count < 0)
 		return false;
-	if (count == 0) {
-		gitwire_answer answer = gitwire_client_close(&client);
-		return tell_fault(answer.fault, answer.offset);
-	}
+	if (count == 0)
+		return tell_fault(gitwire_client_close(client));
 	at = 0;
 	end = (size_t)count;
 	return true;
@@ -71,15 +66,18 @@ static bool hear(void)
 	gitwire_answer answer = { .kind = GITWIRE_MORE };
 
 	while (at < end && answer.kind == GITWIRE_MORE) {
-		const uint8_t *part = piece + at;
+		const uint8_t *chunk = bytes + at;
 
-		answer = gitwire_client_events(&client, part, end - at, events, MOST_EVENTS, room, sizeof room);
+		answer = gitwire_client_events(client, chunk, end - at, events, MOST_EVENTS, buffer, sizeof buffer);
 		at += answer.used;
 		for (size_t i = 0; i < answer.length; i++)
-			if (events[i].kind == GITWIRE_PACK)
-				count_pack(gitwire_texts(events[i], part, room), events[i].text_length);
+			if (events[i].kind == GITWIRE_PACK) {
+				gitwire_text pack = gitwire_event_part(&events[i], GITWIRE_PART_TEXT, chunk, buffer);
+
+				count_pack((const uint8_t *)pack.at, pack.length);
+			}
 	}
-	return answer.kind != GITWIRE_FAILED || tell_fault(answer.fault, answer.offset);
+	return answer.kind != GITWIRE_FAILED || tell_fault(answer);
 }
 
 /* Asks the request, and leaves after its response. */
@@ -88,10 +86,10 @@ static bool go_on(void)
 	gitwire_answer answer;
 
 	if (has_asked)
-		return gitwire_client_leave(&client) == GITWIRE_DONE;
+		return gitwire_client_leave(client) == GITWIRE_DONE;
 	has_asked = true;
-	answer = gitwire_client_ask(&client, &request);
-	return answer.kind == GITWIRE_DONE || tell_fault(answer.fault, answer.offset);
+	answer = gitwire_client_ask(client, request);
+	return answer.kind == GITWIRE_DONE || tell_fault(answer);
 }
 
 int main(void)
@@ -100,16 +98,16 @@ int main(void)
 
 	if (!begin())
 		return 1;
-	while ((answer = gitwire_client_pull(&client, room, sizeof room)).kind != GITWIRE_FINISHED) {
+	while ((answer = gitwire_client_pull(client, buffer, sizeof buffer)).kind != GITWIRE_FINISHED) {
 		if (answer.kind == GITWIRE_FAILED)
-			return !tell_fault(answer.fault, answer.offset);
+			return !tell_fault(answer);
 		if (answer.kind == GITWIRE_CAN_ASK && !go_on())
 			return 1;
-		if (answer.kind == GITWIRE_NEED_INPUT && !(read_piece() && hear()))
+		if (answer.kind == GITWIRE_NEED_INPUT && !(read_chunk() && hear()))
 			return 1;
 	}
 	print_counts();
-	gitwire_client_free(&client);
-	gitwire_request_free(&request);
+	gitwire_client_free(client);
+	gitwire_request_free(request);
 	return 0;
 }

@@ -7,6 +7,7 @@
  * `server` is a gitwire_server over a gitwire_repository, `host` a gitwire_host that reports the same: so many references of 65 bytes a packet, or a
  * pack of so many bytes. Making the repository is not measured: a host has none.
  */
+#define _POSIX_C_SOURCE 200809L
 #include <gitwire.h>
 
 #include <inttypes.h>
@@ -23,8 +24,7 @@ static const char references_request[] = "0014command=ls-refs\n00010000";
 static const char pack_request[] = "0012command=fetch\n00010032want aaaaaaaaaaaaaaaaaaaaaaaaaaaaaaaaaaaaaaaa\n0009done\n0000";
 static const char wanted[] = "aaaaaaaaaaaaaaaaaaaaaaaaaaaaaaaaaaaaaaaa";
 
-static uint8_t room[GITWIRE_PACKET_ROOM];
-static char output[1 << 20], *pack;
+static uint8_t buffer[GITWIRE_PACKET_SIZE], *pack;
 static size_t references, pack_bytes;
 
 static void fail(const char *why)
@@ -43,7 +43,7 @@ static uint64_t now(void)
 
 static void send(gitwire_answer answer)
 {
-	if (answer.kind != GITWIRE_PACKET || fwrite(room, 1, answer.length, stdout) != answer.length)
+	if (answer.kind != GITWIRE_PACKET || fwrite(buffer, 1, answer.length, stdout) != answer.length)
 		fail("no packet");
 }
 
@@ -67,41 +67,42 @@ static void make_references(void)
 		reference_at(i, ids[i], names[i]);
 }
 
-static void make_repository(gitwire_repository *repository)
+static gitwire_repository *make_repository(void)
 {
-	size_t room_bytes = 200 + references * 80, length = (size_t)sprintf(output, "format sha1\n");
-	char *text = malloc(room_bytes);
+	gitwire_repository *repository;
+	char *text = malloc(200 + references * 80);
+	size_t length;
 
 	if (!text)
 		fail("no memory");
-	memcpy(text, output, length);
+	length = (size_t)sprintf(text, "format sha1\n");
 	for (size_t i = 0; i < references; i++)
 		length += (size_t)sprintf(text + length, "ref %s %s\n", ids[i], names[i]);
 	if (!references)
 		length += (size_t)sprintf(text + length, "object %s 1\n", wanted);
-	if (gitwire_repository_new(repository, (uint8_t *)text, length, (uint8_t *)pack, pack_bytes).kind != GITWIRE_DONE)
+	if (gitwire_repository_new(&repository, text, length, pack, pack_bytes).kind != GITWIRE_DONE)
 		fail("no repository");
 	free(text);
+	return repository;
 }
 
 static uint64_t run_server(const char *request)
 {
-	gitwire_repository repository = GITWIRE_NONE;
-	gitwire_server server = GITWIRE_NONE;
+	gitwire_repository *repository = make_repository();
+	gitwire_server *server;
 	gitwire_answer answer;
 	uint64_t begin;
 
-	make_repository(&repository);
-	if (gitwire_server_new(&server, &repository, LIMIT, false) != GITWIRE_DONE)
+	if (gitwire_server_new(&server, repository, LIMIT, false) != GITWIRE_DONE)
 		fail("no server");
 	begin = now();
-	if (gitwire_server_feed(&server, (const uint8_t *)request, strlen(request)).used != strlen(request))
+	if (gitwire_server_feed(server, (const uint8_t *)request, strlen(request)).used != strlen(request))
 		fail("a request is refused");
-	while ((answer = gitwire_server_pull(&server, room, sizeof room)).kind != GITWIRE_NEED_INPUT)
+	while ((answer = gitwire_server_pull(server, buffer, sizeof buffer)).kind != GITWIRE_NEED_INPUT)
 		send(answer);
 	begin = now() - begin;
-	gitwire_server_free(&server);
-	gitwire_repository_free(&repository);
+	gitwire_server_free(server);
+	gitwire_repository_free(repository);
 	return begin;
 }
 
@@ -113,24 +114,23 @@ static void report(gitwire_host *host, gitwire_answer need)
 
 	switch (need.kind) {
 	case GITWIRE_NEED_WANT:
-		answer = gitwire_host_want(host, true, room, sizeof room);
+		answer = gitwire_host_want(host, true, buffer, sizeof buffer);
 		break;
 	case GITWIRE_NEED_BOUNDARY:
-		answer = gitwire_host_boundary_end(host, room, sizeof room);
+		answer = gitwire_host_boundary_end(host, buffer, sizeof buffer);
 		break;
 	case GITWIRE_NEED_REFERENCE:
 		for (size_t i = 0; i < references; i++)
-			send(gitwire_host_reference(host, (uint8_t *)ids[i], ID_DIGITS, (uint8_t *)names[i], NAME_BYTES, NULL, 0, NULL, 0,
-				room, sizeof room));
-		answer = gitwire_host_references_end(host, room, sizeof room);
+			send(gitwire_host_reference(host, ids[i], ID_DIGITS, names[i], NAME_BYTES, NULL, 0, NULL, 0, buffer, sizeof buffer));
+		answer = gitwire_host_references_end(host, buffer, sizeof buffer);
 		break;
 	case GITWIRE_NEED_PACK:
 		while (reported < pack_bytes) {
-			answer = gitwire_host_pack(host, (uint8_t *)pack + reported, pack_bytes - reported, room, sizeof room);
+			answer = gitwire_host_pack(host, pack + reported, pack_bytes - reported, buffer, sizeof buffer);
 			send(answer);
 			reported += answer.used;
 		}
-		answer = gitwire_host_pack_end(host, room, sizeof room);
+		answer = gitwire_host_pack_end(host, buffer, sizeof buffer);
 		break;
 	default:
 		fail("another need");
@@ -141,25 +141,25 @@ static void report(gitwire_host *host, gitwire_answer need)
 
 static uint64_t run_host(const char *request)
 {
-	gitwire_host host = GITWIRE_NONE;
+	gitwire_host *host;
 	gitwire_answer answer;
 	uint64_t begin;
 
-	if (gitwire_host_new(&host, (gitwire_offer){ .features = GITWIRE_FEATURES_ALL, .format = GITWIRE_SHA1 }, LIMIT, false) != GITWIRE_DONE)
+	if (gitwire_host_new(&host, GITWIRE_SHA1, GITWIRE_FEATURES_ALL, LIMIT, false) != GITWIRE_DONE)
 		fail("no host");
 	begin = now();
-	if (gitwire_host_feed(&host, (const uint8_t *)request, strlen(request)).used != strlen(request))
+	if (gitwire_host_feed(host, (const uint8_t *)request, strlen(request)).used != strlen(request))
 		fail("a request is refused");
-	if (gitwire_host_accept(&host) != GITWIRE_DONE)
+	if (gitwire_host_accept(host) != GITWIRE_DONE)
 		fail("no request");
-	while ((answer = gitwire_host_pull(&host, room, sizeof room)).kind != GITWIRE_NEED_INPUT) {
+	while ((answer = gitwire_host_pull(host, buffer, sizeof buffer)).kind != GITWIRE_NEED_INPUT) {
 		if (answer.kind == GITWIRE_PACKET)
 			send(answer);
 		else
-			report(&host, answer);
+			report(host, answer);
 	}
 	begin = now() - begin;
-	gitwire_host_free(&host);
+	gitwire_host_free(host);
 	return begin;
 }
 
@@ -175,7 +175,7 @@ int main(int count, char **words)
 	if (!pack)
 		fail("no memory");
 	for (size_t i = 0; i < pack_bytes; i++)
-		pack[i] = (char)(i * 2654435761u >> 24);
+		pack[i] = (uint8_t)(i * 2654435761u >> 24);
 	make_references();
 	setvbuf(stdout, NULL, _IOFBF, 1 << 20);
 	const char *request = pack_bytes ? pack_request : references_request;

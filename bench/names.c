@@ -22,12 +22,12 @@ int main(int argc, char **argv)
     int what = argc > 1 ? atoi(argv[1]) : 3;
     for (int i = 0; i < NAMES; i++) {
         for (int k = 0; k < 40; k++)
-            oids[i][k] = "0123456789abcdef"[next() & 15];
+            oids[i][k] = (unsigned char)"0123456789abcdef"[next() & 15];
         const char *head = heads[i & 3];
         size_t n = strlen(head), more = 4 + next() % 16;
         memcpy(refs[i], head, n);
         for (size_t k = 0; k < more; k++)
-            refs[i][n + k] = "abcdefghijklmnopqrstuvwxyz-_0123"[next() & 31];
+            refs[i][n + k] = (unsigned char)"abcdefghijklmnopqrstuvwxyz-_0123"[next() & 31];
         ref_len[i] = n + more;
     }
     uint64_t sum = 0;
@@ -37,7 +37,7 @@ int main(int argc, char **argv)
             unsigned char out[64];
             if (!oid_read(0, oids[t & (NAMES - 1)], 40, &id)) {
                 size_t n = oid_write(&id, out);
-                sum = sum * 31 + out[(t * 7) % n];
+                sum = sum * 31 + out[(size_t)t * 7 % n];
             }
         }
     if (what & 2)

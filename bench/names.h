@@ -24,12 +24,12 @@ static int oid_read(int format, const unsigned char *text, size_t len, struct oi
     if (len != 2 * width)
         return -1;
     memset(out, 0, sizeof *out);
-    out->format = format;
+    out->format = (unsigned char)format;
     for (size_t i = 0; i < width; i++) {
         unsigned v = ((unsigned)hexval_table[text[2 * i]] << 4) | (unsigned)hexval_table[text[2 * i + 1]];
         if (v & ~0xffu)
             return -1;
-        out->bytes[i] = v;
+        out->bytes[i] = (unsigned char)v;
     }
     return 0;
 }
@@ -40,8 +40,8 @@ static size_t oid_write(const struct oid *id, unsigned char *out)
     static const char hex[] = "0123456789abcdef";
     size_t width = id->format ? 32 : 20;
     for (size_t i = 0; i < width; i++) {
-        out[2 * i] = hex[id->bytes[i] >> 4];
-        out[2 * i + 1] = hex[id->bytes[i] & 15];
+        out[2 * i] = (unsigned char)hex[id->bytes[i] >> 4];
+        out[2 * i + 1] = (unsigned char)hex[id->bytes[i] & 15];
     }
     return 2 * width;
 }

@@ -3,8 +3,8 @@
 #
 #     bench/run.sh [BENCH_PACKETS [GIT2SHOW [BENCH_NAMES [BENCH_CLIENT [LIBRARY]]]]]
 #
-# The arguments are the paths of the Rattle programs and of the library for C; without them, where `rt run` and `rt lib` leave them
-# in this repository.
+# The arguments are the paths of the Rattle programs and of the library for C, with which c/gitwire.c is linked; without them, where `rt run`
+# and `rt lib` leave them in this repository.
 # `bench/run.sh --c-only` measures the C programs and Git alone; without a git the rows `serve`, `prefixes`, `check`, `fetch` and
 # `clone` are left out. The streams lie in a new folder of /tmp (or of $BENCH_FOLDER), which is removed at the end, and take 5 GB. Times are
 # wall-clock seconds, the best of five runs that alternate; a ratio is C's time by ours, so 1.00 is as fast as C and more is faster.
@@ -43,7 +43,8 @@ for program in packets uncopied show names client generate ask bands check; do
     ${CC:-gcc} -O3 -Wall -Wextra -o "$out/$program" "$top/bench/$program.c"
 done
 if [ -z "$c_only" ]; then
-    taken=("$our_library" "$(dirname "$("${RT:-rt}" doc)")/c/liblibc_c.a")
+    ${CC:-gcc} -O2 -Wall -Wextra -I"$top/include" -c -o "$out/gitwire.o" "$top/c/gitwire.c"
+    taken=("$out/gitwire.o" "$our_library" "$(dirname "$("${RT:-rt}" doc)")/c/liblibc_c.a")
     for program in calls client_calls hosts; do
         ${CC:-gcc} -O3 -Wall -Wextra -I"$top/include" -o "$out/$program" "$top/bench/$program.c" "${taken[@]}"
     done

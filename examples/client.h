@@ -9,6 +9,7 @@
 
 #include <errno.h>
 #include <fcntl.h>
+#include <inttypes.h>
 #include <limits.h>
 #include <poll.h>
 #include <signal.h>
@@ -53,16 +54,16 @@ struct client {
 	time_t deadline;
 	time_t since;                             /* when the wait for a whole request of it began */
 	bool wants_input, input_ended;            /* all input is used, and more is needed; no more comes */
-	gitwire_packet_reader packets;            /* while GREETING */
-	gitwire_server server;                    /* from SERVING on */
+	gitwire_packet_reader *packets;           /* while GREETING */
+	gitwire_server *server;                   /* from SERVING on */
 	size_t in_at, in_end, out_at, out_end;    /* the bytes not used yet, and those not sent yet */
-	uint8_t in[16384], out[2 * GITWIRE_PACKET_ROOM];
+	uint8_t in[16384], out[2 * GITWIRE_PACKET_SIZE];
 };
 
-static gitwire_repository repository = GITWIRE_NONE; /* one for all */
-static const char *folder;                            /* or a folder of Git, and how many seconds `upload-pack` is to wait for a client */
+static gitwire_repository *repository; /* one for all */
+static const char *folder;             /* or a folder of Git, and how many seconds `upload-pack` is to wait for a client */
 static char timeout[40];
-static gitwire_writer writer = GITWIRE_NONE; /* of error packets */
+static gitwire_writer *writer; /* of error packets */
 static time_t patience;
 
 static time_t seconds(void)
@@ -76,12 +77,11 @@ static time_t seconds(void)
 /* An error by its name and offset, and for a limit how much that allows, valid until the next call. */
 static const char *text_of(gitwire_answer answer)
 {
-	static char text[GITWIRE_FAULT_TEXT_ROOM + 100];
-	size_t length = gitwire_fault_text(answer.fault, answer.offset, (uint8_t *)text, GITWIRE_FAULT_TEXT_ROOM);
+	static char text[GITWIRE_FAULT_TEXT_SIZE + 100];
+	int length = snprintf(text, sizeof text, "%s at %" PRIu64, gitwire_fault_name(answer.fault), answer.offset);
 
-	text[length] = 0;
 	if (answer.fault == GITWIRE_FAULT_TOO_MUCH_KEPT)
-		snprintf(text + length, sizeof text - length, ": this server takes no more than %d bytes of arguments in a request", MOST_KEPT);
+		snprintf(text + length, sizeof text - (size_t)length, ": this server takes no more than %d bytes of arguments in a request", MOST_KEPT);
 	return text;
 }
 
@@ -96,8 +96,10 @@ static void tell(const char *what, const char *why)
 
 static void forget(struct client *c)
 {
-	gitwire_packet_reader_free(&c->packets);
-	gitwire_server_free(&c->server);
+	gitwire_packet_reader_free(c->packets);
+	gitwire_server_free(c->server);
+	c->packets = NULL;
+	c->server = NULL;
 	close(c->connection);
 	c->phase = NOBODY;
 }
@@ -105,7 +107,7 @@ static void forget(struct client *c)
 /* Puts an error packet after the bytes that wait to be sent. */
 static void put_error(struct client *c, const char *why)
 {
-	c->out_end += gitwire_put_error(&writer, (const uint8_t *)why, strlen(why), c->out + c->out_end, sizeof c->out - c->out_end).length;
+	c->out_end += gitwire_put_error(writer, why, strlen(why), c->out + c->out_end, sizeof c->out - c->out_end).length;
 }
 
 /* Makes an error packet the last that is sent. */
@@ -170,7 +172,7 @@ static void see_off(struct client *c)
 /* Reads on to the end of the first packet, whose payload goes to where the answer will be. The bytes after it stay in the connection. */
 static void greet(struct client *c)
 {
-	gitwire_answer answer = gitwire_packet_reader_feed(&c->packets, c->in, c->in_end, c->out, sizeof c->out);
+	gitwire_answer answer = gitwire_packet_reader_feed(c->packets, c->in, c->in_end, c->out, sizeof c->out);
 	const char *why;
 
 	if (answer.used > 0)
@@ -179,8 +181,9 @@ static void greet(struct client *c)
 	if (answer.kind == GITWIRE_MORE && !c->input_ended)
 		return;
 	if (answer.kind == GITWIRE_MORE)
-		answer = gitwire_packet_reader_close(&c->packets);
-	gitwire_packet_reader_free(&c->packets);
+		answer = gitwire_packet_reader_close(c->packets);
+	gitwire_packet_reader_free(c->packets);
+	c->packets = NULL;
 	if (answer.kind == GITWIRE_DONE) { /* nothing was asked */
 		c->phase = ENDING;
 	} else if (answer.kind == GITWIRE_FAILED) {
@@ -189,7 +192,7 @@ static void greet(struct client *c)
 		refuse(c, why);
 	} else if (folder != NULL) {
 		hand_over(c);
-	} else if (gitwire_server_new(&c->server, &repository, MOST_KEPT, true) != GITWIRE_DONE) {
+	} else if (gitwire_server_new(&c->server, repository, MOST_KEPT, true) != GITWIRE_DONE) {
 		refuse(c, "no memory");
 	} else {
 		c->phase = SERVING;
@@ -218,9 +221,9 @@ static void end_refused(struct client *c, gitwire_answer answer)
 static void serve(struct client *c)
 {
 	c->wants_input = false;
-	for (int i = 0; i < MOST_PULLS && sizeof c->out - c->out_end >= GITWIRE_PACKET_ROOM && !c->wants_input; i++) {
+	for (int i = 0; i < MOST_PULLS && sizeof c->out - c->out_end >= GITWIRE_PACKET_SIZE && !c->wants_input; i++) {
 		uint8_t *packet = c->out + c->out_end;
-		gitwire_answer answer = gitwire_server_pull(&c->server, packet, sizeof c->out - c->out_end);
+		gitwire_answer answer = gitwire_server_pull(c->server, packet, sizeof c->out - c->out_end);
 
 		if (answer.kind == GITWIRE_PACKET) {
 			c->out_end += is_error(packet, answer.length) ? 0 : answer.length;
@@ -231,9 +234,9 @@ static void serve(struct client *c)
 			c->phase = ENDING;
 			return;
 		} else if (c->in_at < c->in_end) {
-			c->in_at += gitwire_server_feed(&c->server, c->in + c->in_at, c->in_end - c->in_at).used;
+			c->in_at += gitwire_server_feed(c->server, c->in + c->in_at, c->in_end - c->in_at).used;
 		} else if (c->input_ended) {
-			gitwire_server_close(&c->server);
+			gitwire_server_close(c->server);
 		} else {
 			c->wants_input = true;
 		}

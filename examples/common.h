@@ -1,5 +1,4 @@
 /* What the programs of this folder share. Each defines PROGRAM before it: the name that its error messages begin with. */
-#include <stdint.h>
 #include <stdio.h>
 #include <stdlib.h>
 
@@ -10,17 +9,17 @@ static void stop(const char *what)
 }
 
 /* Reads a whole file, whose bytes are the caller's to free, or ends the program. */
-static uint8_t *read_file(const char *name, size_t *length)
+static void *read_file(const char *name, size_t *length)
 {
 	FILE *file = fopen(name, "rb");
-	uint8_t *bytes = NULL;
-	size_t room = 0;
+	char *bytes = NULL;
+	size_t size = 0;
 
 	if (file == NULL)
 		stop("a file cannot be opened");
-	for (*length = 0; *length == room; *length += fread(bytes + *length, 1, room - *length, file)) {
-		room = 2 * room + 65536;
-		bytes = realloc(bytes, room);
+	for (*length = 0; *length == size; *length += fread(bytes + *length, 1, size - *length, file)) {
+		size = 2 * size + 65536;
+		bytes = realloc(bytes, size);
 		if (bytes == NULL)
 			stop("no memory");
 	}

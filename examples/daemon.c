@@ -31,7 +31,7 @@ enum { TICK = 500 /* milliseconds */ };
 /* The minimum number of seconds for which a request is waited for, whoever comes. */
 enum { LEAST_SECONDS = 1 };
 
-static struct client clients[MOST_CLIENTS]; /* of zeros, as each handle begins */
+static struct client clients[MOST_CLIENTS]; /* of zeros: NOBODY */
 static volatile sig_atomic_t is_over;
 
 /* Closes the client that has been expected to send a whole request for the longest time. Returns its place, or NULL if there is no such client. */
@@ -127,7 +127,8 @@ static void run(int listener)
 static void open_repository(const char *text_name, const char *pack_name, const char *filtered_name)
 {
 	size_t text_length, pack_length, filtered_length;
-	uint8_t *text = read_file(text_name, &text_length), *pack = read_file(pack_name, &pack_length), *filtered = NULL;
+	char *text = read_file(text_name, &text_length);
+	uint8_t *pack = read_file(pack_name, &pack_length), *filtered = NULL;
 	gitwire_answer answer;
 	char why[64] = "no memory";
 
@@ -209,7 +210,7 @@ int main(int count, char **words)
 		if (c->phase != NOBODY && c->phase != HANDED_OVER)
 			forget(c);
 	close(listener);
-	gitwire_repository_free(&repository);
-	gitwire_writer_free(&writer);
+	gitwire_repository_free(repository);
+	gitwire_writer_free(writer);
 	return 0;
 }

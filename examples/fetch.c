@@ -11,132 +11,76 @@
 #include "upload_pack.h"
 
 #include <string.h>
-#include <sys/wait.h>
 
 /* A fetch, from the request for the reference to the last byte of the pack. */
 struct fetch {
-	gitwire_client client;
+	gitwire_client *client;
 	gitwire_format format;
 	const char *reference;
-	char id[65];          /* the reference's object, once the server has sent it */
-	bool has_listed;
-	bool has_asked;
+	char id[GITWIRE_OBJECT_NAME_SIZE + 1]; /* the reference's object, once the server has sent it */
+	enum { LIST, GET, LEAVE } next;        /* what to ask */
 	FILE *pack;
-	int to, from;
 };
 
-/* Adds an argument of a word and a value. */
-static bool add(gitwire_request *request, const char *word, const char *value)
+/* Makes the next request: the reference's object, or the pack of that object. */
+static bool make_request(const struct fetch *fetch, gitwire_request **request)
 {
-	char line[32100];
-	int length = snprintf(line, sizeof line, "%s%s", word, value);
+	gitwire_command command = fetch->next == LIST ? GITWIRE_LS_REFS : GITWIRE_FETCH;
 
-	return length >= 0 && (size_t)length < sizeof line
-		&& gitwire_request_add(request, (const uint8_t *)line, (size_t)length).kind == GITWIRE_DONE;
-}
-
-/* Makes the next request: the reference's object, and then the pack of that object. */
-static bool make_request(struct fetch *fetch, gitwire_request *request)
-{
-	gitwire_command command = fetch->has_listed ? GITWIRE_FETCH : GITWIRE_LS_REFS;
-
-	if (gitwire_request_new(request, command, fetch->format, GITWIRE_USUAL_LIMIT) != GITWIRE_DONE)
+	if (gitwire_request_new(request, command, fetch->format, GITWIRE_DEFAULT_LIMIT) != GITWIRE_DONE)
 		return false;
-	if (!fetch->has_listed)
-		return add(request, "ref-prefix ", fetch->reference);
-	return add(request, "want ", fetch->id) && add(request, "ofs-delta", "") && add(request, "done", "");
+	if (command == GITWIRE_LS_REFS)
+		return add(*request, "ref-prefix ", fetch->reference) == 0;
+	return add(*request, "want ", fetch->id) == 0 && add(*request, "ofs-delta", "") == 0 && add(*request, "done", "") == 0;
 }
 
 /* Asks the next request, or leaves. Returns the exit status, or -1 to continue. */
 static int ask_next(struct fetch *fetch)
 {
-	gitwire_request request = GITWIRE_NONE;
-	gitwire_answer answer;
-	bool is_made;
+	gitwire_answer answer = { .kind = GITWIRE_NOTHING };
+	gitwire_request *request;
 
-	if (fetch->has_asked) {
-		gitwire_client_leave(&fetch->client);
+	if (fetch->next == LEAVE) {
+		gitwire_client_leave(fetch->client);
 		return -1;
 	}
-	if (fetch->has_listed && fetch->id[0] == '\0')
+	if (fetch->next == GET && fetch->id[0] == '\0')
 		return tell("no such reference");
-	is_made = make_request(fetch, &request);
-	if (is_made)
-		answer = gitwire_client_ask(&fetch->client, &request);
-	gitwire_request_free(&request); /* nothing, if the client has it */
-	if (!is_made)
+	if (make_request(fetch, &request))
+		answer = gitwire_client_ask(fetch->client, request);
+	gitwire_request_free(request); /* the client has what it asks */
+	if (answer.kind == GITWIRE_NOTHING)
 		return tell("a reference that cannot be asked for");
-	fetch->has_asked = fetch->has_listed;
-	fetch->has_listed = true;
-	return answer.kind == GITWIRE_DONE ? -1 : refuse(&fetch->client, answer);
+	fetch->next = fetch->next == LIST ? GET : LEAVE;
+	return answer.kind == GITWIRE_DONE ? -1 : refuse(fetch->client, answer);
 }
 
-/* How many bytes come before the end of a line: LF, or CR, after which the next line takes its place. */
-static size_t line_length(const uint8_t *text, size_t length)
+/* Shows a part of the server's progress, with all escaped but what ends a line: LF, or CR, after which the next line takes its place. */
+static void show_progress(gitwire_text text)
 {
-	size_t at = 0;
-
-	while (at < length && text[at] != '\n' && text[at] != '\r')
-		at++;
-	return at;
-}
-
-/* Shows a part of the server's progress, with all but its line ends escaped. */
-static void show_progress(const uint8_t *text, size_t length)
-{
-	while (length > 0) {
-		size_t line = line_length(text, length);
-
-		show_bytes(stderr, text, line);
-		if (line < length)
-			fputc(text[line++], stderr);
-		text += line;
-		length -= line;
+	for (size_t at = 0, end; at < text.length; at = end + 1) {
+		for (end = at; end < text.length && text.at[end] != '\n' && text.at[end] != '\r';)
+			end++;
+		show_bytes(stderr, text.at + at, end - at);
+		if (end < text.length)
+			fputc(text.at[end], stderr);
 	}
 }
 
-/* Takes an event of the server. The bytes of the pack and of its progress end at `end` of what was read; other texts are in the buffer. */
-static bool take(struct fetch *fetch, gitwire_event event, const uint8_t *end)
+/* Takes an event of the server. False if the pack cannot be written. */
+static bool take(struct fetch *fetch, const gitwire_event *event)
 {
-	const uint8_t *text = end - event.text_length;
-	const char *name = (const char *)room + event.id_length;
+	gitwire_text id = gitwire_event_part(event, GITWIRE_PART_ID, chunk, buffer);
+	gitwire_text name = gitwire_event_part(event, GITWIRE_PART_NAME, chunk, buffer);
+	gitwire_text text = gitwire_event_part(event, GITWIRE_PART_TEXT, chunk, buffer);
 
-	switch (event.kind) {
-	case GITWIRE_REFERENCE:
-		if (event.id_length < sizeof fetch->id && event.name_length == strlen(fetch->reference)
-			&& memcmp(name, fetch->reference, event.name_length) == 0)
-			memcpy(fetch->id, room, event.id_length);
-		return true;
-	case GITWIRE_PACK:
-		return fwrite(text, 1, event.text_length, fetch->pack) == event.text_length;
-	case GITWIRE_PROGRESS:
-		if (isatty(STDERR_FILENO))
-			show_progress(text, event.text_length);
-		return true;
-	default:
-		return true;
-	}
-}
-
-/* Receives a chunk of what the server sends. Returns the exit status, or -1 to continue. */
-static int hear(struct fetch *fetch)
-{
-	static uint8_t piece[65536];
-	static size_t used = 0, length = 0;
-	gitwire_event event;
-
-	if (used == length) {
-		ssize_t count = read(fetch->from, piece, sizeof piece);
-		if (count < 0)
-			return tell("the server cannot be read from");
-		if (count == 0)
-			return refuse(&fetch->client, gitwire_client_close(&fetch->client));
-		used = 0;
-		length = (size_t)count;
-	}
-	event = gitwire_client_feed_in_place(&fetch->client, piece + used, length - used, room, sizeof room);
-	used += event.used;
-	return take(fetch, event, piece + used) ? -1 : tell("the pack cannot be written");
+	if (event->kind == GITWIRE_PACK)
+		return fwrite(text.at, 1, text.length, fetch->pack) == text.length;
+	if (event->kind == GITWIRE_PROGRESS && isatty(STDERR_FILENO))
+		show_progress(text);
+	if (id.length > 0 && name.length == strlen(fetch->reference) && memcmp(name.at, fetch->reference, name.length) == 0)
+		memcpy(fetch->id, id.at, id.length); /* of a reference that is not unborn */
+	return true;
 }
 
 /* Does what has to be done next, until everything was sent and received. Returns the exit status. */
@@ -145,23 +89,30 @@ static int converse(struct fetch *fetch)
 	int status = -1;
 
 	while (status < 0) {
-		gitwire_answer answer = gitwire_client_pull(&fetch->client, room, sizeof room);
-		switch (answer.kind) {
+		gitwire_answer next = gitwire_client_pull(fetch->client, buffer, sizeof buffer);
+		gitwire_event event;
+
+		switch (next.kind) {
 		case GITWIRE_PACKET:
-			if (!write_all(fetch->to, room, answer.length))
-				status = tell("the server cannot be written to");
+			if (!write_packet(next.length))
+				return 1;
 			break;
 		case GITWIRE_CAN_ASK:
 			status = ask_next(fetch);
 			break;
 		case GITWIRE_NEED_INPUT:
-			status = hear(fetch);
+			if (!read_chunk(fetch->client))
+				return 1;
+			event = gitwire_client_feed(fetch->client, chunk, chunk_length, buffer, sizeof buffer);
+			if (!take(fetch, &event))
+				return tell("the pack cannot be written");
+			chunk += event.used;
+			chunk_length -= event.used;
 			break;
 		case GITWIRE_FINISHED:
-			status = 0;
-			break;
+			return 0;
 		default:
-			status = refuse(&fetch->client, answer);
+			return refuse(fetch->client, next);
 		}
 	}
 	return status;
@@ -177,14 +128,12 @@ static int fetch_into(struct fetch *fetch, char *folder, const char *name)
 	fetch->pack = fopen(name, "wb");
 	if (fetch->pack == NULL)
 		return tell("the pack cannot be opened");
-	if (start_server(folder, &fetch->to, &fetch->from) < 0) {
-		fclose(fetch->pack);
-		return tell("no server");
+	if (start_server(folder)) {
+		status = converse(fetch);
+		end_server();
+	} else {
+		status = tell("no server");
 	}
-	status = converse(fetch);
-	close(fetch->to);
-	close(fetch->from);
-	wait(NULL);
 	if (fclose(fetch->pack) != 0 && status == 0)
 		status = tell("the pack cannot be written");
 	return status;
@@ -193,7 +142,7 @@ static int fetch_into(struct fetch *fetch, char *folder, const char *name)
 int main(int count, char **words)
 {
 	bool is_sha256 = count > 1 && strcmp(words[1], "--sha256") == 0;
-	struct fetch fetch = { .client = GITWIRE_NONE, .format = is_sha256 ? GITWIRE_SHA256 : GITWIRE_SHA1 };
+	struct fetch fetch = { .format = is_sha256 ? GITWIRE_SHA256 : GITWIRE_SHA1 };
 	int status;
 
 	words += 1 + is_sha256;
@@ -203,7 +152,7 @@ int main(int count, char **words)
 	}
 	fetch.reference = words[1];
 	status = fetch_into(&fetch, words[0], words[2]);
-	gitwire_client_free(&fetch.client);
+	gitwire_client_free(fetch.client);
 	if (status == 0 && (puts(fetch.id) < 0 || fflush(stdout) != 0))
 		status = tell("the output cannot be written");
 	return status;

@@ -39,25 +39,25 @@ static bool is_number_up_to(const char *text, unsigned long most)
 }
 
 /* Whether the filter is allowed; if not, the client receives the reason. `depth` is how many filters of filters there may be. */
-static bool may_filter(const char *filter, size_t depth, char *reason, size_t room)
+static bool may_filter(const char *filter, size_t depth, char *reason, size_t size)
 {
 	const char *kind = filter_kind(filter), *rest = filter + strlen("combine:"), *most;
-	char key[64], part[GITWIRE_REFERENCE_NAME_ROOM + 1];
+	char key[64], part[GITWIRE_REFERENCE_NAME_SIZE + 1];
 	bool allowed = is_set("uploadpackfilter.allow", true);
 
 	snprintf(key, sizeof key, "uploadpackfilter.%s.allow", kind);
 	most = setting("uploadpackfilter.tree.maxdepth", NULL);
 	if (depth == 0 || !is_set(key, allowed || (most != NULL && strcmp(kind, "tree") == 0))) {
-		snprintf(reason, room, "filter '%s' not supported", kind);
+		snprintf(reason, size, "filter '%s' not supported", kind);
 		return false;
 	}
 	if (strcmp(kind, "tree") == 0 && most != NULL && !is_number_up_to(filter + 5, strtoul(most, NULL, 10))) {
-		snprintf(reason, room, "tree filter allows max depth %s, but got %s", most, filter + 5);
+		snprintf(reason, size, "tree filter allows max depth %s, but got %s", most, filter + 5);
 		return false;
 	}
 	while (strcmp(kind, "combine") == 0 && *rest != 0) {
 		cut_filter(&rest, part);
-		if (!may_filter(part, depth - 1, reason, room))
+		if (!may_filter(part, depth - 1, reason, size))
 			return false;
 	}
 	return true;

@@ -14,7 +14,7 @@
 /* Where a command writes its messages: to those of this program; into its output, in the words of the C locale; or to a pipe of its own. */
 enum reports { TO_ERRORS, TO_OUTPUT, TO_PIPE };
 
-enum { READ_ROOM = 65536 }; /* as much as a pipe holds */
+enum { READ_SIZE = 65536 }; /* as much as a pipe holds */
 
 struct command {
 	pid_t id;
@@ -22,7 +22,7 @@ struct command {
 	int messages; /* the pipe of its messages, or -1 */
 	bool is_fed;
 	char *line, *buffer;
-	size_t room;
+	size_t line_size;
 };
 
 /* Ends the program, and the session if there is one, because a command of Git failed. */
@@ -56,10 +56,10 @@ static void start(struct command *command, enum reports reports, const char *con
 		close(messages[1]);
 	command->input = fdopen(input[1], "w");
 	command->output = fdopen(output[0], "r");
-	command->buffer = malloc(READ_ROOM);
+	command->buffer = malloc(READ_SIZE);
 	if (command->id < 0 || command->input == NULL || command->output == NULL || command->buffer == NULL)
 		fail("a command of Git cannot be started");
-	setvbuf(command->output, command->buffer, _IOFBF, READ_ROOM);
+	setvbuf(command->output, command->buffer, _IOFBF, READ_SIZE);
 }
 
 /* Ends a command's input. */
@@ -98,12 +98,12 @@ static bool widen(int pipe, int bytes)
 	return fcntl(pipe, F_SETPIPE_SZ, bytes) >= 0;
 }
 
-static ssize_t read_patiently(void *pipe, char *bytes, size_t room)
+static ssize_t read_patiently(void *pipe, char *bytes, size_t size)
 {
 	struct pollfd output = { .fd = (int)(intptr_t)pipe };
 
 	poll(&output, 1, 1); /* a millisecond, or until its end: data is no event here */
-	return read(output.fd, bytes, room);
+	return read(output.fd, bytes, size);
 }
 
 static int close_patiently(void *pipe)
@@ -128,13 +128,13 @@ static void be_patient(struct command *command)
 	command->output = fopencookie((void *)(intptr_t)pipe, "r", calls);
 	if (command->output == NULL)
 		fail("a command of Git cannot be read");
-	setvbuf(command->output, command->buffer, _IOFBF, READ_ROOM);
+	setvbuf(command->output, command->buffer, _IOFBF, READ_SIZE);
 }
 
 /* The next line of its output without its LF, valid until the next call, or NULL at the end. A last line without an LF was cut off, and is ignored. */
 static char *next_line(struct command *command)
 {
-	ssize_t length = getline(&command->line, &command->room, command->output);
+	ssize_t length = getline(&command->line, &command->line_size, command->output);
 
 	if (length <= 0 || command->line[length - 1] != '\n')
 		return NULL;
@@ -143,12 +143,12 @@ static char *next_line(struct command *command)
 }
 
 /* Its output, a line that fits; false if its status is 1, which reports that there is no such thing. */
-static bool answer_of(struct command *command, char *answer, size_t room)
+static bool answer_of(struct command *command, char *answer, size_t size)
 {
 	char *line = next_line(command);
 	int status;
 
-	if (snprintf(answer, room, "%s", line == NULL ? "" : line) >= (int)room || next_line(command) != NULL)
+	if (snprintf(answer, size, "%s", line == NULL ? "" : line) >= (int)size || next_line(command) != NULL)
 		fail("a command of Git prints more than it should");
 	status = end(command);
 	if (status != 0 && status != 1)

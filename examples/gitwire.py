@@ -12,7 +12,7 @@ LD_LIBRARY_PATH is not needed where the library lies in a folder that the system
 
 import signal
 import sys
-from ctypes import CDLL, POINTER, Structure, byref, c_bool, c_size_t, c_uint32, c_uint64, c_void_p, create_string_buffer
+from ctypes import CDLL, POINTER, Structure, byref, c_bool, c_char_p, c_size_t, c_uint32, c_uint64, c_void_p, create_string_buffer, string_at
 from typing import NamedTuple, Optional
 
 # The numbers of gitwire.h.
@@ -22,16 +22,11 @@ SHA1, SHA256 = 1, 2
 ENDS_BY_FLUSH, ENDS_BY_RESPONSE_END = 1, 2
 COMMANDS = {1: "ls-refs", 2: "fetch", 3: "object-info"}
 FEATURES_ALL = 127
-USUAL_LIMIT = 16777216
-PAYLOAD_ROOM, PACKET_ROOM, FAULT_TEXT_ROOM, ESCAPE_ROOM = 65516, 65520, 64, 4
+PART_ID, PART_NAME, PART_TEXT, PART_PEELED = range(1, 5)
+DEFAULT_LIMIT = 16777216
+PAYLOAD_SIZE, PACKET_SIZE, ESCAPE_SIZE = 65516, 65520, 4
 CHUNK = 65536
 EVENTS = 256
-
-
-class Handle(Structure):
-    """One of the library's handles, which begins as zeros."""
-
-    _fields_ = [("at", c_void_p), ("is_made", c_bool)]
 
 
 class Answer(Structure):
@@ -58,30 +53,32 @@ class Listed(Structure):
     ]
 
 
-class Offer(Structure):
-    """What a server advertises."""
+class Text(Structure):
+    """A text that the library returns by where it is: no place if there is none."""
 
-    _fields_ = [("features", c_uint32), ("format", c_uint32)]
+    _fields_ = [("at", c_void_p), ("length", c_size_t)]
 
 
 def load_library():
-    """The library, and what its calls take and return. A text, a buffer and an array are each a pointer and a length."""
+    """The library, and what its calls take and return. A handle is a pointer; a text, a buffer and an array are each a pointer and a length."""
     library = CDLL("libgitwire.so.1")
-    handle, text = POINTER(Handle), [c_void_p, c_size_t]
+    handle, place, text = c_void_p, POINTER(c_void_p), [c_void_p, c_size_t]
     takes = {
-        "request_reader_new": (c_uint32, [handle, Offer, c_uint32]),
+        "request_reader_new": (c_uint32, [place, c_uint32, c_uint32, c_uint32]),
         "request_reader_feed": (Answer, [handle, handle, *text]),
-        "request_reader_clear": (None, [handle]),
+        "request_reader_free": (None, [handle]),
         "request_command": (c_uint32, [handle]),
-        "request_clear": (None, [handle]),
-        "client_new": (c_uint32, [handle, c_uint32, c_uint32]),
+        "request_empty": (c_uint32, [place]),
+        "request_free": (None, [handle]),
+        "client_new": (c_uint32, [place, c_uint32, c_uint32]),
         "client_events": (Answer, [handle, *text, *text, *text]),
         "client_pull": (Answer, [handle, *text]),
         "client_ask": (Answer, [handle, handle]),
         "client_leave": (c_uint32, [handle]),
         "client_close": (Answer, [handle]),
-        "client_clear": (None, [handle]),
-        "fault_text": (c_size_t, [c_uint32, c_uint64, *text]),
+        "client_free": (None, [handle]),
+        "event_part": (Text, [POINTER(Listed), c_uint32, c_void_p, c_void_p]),
+        "fault_name": (c_char_p, [c_uint32]),
         "escape": (Answer, [*text, *text]),
     }
     for name, (gives, wants) in takes.items():
@@ -97,104 +94,103 @@ class Refused(Exception):
     """An error that the library reports, by name and offset."""
 
 
+def made(result):
+    """Raises an error if a handle was not made."""
+    if result != DONE:
+        raise MemoryError
+
+
 def judged(answer):
     """What was returned, unless it is an error."""
     if answer.kind == FAILED:
-        text = create_string_buffer(FAULT_TEXT_ROOM)
-        length = LIBRARY.gitwire_fault_text(answer.fault, answer.offset, text, len(text))
-        raise Refused(text[:length].decode())
+        raise Refused(f"{LIBRARY.gitwire_fault_name(answer.fault).decode()} at {answer.offset}")
     return answer
 
 
 def escaped(text):
     """Untrusted bytes as a text that may be shown."""
-    room = create_string_buffer(ESCAPE_ROOM * (len(text) + 1))
-    answer = LIBRARY.gitwire_escape(text, len(text), room, len(room))
-    return room[: answer.length].decode()
+    buffer = create_string_buffer(ESCAPE_SIZE * (len(text) + 1))
+    answer = LIBRARY.gitwire_escape(text, len(text), buffer, len(buffer))
+    return buffer[: answer.length].decode()
 
 
 class Event(NamedTuple):
-    """What a server sent. A part that it does not have is empty; a text that it does not have is None, and so is a size."""
+    """What a server sent. A part that it does not have is None, and so is a size."""
 
     kind: int
-    id: bytes
-    name: bytes
+    id: Optional[bytes]
+    name: Optional[bytes]
     text: Optional[bytes]
-    peeled: bytes
+    peeled: Optional[bytes]
     size: Optional[int]
 
 
-def event_of(listed, chunk, room):
-    """The event, with its texts out of the chunk or the buffer."""
-    place = chunk if listed.kind in (PACK, PROGRESS) else room
-    at, texts = listed.offset, []
-    for length in (listed.id_length, listed.name_length, listed.text_length, listed.peeled_length):
-        texts.append(place[at : at + length])
-        at += length
-    id_, name, text, peeled = texts
-    return Event(listed.kind, id_, name, text if listed.has_text else None, peeled, listed.size if listed.has_size else None)
+def event_of(listed, chunk, buffer):
+    """The event, with its parts out of the chunk or the buffer."""
+    parts = [LIBRARY.gitwire_event_part(listed, part, chunk, buffer) for part in (PART_ID, PART_NAME, PART_TEXT, PART_PEELED)]
+    texts = [string_at(part.at, part.length) if part.at else None for part in parts]
+    return Event(listed.kind, *texts, listed.size if listed.has_size else None)
 
 
 class Request:
-    """A request that was read, and can be asked."""
+    """A request that was read, and can be asked once."""
 
     def __init__(self):
-        self.handle = Handle()
+        self.handle = c_void_p()
+        made(LIBRARY.gitwire_request_empty(byref(self.handle)))
 
     def __del__(self):
-        LIBRARY.gitwire_request_clear(byref(self.handle))
+        LIBRARY.gitwire_request_free(self.handle)
 
     def command(self):
         """The name of its command."""
-        return COMMANDS[LIBRARY.gitwire_request_command(byref(self.handle))]
+        return COMMANDS[LIBRARY.gitwire_request_command(self.handle)]
 
 
 def requests_of(stream, format_=SHA1):
     """The requests of a client's bytes, one after another, up to a flush alone or the end."""
-    reader = Handle()
-    if LIBRARY.gitwire_request_reader_new(byref(reader), Offer(FEATURES_ALL, format_), USUAL_LIMIT) != DONE:
-        raise MemoryError
+    reader = c_void_p()
+    made(LIBRARY.gitwire_request_reader_new(byref(reader), format_, FEATURES_ALL, DEFAULT_LIMIT))
     try:
         at = 0
         while at < len(stream):
             request = Request()
             rest = stream[at:]
-            answer = judged(LIBRARY.gitwire_request_reader_feed(byref(reader), byref(request.handle), rest, len(rest)))
+            answer = judged(LIBRARY.gitwire_request_reader_feed(reader, request.handle, rest, len(rest)))
             at += answer.used
             if answer.kind != REQUEST:
                 return
             yield request
     finally:
-        LIBRARY.gitwire_request_reader_clear(byref(reader))
+        LIBRARY.gitwire_request_reader_free(reader)
 
 
 class Client:
     """The client's side of a conversation."""
 
     def __init__(self, format_=SHA1, ending=ENDS_BY_FLUSH):
-        self.handle = Handle()
-        self.packet = create_string_buffer(PACKET_ROOM)
-        self.room = create_string_buffer(2 * PAYLOAD_ROOM + CHUNK)
+        self.handle = c_void_p()
+        self.packet = create_string_buffer(PACKET_SIZE)
+        self.buffer = create_string_buffer(2 * PAYLOAD_SIZE + CHUNK)
         self.listed = (Listed * EVENTS)()
         self.used = 0
-        if LIBRARY.gitwire_client_new(byref(self.handle), format_, ending) != DONE:
-            raise MemoryError
+        made(LIBRARY.gitwire_client_new(byref(self.handle), format_, ending))
 
     def __del__(self):
-        LIBRARY.gitwire_client_clear(byref(self.handle))
+        LIBRARY.gitwire_client_free(self.handle)
 
     def pull(self):
         """What to do next, and the packet to be sent if that is PACKET."""
-        answer = judged(LIBRARY.gitwire_client_pull(byref(self.handle), self.packet, len(self.packet)))
+        answer = judged(LIBRARY.gitwire_client_pull(self.handle, self.packet, len(self.packet)))
         return answer.kind, self.packet[: answer.length]
 
     def ask(self, request):
         """Asks the request, which the client has from then on."""
-        judged(LIBRARY.gitwire_client_ask(byref(self.handle), byref(request.handle)))
+        judged(LIBRARY.gitwire_client_ask(self.handle, request.handle))
 
     def leave(self):
         """Leaves the conversation."""
-        LIBRARY.gitwire_client_leave(byref(self.handle))
+        LIBRARY.gitwire_client_leave(self.handle)
 
     def feed(self, chunk):
         """The events of the chunk, one after another, up to the first error, which is raised after them, or to where a request can be
@@ -202,18 +198,16 @@ class Client:
         self.used = 0
         while self.used < len(chunk):
             rest = chunk[self.used : self.used + CHUNK]
-            answer = LIBRARY.gitwire_client_events(
-                byref(self.handle), rest, len(rest), self.listed, EVENTS, self.room, len(self.room)
-            )
+            answer = LIBRARY.gitwire_client_events(self.handle, rest, len(rest), self.listed, EVENTS, self.buffer, len(self.buffer))
             self.used += answer.used
             for listed in self.listed[: answer.length]:
-                yield event_of(listed, rest, self.room)
+                yield event_of(listed, rest, self.buffer)
             if judged(answer).kind != MORE:
                 return
 
     def close(self):
         """The input ends here: an error, if more was expected."""
-        judged(LIBRARY.gitwire_client_close(byref(self.handle)))
+        judged(LIBRARY.gitwire_client_close(self.handle))
 
 
 class Transcript:
@@ -226,7 +220,7 @@ class Transcript:
         """The line of an event, or nothing."""
         words = {OFFERED: "offered", NAK: "nak", READY: "ready"}
         names = {ACK: "ack", SHALLOW: "shallow", UNSHALLOW: "unshallow", WANTED_REF: "wanted-ref", INFO: "info"}
-        id_, name = event.id.decode(), escaped(event.name)
+        id_, name = (event.id or b"").decode(), escaped(event.name or b"")
         if event.kind in self.counts:
             self.counts[event.kind] += len(event.text)
             return ""

@@ -27,10 +27,9 @@ enum request_part { BETWEEN_REQUESTS, CAPABILITIES, ARGUMENTS, OTHER_COMMAND };
 enum response_part { SECTION_HEADER, SECTION_LINES, URI_LINES, PACKFILE };
 
 struct judge {
-	gitwire_client client;
-	gitwire_request_reader requests;    /* once the server's advertisement is known */
-	gitwire_request request;            /* the last whole one */
-	gitwire_offer offer;                /* the offer that these are read against */
+	gitwire_client *client;
+	gitwire_request_reader *requests;   /* once the server's advertisement is known, which they are read against */
+	gitwire_request *request;           /* the last whole one, until the client has taken it */
 	struct others others;               /* what else the server advertised */
 	gitwire_format format;
 	uint64_t begins_at;                 /* where the unfinished request begins */
@@ -50,20 +49,21 @@ struct packet {
 	uint64_t offset;
 };
 
-static uint8_t room[GITWIRE_PACKET_ROOM];
+static uint8_t buffer[GITWIRE_PACKET_SIZE];
 
 /* Begins a conversation. False if there is no memory. */
 static bool begin_judge(struct judge *judge, gitwire_format format, FILE *transcript)
 {
 	*judge = (struct judge){ .format = format, .transcript = transcript };
-	return gitwire_client_new(&judge->client, format, GITWIRE_ENDS_BY_FLUSH) == GITWIRE_DONE;
+	return gitwire_client_new(&judge->client, format, GITWIRE_ENDS_BY_FLUSH) == GITWIRE_DONE
+		&& gitwire_request_empty(&judge->request) == GITWIRE_DONE;
 }
 
 static void end_judge(struct judge *judge)
 {
-	gitwire_client_free(&judge->client);
-	gitwire_request_reader_free(&judge->requests);
-	gitwire_request_free(&judge->request);
+	gitwire_client_free(judge->client);
+	gitwire_request_reader_free(judge->requests);
+	gitwire_request_free(judge->request);
 	free(judge->others.lines);
 }
 
@@ -78,7 +78,7 @@ static gitwire_result due(struct judge *judge)
 	if (judge->passes)
 		return GITWIRE_NEED_INPUT;
 	do {
-		answer = gitwire_client_pull(&judge->client, room, sizeof room);
+		answer = gitwire_client_pull(judge->client, buffer, sizeof buffer);
 	} while (answer.kind == GITWIRE_PACKET);
 	return answer.kind;
 }
@@ -94,8 +94,8 @@ static gitwire_answer ask(struct judge *judge)
 	static const char *const commands[] = {
 		[GITWIRE_LS_REFS] = "ls-refs", [GITWIRE_FETCH] = "fetch", [GITWIRE_OBJECT_INFO] = "object-info",
 	};
-	const char *command = commands[gitwire_request_command(&judge->request)];
-	gitwire_answer answer = gitwire_client_ask(&judge->client, &judge->request);
+	const char *command = commands[gitwire_request_command(judge->request)];
+	gitwire_answer answer = gitwire_client_ask(judge->client, judge->request);
 
 	if (answer.kind == GITWIRE_FAILED)
 		return refusal(answer.fault, judge->begins_at);
@@ -103,23 +103,21 @@ static gitwire_answer ask(struct judge *judge)
 	return answer;
 }
 
-/* Reads requests from now on against the server's advertisement. */
+/* Reads requests from now on against the server's advertisement, and none yet. */
 static bool begin_requests(struct judge *judge)
 {
-	gitwire_caps caps;
+	uint32_t features = gitwire_client_features(judge->client);
 
-	if (gitwire_client_caps(&judge->client, &caps) != GITWIRE_DONE)
-		return false;
-	judge->offer = (gitwire_offer){ .format = judge->format, .features = caps.features };
-	return gitwire_request_reader_new(&judge->requests, judge->offer, GITWIRE_USUAL_LIMIT) == GITWIRE_DONE;
+	gitwire_request_reader_free(judge->requests);
+	return gitwire_request_reader_new(&judge->requests, judge->format, features, GITWIRE_DEFAULT_LIMIT) == GITWIRE_DONE;
 }
 
 /* The text of a packet: its payload without the LF at its end. */
-static struct text text_in(struct packet packet)
+static gitwire_text text_in(struct packet packet)
 {
-	struct text text = { (const char *)packet.bytes + 4, packet.length - 4 };
+	gitwire_text text = { (const char *)packet.bytes + 4, packet.length - 4 };
 
-	if (text.length > 0 && text.bytes[text.length - 1] == '\n')
+	if (text.length > 0 && text.at[text.length - 1] == '\n')
 		text.length--;
 	return text;
 }
@@ -129,10 +127,10 @@ static bool is_special(struct packet packet, char digit)
 	return memcmp(packet.bytes, "000", 3) == 0 && packet.bytes[3] == digit;
 }
 
-static void show_line(struct judge *judge, char arrow, uint64_t offset, const char *what, struct text text)
+static void show_line(struct judge *judge, char arrow, uint64_t offset, const char *what, gitwire_text text)
 {
 	fprintf(judge->transcript, "%c %" PRIu64 " %s ", arrow, offset, what);
-	show_bytes(judge->transcript, (const uint8_t *)text.bytes, text.length);
+	show_bytes(judge->transcript, text.at, text.length);
 	putc('\n', judge->transcript);
 }
 
@@ -142,17 +140,17 @@ static void show_line(struct judge *judge, char arrow, uint64_t offset, const ch
  */
 static bool is_other_capability(struct judge *judge, struct packet packet)
 {
-	struct text text = text_in(packet), key = cut_at(&text, '=');
+	gitwire_text text = text_in(packet), key = cut_at(&text, '=');
 
 	if (is_text(key, "command")) {
-		snprintf(judge->command, sizeof judge->command, "%.*s", text.length < 8 ? (int)text.length : 0, text.bytes);
+		snprintf(judge->command, sizeof judge->command, "%.*s", text.length < 8 ? (int)text.length : 0, text.at);
 		if (!has_other(&judge->others, "", text))
 			return false;
 		judge->part = OTHER_COMMAND;
 		show_line(judge, '>', judge->begins_at, "request", text);
 		return true;
 	}
-	if (!has_other(&judge->others, "", key) || memchr(text.bytes, 0, text.length) != NULL || memchr(text.bytes, '\n', text.length) != NULL)
+	if (!has_other(&judge->others, "", key) || memchr(text.at, 0, text.length) != NULL || memchr(text.at, '\n', text.length) != NULL)
 		return false;
 	show_line(judge, '>', packet.offset, "capability", text_in(packet));
 	return true;
@@ -161,7 +159,7 @@ static bool is_other_capability(struct judge *judge, struct packet packet)
 /* Takes an argument that the library does not know, if its first word was advertised as one of the command's. */
 static bool is_other_argument(struct judge *judge, struct packet packet)
 {
-	struct text text = text_in(packet), word = cut_at(&text, ' ');
+	gitwire_text text = text_in(packet), word = cut_at(&text, ' ');
 
 	if (judge->command[0] == 0 || !has_other(&judge->others, judge->command, word))
 		return false;
@@ -181,7 +179,7 @@ static gitwire_answer pass_request(struct judge *judge, struct packet packet)
 	if (is_special(packet, '0')) {
 		judge->part = BETWEEN_REQUESTS;
 		judge->passes = true;
-		if (gitwire_request_reader_new(&judge->requests, judge->offer, GITWIRE_USUAL_LIMIT) != GITWIRE_DONE)
+		if (!begin_requests(judge))
 			return refusal(GITWIRE_FAULT_OUT_OF_MEMORY, packet.offset);
 	} else if (!is_special(packet, '1')) {
 		show_line(judge, '>', packet.offset, "line", text_in(packet));
@@ -218,11 +216,11 @@ static gitwire_answer judge_request(struct judge *judge, struct packet packet)
 		return pass_request(judge, packet);
 	if (is_other(judge, packet))
 		return (gitwire_answer){ .kind = GITWIRE_MORE };
-	answer = gitwire_request_reader_feed(&judge->requests, &judge->request, packet.bytes, packet.length);
+	answer = gitwire_request_reader_feed(judge->requests, judge->request, packet.bytes, packet.length);
 	if (answer.kind == GITWIRE_OUT_OF_MEMORY)
 		return refusal(GITWIRE_FAULT_OUT_OF_MEMORY, packet.offset);
 	if (answer.kind == GITWIRE_STOP)
-		gitwire_client_leave(&judge->client);
+		gitwire_client_leave(judge->client);
 	if (answer.kind != GITWIRE_REQUEST && answer.kind != GITWIRE_STOP)
 		return answer;
 	judge->part = BETWEEN_REQUESTS;
@@ -235,75 +233,73 @@ static gitwire_answer judge_request(struct judge *judge, struct packet packet)
 /* Judges the end of the client's bytes, after so many of them, if it is the client's turn. */
 static gitwire_answer judge_last_request(struct judge *judge, uint64_t end)
 {
-	gitwire_answer answer = gitwire_request_reader_close(&judge->requests);
+	gitwire_answer answer = gitwire_request_reader_close(judge->requests);
 
 	if (judge->part != BETWEEN_REQUESTS)
 		return refusal(GITWIRE_FAULT_TRUNCATED, end);
 
 	if (answer.kind == GITWIRE_DONE)
-		gitwire_client_leave(&judge->client);
+		gitwire_client_leave(judge->client);
 	return answer;
 }
 
-static void show_part(FILE *to, const char *mark, const uint8_t *part, size_t length)
+/* A part of an event other than bytes of the pack and of the progress, which are counted alone. */
+static gitwire_text part_of(const gitwire_event *event, gitwire_part part)
 {
-	fputs(mark, to);
-	show_bytes(to, part, length);
+	return gitwire_event_part(event, part, NULL, buffer);
 }
 
-/* The line of an event, whose parts are in the buffer one after another. */
-static void show_event(struct judge *judge, gitwire_event event, uint64_t offset)
+/* Shows a part of an event, if it has that, after a mark. */
+static void show_part(FILE *to, const char *mark, const gitwire_event *event, gitwire_part part)
+{
+	gitwire_text text = part_of(event, part);
+
+	if (text.at == NULL)
+		return;
+	fputs(mark, to);
+	show_bytes(to, text.at, text.length);
+}
+
+/* The line of an event, whose parts are in the buffer. */
+static void show_event(struct judge *judge, const gitwire_event *event, uint64_t offset)
 {
 	static const char *const words[] = {
 		[GITWIRE_CAPABILITY] = "capability", [GITWIRE_OFFERED] = "offered", [GITWIRE_REFERENCE] = "ref", [GITWIRE_ACK] = "ack",
 		[GITWIRE_NAK] = "nak", [GITWIRE_READY] = "ready", [GITWIRE_SHALLOW] = "shallow", [GITWIRE_UNSHALLOW] = "unshallow",
 		[GITWIRE_WANTED_REF] = "wanted-ref", [GITWIRE_INFO] = "info", [GITWIRE_ENDED] = "end",
 	};
-	const uint8_t *id = room, *name = id + event.id_length, *text = name + event.name_length, *peeled = text + event.text_length;
 	FILE *to = judge->transcript;
 
-	fprintf(to, "< %" PRIu64 " %s", offset, words[event.kind]);
-	if (event.id_length > 0)
-		show_part(to, " ", id, event.id_length);
-	else if (event.kind == GITWIRE_REFERENCE)
+	fprintf(to, "< %" PRIu64 " %s", offset, words[event->kind]);
+	if (event->kind == GITWIRE_REFERENCE && event->id_length == 0)
 		fputs(" unborn", to);
-	if (event.name_length > 0)
-		show_part(to, " ", name, event.name_length);
-	if (event.has_text)
-		show_part(to, event.kind == GITWIRE_CAPABILITY ? "=" : " symref-target:", text, event.text_length);
-	if (event.peeled_length > 0)
-		show_part(to, " peeled:", peeled, event.peeled_length);
-	if (event.has_size)
-		fprintf(to, " %" PRIu64, event.size);
-	else if (event.kind == GITWIRE_INFO)
+	show_part(to, " ", event, GITWIRE_PART_ID);
+	show_part(to, " ", event, GITWIRE_PART_NAME);
+	show_part(to, event->kind == GITWIRE_CAPABILITY ? "=" : " symref-target:", event, GITWIRE_PART_TEXT);
+	show_part(to, " peeled:", event, GITWIRE_PART_PEELED);
+	if (event->has_size)
+		fprintf(to, " %" PRIu64, event->size);
+	else if (event->kind == GITWIRE_INFO)
 		fputs(" -", to);
-	if (event.kind == GITWIRE_ENDED)
+	if (event->kind == GITWIRE_ENDED)
 		fprintf(to, " %" PRIu64 " %" PRIu64, judge->pack, judge->progress);
 	putc('\n', to);
 }
 
-/* Notes a line of the advertisement, whose key and value are in the buffer. */
-static bool note_capability(struct judge *judge, gitwire_event event)
-{
-	struct text key = { (const char *)room, event.name_length }, value = { (const char *)room + event.name_length, event.text_length };
-
-	return note_other(&judge->others, key, value);
-}
-
 /* Takes an event of the server. Bytes of the pack and of the progress are counted. False if there is no memory. */
-static bool take_event(struct judge *judge, gitwire_event event, uint64_t offset)
+static bool take_event(struct judge *judge, const gitwire_event *event, uint64_t offset)
 {
-	if (event.kind == GITWIRE_CAPABILITY && !note_capability(judge, event))
+	if (event->kind == GITWIRE_CAPABILITY && !note_other(&judge->others, part_of(event, GITWIRE_PART_NAME), part_of(event, GITWIRE_PART_TEXT)))
 		return false;
-	if (event.kind == GITWIRE_PACK)
-		judge->pack += event.text_length;
-	else if (event.kind == GITWIRE_PROGRESS)
-		judge->progress += event.text_length;
-	else if (event.kind != GITWIRE_MORE)
+	if (event->kind == GITWIRE_PACK)
+		judge->pack += event->text_length;
+	else if (event->kind == GITWIRE_PROGRESS)
+		judge->progress += event->text_length;
+	else if (event->kind != GITWIRE_MORE)
 		show_event(judge, event, offset);
-	if (event.kind == GITWIRE_ENDED)
+	if (event->kind == GITWIRE_ENDED)
 		judge->pack = judge->progress = 0;
-	return event.kind != GITWIRE_OFFERED || begin_requests(judge);
+	return event->kind != GITWIRE_OFFERED || begin_requests(judge);
 }
 
 /* Takes a packet of the response to another command, up to its flush. */
@@ -326,11 +322,11 @@ static gitwire_answer feed_client(struct judge *judge, struct packet packet)
 	size_t used = 0;
 
 	while (used < packet.length && due(judge) == GITWIRE_NEED_INPUT) {
-		gitwire_event event = gitwire_client_feed_in_place(&judge->client, packet.bytes + used, packet.length - used, room, sizeof room);
+		gitwire_event event = gitwire_client_feed(judge->client, packet.bytes + used, packet.length - used, buffer, sizeof buffer);
 
 		if (event.kind == GITWIRE_FAILED)
 			return refusal(event.fault, packet.offset);
-		if (!take_event(judge, event, packet.offset))
+		if (!take_event(judge, &event, packet.offset))
 			return refusal(GITWIRE_FAULT_OUT_OF_MEMORY, packet.offset);
 		used += event.used;
 	}
@@ -340,7 +336,7 @@ static gitwire_answer feed_client(struct judge *judge, struct packet packet)
 /* Takes a line of the section `packfile-uris`, a name of digits, a space and an address, or the delimiter after them. */
 static gitwire_answer pass_uri(struct judge *judge, struct packet packet)
 {
-	struct text text = text_in(packet), hash = cut_at(&text, ' ');
+	gitwire_text text = text_in(packet), hash = cut_at(&text, ' ');
 
 	if (is_special(packet, '1')) {
 		judge->section = SECTION_HEADER;
@@ -374,7 +370,7 @@ static gitwire_answer judge_section(struct judge *judge, struct packet packet)
 /* Takes the band off a packet before the pack: it has a line on the first band, or progress on the second. */
 static gitwire_answer judge_band(struct judge *judge, struct packet packet)
 {
-	static uint8_t line[GITWIRE_PACKET_ROOM];
+	static uint8_t line[GITWIRE_PACKET_SIZE];
 	char digits[5];
 
 	if (packet.length == 4)
@@ -416,7 +412,7 @@ static gitwire_answer judge_last_response(struct judge *judge, uint64_t end)
 	gitwire_answer answer = { .kind = GITWIRE_FAILED, .fault = GITWIRE_FAULT_TRUNCATED };
 
 	if (!judge->passes)
-		answer = gitwire_client_close(&judge->client);
+		answer = gitwire_client_close(judge->client);
 	if (answer.kind == GITWIRE_FAILED)
 		answer.offset = end; /* a packet that is not whole is judged before */
 	return answer;

@@ -22,8 +22,8 @@ static void answer_reference(const char *id, const char *name, const char *targe
 	if (!is_in_space(name) || is_hidden(name))
 		return;
 	shown = name + strlen(space);
-	answer = gitwire_host_reference(&host, (const uint8_t *)id, strlen(id), (const uint8_t *)shown, strlen(shown), (const uint8_t *)leads,
-		strlen(leads), (const uint8_t *)peeled, strlen(peeled), room(), GITWIRE_PACKET_ROOM);
+	answer = gitwire_host_reference(host, id, strlen(id), shown, strlen(shown), leads, strlen(leads), peeled, strlen(peeled), buffer(),
+		GITWIRE_PACKET_SIZE);
 	if (answer.kind == GITWIRE_FAILED || answer.kind == GITWIRE_OUT_OF_ORDER)
 		fail("a reference that no answer may have");
 	give(answer);
@@ -35,13 +35,13 @@ static void answer_reference(const char *id, const char *name, const char *targe
 static void answer_unborn(const char *name, const char *target)
 {
 	if (*target != 0 && is_in_space(target) && !is_hidden(name))
-		give(gitwire_host_unborn(&host, (const uint8_t *)target + strlen(space), strlen(target) - strlen(space), room(), GITWIRE_PACKET_ROOM));
+		give(gitwire_host_unborn(host, target + strlen(space), strlen(target) - strlen(space), buffer(), GITWIRE_PACKET_SIZE));
 }
 
 /* `HEAD`, which comes before all others. */
 static void answer_head(void)
 {
-	static char target[LINE_ROOM];
+	static char target[LINE_SIZE];
 	char name[sizeof space + 4];
 	struct found found, peeled;
 	struct command head;
@@ -73,7 +73,7 @@ static char *cut_line(char *line, char *id)
 /* Reports the references of these lines of `git for-each-ref`, each an object, a name and a target that may be empty: no more than a batch. */
 static void answer_lines(const struct texts *lines)
 {
-	char id[GITWIRE_OBJECT_NAME_ROOM + 1], *name, *target;
+	char id[GITWIRE_OBJECT_NAME_SIZE + 1], *name, *target;
 	bool is_tag[BATCH];
 	struct found found;
 
@@ -140,7 +140,7 @@ static void answer_matching(const struct texts *patterns)
 
 /* A reference of `git show-ref`, which prints the object of a tag on a line after it; and the first line after that, or NULL. */
 struct shown {
-	char id[GITWIRE_OBJECT_NAME_ROOM + 1], peeled[GITWIRE_OBJECT_NAME_ROOM + 1], name[LINE_ROOM];
+	char id[GITWIRE_OBJECT_NAME_SIZE + 1], peeled[GITWIRE_OBJECT_NAME_SIZE + 1], name[LINE_SIZE];
 	char *next;
 	bool is_none;
 };
@@ -155,7 +155,7 @@ static void read_shown(struct command *from, struct shown *shown)
 	if (shown->is_none)
 		return;
 	name = cut_line(shown->next, shown->id);
-	if ((length = strlen(name)) >= LINE_ROOM)
+	if ((length = strlen(name)) >= LINE_SIZE)
 		fail("a reference that no answer may have");
 	memcpy(shown->name, name, length + 1);
 	shown->next = next_line(from);
@@ -188,7 +188,7 @@ static const char *peeled_in(struct command *from, struct shown *shown, const ch
 
 /* `HEAD` of the namespace, and its target, which is empty if it is not symbolic. */
 struct head {
-	char name[sizeof space + 4], target[LINE_ROOM];
+	char name[sizeof space + 4], target[LINE_SIZE];
 };
 
 /* Reports `HEAD`, which `git show-ref --head` prints first, with an object; or else, with NULL, as unborn. */
@@ -206,7 +206,7 @@ static void start_shown(struct command *shown, bool heads, bool tags)
 	const char *words[7] = { "git", "show-ref", "--head" };
 	size_t count = 3;
 
-	if (gitwire_host_flag(&host, GITWIRE_FLAG_PEEL))
+	if (gitwire_host_flag(host, GITWIRE_FLAG_PEEL))
 		words[count++] = "-d";
 	if (heads)
 		words[count++] = "--heads";
@@ -230,8 +230,8 @@ static void answer_by_two(struct command *first, const struct head *head, bool h
 {
 	static struct shown shown;
 	const char *words[7] = { "git", "for-each-ref", "--sort=refname", "--format=%(objectname) %(refname) %(symref)" };
-	char id[GITWIRE_OBJECT_NAME_ROOM + 1], *line, *reference;
-	bool peels = gitwire_host_flag(&host, GITWIRE_FLAG_PEEL), is_empty;
+	char id[GITWIRE_OBJECT_NAME_SIZE + 1], *line, *reference;
+	bool peels = gitwire_host_flag(host, GITWIRE_FLAG_PEEL), is_empty;
 	struct command second;
 	size_t count = 4;
 
@@ -347,5 +347,5 @@ static void answer_references(void)
 		answer_matching(&asked.patterns);
 	}
 	clear_texts(&asked.patterns);
-	give(gitwire_host_references_end(&host, room(), GITWIRE_PACKET_ROOM));
+	give(gitwire_host_references_end(host, buffer(), GITWIRE_PACKET_SIZE));
 }

@@ -10,7 +10,7 @@
 #include <sys/random.h>
 
 struct name {
-	char digits[GITWIRE_OBJECT_NAME_ROOM + 1];
+	char digits[GITWIRE_OBJECT_NAME_SIZE + 1];
 };
 
 /* A place of a hash table: the number of a name, from 1, or 0 if it is free; and the hash of that name, so that most others are not compared. */
@@ -22,12 +22,12 @@ struct names {
 	struct name *at;
 	size_t length;
 	struct place *places;
-	size_t room; /* of the table, a power of two */
+	size_t capacity; /* of the table, a power of two */
 };
 
 static uint64_t mixed(uint64_t hash, uint64_t part)
 {
-	unsigned __int128 product = (unsigned __int128)(hash ^ part) * 0x9e3779b97f4a7c15u;
+	__extension__ unsigned __int128 product = (unsigned __int128)(hash ^ part) * 0x9e3779b97f4a7c15u;
 
 	return (uint64_t)product ^ (uint64_t)(product >> 64);
 }
@@ -55,7 +55,7 @@ static struct place *find_place(const struct names *names, const char *digits, u
 {
 	size_t at;
 
-	for (at = hash & (names->room - 1); names->places[at].number != 0; at = (at + 1) & (names->room - 1))
+	for (at = hash & (names->capacity - 1); names->places[at].number != 0; at = (at + 1) & (names->capacity - 1))
 		if (names->places[at].hash == hash && strcmp(names->at[names->places[at].number - 1].digits, digits) == 0)
 			break;
 	return &names->places[at];
@@ -63,7 +63,7 @@ static struct place *find_place(const struct names *names, const char *digits, u
 
 static bool has_name(const struct names *names, const char *digits)
 {
-	return names->room > 0 && find_place(names, digits, hash_of(digits, strlen(digits)))->number != 0;
+	return names->capacity > 0 && find_place(names, digits, hash_of(digits, strlen(digits)))->number != 0;
 }
 
 static void clear_names(struct names *names)
@@ -76,33 +76,33 @@ static void clear_names(struct names *names)
 /* Doubles the table, so that at least half of it is free. */
 static void enlarge(struct names *names)
 {
-	size_t room = names->room == 0 ? 64 : 2 * names->room;
-	struct place *places = calloc(room, sizeof *places);
+	size_t capacity = names->capacity == 0 ? 64 : 2 * names->capacity;
+	struct place *places = calloc(capacity, sizeof *places);
 
-	names->at = realloc(names->at, room / 2 * sizeof *names->at);
-	if (names->at == NULL || places == NULL || room > UINT32_MAX)
+	names->at = realloc(names->at, capacity / 2 * sizeof *names->at);
+	if (names->at == NULL || places == NULL || capacity > UINT32_MAX)
 		stop("no memory");
-	for (size_t i = 0, at; i < names->room; i++) {
+	for (size_t i = 0, at; i < names->capacity; i++) {
 		if (names->places[i].number == 0)
 			continue;
-		for (at = names->places[i].hash & (room - 1); places[at].number != 0;)
-			at = (at + 1) & (room - 1);
+		for (at = names->places[i].hash & (capacity - 1); places[at].number != 0;)
+			at = (at + 1) & (capacity - 1);
 		places[at] = names->places[i];
 	}
 	free(names->places);
 	names->places = places;
-	names->room = room;
+	names->capacity = capacity;
 }
 
 /* Adds a name, unless it is there. What is longer than a name can be is cut off. */
 static void add_name(struct names *names, const char *digits)
 {
-	size_t length = strnlen(digits, GITWIRE_OBJECT_NAME_ROOM);
+	size_t length = strnlen(digits, GITWIRE_OBJECT_NAME_SIZE);
 	uint32_t hash = hash_of(digits, length);
 	struct place *place;
 	char *name;
 
-	if (names->length == names->room / 2)
+	if (names->length == names->capacity / 2)
 		enlarge(names);
 	name = names->at[names->length].digits; /* the next one, which may stay free */
 	memcpy(name, digits, length);

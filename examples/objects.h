@@ -11,7 +11,7 @@ static struct command objects;
 static struct names own_boundary; /* the commits at which the history of the repository itself is cut off */
 
 struct found {
-	char id[GITWIRE_OBJECT_NAME_ROOM + 1], type[16];
+	char id[GITWIRE_OBJECT_NAME_SIZE + 1], type[16];
 	unsigned long long size;
 };
 
@@ -36,7 +36,7 @@ static bool begins_with_name(const char *line)
 {
 	size_t digits = strspn(line, "0123456789abcdef");
 
-	return (digits == 40 || digits == GITWIRE_OBJECT_NAME_ROOM) && line[digits] == ' ';
+	return (digits == 40 || digits == GITWIRE_OBJECT_NAME_SIZE) && line[digits] == ' ';
 }
 
 /* Receives the facts about the next requested object; false if there is none. */
@@ -59,9 +59,9 @@ static bool find(const char *name, struct found *found)
 /* The object that a tag, or a tag of a tag, points to; any other object is itself. */
 static bool find_peeled(const char *id, struct found *found)
 {
-	char peeled[GITWIRE_OBJECT_NAME_ROOM + 4];
+	char peeled[GITWIRE_OBJECT_NAME_SIZE + 4];
 
-	snprintf(peeled, sizeof peeled, "%.*s^{}", GITWIRE_OBJECT_NAME_ROOM, id);
+	snprintf(peeled, sizeof peeled, "%.*s^{}", GITWIRE_OBJECT_NAME_SIZE, id);
 	return find(peeled, found);
 }
 
@@ -103,7 +103,7 @@ static void pass_over(unsigned long long count)
 static uint64_t receive_commit(const char *id, struct names *parents)
 {
 	static char *line;
-	static size_t room;
+	static size_t size;
 	struct found found;
 	uint64_t date = 0;
 	unsigned long long left;
@@ -111,7 +111,7 @@ static uint64_t receive_commit(const char *id, struct names *parents)
 	if (!receive_found(&found) || strcmp(found.type, "commit") != 0)
 		fail("a commit cannot be read");
 	for (left = found.size + 1; left > 0;) { /* an LF follows it */
-		ssize_t length = getline(&line, &room, objects.output);
+		ssize_t length = getline(&line, &size, objects.output);
 		const char *end;
 
 		if (length <= 0 || (unsigned long long)length > left)

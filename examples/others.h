@@ -16,18 +16,12 @@ struct others {
 	size_t length;
 };
 
-/* A part of a packet's text. */
-struct text {
-	const char *bytes;
-	size_t length;
-};
-
-static bool is_text(struct text text, const char *word)
+static bool is_text(gitwire_text text, const char *word)
 {
-	return text.length == strlen(word) && memcmp(text.bytes, word, text.length) == 0;
+	return text.length == strlen(word) && memcmp(text.at, word, text.length) == 0;
 }
 
-static bool is_among(struct text text, const char *const *words)
+static bool is_among(gitwire_text text, const char *const *words)
 {
 	for (; *words != NULL; words++)
 		if (is_text(text, *words))
@@ -36,23 +30,23 @@ static bool is_among(struct text text, const char *const *words)
 }
 
 /* Cuts the text at the first byte of this value: returns what comes before it, and leaves in `text` what comes after it, or nothing if there is none. */
-static struct text cut_at(struct text *text, char byte)
+static gitwire_text cut_at(gitwire_text *text, char byte)
 {
-	const char *at = memchr(text->bytes, byte, text->length);
-	struct text head = { text->bytes, at == NULL ? text->length : (size_t)(at - text->bytes) };
+	const char *at = memchr(text->at, byte, text->length);
+	gitwire_text head = { text->at, at == NULL ? text->length : (size_t)(at - text->at) };
 
-	text->bytes += at == NULL ? text->length : head.length + 1;
+	text->at += at == NULL ? text->length : head.length + 1;
 	text->length -= at == NULL ? text->length : head.length + 1;
 	return head;
 }
 
 /* Keeps a key (with an empty command) or a word of a command's value. False if there is no memory, or it would be more than may be kept. */
-static bool add_other(struct others *others, const char *command, struct text word)
+static bool add_other(struct others *others, const char *command, gitwire_text word)
 {
 	size_t before = strlen(command), length = before + (before > 0) + word.length + 1;
 	char *lines;
 
-	if (length > GITWIRE_USUAL_LIMIT || others->length > GITWIRE_USUAL_LIMIT - length)
+	if (length > GITWIRE_DEFAULT_LIMIT || others->length > GITWIRE_DEFAULT_LIMIT - length)
 		return false;
 	lines = realloc(others->lines, others->length + length);
 	if (lines == NULL)
@@ -62,24 +56,24 @@ static bool add_other(struct others *others, const char *command, struct text wo
 	memcpy(lines, command, before);
 	if (before > 0)
 		lines[before++] = ' ';
-	memcpy(lines + before, word.bytes, word.length);
+	memcpy(lines + before, word.at, word.length);
 	lines[length - 1] = '\n';
 	others->length += length;
 	return true;
 }
 
-static bool are_same(struct text text, struct text other)
+static bool are_same(gitwire_text text, gitwire_text other)
 {
-	return text.length == other.length && memcmp(text.bytes, other.bytes, text.length) == 0;
+	return text.length == other.length && memcmp(text.at, other.at, text.length) == 0;
 }
 
 /* Whether the advertisement has the key (with an empty command), or the word in the value of the command. */
-static bool has_other(const struct others *others, const char *command, struct text word)
+static bool has_other(const struct others *others, const char *command, gitwire_text word)
 {
-	struct text left = { others->lines, others->length };
+	gitwire_text left = { others->lines, others->length };
 
 	while (left.length > 0) {
-		struct text line = cut_at(&left, '\n');
+		gitwire_text line = cut_at(&left, '\n');
 
 		if (*command != 0 && !is_text(cut_at(&line, ' '), command))
 			continue;
@@ -90,12 +84,12 @@ static bool has_other(const struct others *others, const char *command, struct t
 }
 
 /* Keeps the words in the value of a command that the library does not know. */
-static bool note_words(struct others *others, const char *command, struct text value)
+static bool note_words(struct others *others, const char *command, gitwire_text value)
 {
 	static const char *const known[] = { "", "shallow", "ref-in-want", "wait-for-done", "filter", "unborn", NULL };
 
 	while (value.length > 0) {
-		struct text word = cut_at(&value, ' ');
+		gitwire_text word = cut_at(&value, ' ');
 
 		if (!is_among(word, known) && !add_other(others, command, word))
 			return false;
@@ -104,7 +98,7 @@ static bool note_words(struct others *others, const char *command, struct text v
 }
 
 /* Notes a line of the advertisement. False if there is no memory, or it would be more than may be kept. */
-static bool note_other(struct others *others, struct text key, struct text value)
+static bool note_other(struct others *others, gitwire_text key, gitwire_text value)
 {
 	static const char *const known[] = { "agent", "server-option", "object-format", "object-info", NULL };
 

@@ -14,13 +14,13 @@
 
 #include "shown.h"
 
-#define MOST_PIECE 65536
+#define MOST_BYTES 65536
 #define MOST_PACKETS 64
 
-static void show(gitwire_answer packet, const uint8_t *payload)
+static void show(const gitwire_answer *packet, const uint8_t *payload)
 {
-	printf("%" PRIu64 " ", packet.offset);
-	switch (packet.kind) {
+	printf("%" PRIu64 " ", packet->offset);
+	switch (packet->kind) {
 	case GITWIRE_FLUSH:
 		puts("flush");
 		return;
@@ -31,8 +31,8 @@ static void show(gitwire_answer packet, const uint8_t *payload)
 		puts("end");
 		return;
 	default:
-		printf("data %zu%s", packet.length, packet.length > 0 ? " " : "");
-		show_bytes(stdout, payload, packet.length);
+		printf("data %zu%s", packet->length, packet->length > 0 ? " " : "");
+		show_bytes(stdout, payload, packet->length);
 		putchar('\n');
 	}
 }
@@ -46,29 +46,26 @@ static int tell(const char *what)
 /* Reports an error by its name and offset. */
 static int refuse(gitwire_answer answer)
 {
-	uint8_t text[GITWIRE_FAULT_TEXT_ROOM];
-	size_t length = gitwire_fault_text(answer.fault, answer.offset, text, sizeof text);
-
 	fflush(stdout);
-	fprintf(stderr, "packets: %.*s\n", (int)length, (const char *)text);
+	fprintf(stderr, "packets: %s at %" PRIu64 "\n", gitwire_fault_name(answer.fault), answer.offset);
 	return 1;
 }
 
 /* Lists all packets, and returns the exit status. */
 static int list(gitwire_packet_reader *reader, size_t most)
 {
-	static uint8_t piece[MOST_PIECE], room[GITWIRE_PAYLOAD_ROOM];
+	static uint8_t bytes[MOST_BYTES], buffer[GITWIRE_PAYLOAD_SIZE];
 	static gitwire_answer packets[MOST_PACKETS];
 	gitwire_answer answer;
 	size_t length;
 
-	while ((length = fread(piece, 1, most, stdin)) > 0) {
+	while ((length = fread(bytes, 1, most, stdin)) > 0) {
 		for (size_t used = 0; used < length; used += answer.used) {
-			const uint8_t *part = piece + used;
+			const uint8_t *chunk = bytes + used;
 
-			answer = gitwire_packet_reader_packets(reader, part, length - used, packets, MOST_PACKETS, room, sizeof room);
+			answer = gitwire_packet_reader_packets(reader, chunk, length - used, packets, MOST_PACKETS, buffer, sizeof buffer);
 			for (size_t i = 0; i < answer.length; i++)
-				show(packets[i], gitwire_payload(packets[i], part, room));
+				show(&packets[i], gitwire_payload(&packets[i], chunk, buffer));
 			if (answer.kind == GITWIRE_FAILED)
 				return refuse(answer);
 		}
@@ -90,16 +87,16 @@ static size_t number_of(const char *word)
 
 int main(int count, char **words)
 {
-	size_t most = count > 1 ? number_of(words[1]) : MOST_PIECE;
-	gitwire_packet_reader reader = GITWIRE_NONE;
+	size_t most = count > 1 ? number_of(words[1]) : MOST_BYTES;
+	gitwire_packet_reader *reader;
 
-	if (most < 1 || most > MOST_PIECE) {
+	if (most < 1 || most > MOST_BYTES) {
 		fputs("usage: packets [PIECE]\n", stderr);
 		return 2;
 	}
 	if (gitwire_packet_reader_new(&reader) != GITWIRE_DONE)
 		return tell("no memory");
-	int status = list(&reader, most);
-	gitwire_packet_reader_free(&reader);
+	int status = list(reader, most);
+	gitwire_packet_reader_free(reader);
 	return fflush(stdout) != 0 || ferror(stdout) ? tell("the output cannot be written") : status;
 }

@@ -2,13 +2,12 @@
 //
 //	PKG_CONFIG_PATH=PREFIX/lib/pkgconfig LD_LIBRARY_PATH=PREFIX/lib go run packets.go
 //
-// A handle is in C's memory, since the library keeps it from call to call; chunks and buffers are in Go's, for one call each.
+// A handle is the library's own pointer; chunks and buffers are in Go's memory, for one call each.
 package main
 
 /*
 #cgo pkg-config: gitwire
 #include <gitwire.h>
-#include <stdlib.h>
 */
 import "C"
 
@@ -21,19 +20,17 @@ import (
 	"unsafe"
 )
 
-const mostPiece = 65536
+const mostBytes = 65536
 
 // A packetReader is one of the library's. It is used by one goroutine at a time, and freed once.
 type packetReader struct {
 	handle *C.gitwire_packet_reader
-	room   [C.GITWIRE_PAYLOAD_ROOM]byte
+	buffer [C.GITWIRE_PAYLOAD_SIZE]byte
 }
 
 func newPacketReader() (*packetReader, error) {
-	// calloc gives what GITWIRE_NONE is: a null pointer and false.
-	handle := (*C.gitwire_packet_reader)(C.calloc(1, C.sizeof_gitwire_packet_reader))
-	if handle == nil || C.gitwire_packet_reader_new(handle) != C.GITWIRE_DONE {
-		C.free(unsafe.Pointer(handle))
+	var handle *C.gitwire_packet_reader
+	if C.gitwire_packet_reader_new(&handle) != C.GITWIRE_DONE {
 		return nil, fmt.Errorf("no memory")
 	}
 	return &packetReader{handle: handle}, nil
@@ -41,28 +38,25 @@ func newPacketReader() (*packetReader, error) {
 
 func (reader *packetReader) free() {
 	C.gitwire_packet_reader_free(reader.handle)
-	C.free(unsafe.Pointer(reader.handle))
 	reader.handle = nil
 }
 
 // bytesOf is the address of a chunk of at least one byte.
-func bytesOf(piece []byte) *C.uint8_t {
-	return (*C.uint8_t)(unsafe.Pointer(&piece[0]))
+func bytesOf(chunk []byte) *C.uint8_t {
+	return (*C.uint8_t)(unsafe.Pointer(&chunk[0]))
 }
 
-func (reader *packetReader) feed(piece []byte) C.gitwire_answer {
-	return C.gitwire_packet_reader_feed(reader.handle, bytesOf(piece), C.size_t(len(piece)),
-		bytesOf(reader.room[:]), C.size_t(len(reader.room)))
+func (reader *packetReader) feed(chunk []byte) C.gitwire_answer {
+	return C.gitwire_packet_reader_feed(reader.handle, bytesOf(chunk), C.size_t(len(chunk)),
+		bytesOf(reader.buffer[:]), C.size_t(len(reader.buffer)))
 }
 
 // faultOf returns what is wrong by name and offset, as "Truncated at 6".
 func faultOf(answer C.gitwire_answer) error {
-	var room [C.GITWIRE_FAULT_TEXT_ROOM]byte
-	length := C.gitwire_fault_text(answer.fault, answer.offset, bytesOf(room[:]), C.size_t(len(room)))
-	return fmt.Errorf("%s", room[:length])
+	return fmt.Errorf("%s at %d", C.GoString(C.gitwire_fault_name(answer.fault)), uint64(answer.offset))
 }
 
-func show(out *bufio.Writer, answer C.gitwire_answer, room []byte) {
+func show(out *bufio.Writer, answer C.gitwire_answer, buffer []byte) {
 	offset := uint64(answer.offset)
 	switch answer.kind {
 	case C.GITWIRE_FLUSH:
@@ -72,7 +66,7 @@ func show(out *bufio.Writer, answer C.gitwire_answer, room []byte) {
 	case C.GITWIRE_RESPONSE_END:
 		fmt.Fprintln(out, offset, "end")
 	default:
-		showPayload(out, offset, room[:answer.length])
+		showPayload(out, offset, buffer[:answer.length])
 	}
 }
 
@@ -87,26 +81,26 @@ func showPayload(out *bufio.Writer, offset uint64, payload []byte) {
 
 // writeEscaped writes a peer's bytes as git2show shows them.
 func writeEscaped(out *bufio.Writer, rest []byte) {
-	var room [4096]byte
+	var shown [4096]byte
 	for len(rest) > 0 {
-		answer := C.gitwire_escape(bytesOf(rest), C.size_t(len(rest)), bytesOf(room[:]), C.size_t(len(room)))
-		out.Write(room[:answer.length])
+		answer := C.gitwire_escape(bytesOf(rest), C.size_t(len(rest)), (*C.char)(unsafe.Pointer(&shown[0])), C.size_t(len(shown)))
+		out.Write(shown[:answer.length])
 		rest = rest[answer.used:]
 	}
 }
 
 func list(reader *packetReader, most int, in io.Reader, out *bufio.Writer) error {
-	piece := make([]byte, most)
+	chunk := make([]byte, most)
 	for {
-		length, err := in.Read(piece)
-		for rest := piece[:length]; len(rest) > 0; {
+		length, err := in.Read(chunk)
+		for rest := chunk[:length]; len(rest) > 0; {
 			answer := reader.feed(rest)
 			rest = rest[answer.used:]
 			if answer.kind == C.GITWIRE_FAILED {
 				return faultOf(answer)
 			}
 			if answer.kind != C.GITWIRE_MORE {
-				show(out, answer, reader.room[:])
+				show(out, answer, reader.buffer[:])
 			}
 		}
 		if err == io.EOF {
@@ -137,11 +131,11 @@ func run(most int) error {
 }
 
 func main() {
-	most, err := mostPiece, error(nil)
+	most, err := mostBytes, error(nil)
 	if len(os.Args) > 1 {
 		most, err = strconv.Atoi(os.Args[1])
 	}
-	if err != nil || most < 1 || most > mostPiece {
+	if err != nil || most < 1 || most > mostBytes {
 		fmt.Fprintln(os.Stderr, "usage: packets [PIECE]")
 		os.Exit(2)
 	}

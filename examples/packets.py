@@ -9,39 +9,32 @@ a folder that the system's loader knows.
 
 import signal
 import sys
-from ctypes import CDLL, POINTER, Structure, byref, c_bool, c_size_t, c_uint32, c_uint64, c_void_p, create_string_buffer
+from ctypes import CDLL, POINTER, Structure, byref, c_char_p, c_size_t, c_uint32, c_uint64, c_void_p, create_string_buffer
 
-MOST_PIECE = 65536
+MOST_BYTES = 65536
 
 # The numbers of gitwire.h.
 DONE, MORE, FAILED, FLUSH, DELIM, RESPONSE_END = 0, 1, 2, 10, 11, 12
-PAYLOAD_ROOM = 65516
-ESCAPE_ROOM = 4
-FAULT_TEXT_ROOM = 64
+PAYLOAD_SIZE = 65516
+ESCAPE_SIZE = 4
 
 
-class Handle(Structure):
-    """One of the library's handles, which begins as zeros."""
-
-    _fields_ = [("at", c_void_p), ("is_made", c_bool)]
-
-
-class Told(Structure):
+class Answer(Structure):
     """The result of one call."""
 
     _fields_ = [("used", c_size_t), ("offset", c_uint64), ("length", c_size_t), ("kind", c_uint32), ("fault", c_uint32)]
 
 
 def load_library():
-    """The library, with the types of its calls. A text is a pointer and a length, and so is a buffer."""
+    """The library, with the types of its calls. A handle is a pointer; a text is a pointer and a length, and so is a buffer."""
     library = CDLL("libgitwire.so.1")
     takes = {
-        "packet_reader_new": (c_uint32, [POINTER(Handle)]),
-        "packet_reader_feed": (Told, [POINTER(Handle), c_void_p, c_size_t, c_void_p, c_size_t]),
-        "packet_reader_close": (Told, [POINTER(Handle)]),
-        "packet_reader_clear": (None, [POINTER(Handle)]),
-        "fault_text": (c_size_t, [c_uint32, c_uint64, c_void_p, c_size_t]),
-        "escape": (Told, [c_void_p, c_size_t, c_void_p, c_size_t]),
+        "packet_reader_new": (c_uint32, [POINTER(c_void_p)]),
+        "packet_reader_feed": (Answer, [c_void_p, c_void_p, c_size_t, c_void_p, c_size_t]),
+        "packet_reader_close": (Answer, [c_void_p]),
+        "packet_reader_free": (None, [c_void_p]),
+        "fault_name": (c_char_p, [c_uint32]),
+        "escape": (Answer, [c_void_p, c_size_t, c_void_p, c_size_t]),
     }
     for name, (gives, wants) in takes.items():
         call = getattr(library, "gitwire_" + name)
@@ -58,9 +51,9 @@ class PacketReader:
 
     def __init__(self, library):
         self.library = library
-        self.handle = Handle()
-        self.room = create_string_buffer(PAYLOAD_ROOM)
-        self.shown = create_string_buffer(ESCAPE_ROOM * PAYLOAD_ROOM)
+        self.handle = c_void_p()
+        self.buffer = create_string_buffer(PAYLOAD_SIZE)
+        self.shown = create_string_buffer(ESCAPE_SIZE * PAYLOAD_SIZE)
         if library.gitwire_packet_reader_new(byref(self.handle)) != DONE:
             raise Refused("no memory")
 
@@ -68,29 +61,27 @@ class PacketReader:
         return self
 
     def __exit__(self, *_):
-        self.library.gitwire_packet_reader_clear(byref(self.handle))
+        self.library.gitwire_packet_reader_free(self.handle)
 
     def judged(self, answer):
         """The result, unless it is an error."""
         if answer.kind == FAILED:
-            text = create_string_buffer(FAULT_TEXT_ROOM)
-            length = self.library.gitwire_fault_text(answer.fault, answer.offset, text, len(text))
-            raise Refused(text[:length].decode())
+            raise Refused(f"{self.library.gitwire_fault_name(answer.fault).decode()} at {answer.offset}")
         return answer
 
-    def feed(self, piece, start, end):
+    def feed(self, chunk, start, end):
         """Reads on to the end of a packet, or of this part of the chunk."""
-        part = byref(piece, start), end - start
-        return self.judged(self.library.gitwire_packet_reader_feed(byref(self.handle), *part, self.room, len(self.room)))
+        part = byref(chunk, start), end - start
+        return self.judged(self.library.gitwire_packet_reader_feed(self.handle, *part, self.buffer, len(self.buffer)))
 
     def payload(self, answer):
         """The payload of the last packet, as `git2show show` shows it."""
-        answer = self.library.gitwire_escape(self.room, answer.length, self.shown, len(self.shown))
+        answer = self.library.gitwire_escape(self.buffer, answer.length, self.shown, len(self.shown))
         return self.shown[: answer.length].decode()
 
     def close(self):
         """The input ends here."""
-        return self.judged(self.library.gitwire_packet_reader_close(byref(self.handle)))
+        return self.judged(self.library.gitwire_packet_reader_close(self.handle))
 
 
 def line(reader, answer):
@@ -101,21 +92,21 @@ def line(reader, answer):
     return f"{answer.offset} data {answer.length}{' ' if answer.length else ''}{reader.payload(answer)}\n"
 
 
-def read_into(piece):
+def read_into(chunk):
     """Fills the chunk from the input. Returns how many bytes came: fewer only at the end."""
     try:
-        return sys.stdin.buffer.readinto(piece)
+        return sys.stdin.buffer.readinto(chunk)
     except OSError:
         raise Refused("the input cannot be read") from None
 
 
 def list_packets(reader, most):
     """Prints a line for each packet."""
-    piece = create_string_buffer(most)
-    while length := read_into(piece):
+    chunk = create_string_buffer(most)
+    while length := read_into(chunk):
         used = 0
         while used < length:
-            answer = reader.feed(piece, used, length)
+            answer = reader.feed(chunk, used, length)
             used += answer.used
             if answer.kind != MORE:
                 sys.stdout.write(line(reader, answer))
@@ -130,8 +121,8 @@ def number_of(word):
 def main():
     """Answers the program's status. Where nobody reads its output it ends, as other programs do."""
     signal.signal(signal.SIGPIPE, signal.SIG_DFL)
-    most = number_of(sys.argv[1]) if len(sys.argv) > 1 else MOST_PIECE
-    if not 1 <= most <= MOST_PIECE:
+    most = number_of(sys.argv[1]) if len(sys.argv) > 1 else MOST_BYTES
+    if not 1 <= most <= MOST_BYTES:
         print("usage: packets [PIECE]", file=sys.stderr)
         return 2
     try:

@@ -6,9 +6,9 @@
 #include <string.h>
 #include <unistd.h>
 
-static gitwire_host host = GITWIRE_NONE;
-static uint8_t text[GITWIRE_REFERENCE_NAME_ROOM + 1];
-static uint8_t output[8 * GITWIRE_PACKET_ROOM]; /* the bytes to be sent, and after them space for a packet */
+static gitwire_host *host;
+static char text[GITWIRE_REFERENCE_NAME_SIZE + 1];
+static uint8_t output[8 * GITWIRE_PACKET_SIZE]; /* the bytes to be sent, and after them space for a packet */
 static size_t output_length;
 static unsigned timeout; /* how many seconds a client may take to send or receive some bytes, or 0 */
 
@@ -31,9 +31,9 @@ static void flush_output(void)
 }
 
 /* Where the next packet goes. */
-static uint8_t *room(void)
+static uint8_t *buffer(void)
 {
-	if (sizeof output - output_length < GITWIRE_PACKET_ROOM)
+	if (sizeof output - output_length < GITWIRE_PACKET_SIZE)
 		flush_output();
 	return output + output_length;
 }
@@ -51,18 +51,18 @@ static void give_following(void)
 {
 	gitwire_answer next;
 
-	while ((next = gitwire_host_pull(&host, room(), GITWIRE_PACKET_ROOM)).kind == GITWIRE_PACKET)
+	while ((next = gitwire_host_pull(host, buffer(), GITWIRE_PACKET_SIZE)).kind == GITWIRE_PACKET)
 		give(next);
 }
 
 /* The answer to a question cannot be found: the session is over. The client receives that at any question, and before a request is accepted. */
 static _Noreturn void fail(const char *what)
 {
-	static const uint8_t reason[] = "the repository cannot be read";
-	gitwire_answer answer = gitwire_host_fail(&host, room(), GITWIRE_PACKET_ROOM);
+	static const char reason[] = "the repository cannot be read";
+	gitwire_answer answer = gitwire_host_fail(host, buffer(), GITWIRE_PACKET_SIZE);
 
 	if (answer.kind == GITWIRE_NOT_NOW)
-		answer = gitwire_host_refuse(&host, reason, sizeof reason - 1, room(), GITWIRE_PACKET_ROOM);
+		answer = gitwire_host_refuse(host, reason, sizeof reason - 1, buffer(), GITWIRE_PACKET_SIZE);
 	if (answer.kind == GITWIRE_PACKET)
 		give(answer);
 	fprintf(stderr, PROGRAM ": %s\n", what);
@@ -73,10 +73,10 @@ static _Noreturn void fail(const char *what)
 /* The item of a list of the request, in `text` with a NUL after it, or NULL past the list's end. */
 static const char *item(gitwire_list list, uint64_t at)
 {
-	gitwire_answer answer = gitwire_host_item(&host, list, at, text, sizeof text - 1);
+	gitwire_answer answer = gitwire_host_item(host, list, at, text, sizeof text - 1);
 
 	if (answer.kind != GITWIRE_DONE)
 		return NULL;
 	text[answer.length] = 0;
-	return strlen((const char *)text) == answer.length ? (const char *)text : ""; /* a text with a NUL in it names nothing */
+	return strlen(text) == answer.length ? text : ""; /* a text with a NUL in it names nothing */
 }

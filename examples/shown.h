@@ -4,15 +4,16 @@
 #include <stdio.h>
 
 /* As `git2show` shows them. */
-static void show_bytes(FILE *to, const uint8_t *bytes, size_t length)
+static void show_bytes(FILE *to, const void *bytes, size_t length)
 {
-	uint8_t shown[4096];
+	const uint8_t *rest = bytes;
+	char shown[4096];
 
 	while (length > 0) {
-		gitwire_answer answer = gitwire_escape(bytes, length, shown, sizeof shown);
+		gitwire_answer answer = gitwire_escape(rest, length, shown, sizeof shown);
 
 		fwrite(shown, 1, answer.length, to);
-		bytes += answer.used;
+		rest += answer.used;
 		length -= answer.used;
 	}
 }

@@ -12,7 +12,7 @@
 #include <strings.h>
 #include <sys/stat.h>
 
-#define LINE_ROOM (2 * GITWIRE_REFERENCE_NAME_ROOM)
+#define LINE_SIZE (2 * GITWIRE_REFERENCE_NAME_SIZE)
 
 static char *configuration;         /* each KEY LF VALUE NUL, or KEY NUL, in order */
 static size_t configuration_length;
@@ -69,7 +69,7 @@ static void read_configuration(struct command *command)
 }
 
 /* A program that the owner of this machine wants to be started in the place of `git`, for packs. A setting of the repository itself is not used. */
-static bool find_hook(char *hook, size_t room)
+static bool find_hook(char *hook, size_t size)
 {
 	static const char *const words[] = { "git", "--git-dir=/nonexistent", "config", "uploadpack.packobjectshook", NULL };
 	struct command command;
@@ -77,7 +77,7 @@ static bool find_hook(char *hook, size_t room)
 	if (next_value("uploadpack.packobjectshook", NULL) == NULL)
 		return false;
 	start_alone(&command, TO_ERRORS, words);
-	return answer_of(&command, hook, room) && *hook != 0;
+	return answer_of(&command, hook, size) && *hook != 0;
 }
 
 /* Whether a reference, by its whole name, is in the namespace that is served. */
@@ -156,7 +156,7 @@ static bool has_symbolic(const char *folder)
 /* Whether the packed references are in order, as Git writes them: `git show-ref` prints them as their file has them, and another hand may write one. */
 static bool is_packed_in_order(void)
 {
-	static char line[LINE_ROOM], last[LINE_ROOM];
+	static char line[LINE_SIZE], last[LINE_SIZE];
 	FILE *file = fopen("packed-refs", "re");
 	bool is_in_order = true;
 	const char *name;
@@ -178,17 +178,17 @@ static bool is_packed_in_order(void)
 }
 
 /* HEAD of the namespace, whose name fits into `name`. Its target is received next, or an empty text if it is not symbolic. */
-static void start_head(struct command *command, char *name, size_t room)
+static void start_head(struct command *command, char *name, size_t size)
 {
 	const char *const words[] = { "git", "symbolic-ref", "-q", "--", name, NULL };
 
-	snprintf(name, room, "%sHEAD", space);
+	snprintf(name, size, "%sHEAD", space);
 	start_alone(command, TO_ERRORS, words);
 }
 
-static void receive_head(struct command *command, char *target, size_t room)
+static void receive_head(struct command *command, char *target, size_t size)
 {
-	if (!answer_of(command, target, room))
+	if (!answer_of(command, target, size))
 		*target = 0;
 }
 
@@ -240,7 +240,7 @@ static bool find_reference(const struct texts *lines, const char *name, char *id
 	char *const *line = lines->length == 0 ? NULL : bsearch(name, lines->at, lines->length, sizeof *lines->at, compare_to_line);
 
 	if (line != NULL)
-		snprintf(id, GITWIRE_OBJECT_NAME_ROOM + 1, "%.*s", (int)strcspn(*line, " "), *line);
+		snprintf(id, GITWIRE_OBJECT_NAME_SIZE + 1, "%.*s", (int)strcspn(*line, " "), *line);
 	return line != NULL;
 }
 
@@ -265,7 +265,7 @@ static bool find_head(const char *name, const char *target, struct found *found)
  * Whether this is the folder of a repository, or a file that leads to one, whose folder is then in `path`. If the file belongs to another
  * user than that of this process, it leads to none: the folder could be any that this user may read.
  */
-static bool leads_to_repository(char *path, size_t room)
+static bool leads_to_repository(char *path, size_t size)
 {
 	char line[PATH_MAX], inner[PATH_MAX + 16];
 	struct stat state;
@@ -286,7 +286,7 @@ static bool leads_to_repository(char *path, size_t room)
 		line[strcspn(line, "\n")] = 0;
 		if (line[8] == '/')
 			folder = 0;
-		if ((size_t)snprintf(path + folder, room - folder, "%s", line + 8) >= room - folder)
+		if ((size_t)snprintf(path + folder, size - folder, "%s", line + 8) >= size - folder)
 			return false;
 	}
 	snprintf(inner, sizeof inner, "%s/HEAD", path);
@@ -299,7 +299,7 @@ static bool read_repository(gitwire_format *format)
 	static const char *const ask[] = { "git", "-c", "safe.bareRepository=all", "rev-parse", "--git-dir", "--show-object-format",
 		"--git-common-dir", "--git-path", "shallow", NULL };
 	static const char *const settings[] = { "git", "-c", "safe.bareRepository=all", "config", "-z", "--list", NULL };
-	char line[GITWIRE_OBJECT_NAME_ROOM + 2], *answer;
+	char line[GITWIRE_OBJECT_NAME_SIZE + 2], *answer;
 	struct command command, configured;
 	FILE *boundary;
 	bool is_here;

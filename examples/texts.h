@@ -6,7 +6,7 @@
 
 struct texts {
 	char **at;
-	size_t length, room;
+	size_t length, capacity;
 };
 
 /* Adds a text of this format, as printf has it. */
@@ -14,9 +14,9 @@ __attribute__((format(printf, 2, 3))) static void add_text(struct texts *texts, 
 {
 	va_list values;
 
-	if (texts->length == texts->room) {
-		texts->room = 2 * texts->room + 16;
-		texts->at = realloc(texts->at, texts->room * sizeof *texts->at);
+	if (texts->length == texts->capacity) {
+		texts->capacity = 2 * texts->capacity + 16;
+		texts->at = realloc(texts->at, texts->capacity * sizeof *texts->at);
 		if (texts->at == NULL)
 			stop("no memory");
 	}

@@ -20,6 +20,7 @@
 #include "filters.h"
 #include "listing.h"
 
+#include <inttypes.h>
 #include <poll.h>
 
 /* Looks up the objects of a list of the request, and adds those that exist. Returns the first that does not exist, or NULL. */
@@ -36,19 +37,19 @@ static const char *find_listed(gitwire_list list, const char *type, struct names
 
 /* The wanted references as lines `ID NAME`, and the object of `HEAD`, which is empty if there is none. */
 static struct texts wanted_references;
-static char wanted_head[GITWIRE_OBJECT_NAME_ROOM + 1];
+static char wanted_head[GITWIRE_OBJECT_NAME_SIZE + 1];
 
 /* The object of a wanted reference, once those were looked up; false if there is none that may be shown. */
 static bool find_wanted(const char *name, char *id)
 {
-	static char whole[LINE_ROOM];
+	static char whole[LINE_SIZE];
 
 	snprintf(whole, sizeof whole, "%s%s", space, name);
 	if (is_hidden(whole))
 		return false;
 	if (strcmp(name, "HEAD") != 0)
 		return find_reference(&wanted_references, whole, id);
-	snprintf(id, GITWIRE_OBJECT_NAME_ROOM + 1, "%s", wanted_head);
+	snprintf(id, GITWIRE_OBJECT_NAME_SIZE + 1, "%s", wanted_head);
 	return *id != 0;
 }
 
@@ -56,7 +57,7 @@ static bool find_wanted(const char *name, char *id)
 static const char *find_wanted_references(void)
 {
 	struct texts names = { 0 };
-	char id[GITWIRE_OBJECT_NAME_ROOM + 1], head[sizeof space + 4];
+	char id[GITWIRE_OBJECT_NAME_SIZE + 1], head[sizeof space + 4];
 	struct found found = { .id = "" };
 	bool wants_head = false;
 	const char *name;
@@ -88,8 +89,8 @@ enum { RULES = 6, MOST_EXCLUDED = 100 };
 static const char *find_excluded(struct names *excluded)
 {
 	struct texts names = { 0 }, lines = { 0 };
-	static char whole[LINE_ROOM];
-	char id[GITWIRE_OBJECT_NAME_ROOM + 1];
+	static char whole[LINE_SIZE];
+	char id[GITWIRE_OBJECT_NAME_SIZE + 1];
 	struct found found;
 	const char *name;
 
@@ -116,7 +117,7 @@ static const char *find_excluded(struct names *excluded)
 /* Looks up what a fetch names. Returns why it is refused, or NULL; the words are those of Git's own server. */
 static const char *why_not(void)
 {
-	static char reason[LINE_ROOM];
+	static char reason[LINE_SIZE];
 	const char *name;
 
 	clear_names(&wants);
@@ -148,10 +149,10 @@ static void admit(gitwire_command command)
 
 	if (reason != NULL) {
 		fputs("fatal: ", stderr);
-		show_bytes(stderr, (const uint8_t *)reason, strlen(reason));
+		show_bytes(stderr, reason, strlen(reason));
 		fputc('\n', stderr);
-		give(gitwire_host_refuse(&host, (const uint8_t *)reason, strlen(reason), room(), GITWIRE_PACKET_ROOM));
-	} else if (gitwire_host_accept(&host) != GITWIRE_DONE) {
+		give(gitwire_host_refuse(host, reason, strlen(reason), buffer(), GITWIRE_PACKET_SIZE));
+	} else if (gitwire_host_accept(host) != GITWIRE_DONE) {
 		stop("no memory");
 	}
 }
@@ -159,8 +160,8 @@ static void admit(gitwire_command command)
 /* Finds the boundary that the request calls for. */
 static void find_boundary(void)
 {
-	gitwire_answer depth = gitwire_host_number(&host, GITWIRE_NUMBER_DEEPEN), since = gitwire_host_number(&host, GITWIRE_NUMBER_DEEPEN_SINCE);
-	bool excludes = item(GITWIRE_LIST_DEEPEN_NOTS, 0) != NULL, relative = gitwire_host_flag(&host, GITWIRE_FLAG_DEEPEN_RELATIVE);
+	gitwire_answer depth = gitwire_host_number(host, GITWIRE_NUMBER_DEEPEN), since = gitwire_host_number(host, GITWIRE_NUMBER_DEEPEN_SINCE);
+	bool excludes = item(GITWIRE_LIST_DEEPEN_NOTS, 0) != NULL, relative = gitwire_host_flag(host, GITWIRE_FLAG_DEEPEN_RELATIVE);
 	struct names heads = { 0 }, none = { 0 };
 
 	if (since.kind == GITWIRE_DONE || excludes) {
@@ -187,10 +188,10 @@ static void answer_boundary(void)
 		bool shallow = i < shallows.length;
 		const char *id = shallow ? shallows.at[i].digits : unshallows.at[i - shallows.length].digits;
 
-		give(gitwire_host_boundary(&host, shallow, (const uint8_t *)id, strlen(id), room(), GITWIRE_PACKET_ROOM));
+		give(gitwire_host_boundary(host, shallow, id, strlen(id), buffer(), GITWIRE_PACKET_SIZE));
 		give_following(); /* the first line of all comes after the section's header */
 	}
-	give(gitwire_host_boundary_end(&host, room(), GITWIRE_PACKET_ROOM));
+	give(gitwire_host_boundary_end(host, buffer(), GITWIRE_PACKET_SIZE));
 }
 
 /* What `git pack-objects` has to put into the pack, and where history is cut off for the client. */
@@ -214,7 +215,7 @@ static void write_revisions(FILE *to, bool is_cut)
 
 static void start_pack(struct command *pack, bool is_cut)
 {
-	static char filter[GITWIRE_REFERENCE_NAME_ROOM + 16], hook[PATH_MAX];
+	static char filter[GITWIRE_REFERENCE_NAME_SIZE + 16], hook[PATH_MAX];
 	const char *words[16] = { NULL }, *spec = item(GITWIRE_LIST_FILTERS, 0);
 	size_t count = 0;
 
@@ -230,29 +231,32 @@ static void start_pack(struct command *pack, bool is_cut)
 	words[count++] = "--stdout";
 	if (is_cut)
 		words[count++] = "--shallow";
-	if (gitwire_host_flag(&host, GITWIRE_FLAG_THIN_PACK))
+	if (gitwire_host_flag(host, GITWIRE_FLAG_THIN_PACK))
 		words[count++] = "--thin";
-	if (!gitwire_host_flag(&host, GITWIRE_FLAG_NO_PROGRESS))
+	if (!gitwire_host_flag(host, GITWIRE_FLAG_NO_PROGRESS))
 		words[count++] = "--progress";
-	if (gitwire_host_flag(&host, GITWIRE_FLAG_OFS_DELTA))
+	if (gitwire_host_flag(host, GITWIRE_FLAG_OFS_DELTA))
 		words[count++] = "--delta-base-offset";
-	if (gitwire_host_flag(&host, GITWIRE_FLAG_INCLUDE_TAG))
+	if (gitwire_host_flag(host, GITWIRE_FLAG_INCLUDE_TAG))
 		words[count++] = "--include-tag";
 	snprintf(filter, sizeof filter, "--filter=%s", spec == NULL ? "" : spec);
 	if (spec != NULL)
 		words[count++] = filter;
-	start(pack, gitwire_host_flag(&host, GITWIRE_FLAG_NO_PROGRESS) ? TO_ERRORS : TO_PIPE, words);
+	start(pack, gitwire_host_flag(host, GITWIRE_FLAG_NO_PROGRESS) ? TO_ERRORS : TO_PIPE, words);
 }
 
-/* Passes on what can be read: false at the end. */
-static bool pass_on(int from, gitwire_answer (*call)(gitwire_host *, const uint8_t *, size_t, uint8_t *, size_t))
+/* Passes on what can be read of the pack, or else of its progress: false at the end. */
+static bool pass_on(int from, bool is_pack)
 {
-	static uint8_t bytes[GITWIRE_PAYLOAD_ROOM - 1]; /* as much as a packet has after its band */
+	static uint8_t bytes[GITWIRE_PAYLOAD_SIZE - 1]; /* as much as a packet has after its band */
 	ssize_t length = read(from, bytes, sizeof bytes);
 	gitwire_answer answer;
 
 	for (size_t at = 0; length > 0 && at < (size_t)length; at += answer.used) {
-		answer = call(&host, bytes + at, (size_t)length - at, room(), GITWIRE_PACKET_ROOM);
+		size_t left = (size_t)length - at;
+
+		answer = is_pack ? gitwire_host_pack(host, bytes + at, left, buffer(), GITWIRE_PACKET_SIZE)
+			: gitwire_host_progress(host, (const char *)bytes + at, left, buffer(), GITWIRE_PACKET_SIZE);
 		give(answer);
 	}
 	if (length < 0 && errno != EINTR)
@@ -281,48 +285,53 @@ static void answer_pack(void)
 		if (ready[2].revents != 0)
 			stop("the client is gone");
 		if (ready[1].revents != 0)
-			is_open[1] = pass_on(pack.messages, gitwire_host_progress);
+			is_open[1] = pass_on(pack.messages, false);
 		else if (ready[0].revents != 0)
-			is_open[0] = pass_on(fileno(pack.output), gitwire_host_pack);
+			is_open[0] = pass_on(fileno(pack.output), true);
 	}
 	if (end(&pack) != 0)
 		fail("git pack-objects failed");
-	give(gitwire_host_pack_end(&host, room(), GITWIRE_PACKET_ROOM));
+	give(gitwire_host_pack_end(host, buffer(), GITWIRE_PACKET_SIZE));
+}
+
+static void answer_size(uint64_t at)
+{
+	struct found found = { .size = 0 };
+	bool is_there = find(item(GITWIRE_LIST_OIDS, at), &found);
+
+	give(gitwire_host_size(host, is_there, found.size, buffer(), GITWIRE_PACKET_SIZE));
 }
 
 /* Answers a question of the library. Whether an object exists was looked up when the request came. */
 static void answer_need(gitwire_answer need)
 {
-	struct found found = { .size = 0 };
-	char id[GITWIRE_OBJECT_NAME_ROOM + 1] = "";
-	bool is_so = false;
+	char id[GITWIRE_OBJECT_NAME_SIZE + 1] = "";
 
 	switch (need.kind) {
 	case GITWIRE_ASKED:
-		admit(gitwire_host_command(&host));
+		admit(gitwire_host_command(host));
 		return;
 	case GITWIRE_NEED_REFERENCE:
 		answer_references();
 		return;
 	case GITWIRE_NEED_WANT:
-		give(gitwire_host_want(&host, true, room(), GITWIRE_PACKET_ROOM));
+		give(gitwire_host_want(host, true, buffer(), GITWIRE_PACKET_SIZE));
 		return;
 	case GITWIRE_NEED_WANT_REF:
-		is_so = find_wanted(item(GITWIRE_LIST_WANT_REFS, need.offset), id);
-		give(gitwire_host_want_ref(&host, (const uint8_t *)id, is_so ? strlen(id) : 0, room(), GITWIRE_PACKET_ROOM));
+		find_wanted(item(GITWIRE_LIST_WANT_REFS, need.offset), id); /* which stays empty if there is none */
+		give(gitwire_host_want_ref(host, id, strlen(id), buffer(), GITWIRE_PACKET_SIZE));
 		return;
 	case GITWIRE_NEED_HAVE:
-		give(gitwire_host_have(&host, has_name(&common, item(GITWIRE_LIST_HAVES, need.offset)), room(), GITWIRE_PACKET_ROOM));
+		give(gitwire_host_have(host, has_name(&common, item(GITWIRE_LIST_HAVES, need.offset)), buffer(), GITWIRE_PACKET_SIZE));
 		return;
 	case GITWIRE_NEED_READY:
-		give(gitwire_host_ready(&host, is_enough_common(), room(), GITWIRE_PACKET_ROOM));
+		give(gitwire_host_ready(host, is_enough_common(), buffer(), GITWIRE_PACKET_SIZE));
 		return;
 	case GITWIRE_NEED_BOUNDARY:
 		answer_boundary();
 		return;
 	case GITWIRE_NEED_SIZE:
-		is_so = find(item(GITWIRE_LIST_OIDS, need.offset), &found);
-		give(gitwire_host_size(&host, is_so, found.size, room(), GITWIRE_PACKET_ROOM));
+		answer_size(need.offset);
 		return;
 	case GITWIRE_NEED_PACK:
 		answer_pack();
@@ -335,14 +344,14 @@ static void answer_need(gitwire_answer need)
 /* Feeds what the client sent, or closes at its end. */
 static void receive(void)
 {
-	static uint8_t piece[65536];
+	static uint8_t bytes[65536];
 	static size_t at, length;
 	ssize_t got;
 
 	if (at == length) {
 		flush_output();
 		alarm(timeout);
-		while ((got = read(STDIN_FILENO, piece, sizeof piece)) < 0 && errno == EINTR)
+		while ((got = read(STDIN_FILENO, bytes, sizeof bytes)) < 0 && errno == EINTR)
 			continue;
 		alarm(0);
 		if (got < 0)
@@ -351,18 +360,16 @@ static void receive(void)
 		length = (size_t)got;
 	}
 	if (length == 0)
-		gitwire_host_close(&host);
+		gitwire_host_close(host);
 	else
-		at += gitwire_host_feed(&host, piece + at, length - at).used;
+		at += gitwire_host_feed(host, bytes + at, length - at).used;
 }
 
 /* Answers requests until the client leaves, or one alone, or none. */
 static int serve(size_t most_requests)
 {
-	uint8_t why[GITWIRE_FAULT_TEXT_ROOM];
-
 	for (;;) {
-		gitwire_answer next = gitwire_host_pull(&host, room(), GITWIRE_PACKET_ROOM);
+		gitwire_answer next = gitwire_host_pull(host, buffer(), GITWIRE_PACKET_SIZE);
 
 		if (next.kind == GITWIRE_PACKET) {
 			give(next);
@@ -373,7 +380,7 @@ static int serve(size_t most_requests)
 			return 0;
 		} else if (next.kind == GITWIRE_FAILED) {
 			flush_output();
-			fprintf(stderr, PROGRAM ": %.*s\n", (int)gitwire_fault_text(next.fault, next.offset, why, sizeof why), (const char *)why);
+			fprintf(stderr, PROGRAM ": %s at %" PRIu64 "\n", gitwire_fault_name(next.fault), next.offset);
 			return 128;
 		} else {
 			most_requests -= next.kind == GITWIRE_ASKED && most_requests != SIZE_MAX;
@@ -419,17 +426,17 @@ static void report_no_repository(const char *name)
 {
 	fputs("fatal: '", stderr);
 	for (const char *end; (end = strchr(name, '\\')) != NULL; name = end + 1) {
-		show_bytes(stderr, (const uint8_t *)name, (size_t)(end - name));
+		show_bytes(stderr, name, (size_t)(end - name));
 		fputc('\\', stderr);
 	}
-	show_bytes(stderr, (const uint8_t *)name, strlen(name));
+	show_bytes(stderr, name, strlen(name));
 	fputs("' does not appear to be a git repository\n", stderr);
 }
 
 int main(int count, char **words)
 {
 	bool strict = false, stateless = false, advertise = false;
-	gitwire_offer offer;
+	gitwire_format format;
 	int at = 1;
 
 	for (; at < count && strncmp(words[at], "--", 2) == 0; at++)
@@ -453,13 +460,12 @@ int main(int count, char **words)
 	}
 	if (!begin())
 		return 128;
-	if (!enter(words[at], strict, &offer.format)) {
+	if (!enter(words[at], strict, &format)) {
 		report_no_repository(words[at]);
 		return 128;
 	}
 	read_space();
-	offer.features = features();
-	if (gitwire_host_new(&host, offer, GITWIRE_USUAL_LIMIT, advertise || !stateless) != GITWIRE_DONE)
+	if (gitwire_host_new(&host, format, features(), GITWIRE_DEFAULT_LIMIT, advertise || !stateless) != GITWIRE_DONE)
 		stop("no memory");
 	return serve(advertise ? 0 : stateless ? 1 : SIZE_MAX);
 }

@@ -4,15 +4,19 @@
  */
 #include <gitwire.h>
 
+#include <inttypes.h>
 #include <stdbool.h>
-#include <stdint.h>
 #include <stdio.h>
 #include <stdlib.h>
+#include <sys/wait.h>
 
 #include "shown.h"
 #include "start_program.h"
 
-static uint8_t room[GITWIRE_PACKET_ROOM];
+static int to_server, from_server;
+static const uint8_t *chunk;                /* the bytes of the server that are still to be used */
+static size_t chunk_length;
+static uint8_t buffer[GITWIRE_PACKET_SIZE]; /* where the library writes */
 
 static int tell(const char *what)
 {
@@ -20,40 +24,78 @@ static int tell(const char *what)
 	return 1;
 }
 
-/* Reports on one line why the conversation was refused, and the server's message for it, without the LF at its end. */
+/* Reports why the conversation was refused: the error by name and offset, and the server's message for it, or else what the error means. */
 static int refuse(gitwire_client *client, gitwire_answer answer)
 {
-	uint8_t text[GITWIRE_FAULT_TEXT_ROOM];
-	size_t length = gitwire_fault_text(answer.fault, answer.offset, text, sizeof text);
-	gitwire_answer message = gitwire_client_message(client, room, sizeof room);
+	char message[GITWIRE_PAYLOAD_SIZE];
+	gitwire_answer sent = gitwire_client_message(client, message, sizeof message);
 
 	fflush(stdout);
-	fprintf(stderr, PROGRAM ": %.*s", (int)length, (const char *)text);
-	if (message.kind == GITWIRE_DONE) {
+	fprintf(stderr, PROGRAM ": %s at %" PRIu64, gitwire_fault_name(answer.fault), answer.offset);
+	if (sent.kind == GITWIRE_DONE) {
 		fputs(": ", stderr);
-		show_bytes(stderr, room, message.length - (message.length > 0 && room[message.length - 1] == '\n'));
+		show_bytes(stderr, message, sent.length - (sent.length > 0 && message[sent.length - 1] == '\n'));
+		fputc('\n', stderr);
+	} else {
+		fprintf(stderr, "\n%s\n", gitwire_fault_sentence(answer.fault));
 	}
-	fputc('\n', stderr);
 	return 1;
 }
 
-/* The server as a process of its own, which reads from `*to`, and writes to `*from`. */
-static pid_t start_server(char *folder, int *to, int *from)
+/* Adds an argument to a request: a word and a value. Returns why it is refused, or 0. */
+static gitwire_fault add(gitwire_request *request, const char *word, const char *value)
+{
+	char line[GITWIRE_REFERENCE_NAME_SIZE + 100];
+	int length = snprintf(line, sizeof line, "%s%s", word, value);
+
+	if (length < 0 || (size_t)length >= sizeof line)
+		return GITWIRE_FAULT_BAD_LINE;
+	return gitwire_request_add(request, line, (size_t)length).fault;
+}
+
+/* Starts the server as a process of its own. */
+static bool start_server(char *folder)
 {
 	char *words[] = { "git", "upload-pack", "--", folder, NULL };
 
 	setenv("GIT_PROTOCOL", "version=2", 1);
-	return start_program(words, to, from);
+	return start_program(words, &to_server, &from_server) >= 0;
 }
 
-static bool write_all(int to, const uint8_t *bytes, size_t length)
+static void end_server(void)
 {
-	while (length > 0) {
-		ssize_t written = write(to, bytes, length);
-		if (written <= 0)
-			return false;
-		bytes += written;
-		length -= (size_t)written;
+	close(to_server);
+	close(from_server);
+	wait(NULL);
+}
+
+/* Sends the packet of this length in the buffer. False, and reported, if the server cannot be written to. */
+static bool write_packet(size_t length)
+{
+	ssize_t count = 0;
+
+	for (size_t at = 0; at < length; at += (size_t)count) {
+		count = write(to_server, buffer + at, length - at);
+		if (count <= 0)
+			return !tell("the server cannot be written to");
 	}
 	return true;
+}
+
+/* Reads the next chunk, once the last was used up. False, and reported, if none comes. */
+static bool read_chunk(gitwire_client *client)
+{
+	static uint8_t bytes[65536];
+	ssize_t count;
+
+	if (chunk_length > 0)
+		return true;
+	count = read(from_server, bytes, sizeof bytes);
+	if (count < 0)
+		tell("the server cannot be read from");
+	else if (count == 0)
+		refuse(client, gitwire_client_close(client));
+	chunk = bytes;
+	chunk_length = count > 0 ? (size_t)count : 0;
+	return count > 0;
 }

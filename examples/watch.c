@@ -27,10 +27,10 @@
 struct stream {
 	const char *name;
 	int from, to;                       /* -1 once it has ended; -1 once nobody reads it any more */
-	gitwire_packet_reader packets;
+	gitwire_packet_reader *packets;
 	uint64_t offset;                    /* where the next packet to be judged begins */
 	size_t sent, judged, read, end;     /* of the bytes here: how many went on, may go on, were read as packets, have come */
-	uint8_t bytes[GITWIRE_PACKET_ROOM];
+	uint8_t bytes[GITWIRE_PACKET_SIZE];
 };
 
 static struct stream requests = { .name = "requests", .from = STDIN_FILENO };
@@ -107,11 +107,11 @@ static gitwire_answer judge_packet(struct stream *stream)
 /* Judges the packets that are whole, and that none comes after the last one allowed. Returns FAILED, with the error and its offset, or anything else. */
 static gitwire_answer judge_packets(struct stream *stream)
 {
-	static uint8_t payload[GITWIRE_PAYLOAD_ROOM];
+	static uint8_t payload[GITWIRE_PAYLOAD_SIZE];
 	gitwire_answer answer = { .kind = GITWIRE_MORE };
 
 	while (stream->read < stream->end && (stream->read > stream->judged || has_turn(stream))) {
-		answer = gitwire_packet_reader_feed(&stream->packets, stream->bytes + stream->read, stream->end - stream->read, payload,
+		answer = gitwire_packet_reader_feed(stream->packets, stream->bytes + stream->read, stream->end - stream->read, payload,
 			sizeof payload);
 		stream->read += answer.used;
 		if (answer.kind != GITWIRE_FAILED && answer.kind != GITWIRE_MORE)
@@ -127,7 +127,7 @@ static gitwire_answer judge_packets(struct stream *stream)
 /* Judges the end of a stream whose packets are all judged, if it is its turn. */
 static gitwire_answer judge_end(struct stream *stream)
 {
-	gitwire_answer answer = gitwire_packet_reader_close(&stream->packets);
+	gitwire_answer answer = gitwire_packet_reader_close(stream->packets);
 
 	if (answer.kind == GITWIRE_FAILED || !has_turn(stream))
 		return answer;
@@ -145,30 +145,30 @@ static gitwire_answer judge_stream(struct stream *stream)
 }
 
 /* Reports to the client, where its user sees it, why the conversation ends: inside a pack on a side band, otherwise in an error packet. */
-static void tell_client(const uint8_t *text, size_t length)
+static void tell_client(const char *text, size_t length)
 {
-	gitwire_writer writer = GITWIRE_NONE;
+	gitwire_writer *writer;
 	gitwire_answer answer;
 
 	if (gitwire_writer_new(&writer) != GITWIRE_DONE)
 		return;
 	if (judge.pack + judge.progress > 0)
-		answer = gitwire_put_band(&writer, GITWIRE_BAND_FATAL, text, length, room, sizeof room);
+		answer = gitwire_put_band(writer, GITWIRE_BAND_FATAL, (const uint8_t *)text, length, buffer, sizeof buffer);
 	else
-		answer = gitwire_put_error(&writer, text, length, room, sizeof room);
-	if (answer.kind == GITWIRE_DONE && write(responses.to, room, answer.length) < 0)
+		answer = gitwire_put_error(writer, text, length, buffer, sizeof buffer);
+	if (answer.kind == GITWIRE_DONE && write(responses.to, buffer, answer.length) < 0)
 		tell("the client is gone");
-	gitwire_writer_free(&writer);
+	gitwire_writer_free(writer);
 }
 
 /* Ends the conversation: what was judged goes on, and so does an error that one side sent to the other. */
 static int refuse(struct stream *stream, gitwire_answer answer)
 {
-	uint8_t text[GITWIRE_FAULT_TEXT_ROOM];
+	char text[GITWIRE_FAULT_TEXT_SIZE];
 	size_t length = gitwire_fault_text(answer.fault, answer.offset, text, sizeof text);
 
 	fflush(judge.transcript);
-	fprintf(stderr, "watch: %s: %.*s\n", stream->name, (int)length, (const char *)text);
+	fprintf(stderr, "watch: %s: %.*s\n", stream->name, (int)length, text);
 	while (responses.sent < responses.judged && pass_on(&responses))
 		continue;
 	if (!tells_an_error(answer))
@@ -280,8 +280,8 @@ int main(int count, char **words)
 	else
 		status = watch_server(words + at);
 	end_judge(&judge);
-	gitwire_packet_reader_free(&requests.packets);
-	gitwire_packet_reader_free(&responses.packets);
+	gitwire_packet_reader_free(requests.packets);
+	gitwire_packet_reader_free(responses.packets);
 	if (fflush(transcript) != 0 || ferror(transcript))
 		status = tell("the transcript cannot be written");
 	if (name != NULL)

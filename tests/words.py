@@ -8,7 +8,7 @@ import os, re, signal, sys
 from pathlib import Path
 
 TOP = Path(__file__).resolve().parent.parent
-FOLDERS = "crates examples include tests bench wrong-bodies".split()
+FOLDERS = "crates c examples include tests bench wrong-bodies".split()
 
 # Words and phrases, and what to write instead.
 RETIRED = """
