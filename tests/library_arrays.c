@@ -173,6 +173,7 @@ static void go_on(struct talk *talk)
 	gitwire_request *request = NULL;
 	gitwire_answer answer = { .kind = GITWIRE_STOP };
 
+	EXPECT(gitwire_request_empty(&request) == GITWIRE_DONE);
 	if (talk->asked < requests.length)
 		answer = gitwire_request_reader_feed(talk->reader, request, requests.bytes + talk->asked, requests.length - talk->asked);
 	talk->asked += answer.used;

@@ -16,13 +16,15 @@ extern "C" {
 #define GITWIRE_STATIC_ASSERT _Static_assert
 #endif
 
-/* What compilers can check about a call: its first pointer is not NULL, and its result is used. */
+/* What compilers can check about a call: its first pointer is not NULL, nor the second where that is a handle, and its result is used. */
 #if defined(__GNUC__)
 #define GITWIRE_GIVEN __attribute__((nonnull(1)))
 #define GITWIRE_LOOKED_AT __attribute__((nonnull(1), warn_unused_result))
+#define GITWIRE_BOTH_LOOKED_AT __attribute__((nonnull(1, 2), warn_unused_result))
 #else
 #define GITWIRE_GIVEN
 #define GITWIRE_LOOKED_AT
+#define GITWIRE_BOTH_LOOKED_AT
 #endif
 
 /* The version of the library with which this header is installed. */

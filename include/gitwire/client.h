@@ -115,7 +115,7 @@ gitwire_answer gitwire_client_pull(gitwire_client *client, uint8_t *buffer, size
  * NotAdvertised, and what gitwire_request_end refuses; the client and the request are unchanged. NOT_NOW if no request can be
  * asked. NO_REQUEST if the request's handle has none.
  */
-GITWIRE_LOOKED_AT
+GITWIRE_BOTH_LOOKED_AT
 gitwire_answer gitwire_client_ask(gitwire_client *client, gitwire_request *request);
 
 /* Leaves: the flush that ends the conversation is to be pulled, and no request can be asked any more. DONE, NOT_NOW. */

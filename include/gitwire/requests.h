@@ -127,7 +127,7 @@ gitwire_result gitwire_request_reader_new(gitwire_request_reader **reader, gitwi
  * Only REQUEST gives the request handle a request that was read. After MORE, NOT_NOW, STOP and FAILED a request handle that
  * had none has an empty request, which nobody sent.
  */
-GITWIRE_LOOKED_AT
+GITWIRE_BOTH_LOOKED_AT
 gitwire_answer gitwire_request_reader_feed(gitwire_request_reader *reader, gitwire_request *request,
 	const uint8_t *chunk, size_t chunk_length);
 

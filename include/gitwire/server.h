@@ -59,7 +59,7 @@ void gitwire_repository_free(gitwire_repository *repository);
  * A server at the beginning of a session, which sends its advertisement first if `advertise` is set. DONE. BAD_VALUE for a limit
  * above GITWIRE_MAXIMUM_LIMIT. OUT_OF_MEMORY. The repository's handle is unchanged.
  */
-GITWIRE_LOOKED_AT
+GITWIRE_BOTH_LOOKED_AT
 gitwire_result gitwire_server_new(gitwire_server **server, gitwire_repository *repository, uint32_t limit, bool advertise);
 
 /*
