@@ -488,6 +488,7 @@ case_a_client_in_c_tells_what_is_wrong() {
     run list-watched nowhere
     expect_status 1
     expect_line 'standard error' 'list: Truncated at 0' err
+    grep -q '^the input ended inside a packet' err || differs 'no sentence on Truncated' err
     run list-watched history-sha256
     expect_status 1
     grep -q '^list: WrongFormat at [0-9]*$' err || differs 'no WrongFormat' err
