@@ -59,8 +59,10 @@ static void give_following(void)
 static _Noreturn void fail(const char *what)
 {
 	static const char reason[] = "the repository cannot be read";
-	gitwire_answer answer = gitwire_host_fail(host, buffer(), GITWIRE_PACKET_SIZE);
+	gitwire_answer answer = { .kind = GITWIRE_NOTHING };
 
+	if (host != NULL) /* or else the session has not begun */
+		answer = gitwire_host_fail(host, buffer(), GITWIRE_PACKET_SIZE);
 	if (answer.kind == GITWIRE_NOT_NOW)
 		answer = gitwire_host_refuse(host, reason, sizeof reason - 1, buffer(), GITWIRE_PACKET_SIZE);
 	if (answer.kind == GITWIRE_PACKET)
