@@ -311,7 +311,35 @@ case_check_takes_another_command_without_a_state() {
     withstands_damage --stateless
 }
 
-# A command that was not advertised is refused, and so is one that does not come first.
+# As Git sends it: other lines come before the command. Those that are not known have their lines before that of the request.
+case_check_takes_another_command_behind_other_lines() {
+    write_another_command
+    {
+        packet agent=git/2.48
+        packet session-id=a
+        packet object-format=sha1
+        packet command=bundle-uri
+        printf 00010000
+        request peel
+        printf 0000
+    } > requests
+    {
+        packet 'version 2'
+        packet ls-refs
+        packet session-id=b
+        packet bundle-uri
+        printf 0000
+        packet bundle.version=1
+        printf 00000000
+    } > responses
+    printf '%s\n' 'capability ls-refs' 'capability session-id=b' 'capability bundle-uri' offered 'capability session-id=a' 'request bundle-uri' \
+        'request ls-refs' 'end 0 0' > wanted
+    run git2show check requests responses
+    expect 0 wanted empty
+    withstands_damage
+}
+
+# A command that was not advertised is refused, and so is one behind another command.
 case_check_refuses_another_command() {
     write_another_command
     sed 's/bundle-uri/bundle-urj/' responses > responses.tried
@@ -319,13 +347,13 @@ case_check_refuses_another_command() {
     expect_status 1
     grep -a -q -x 'git2show: requests: UnknownCommand at [0-9]*' err || differs 'another fault' err
     {
-        packet agent=git/2.40
+        packet command=ls-refs
         packet command=bundle-uri
         printf 00000000
     } > requests
     run git2show check requests responses
     expect_status 1
-    grep -a -q -x 'git2show: requests: UnknownCommand at [0-9]*' err || differs 'another fault' err
+    expect_line 'standard error' 'git2show: requests: TwoCommands at 20' err
     {
         packet command=bundle-uri
         printf 0001

@@ -15,7 +15,8 @@ use Rattle.git2show_lib.specs.Machine.JudgedRequests.{is_within_packet, limit_of
 use Rattle.git2show_lib.specs.declared.judged_requests.JudgedRequests.{JudgedRequests}
 use Rattle.git2show_lib.specs.declared.judged_requests.Stage.{Stage}
 use Rattle.git2show_lib.specs.declared.judged_requests.Stage.TheVariants.{Between, Within, Passing, Stopped, Failed}
-use Rattle.git2show_lib.proofs.JudgedSteps.{cut_read, left_begun}
+use Rattle.git2show_lib.proofs.JudgedStages.{left_begun}
+use Rattle.git2show_lib.proofs.JudgedSteps.{cut_read}
 
 module _ (by : Advertised) (limit : ℕ) (left : List Given) (rest : List ℕ) (end : ℕ) where
   -- before a request nothing is left
@@ -52,14 +53,14 @@ module _ {A : Type 0} {used : List ℕ} {asked : List Question} {s : JudgedReque
   pub begun_so_far : IsReady s
       → IsBegun (advertised_by s) (limit_of s) h.left × IsOpen h.rest
   begun_so_far ready = (
-    left_begun (advertised_by s) (limit_of s) h.left h.rest (length used) s.stage ready.wants h.left_is,
+    left_begun (advertised_by s) (limit_of s) h.left h.rest (length used) s.judge.stage ready.judging.wants h.left_is,
     (sound_rest s.packets 0 used h.packets h.rest ready.sound h.reads).1,
   )
 
   -- between two requests, where no packet has begun, nothing is left
   pub nothing_begun : is_between s ≡ true → is_within_packet s ≡ false → packet_fault s.packets ≡ None → (h.left ≡ []) × (h.rest ≡ [])
   nothing_begun is shut sound = (
-    none_between (advertised_by s) (limit_of s) h.left h.rest (length used) s.stage is h.left_is,
+    none_between (advertised_by s) (limit_of s) h.left h.rest (length used) s.judge.stage is h.left_is,
     rest_behind s.packets used h.packets h.rest sound shut h.reads,
   )
 
@@ -73,22 +74,22 @@ module _ {A : Type 0} {used : List ℕ} {asked : List Question} {s : JudgedReque
 
   -- after a flush instead of a request, that flush is left
   pub stopped_at : wants_input s ≡ false → fault_of s ≡ None → IsStop (judged_of (advertised_by s).text h.left) × (h.rest ≡ [])
-  stopped_at quiet sound = left_stopped (advertised_by s) (limit_of s) h.left h.rest (length used) s.stage quiet sound h.left_is
+  stopped_at quiet sound = left_stopped (advertised_by s) (limit_of s) h.left h.rest (length used) s.judge.stage quiet sound h.left_is
 
   -- after a fault, what is left is refused by it
   pub refused_as : {fault : Fault} → fault_of s ≡ Some fault → IsRefused (advertised_by s) (limit_of s) h.left h.rest (length used) fault
-  refused_as {fault = fault} told = left_refused_as (advertised_by s) (limit_of s) h.left h.rest (length used) fault s.stage told h.left_is
+  refused_as {fault = fault} told = left_refused_as (advertised_by s) (limit_of s) h.left h.rest (length used) fault s.judge.stage told h.left_is
 
 -- the input ends inside a request
 module _ {A : Type 0} (old new : JudgedRequests A) (fault : Fault) (ready : IsReady old)
-    (by : advertised_by new ≡ advertised_by old) (limit : limit_of new ≡ limit_of old) (is : new.stage ≡ Failed fault)
+    (by : advertised_by new ≡ advertised_by old) (limit : limit_of new ≡ limit_of old) (is : new.judge.stage ≡ Failed fault)
     (name : fault.kind ≡ Truncated) (reads : ReadsOn old.packets [] [] new.packets) where
   closed_read : (used : List ℕ) (asked : List Question) (h : HasRead used asked old) → fault.offset + length h.rest ≡ position_of old.packets
-      → (stage_is_between old.stage ≡ false) ⊎ (h.rest ≢ []) → HasRead used asked new
+      → (stage_is_between old.judge.stage ≡ false) ⊎ (h.rest ≢ []) → HasRead used asked new
   closed_read used asked h at inside =
       subst (λ (l : List ℕ). HasRead l asked new) (append-nil used)
       (subst (λ (qs : List Question). HasRead (used ++ []) qs new) (append-nil asked)
-      (cut_read old new [] ready.wants by limit used asked h fault is name ready.sound at inside refl reads))
+      (cut_read old new [] ready.judging.wants by limit used asked h fault is name ready.sound at inside refl reads))
 
   -- and inside a packet
   pub closed_open : is_open old.packets ≡ true → fault.offset + open_length old.packets ≡ position_of old.packets

@@ -1,32 +1,31 @@
 -- A reader of requests of another client, a packet at a time.
-use Rattle.std.proofs.Common.{◌≡◌, ◌≢◌, ◌⊎◌, ℕ, ◌+◌, ◌-◌, ◌<◌, ◌≤◌, min, Bool, true, false, List, [], ◌∷◌, ◌++◌, length, take, drop, Option, Some, None}
+use Rattle.std.proofs.Common.{◌≡◌, ◌≢◌, ◌⊎◌, ℕ, ◌+◌, ◌-◌, ◌<◌, ◌≤◌, min, true, false, List, [], ◌∷◌, ◌++◌, length, take, drop, Option, Some, None}
 use Rattle.std.proofs.Common.{length-drop}
-use Rattle.std.proofs.Common.{refl, sym, ap, ◌∙◌, subst, append-nil, append_assoc, inl, inr, arith, codes, if◌then◌else◌}
-use Rattle.git_pkt.specs.Packets.{Pkt, flush, delim, resp_end, payload, text_of as line_of}
+use Rattle.std.proofs.Common.{refl, sym, ap, ◌∙◌, subst, append-nil, inl, inr, arith}
+use Rattle.git_pkt.specs.Packets.{Pkt, flush, delim, resp_end, payload}
 use Rattle.git_pkt.specs.Splits.{Given, SpellsAll}
 use Rattle.git_pkt.specs.Machine.PacketReader.{Reads, ReadsOn, ShownByFeed, fault_of as packet_fault, is_open, passes_of, position_of}
 use Rattle.git_pkt.specs.declared.fault.Fault.{Fault}
 use Rattle.git_pkt.specs.declared.fault.Kind.{Kind}
-use Rattle.git_pkt.specs.declared.fault.Kind.TheVariants.{OutOfMemory, StreamTooLong, TooMuchKept, Truncated}
+use Rattle.git_pkt.specs.declared.fault.Kind.TheVariants.{OutOfMemory, StreamTooLong, Truncated}
 use Rattle.git_pkt.proofs.KnownRest.{sound_rest}
 use Rattle.git_pkt.proofs.Pieces.{joined, left_of}
 use Rattle.git_pkt.proofs.Streams.{one_split}
 use Rattle.git_msg.specs.Admission.{nothing_barred}
 use Rattle.git_msg.specs.Machine.HeldRequest.{asked_of, kept_of}
-use Rattle.git_msg.specs.Machine.RequestReader.{Takes, limit_in}
-use Rattle.git_msg.specs.Machine.RequestStreams.{IsLeftIn}
+use Rattle.git_msg.specs.Machine.RequestReader.{Takes, fault_of as reader_fault, is_waiting, limit_in, offer_of as offer_in}
 use Rattle.git_msg.specs.Machine.StreamStages.{AreBegun, Brings, HasTaken, IsBrought, goes_on}
+use Rattle.git_msg.specs.declared.offers.Offer.{Offer}
 use Rattle.git_msg.specs.declared.reader.RequestReader.{RequestReader}
 use Rattle.git_msg.specs.declared.streams.ReadGot.{ReadGot}
 use Rattle.git_msg.specs.declared.streams.ReadGot.TheVariants.{More, Request, Stop, Failed}
-use Rattle.git_msg.specs.declared.streams.Stage.TheVariants as OfRequests
 use Rattle.git_msg.proofs.Admission.{told_by_none}
 use Rattle.git_msg.proofs.PacketFaults.{told_of_packets}
-use Rattle.git_msg.proofs.StreamSteps.{left_begins, rest_behind, stopped_by}
-use Rattle.git2show_lib.specs.Others.{Advertised, AreCutOff, AreNoPacket, BeginWithOther, IsOtherBegun, first_place, given_as}
-use Rattle.git2show_lib.specs.Others.{is_other_capability, judged_line, judged_of}
+use Rattle.git_msg.proofs.StreamSteps.{rest_behind, stopped_by}
+use Rattle.git2show_lib.specs.Others.{Advertised, AreCutOff, AreNoPacket, BeginWithOther, IsOtherBegun, NoneNames, first_place, given_as}
+use Rattle.git2show_lib.specs.Others.{judged_of}
 use Rattle.git2show_lib.specs.Others.{judged_packet, names_other, place_after, place_next}
-use Rattle.git2show_lib.specs.Machine.JudgedRequests.{AreQuestions, HasRead, IsBegun, IsLeft, IsOnward, IsQuestion, IsReady, IsRefused}
+use Rattle.git2show_lib.specs.Machine.JudgedRequests.{AreQuestions, HasRead, IsLeft, IsJudging, IsOnward, IsReady}
 use Rattle.git2show_lib.specs.Machine.JudgedRequests.{Leaves, ReadsBy, StepLeaves, advertised_by, asked_by, fault_in, got_as, got_passed}
 use Rattle.git2show_lib.specs.Machine.JudgedRequests.{limit_of, place_brought, place_for, stage_brought, stage_is_between, stage_passed, taken_in}
 use Rattle.git2show_lib.specs.Machine.JudgedRequests.{takes_bytes, text_of, wants_input}
@@ -43,152 +42,15 @@ use Rattle.git2show_lib.specs.OtherLines.{noted_with, shown_at}
 use Rattle.git2show_lib.specs.Machine.KeptLines.{IsNotKept, KeepsWithin, noted_in}
 use Rattle.git2show_lib.specs.Others.{counted_at, counted_of}
 use Rattle.git2show_lib.specs.Machine.JudgedRequests.{counted_for, kept_brought, limited_got, noted_brought, noted_for, noted_passed}
+use Rattle.git2show_lib.specs.declared.other_lines.Asks.{Asks}
+use Rattle.git2show_lib.proofs.NamedCommands.{asked_none, begins_on, begun_no_flush, named_as, named_no_flush, named_snoc, names_snoc}
 use Rattle.git2show_lib.proofs.OtherLines.{counted_snoc, judged_snoc, none_snoc, noted_snoc, place_snoc}
+use Rattle.git2show_lib.proofs.JudgedStages.{counted_other, left_cut, left_lines, left_on, left_passed, left_refused, left_unnamed, noted_other}
+use Rattle.git2show_lib.proofs.JudgedStages.{one_more_question, place_other, questions_more, taken_other}
 
 some_left : (left : List Given) (g : Given) → left ++ g ∷ [] ≢ []
 some_left [] g e = cc
 some_left (x ∷ left) g e = cc
-
--- ---- whole requests
-
-module _ (by : Advertised) (limit : ℕ) where
-  -- further packets after what is left
-  questions_more : (packets more : List Given) (asked : List Question) (left : List Given) → AreQuestions by limit packets asked left
-      → AreQuestions by limit (packets ++ more) asked (left ++ more)
-  questions_more packets more [] left same = ap (λ (l : List Given). l ++ more) same
-  questions_more packets more (q ∷ qs) left (front, back, whole, first, rest) =
-      (front, back ++ more, ap (λ (l : List Given). l ++ more) whole ∙ append_assoc front back more, first, questions_more back more qs left rest)
-
-  -- what is left is one more request
-  one_more_question : (packets : List Given) (asked : List Question) (left : List Given) (q : Question) → AreQuestions by limit packets asked left
-      → IsQuestion by limit left q → AreQuestions by limit packets (asked ++ q ∷ []) []
-  one_more_question packets [] left q same is = (left, [], same ∙ sym (append-nil left), is, refl)
-  one_more_question packets (p ∷ ps) left q (front, back, whole, first, rest) is =
-      (front, back, whole, first, one_more_question back ps left q rest is)
-
--- ---- what is left in a stage
-
--- the first packet of a request is read as one
-first_known : (text : List ℕ) (p : Pkt) → judged_packet text first_place p ≡ None → ⊥
-unfolding judged_line
-first_known text flush e = cc
-first_known text delim e = cc
-first_known text resp_end e = cc
-first_known text (payload bytes) e = at (is_other_capability text (line_of bytes)) e where
-  at : (b : Bool) → (if b then Some (payload (codes "agent")) else Some (payload bytes)) ≡ None → ⊥
-  at true e = cc
-  at false e = cc
-
-module _ (by : Advertised) (limit : ℕ) (left : List Given) where
-  -- bytes that end no packet have no part in it
-  left_on : (rest later : List ℕ) (end further : ℕ) (stage : Stage) → takes_bytes stage ≡ true → IsLeft stage by limit left rest end
-      → IsLeft stage by limit left later further
-  left_on rest later end further Between on h = h
-  left_on rest later end further Within on h = h
-  left_on rest later end further Passing on h = h
-  left_on rest later end further Stopped on h = absurd (cc)
-  left_on rest later end further (FailedStage fault) on h = absurd (cc)
-
-  -- where a reader reads on, that is lines that begin a request, or a request that passes
-  pub left_begun : (rest : List ℕ) (end : ℕ) (stage : Stage) → takes_bytes stage ≡ true → IsLeft stage by limit left rest end
-      → IsBegun by limit left
-  left_begun rest end Between on h =
-      inl (left_begins by.offer limit (judged_of by.text left) rest end OfRequests.Between refl (ap (judged_of by.text) h))
-  left_begun rest end Within on h = inl (left_begins by.offer limit (judged_of by.text left) rest end OfRequests.Within refl h)
-  left_begun rest end Passing on h = inr h
-  left_begun rest end Stopped on h = absurd (cc)
-  left_begun rest end (FailedStage fault) on h = absurd (cc)
-
-  -- the bytes after it are refused
-  left_refused : (rest before : List ℕ) (end earlier : ℕ) (fault : Fault) (stage : Stage) → takes_bytes stage ≡ true → IsLeft stage by limit left before earlier
-      → AreNoPacket rest end fault → IsRefused by limit left rest end fault
-  left_refused rest before end earlier fault stage on h no_packet = at (left_begun before earlier stage on h) where
-    at : IsBegun by limit left → IsRefused by limit left rest end fault
-    at (inl begun) = inl (inr (inl (record { begun = begun; stops = no_packet.stops; not_the_end = no_packet.not_the_end })))
-    at (inr other) = inr (inl (other, inl no_packet))
-
-  -- or the input ends after them, inside a request or a packet
-  left_cut : (rest before : List ℕ) (end earlier : ℕ) (fault : Fault) (stage : Stage) → takes_bytes stage ≡ true → IsLeft stage by limit left before earlier
-      → AreCutOff rest end fault → (stage_is_between stage ≡ false) ⊎ (rest ≢ []) → IsRefused by limit left rest end fault
-  left_cut rest before end earlier fault Between on h cut (inl e) = absurd (cc)
-  left_cut rest before end earlier fault Between on h cut (inr some) = inl (inr (inr (record {
-    begun = left_begins by.offer limit (judged_of by.text left) before earlier OfRequests.Between refl (ap (judged_of by.text) h);
-    still_open = cut.still_open;
-    inside = inr some;
-    kind = cut.kind;
-    at = cut.at;
-  })))
-  left_cut rest before end earlier fault Within on h cut inside = inl (inr (inr (record {
-    begun = left_begins by.offer limit (judged_of by.text left) before earlier OfRequests.Within refl h;
-    still_open = cut.still_open;
-    inside = inl h.0;
-    kind = cut.kind;
-    at = cut.at;
-  })))
-  left_cut rest before end earlier fault Passing on h cut inside = inr (inl (h, inr cut))
-  left_cut rest before end earlier fault Stopped on h cut inside = absurd (cc)
-  left_cut rest before end earlier fault (FailedStage other) on h cut inside = absurd (cc)
-
-  module _ (g : Given) where
-    -- a packet after it is passed over
-    left_passed : (rest later : List ℕ) (end further : ℕ) (stage : Stage) → takes_bytes stage ≡ true → (stage ≡ Passing → ⊥)
-        → IsLeft stage by limit left rest end → judged_packet by.text (place_after first_place left) g.packet ≡ None
-        → judged_of by.text (left ++ g ∷ []) ≡ judged_of by.text left → IsLeft stage by limit (left ++ g ∷ []) later further
-    left_passed rest later end further Between on other h none same =
-        absurd (first_known by.text g.packet (ap (λ (gs : List Given). judged_packet by.text (place_after first_place gs) g.packet) (sym h) ∙ none))
-    left_passed rest later end further Within on other h none same =
-        subst (λ (gs : List Given). IsLeftIn OfRequests.Within by.offer limit gs later further) (sym same) h
-    left_passed rest later end further Passing on other h none same = absurd (other refl)
-    left_passed rest later end further Stopped on other h none same = absurd (cc)
-    left_passed rest later end further (FailedStage fault) on other h none same = absurd (cc)
-
--- outside of requests that pass what is left is lines that begin a request
-left_lines : (by : Advertised) (limit : ℕ) (left : List Given) (rest : List ℕ) (end : ℕ) (stage : Stage) → takes_bytes stage ≡ true
-    → (stage ≡ Passing → ⊥) → IsLeft stage by limit left rest end → AreBegun by.offer limit (judged_of by.text left)
-left_lines by limit left rest end Between on other h =
-    left_begins by.offer limit (judged_of by.text left) rest end OfRequests.Between refl (ap (judged_of by.text) h)
-left_lines by limit left rest end Within on other h = left_begins by.offer limit (judged_of by.text left) rest end OfRequests.Within refl h
-left_lines by limit left rest end Passing on other h = absurd (other refl)
-left_lines by limit left rest end Stopped on other h = absurd (cc)
-left_lines by limit left rest end (FailedStage fault) on other h = absurd (cc)
-
-begins_on : (text : List ℕ) (left : List Given) (g : Given) → BeginWithOther text left → BeginWithOther text (left ++ g ∷ [])
-begins_on text [] g h = absurd h
-begins_on text (x ∷ left) g h = h
-
--- outside of requests that pass the place is that after what is left, which a reader has taken
-place_other : (stage : Stage) (left : List Given) → (stage ≡ Passing → ⊥) → place_for stage left ≡ place_after first_place left
-place_other Between left other = refl
-place_other Within left other = refl
-place_other Passing left other = absurd (other refl)
-place_other Stopped left other = refl
-place_other (FailedStage fault) left other = refl
-
-taken_other : (stage : Stage) (text : List ℕ) (left : List Given) → (stage ≡ Passing → ⊥) → taken_in stage text left ≡ judged_of text left
-taken_other Between text left other = refl
-taken_other Within text left other = refl
-taken_other Passing text left other = absurd (other refl)
-taken_other Stopped text left other = refl
-taken_other (FailedStage fault) text left other = refl
-
-counted_other : (stage : Stage) (text : List ℕ) (left : List Given) → (stage ≡ Passing → ⊥) → counted_for stage text left ≡ counted_of text left
-counted_other Between text left other = refl
-counted_other Within text left other = refl
-counted_other Passing text left other = absurd (other refl)
-counted_other Stopped text left other = refl
-counted_other (FailedStage fault) text left other = refl
-
-noted_other : (stage : Stage) (text : List ℕ) (left : List Given) → (stage ≡ Passing → ⊥) → noted_for stage text left ≡ noted_of text left
-noted_other Between text left other = refl
-noted_other Within text left other = refl
-noted_other Passing text left other = absurd (other refl)
-noted_other Stopped text left other = refl
-noted_other (FailedStage fault) text left other = refl
-
--- a request that passes is named by its first packet
-named_snoc : (text : List ℕ) (left : List Given) (g : Given) → BeginWithOther text left → named_by (left ++ g ∷ []) ≡ named_by left
-named_snoc text [] g h = absurd h
-named_snoc text (x ∷ left) g h = refl
 
 -- ---- how what was read goes on
 
@@ -202,37 +64,37 @@ module _ {A : Type 0} (old new : JudgedRequests A) (u : List ℕ) (wants : wants
       (subst (λ (n : ℕ). AreQuestions (advertised_by old) n h.packets asked h.left) (sym limit) h.requests)
 
   -- and what is left of the packets is what it was
-  left_before : IsLeft old.stage (advertised_by new) (limit_of new) h.left h.rest (length used)
+  left_before : IsLeft old.judge.stage (advertised_by new) (limit_of new) h.left h.rest (length used)
   left_before =
-      subst (λ (b : Advertised). IsLeft old.stage b (limit_of new) h.left h.rest (length used)) (sym by)
-      (subst (λ (n : ℕ). IsLeft old.stage (advertised_by old) n h.left h.rest (length used)) (sym limit) h.left_is)
+      subst (λ (b : Advertised). IsLeft old.judge.stage b (limit_of new) h.left h.rest (length used)) (sym by)
+      (subst (λ (n : ℕ). IsLeft old.judge.stage (advertised_by old) n h.left h.rest (length used)) (sym limit) h.left_is)
 
-  left_still : (rest : List ℕ) → IsLeft old.stage (advertised_by new) (limit_of new) h.left rest (length (used ++ u))
-  left_still rest = left_on (advertised_by new) (limit_of new) h.left h.rest rest (length used) (length (used ++ u)) old.stage wants left_before
+  left_still : (rest : List ℕ) → IsLeft old.judge.stage (advertised_by new) (limit_of new) h.left rest (length (used ++ u))
+  left_still rest = left_on (advertised_by new) (limit_of new) h.left h.rest rest (length used) (length (used ++ u)) old.judge.stage wants left_before
 
   -- the reader inside has taken it
-  taken_before : Takes (taken_in old.stage (text_of new) h.left) old.requests
-  taken_before = subst (λ (b : Advertised). Takes (taken_in old.stage b.text h.left) old.requests) (sym by) (h.onward wants)
+  taken_before : Takes (taken_in old.judge.stage (text_of new) h.left) old.judge.requests
+  taken_before = subst (λ (b : Advertised). Takes (taken_in old.judge.stage b.text h.left) old.judge.requests) (sym by) (h.onward wants)
 
-  taken_still : new.requests ≡ old.requests → Takes (taken_in old.stage (text_of new) h.left) new.requests
-  taken_still same = subst (λ (r : RequestReader A). Takes (taken_in old.stage (text_of new) h.left) r) (sym same) taken_before
+  taken_still : new.judge.requests ≡ old.judge.requests → Takes (taken_in old.judge.stage (text_of new) h.left) new.judge.requests
+  taken_still same = subst (λ (r : RequestReader A). Takes (taken_in old.judge.stage (text_of new) h.left) r) (sym same) taken_before
 
   -- it has counted so much as kept
-  kept_before : old.kept ≡ counted_for old.stage (text_of new) h.left
-  kept_before = subst (λ (b : Advertised). old.kept ≡ counted_for old.stage b.text h.left) (sym by) (h.kept_is wants)
+  kept_before : old.judge.kept ≡ counted_for old.judge.stage (text_of new) h.left
+  kept_before = subst (λ (b : Advertised). old.judge.kept ≡ counted_for old.judge.stage b.text h.left) (sym by) (h.kept_is wants)
 
   -- it has noted this
-  noted_before : noted_in old.others ≡ noted_for old.stage (text_of new) h.left
-  noted_before = subst (λ (b : Advertised). noted_in old.others ≡ noted_for old.stage b.text h.left) (sym by) (h.noted_is wants)
+  noted_before : noted_in old.judge.others ≡ noted_for old.judge.stage (text_of new) h.left
+  noted_before = subst (λ (b : Advertised). noted_in old.judge.others ≡ noted_for old.judge.stage b.text h.left) (sym by) (h.noted_is wants)
 
   -- all that was read, in the stage that was reached
-  has_read : (packets left : List Given) (rest : List ℕ) (now : List Question) (stage : Stage) → new.stage ≡ stage
+  has_read : (packets left : List Given) (rest : List ℕ) (now : List Question) (stage : Stage) → new.judge.stage ≡ stage
       → Reads new.packets 0 (used ++ u) packets rest → AreQuestions (advertised_by new) (limit_of new) packets now left
       → IsLeft stage (advertised_by new) (limit_of new) left rest (length (used ++ u))
-      → (takes_bytes stage ≡ true → new.place ≡ place_for stage left)
-      → (takes_bytes stage ≡ true → new.kept ≡ counted_for stage (text_of new) left)
-      → (takes_bytes stage ≡ true → noted_in new.others ≡ noted_for stage (text_of new) left)
-      → (takes_bytes stage ≡ true → Takes (taken_in stage (text_of new) left) new.requests) → HasRead (used ++ u) now new
+      → (takes_bytes stage ≡ true → new.judge.place ≡ place_for stage left)
+      → (takes_bytes stage ≡ true → new.judge.kept ≡ counted_for stage (text_of new) left)
+      → (takes_bytes stage ≡ true → noted_in new.judge.others ≡ noted_for stage (text_of new) left)
+      → (takes_bytes stage ≡ true → Takes (taken_in stage (text_of new) left) new.judge.requests) → HasRead (used ++ u) now new
   has_read packets left rest now stage is stream requests left_is place kept noted takes = record {
     packets = packets;
     left = left;
@@ -244,46 +106,46 @@ module _ {A : Type 0} (old new : JudgedRequests A) (u : List ℕ) (wants : wants
     kept_is = λ on. kept (sym (ap takes_bytes is) ∙ on) ∙ ap (λ (s : Stage). counted_for s (text_of new) left) (sym is);
     noted_is = λ on. noted (sym (ap takes_bytes is) ∙ on) ∙ ap (λ (s : Stage). noted_for s (text_of new) left) (sym is);
     onward = λ on.
-        subst (λ (s : Stage). Takes (taken_in s (text_of new) left) new.requests) (sym is) (takes (sym (ap takes_bytes is) ∙ on));
+        subst (λ (s : Stage). Takes (taken_in s (text_of new) left) new.judge.requests) (sym is) (takes (sym (ap takes_bytes is) ∙ on));
   }
 
   none_more : (now : List Question) → HasRead (used ++ u) now new → HasRead (used ++ u) (now ++ []) new
   none_more now read = subst (λ (qs : List Question). HasRead (used ++ u) qs new) (sym (append-nil now)) read
 
   -- with no packet more
-  bytes_read : (rest : List ℕ) (stage : Stage) → new.stage ≡ stage → Reads new.packets 0 (used ++ u) (h.packets ++ []) rest
+  bytes_read : (rest : List ℕ) (stage : Stage) → new.judge.stage ≡ stage → Reads new.packets 0 (used ++ u) (h.packets ++ []) rest
       → IsLeft stage (advertised_by new) (limit_of new) h.left rest (length (used ++ u))
-      → (takes_bytes stage ≡ true → new.place ≡ place_for stage h.left)
-      → (takes_bytes stage ≡ true → new.kept ≡ counted_for stage (text_of new) h.left)
-      → (takes_bytes stage ≡ true → noted_in new.others ≡ noted_for stage (text_of new) h.left)
-      → (takes_bytes stage ≡ true → Takes (taken_in stage (text_of new) h.left) new.requests) → HasRead (used ++ u) (asked ++ []) new
+      → (takes_bytes stage ≡ true → new.judge.place ≡ place_for stage h.left)
+      → (takes_bytes stage ≡ true → new.judge.kept ≡ counted_for stage (text_of new) h.left)
+      → (takes_bytes stage ≡ true → noted_in new.judge.others ≡ noted_for stage (text_of new) h.left)
+      → (takes_bytes stage ≡ true → Takes (taken_in stage (text_of new) h.left) new.judge.requests) → HasRead (used ++ u) (asked ++ []) new
   bytes_read rest stage is stream left_is place kept noted takes =
       none_more asked (has_read h.packets h.left rest asked stage is
       (subst (λ (gs : List Given). Reads new.packets 0 (used ++ u) gs rest) (append-nil h.packets) stream) earlier_requests left_is place kept noted
       takes)
 
   -- the bytes end no packet
-  pub open_read : new.requests ≡ old.requests → new.stage ≡ old.stage → new.place ≡ old.place → new.kept ≡ old.kept
-      → noted_in new.others ≡ noted_in old.others → ReadsOn old.packets u [] new.packets → HasRead (used ++ u) (asked ++ []) new
+  pub open_read : new.judge.requests ≡ old.judge.requests → new.judge.stage ≡ old.judge.stage → new.judge.place ≡ old.judge.place → new.judge.kept ≡ old.judge.kept
+      → noted_in new.judge.others ≡ noted_in old.judge.others → ReadsOn old.packets u [] new.packets → HasRead (used ++ u) (asked ++ []) new
   open_read same is place kept noted reads =
       let (rest, stream) = reads 0 used h.packets h.rest h.reads in
-      bytes_read rest old.stage is stream (left_still rest) (λ on. place ∙ h.place_is wants) (λ on. kept ∙ kept_before) (λ on. noted ∙ noted_before)
+      bytes_read rest old.judge.stage is stream (left_still rest) (λ on. place ∙ h.place_is wants) (λ on. kept ∙ kept_before) (λ on. noted ∙ noted_before)
       (λ on. taken_still same)
 
   -- they are refused
-  pub refused_read : (fault : Fault) → new.stage ≡ FailedStage fault → packet_fault new.packets ≡ Some fault → fault.kind ≢ Truncated
+  pub refused_read : (fault : Fault) → new.judge.stage ≡ FailedStage fault → packet_fault new.packets ≡ Some fault → fault.kind ≢ Truncated
       → ReadsOn old.packets u [] new.packets → HasRead (used ++ u) (asked ++ []) new
   refused_read fault is told other reads =
       let (rest, stream) = reads 0 used h.packets h.rest h.reads in
       let no_packet : AreNoPacket rest (length (used ++ u)) fault =
       record { stops = stopped_by new.packets (used ++ u) (h.packets ++ []) rest fault told stream; not_the_end = other } in
       bytes_read rest (FailedStage fault) is stream
-      (left_refused (advertised_by new) (limit_of new) h.left rest h.rest (length (used ++ u)) (length used) fault old.stage wants left_before no_packet)
+      (left_refused (advertised_by new) (limit_of new) h.left rest h.rest (length (used ++ u)) (length used) fault old.judge.stage wants left_before no_packet)
       (λ on. absurd (cc)) (λ on. absurd (cc)) (λ on. absurd (cc)) (λ on. absurd (cc))
 
   -- there are none, and the input ends
-  pub cut_read : (fault : Fault) → new.stage ≡ FailedStage fault → fault.kind ≡ Truncated → packet_fault old.packets ≡ None
-      → fault.offset + length h.rest ≡ position_of old.packets → (stage_is_between old.stage ≡ false) ⊎ (h.rest ≢ []) → u ≡ []
+  pub cut_read : (fault : Fault) → new.judge.stage ≡ FailedStage fault → fault.kind ≡ Truncated → packet_fault old.packets ≡ None
+      → fault.offset + length h.rest ≡ position_of old.packets → (stage_is_between old.judge.stage ≡ false) ⊎ (h.rest ≢ []) → u ≡ []
       → ReadsOn old.packets u [] new.packets → HasRead (used ++ u) (asked ++ []) new
   cut_read fault is name sound at inside none reads =
       let (rest, stream) = reads 0 used h.packets h.rest h.reads in
@@ -299,91 +161,60 @@ module _ {A : Type 0} (old new : JudgedRequests A) (u : List ℕ) (wants : wants
       } in
       bytes_read h.rest (FailedStage fault) is
       (subst (λ (l : List ℕ). Reads new.packets 0 (used ++ u) (h.packets ++ []) l) same.rest_is stream)
-      (left_cut (advertised_by new) (limit_of new) h.left h.rest h.rest (length (used ++ u)) (length used) fault old.stage wants left_before cut inside)
+      (left_cut (advertised_by new) (limit_of new) h.left h.rest h.rest (length (used ++ u)) (length used) fault old.judge.stage wants left_before cut inside)
       (λ on. absurd (cc)) (λ on. absurd (cc)) (λ on. absurd (cc)) (λ on. absurd (cc))
 
   -- of a request that passes it has noted the line
-  noted_named : old.stage ≡ Passing → noted_in old.others ≡ record { lines = named_by h.left; asks = asks_nothing }
+  noted_named : old.judge.stage ≡ Passing → noted_in old.judge.others ≡ record { lines = named_by (text_of new) h.left; asks = asks_nothing }
   noted_named was = noted_before ∙ ap (λ (s : Stage). noted_for s (text_of new) h.left) was
 
   module _ (g : Given) (reads : ReadsOn old.packets u (g ∷ []) new.packets) where
     requests_with : AreQuestions (advertised_by new) (limit_of new) (h.packets ++ g ∷ []) asked (h.left ++ g ∷ [])
     requests_with = questions_more (advertised_by new) (limit_of new) h.packets (g ∷ []) asked h.left earlier_requests
 
-    -- they end the first packet of a request that passes
-    pub begun_read : old.stage ≡ Between → names_other (text_of new) g.packet ≡ true → new.stage ≡ Passing → new.place ≡ old.place
-        → new.kept ≡ old.kept
-        → noted_in new.others ≡ record { lines = (noted_in old.others).lines ++ name_shown g.packet; asks = (noted_in old.others).asks }
-        → new.requests ≡ old.requests → HasRead (used ++ u) (asked ++ []) new
-    begun_read was names is place kept noted same =
-        let (rest, stream) = reads 0 used h.packets h.rest h.reads in
-        let nothing : h.left ≡ [] =
-        subst (λ (s : Stage). IsLeft s (advertised_by new) (limit_of new) h.left h.rest (length used)) was left_before in
-        let other : IsOtherBegun (text_of new) (g ∷ []) = record { begins = names; goes_on = (not_flush g.packet names, tt) } in
-        none_more asked (has_read (h.packets ++ g ∷ []) (h.left ++ g ∷ []) rest asked Passing is stream requests_with
-        (subst (λ (gs : List Given). IsOtherBegun (text_of new) (gs ++ g ∷ [])) (sym nothing) other)
-        (λ on. place ∙ h.place_is wants ∙ ap (λ (s : Stage). place_for s h.left) was ∙ ap (λ (gs : List Given). place_after first_place gs) nothing)
-        (λ on.
-        kept ∙ kept_before ∙ ap (λ (s : Stage). counted_for s (text_of new) h.left) was
-        ∙ ap (λ (gs : List Given). counted_of (text_of new) gs) nothing)
-        (λ on.
-        noted ∙ ap (λ (n : Noted). record { lines = n.lines ++ name_shown g.packet; asks = n.asks })
-        (noted_before ∙ ap (λ (s : Stage). noted_for s (text_of new) h.left) was ∙ ap (λ (gs : List Given). noted_of (text_of new) gs) nothing)
-        ∙ ap (λ (gs : List Given). record { lines = named_by (gs ++ g ∷ []); asks = asks_nothing }) (sym nothing))
-        (λ on.
-        subst (λ (gs : List Given). Takes gs new.requests)
-        (ap (λ (s : Stage). taken_in s (text_of new) h.left) was ∙ ap (λ (gs : List Given). judged_of (text_of new) gs) nothing)
-        (taken_still same)))
-      where
-        not_flush : (p : Pkt) → names_other (text_of new) p ≡ true → p ≢ flush
-        not_flush flush names e = absurd (cc)
-        not_flush delim names e = absurd (cc)
-        not_flush resp_end names e = absurd (cc)
-        not_flush (payload bytes) names e = absurd (cc)
-
-    -- or a further one of it
-    going_read : old.stage ≡ Passing → g.packet ≢ flush → new.stage ≡ Passing → new.place ≡ old.place → new.kept ≡ old.kept
-        → noted_in new.others ≡ noted_in old.others → new.requests ≡ old.requests → HasRead (used ++ u) (asked ++ []) new
+    -- they end a further packet of a request that passes
+    going_read : old.judge.stage ≡ Passing → g.packet ≢ flush → new.judge.stage ≡ Passing → new.judge.place ≡ old.judge.place → new.judge.kept ≡ old.judge.kept
+        → noted_in new.judge.others ≡ noted_in old.judge.others → new.judge.requests ≡ old.judge.requests → HasRead (used ++ u) (asked ++ []) new
     going_read was other is place kept noted same =
         let (rest, stream) = reads 0 used h.packets h.rest h.reads in
-        let begun : IsOtherBegun (text_of new) h.left =
+        let begun : IsOtherBegun (advertised_by new) (limit_of new) h.left =
         subst (λ (s : Stage). IsLeft s (advertised_by new) (limit_of new) h.left h.rest (length used)) was left_before in
         none_more asked (has_read (h.packets ++ g ∷ []) (h.left ++ g ∷ []) rest asked Passing is stream requests_with
-        (record { begins = begins_on (text_of new) h.left g begun.begins; goes_on = none_snoc flush h.left g begun.goes_on other })
+        (record { begins = begins_on (advertised_by new) (limit_of new) h.left g begun.begins; goes_on = none_snoc flush h.left g begun.goes_on other })
         (λ on. place ∙ h.place_is wants ∙ ap (λ (s : Stage). place_for s h.left) was)
         (λ on. kept ∙ kept_before ∙ ap (λ (s : Stage). counted_for s (text_of new) h.left) was)
         (λ on.
         noted ∙ noted_named was
-        ∙ ap (λ (lines : List ℕ). record { lines = lines; asks = asks_nothing }) (sym (named_snoc (text_of new) h.left g begun.begins)))
-        (λ on. subst (λ (s : Stage). Takes (taken_in s (text_of new) h.left) new.requests) was (taken_still same)))
+        ∙ ap (λ (lines : List ℕ). record { lines = lines; asks = asks_nothing }) (sym (named_snoc (advertised_by new) (limit_of new) h.left g begun.begins)))
+        (λ on. subst (λ (s : Stage). Takes (taken_in s (text_of new) h.left) new.judge.requests) was (taken_still same)))
 
     -- or its flush
-    ended_read : old.stage ≡ Passing → g.packet ≡ flush → new.stage ≡ Between → new.place ≡ old.place → new.kept ≡ old.kept
-        → noted_in new.others ≡ nothing_noted → new.requests ≡ old.requests
-        → HasRead (used ++ u) (asked ++ another (noted_in old.others).lines ∷ []) new
+    ended_read : old.judge.stage ≡ Passing → g.packet ≡ flush → new.judge.stage ≡ Between → new.judge.place ≡ old.judge.place → new.judge.kept ≡ old.judge.kept
+        → noted_in new.judge.others ≡ nothing_noted → new.judge.requests ≡ old.judge.requests
+        → HasRead (used ++ u) (asked ++ another (noted_in old.judge.others).lines ∷ []) new
     ended_read was end is place kept noted same =
         let (rest, stream) = reads 0 used h.packets h.rest h.reads in
-        let begun : IsOtherBegun (text_of new) h.left =
+        let begun : IsOtherBegun (advertised_by new) (limit_of new) h.left =
         subst (λ (s : Stage). IsLeft s (advertised_by new) (limit_of new) h.left h.rest (length used)) was left_before in
-        let lines = (noted_in old.others).lines in
+        let lines = (noted_in old.judge.others).lines in
         has_read (h.packets ++ g ∷ []) [] rest (asked ++ another lines ∷ []) Between is stream
         (one_more_question (advertised_by new) (limit_of new) (h.packets ++ g ∷ []) asked (h.left ++ g ∷ []) (another lines) requests_with (
           record {
-            begins = begins_on (text_of new) h.left g begun.begins;
+            begins = begins_on (advertised_by new) (limit_of new) h.left g begun.begins;
             ends = record { front = h.left; last = g; parts = refl; none_before = begun.goes_on; is_last = end };
           },
-          ap (λ (n : Noted). n.lines) (noted_named was) ∙ sym (named_snoc (text_of new) h.left g begun.begins),
+          ap (λ (n : Noted). n.lines) (noted_named was) ∙ sym (named_snoc (advertised_by new) (limit_of new) h.left g begun.begins),
         ))
         refl
         (λ on. place ∙ h.place_is wants ∙ ap (λ (s : Stage). place_for s h.left) was)
         (λ on. kept ∙ kept_before ∙ ap (λ (s : Stage). counted_for s (text_of new) h.left) was)
         (λ on. noted)
-        (λ on. subst (λ (s : Stage). Takes (taken_in s (text_of new) h.left) new.requests) was (taken_still same))
+        (λ on. subst (λ (s : Stage). Takes (taken_in s (text_of new) h.left) new.judge.requests) was (taken_still same))
 
   -- they end a packet of a request that passes
-  pub passing_read : (p : Pkt) (offset : ℕ) → ReadsOn old.packets u (record { packet = p; offset = offset } ∷ []) new.packets → old.stage ≡ Passing
-      → new.stage ≡ stage_passed p → new.place ≡ old.place → new.kept ≡ old.kept → noted_in new.others ≡ noted_passed p (noted_in old.others)
-      → new.requests ≡ old.requests → HasRead (used ++ u) (asked ++ asked_by (got_passed {A = A} p old.others)) new
+  pub passing_read : (p : Pkt) (offset : ℕ) → ReadsOn old.packets u (record { packet = p; offset = offset } ∷ []) new.packets → old.judge.stage ≡ Passing
+      → new.judge.stage ≡ stage_passed p → new.judge.place ≡ old.judge.place → new.judge.kept ≡ old.judge.kept → noted_in new.judge.others ≡ noted_passed p (noted_in old.judge.others)
+      → new.judge.requests ≡ old.judge.requests → HasRead (used ++ u) (asked ++ asked_by (got_passed {A = A} p old.judge.others)) new
   passing_read flush offset reads was is place kept noted same =
       ended_read (record { packet = flush; offset = offset }) reads was refl is place kept noted same
   passing_read delim offset reads was is place kept noted same =
@@ -395,56 +226,121 @@ module _ {A : Type 0} (old new : JudgedRequests A) (u : List ℕ) (wants : wants
 
   -- ---- a packet of any other request
 
-  module _ (other : old.stage ≡ Passing → ⊥) (g : Given) (reads : ReadsOn old.packets u (g ∷ []) new.packets) where
-    placed : new.place ≡ place_next old.place g.packet → new.place ≡ place_after first_place (h.left ++ g ∷ [])
+  module _ (other : old.judge.stage ≡ Passing → ⊥) (g : Given) (reads : ReadsOn old.packets u (g ∷ []) new.packets) where
+    placed : new.judge.place ≡ place_next old.judge.place g.packet → new.judge.place ≡ place_after first_place (h.left ++ g ∷ [])
     placed place =
-        place ∙ ap (λ (p : Place). place_next p g.packet) (h.place_is wants ∙ place_other old.stage h.left other)
+        place ∙ ap (λ (p : Place). place_next p g.packet) (h.place_is wants ∙ place_other old.judge.stage h.left other)
         ∙ sym (place_snoc first_place h.left g)
 
-    taken_now : Takes (judged_of (text_of new) h.left) old.requests
+    taken_now : Takes (judged_of (text_of new) h.left) old.judge.requests
     taken_now =
-        subst (λ (gs : List Given). Takes gs old.requests) (taken_other old.stage (text_of new) h.left other) taken_before
+        subst (λ (gs : List Given). Takes gs old.judge.requests) (taken_other old.judge.stage (text_of new) h.left other) taken_before
 
     begun_now : AreBegun (advertised_by new).offer (limit_of new) (judged_of (text_of new) h.left)
-    begun_now = left_lines (advertised_by new) (limit_of new) h.left h.rest (length used) old.stage wants other left_before
+    begun_now = left_lines (advertised_by new) (limit_of new) h.left h.rest (length used) old.judge.stage wants other left_before
+
+    -- it names a command that passes
+    module _ (names : names_other (text_of new) old.judge.place g.packet ≡ true) (within : old.judge.kept ≤ limit_of new) where
+      names_now : names_other (text_of new) (place_after first_place h.left) g.packet ≡ true
+      names_now =
+          ap (λ (p : Place). names_other (text_of new) p g.packet) (sym (h.place_is wants ∙ place_other old.judge.stage h.left other)) ∙ names
+
+      begins_now : BeginWithOther (advertised_by new) (limit_of new) (h.left ++ g ∷ [])
+      begins_now = record {
+        front = h.left;
+        named = g;
+        more = [];
+        parts = refl;
+        begun = begun_now;
+        kept = subst (λ (n : ℕ). n ≤ limit_of new) (kept_before ∙ counted_other old.judge.stage (text_of new) h.left other) within;
+        names = names_now;
+      }
+
+      named_also : ◌≡◌ {A = Noted} (record { lines = (noted_in old.judge.others).lines ++ name_shown g.packet; asks = (noted_in old.judge.others).asks })
+          (record { lines = named_by (text_of new) (h.left ++ g ∷ []); asks = asks_nothing })
+      unfolding begins_now
+      named_also =
+          ap (λ (n : Noted). record { lines = n.lines ++ name_shown g.packet; asks = n.asks })
+          (noted_before ∙ noted_other old.judge.stage (text_of new) h.left other)
+          ∙ ap (λ (asks : Asks). record { lines = (noted_of (text_of new) h.left).lines ++ name_shown g.packet; asks = asks })
+          (asked_none (advertised_by new) (limit_of new) h.left g begun_now names_now)
+          ∙ ap (λ (lines : List ℕ). record { lines = lines; asks = asks_nothing })
+          (sym (named_as (advertised_by new) (limit_of new) (h.left ++ g ∷ []) begins_now))
+
+      pub named_read : new.judge.stage ≡ Passing → new.judge.place ≡ first_place → new.judge.kept ≡ 0
+          → noted_in new.judge.others
+          ≡ record { lines = (noted_in old.judge.others).lines ++ name_shown g.packet; asks = (noted_in old.judge.others).asks }
+          → Takes [] new.judge.requests → HasRead (used ++ u) (asked ++ []) new
+      named_read is place kept noted takes =
+          let (rest, stream) = reads 0 used h.packets h.rest h.reads in
+          none_more asked (has_read (h.packets ++ g ∷ []) (h.left ++ g ∷ []) rest asked Passing is stream (requests_with g reads)
+          (record {
+            begins = begins_now;
+            goes_on = none_snoc flush h.left g (begun_no_flush (advertised_by new) (limit_of new) h.left begun_now)
+                (named_no_flush (text_of new) old.judge.place g.packet names);
+          }) (λ on. place) (λ on. kept) (λ on. noted ∙ named_also) (λ on. takes))
+
+      -- and there is no memory for its line
+      pub unnamed_read : new.judge.stage ≡ FailedStage (record { kind = OutOfMemory; offset = g.offset }) → packet_fault new.packets ≡ None
+          → is_open new.packets ≡ false → HasRead (used ++ u) (asked ++ []) new
+      unfolding begins_now
+      unnamed_read is sound shut =
+          let (rest, stream) = reads 0 used h.packets h.rest h.reads in
+          none_more asked (has_read (h.packets ++ g ∷ []) (h.left ++ g ∷ []) rest asked (FailedStage (record { kind = OutOfMemory; offset = g.offset }))
+          is stream (requests_with g reads) (inr (inr (inr (record {
+            begins = begins_now;
+            at_name = refl;
+            no_rest = rest_behind new.packets (used ++ u) (h.packets ++ g ∷ []) rest sound shut stream;
+            fault_is = refl;
+          })))) (λ on. absurd (cc)) (λ on. absurd (cc)) (λ on. absurd (cc)) (λ on. absurd (cc)))
+
+    -- it names none
+    unnamed_here : names_other (text_of new) old.judge.place g.packet ≡ false → names_other (text_of new) (place_after first_place h.left) g.packet ≡ false
+    unnamed_here unnamed =
+        ap (λ (p : Place). names_other (text_of new) p g.packet) (sym (h.place_is wants ∙ place_other old.judge.stage h.left other)) ∙ unnamed
+
+    unnamed_now : names_other (text_of new) old.judge.place g.packet ≡ false → NoneNames (text_of new) first_place (h.left ++ g ∷ [])
+    unnamed_now unnamed =
+        names_snoc (text_of new) first_place h.left g
+        (left_unnamed (advertised_by new) (limit_of new) h.left h.rest (length used) old.judge.stage wants other left_before) (unnamed_here unnamed)
 
     -- what the packets are read as, with one more
-    judged_with : (judged : Option Pkt) → judged_packet (text_of new) old.place g.packet ≡ judged
+    judged_with : (judged : Option Pkt) → judged_packet (text_of new) old.judge.place g.packet ≡ judged
         → judged_of (text_of new) (h.left ++ g ∷ []) ≡ judged_of (text_of new) h.left ++ given_as judged g.offset
     judged_with judged is =
         judged_snoc (text_of new) first_place h.left g
         ∙ ap (λ (o : Option Pkt). judged_of (text_of new) h.left ++ given_as o g.offset)
-        (ap (λ (p : Place). judged_packet (text_of new) p g.packet) (sym (h.place_is wants ∙ place_other old.stage h.left other)) ∙ is)
+        (ap (λ (p : Place). judged_packet (text_of new) p g.packet) (sym (h.place_is wants ∙ place_other old.judge.stage h.left other)) ∙ is)
 
     -- so much counts as kept with it
     abbrev pub counts : ℕ
-    counts = old.kept + counted_at (text_of new) old.place g.packet
+    counts = old.judge.kept + counted_at (text_of new) old.judge.place g.packet
 
-    kept_now : old.kept ≡ counted_of (text_of new) h.left
-    kept_now = kept_before ∙ counted_other old.stage (text_of new) h.left other
+    kept_now : old.judge.kept ≡ counted_of (text_of new) h.left
+    kept_now = kept_before ∙ counted_other old.judge.stage (text_of new) h.left other
 
     counted_now : counted_of (text_of new) (h.left ++ g ∷ []) ≡ counts
     counted_now =
         counted_snoc (text_of new) first_place h.left g
         ∙ ap (λ (n : ℕ). n + counted_at (text_of new) (place_after first_place h.left) g.packet) (sym kept_now)
-        ∙ ap (λ (p : Place). old.kept + counted_at (text_of new) p g.packet) (sym (h.place_is wants ∙ place_other old.stage h.left other))
+        ∙ ap (λ (p : Place). old.judge.kept + counted_at (text_of new) p g.packet) (sym (h.place_is wants ∙ place_other old.judge.stage h.left other))
 
-    noted_now : noted_in old.others ≡ noted_of (text_of new) h.left
-    noted_now = noted_before ∙ noted_other old.stage (text_of new) h.left other
+    noted_now : noted_in old.judge.others ≡ noted_of (text_of new) h.left
+    noted_now = noted_before ∙ noted_other old.judge.stage (text_of new) h.left other
 
     -- what is noted with it
     abbrev pub notes : Noted
-    notes = noted_with (text_of new) old.place (noted_in old.others) g.packet
+    notes = noted_with (text_of new) old.judge.place (noted_in old.judge.others) g.packet
 
     noted_also : notes ≡ noted_of (text_of new) (h.left ++ g ∷ [])
     noted_also =
-        ap (λ (n : Noted). noted_with (text_of new) old.place n g.packet) noted_now
-        ∙ ap (λ (p : Place). noted_with (text_of new) p (noted_of (text_of new) h.left) g.packet) (h.place_is wants ∙ place_other old.stage h.left other)
+        ap (λ (n : Noted). noted_with (text_of new) old.judge.place n g.packet) noted_now
+        ∙ ap (λ (p : Place). noted_with (text_of new) p (noted_of (text_of new) h.left) g.packet) (h.place_is wants ∙ place_other old.judge.stage h.left other)
         ∙ sym (noted_snoc (text_of new) first_place nothing_noted h.left g)
 
     -- its line is not kept
-    pub unkept_read : (kind : Kind) → old.kept ≤ limit_of new → IsNotKept kind counts (limit_of new) (shown_at (text_of new) old.place g.packet)
-        → new.stage ≡ FailedStage (record { kind = kind; offset = g.offset })
+    pub unkept_read : (kind : Kind) → old.judge.kept ≤ limit_of new → IsNotKept kind counts (limit_of new) (shown_at (text_of new) old.judge.place g.packet)
+        → new.judge.stage ≡ FailedStage (record { kind = kind; offset = g.offset })
         → packet_fault new.packets ≡ None → is_open new.packets ≡ false → HasRead (used ++ u) (asked ++ []) new
     unkept_read kind within why is sound shut =
         let (rest, stream) = reads 0 used h.packets h.rest h.reads in
@@ -457,30 +353,32 @@ module _ {A : Type 0} (old new : JudgedRequests A) (u : List ℕ) (wants : wants
           kept = subst (λ (n : ℕ). n ≤ limit_of new) kept_now within;
           why = subst (λ (n : ℕ). IsNotKept kind n (limit_of new) (shown_at (text_of new) (place_after first_place h.left) g.packet)) (sym counted_now)
               (subst (λ (p : Place). IsNotKept kind counts (limit_of new) (shown_at (text_of new) p g.packet))
-              (h.place_is wants ∙ place_other old.stage h.left other) why);
+              (h.place_is wants ∙ place_other old.judge.stage h.left other) why);
           no_rest = rest_behind new.packets (used ++ u) (h.packets ++ g ∷ []) rest sound shut stream;
           at = refl;
         })))) (λ on. absurd (cc)) (λ on. absurd (cc)) (λ on. absurd (cc)) (λ on. absurd (cc)))
 
     -- it is passed over
-    pub passed_read : judged_packet (text_of new) old.place g.packet ≡ None → new.place ≡ place_next old.place g.packet → new.kept ≡ counts
-        → noted_in new.others ≡ notes → new.requests ≡ old.requests → new.stage ≡ old.stage → HasRead (used ++ u) (asked ++ []) new
-    passed_read none place kept noted same is =
+    pub passed_read : names_other (text_of new) old.judge.place g.packet ≡ false → judged_packet (text_of new) old.judge.place g.packet ≡ None → new.judge.place ≡ place_next old.judge.place g.packet → new.judge.kept ≡ counts
+        → noted_in new.judge.others ≡ notes → new.judge.requests ≡ old.judge.requests → new.judge.stage ≡ old.judge.stage → HasRead (used ++ u) (asked ++ []) new
+    passed_read unnamed none place kept noted same is =
         let (rest, stream) = reads 0 used h.packets h.rest h.reads in
         let judged = judged_with None none ∙ append-nil (judged_of (text_of new) h.left) in
-        let here = ap (λ (p : Place). judged_packet (text_of new) p g.packet) (sym (h.place_is wants ∙ place_other old.stage h.left other)) ∙ none in
-        none_more asked (has_read (h.packets ++ g ∷ []) (h.left ++ g ∷ []) rest asked old.stage is stream (requests_with g reads)
-        (left_passed (advertised_by new) (limit_of new) h.left g h.rest rest (length used) (length (used ++ u)) old.stage wants other left_before here judged)
-        (λ on. placed place ∙ sym (place_other old.stage (h.left ++ g ∷ []) other))
-        (λ on. kept ∙ sym counted_now ∙ sym (counted_other old.stage (text_of new) (h.left ++ g ∷ []) other))
-        (λ on. noted ∙ noted_also ∙ sym (noted_other old.stage (text_of new) (h.left ++ g ∷ []) other))
+        let here = ap (λ (p : Place). judged_packet (text_of new) p g.packet) (sym (h.place_is wants ∙ place_other old.judge.stage h.left other)) ∙ none in
+        none_more asked (has_read (h.packets ++ g ∷ []) (h.left ++ g ∷ []) rest asked old.judge.stage is stream (requests_with g reads)
+        (left_passed (advertised_by new) (limit_of new) h.left g h.rest rest (length used) (length (used ++ u)) old.judge.stage wants other left_before (unnamed_here unnamed)
+        here judged)
+        (λ on. placed place ∙ sym (place_other old.judge.stage (h.left ++ g ∷ []) other))
+        (λ on. kept ∙ sym counted_now ∙ sym (counted_other old.judge.stage (text_of new) (h.left ++ g ∷ []) other))
+        (λ on. noted ∙ noted_also ∙ sym (noted_other old.judge.stage (text_of new) (h.left ++ g ∷ []) other))
         (λ on.
-        subst (λ (gs : List Given). Takes gs new.requests)
-        (taken_other old.stage (text_of new) h.left other ∙ sym judged ∙ sym (taken_other old.stage (text_of new) (h.left ++ g ∷ []) other))
+        subst (λ (gs : List Given). Takes gs new.judge.requests)
+        (taken_other old.judge.stage (text_of new) h.left other ∙ sym judged ∙ sym (taken_other old.judge.stage (text_of new) (h.left ++ g ∷ []) other))
         (taken_still same)))
 
     -- or read as this
-    module _ (j : Pkt) (judged : judged_packet (text_of new) old.place g.packet ≡ Some j) where
+    module _ (unnamed : names_other (text_of new) old.judge.place g.packet ≡ false) (j : Pkt)
+        (judged : judged_packet (text_of new) old.judge.place g.packet ≡ Some j) where
       abbrev pub read_as : Given
       read_as = record { packet = j; offset = g.offset }
 
@@ -490,38 +388,41 @@ module _ {A : Type 0} (old new : JudgedRequests A) (u : List ℕ) (wants : wants
       parts : all_judged ≡ judged_of (text_of new) h.left ++ read_as ∷ []
       parts = judged_with (Some j) judged
 
-      brought : (got : ReadGot A) → Brings nothing_barred old.requests read_as got new.requests → IsBrought nothing_barred all_judged got new.requests
+      brought : (got : ReadGot A) → Brings nothing_barred old.judge.requests read_as got new.judge.requests → IsBrought nothing_barred all_judged got new.judge.requests
       brought got brings =
-          subst (λ (gs : List Given). IsBrought nothing_barred gs got new.requests) (sym parts) (brings.brings (judged_of (text_of new) h.left) taken_now)
+          subst (λ (gs : List Given). IsBrought nothing_barred gs got new.judge.requests) (sym parts) (brings.brings (judged_of (text_of new) h.left) taken_now)
 
       stopped : (rest : List ℕ) → Reads new.packets 0 (used ++ u) (h.packets ++ g ∷ []) rest → rest ≡ []
-          → IsBrought nothing_barred all_judged Stop new.requests → new.stage ≡ Stopped → HasRead (used ++ u) (asked ++ []) new
+          → IsBrought nothing_barred all_judged Stop new.judge.requests → new.judge.stage ≡ Stopped → HasRead (used ++ u) (asked ++ []) new
       stopped rest stream none brings is =
           none_more asked (has_read (h.packets ++ g ∷ []) (h.left ++ g ∷ []) rest asked Stopped is stream (requests_with g reads) (brings.1, none)
           (λ on. absurd (cc)) (λ on. absurd (cc)) (λ on. absurd (cc)) (λ on. absurd (cc)))
 
       refused : (rest : List ℕ) → Reads new.packets 0 (used ++ u) (h.packets ++ g ∷ []) rest → rest ≡ [] → (fault : Fault)
-          → IsBrought nothing_barred all_judged (Failed fault) new.requests → new.stage ≡ FailedStage fault → HasRead (used ++ u) (asked ++ []) new
+          → IsBrought nothing_barred all_judged (Failed fault) new.judge.requests → new.judge.stage ≡ FailedStage fault → HasRead (used ++ u) (asked ++ []) new
       refused rest stream none fault brings is =
           let told = told_by_none (advertised_by new).offer (limit_of new) all_judged fault brings in
           none_more asked (has_read (h.packets ++ g ∷ []) (h.left ++ g ∷ []) rest asked (FailedStage fault) is stream (requests_with g reads)
-          (inl (inl (record {
-            front = judged_of (text_of new) h.left;
-            last = read_as;
-            whole = parts;
-            begun = begun_now;
-            told = told;
-            no_rest = none;
-          }))) (λ on. absurd (cc)) (λ on. absurd (cc)) (λ on. absurd (cc)) (λ on. absurd (cc)))
+          (inl (
+            unnamed_now unnamed,
+            inl (record {
+              front = judged_of (text_of new) h.left;
+              last = read_as;
+              whole = parts;
+              begun = begun_now;
+              told = told;
+              no_rest = none;
+            }),
+          )) (λ on. absurd (cc)) (λ on. absurd (cc)) (λ on. absurd (cc)) (λ on. absurd (cc)))
 
       brought_read : (rest : List ℕ) → Reads new.packets 0 (used ++ u) (h.packets ++ g ∷ []) rest → rest ≡ [] → (got : ReadGot A)
-          → IsBrought nothing_barred all_judged got new.requests → (others : OtherLines A) → counts ≤ limit_of new → noted_in others ≡ notes → (kept : ℕ)
-          → kept ≡ counts → new.stage ≡ stage_brought got → new.place ≡ place_brought got (place_next old.place g.packet)
-          → new.kept ≡ kept_brought got kept → noted_in new.others ≡ noted_brought got (noted_in others)
+          → IsBrought nothing_barred all_judged got new.judge.requests → (others : OtherLines A) → counts ≤ limit_of new → noted_in others ≡ notes → (kept : ℕ)
+          → kept ≡ counts → new.judge.stage ≡ stage_brought got → new.judge.place ≡ place_brought got (place_next old.judge.place g.packet)
+          → new.judge.kept ≡ kept_brought got kept → noted_in new.judge.others ≡ noted_brought got (noted_in others)
           → HasRead (used ++ u) (asked ++ asked_by (got_as got others)) new
       brought_read rest stream none More brings others within notes kept same is place counted noted =
           none_more asked (has_read (h.packets ++ g ∷ []) (h.left ++ g ∷ []) rest asked Within is stream (requests_with g reads)
-          (λ e. some_left (judged_of (text_of new) h.left) read_as (sym parts ∙ e), brings.1) (λ on. placed place)
+          (unnamed_now unnamed, (λ e. some_left (judged_of (text_of new) h.left) read_as (sym parts ∙ e), brings.1)) (λ on. placed place)
           (λ on. counted ∙ same ∙ sym counted_now) (λ on. noted ∙ notes ∙ noted_also) (λ on. brings.0))
       brought_read rest stream none (Request request) brings others within notes kept same is place counted noted =
           let question = known (asked_of request) (noted_in others) in
@@ -533,13 +434,13 @@ module _ {A : Type 0} (old new : JudgedRequests A) (u : List ℕ) (wants : wants
       brought_read rest stream none (Failed fault) brings others within notes kept same is place counted noted =
           refused rest stream none fault brings is
 
-      pub packet_read : (got : ReadGot A) (refused : Option Kind) → Brings nothing_barred old.requests read_as got new.requests → old.kept ≤ limit_of new
+      pub packet_read : (got : ReadGot A) (refused : Option Kind) → Brings nothing_barred old.judge.requests read_as got new.judge.requests → old.judge.kept ≤ limit_of new
           → (others : OtherLines A)
-          → KeepsWithin refused (text_of new) old.place g.packet counts (limit_of new) (noted_in old.others) (noted_in others) → (kept : ℕ)
-          → (refused ≡ None → kept ≡ counts) → new.stage ≡ stage_brought (limited_got refused g.offset got)
-          → new.place ≡ place_brought (limited_got refused g.offset got) (place_next old.place g.packet)
-          → new.kept ≡ kept_brought (limited_got refused g.offset got) kept
-          → noted_in new.others ≡ noted_brought (limited_got refused g.offset got) (noted_in others) → packet_fault new.packets ≡ None
+          → KeepsWithin refused (text_of new) old.judge.place g.packet counts (limit_of new) (noted_in old.judge.others) (noted_in others) → (kept : ℕ)
+          → (refused ≡ None → kept ≡ counts) → new.judge.stage ≡ stage_brought (limited_got refused g.offset got)
+          → new.judge.place ≡ place_brought (limited_got refused g.offset got) (place_next old.judge.place g.packet)
+          → new.judge.kept ≡ kept_brought (limited_got refused g.offset got) kept
+          → noted_in new.judge.others ≡ noted_brought (limited_got refused g.offset got) (noted_in others) → packet_fault new.packets ≡ None
           → is_open new.packets ≡ false → HasRead (used ++ u) (asked ++ asked_by (got_as (limited_got refused g.offset got) others)) new
       packet_read got None brings before others keeps kept same is place counted noted sound shut =
           let (rest, stream) = reads 0 used h.packets h.rest h.reads in
@@ -554,24 +455,6 @@ module _ {A : Type 0} (old new : JudgedRequests A) (u : List ℕ) (wants : wants
       packet_read (Failed fault) (Some kind) brings before others keeps kept same is place counted noted sound shut =
           let (rest, stream) = reads 0 used h.packets h.rest h.reads in
           refused rest stream (rest_behind new.packets (used ++ u) (h.packets ++ g ∷ []) rest sound shut stream) fault (brought (Failed fault) brings) is
-
-  -- there is no memory for the line of a request that passes
-  module _ (g : Given) (reads : ReadsOn old.packets u (g ∷ []) new.packets) where
-    pub unnamed_read : old.stage ≡ Between → names_other (text_of new) g.packet ≡ true
-        → new.stage ≡ FailedStage (record { kind = OutOfMemory; offset = g.offset }) → packet_fault new.packets ≡ None → is_open new.packets ≡ false
-        → HasRead (used ++ u) (asked ++ []) new
-    unnamed_read was names is sound shut =
-        let (rest, stream) = reads 0 used h.packets h.rest h.reads in
-        let nothing : h.left ≡ [] =
-        subst (λ (s : Stage). IsLeft s (advertised_by new) (limit_of new) h.left h.rest (length used)) was left_before in
-        none_more asked (has_read (h.packets ++ g ∷ []) (h.left ++ g ∷ []) rest asked (FailedStage (record { kind = OutOfMemory; offset = g.offset }))
-        is stream (requests_with g reads) (inr (inr (inr (record {
-          first = g;
-          alone = ap (λ (gs : List Given). gs ++ g ∷ []) nothing;
-          names = names;
-          no_rest = rest_behind new.packets (used ++ u) (h.packets ++ g ∷ []) rest sound shut stream;
-          fault_is = refl;
-        })))) (λ on. absurd (cc)) (λ on. absurd (cc)) (λ on. absurd (cc)) (λ on. absurd (cc)))
 
 -- ---- a sum that stops at the largest number, and the limit
 
@@ -591,6 +474,11 @@ keeps_all (Some kind) text place packet counts kept limit old new is fits (inl (
     (inl (named, sum_over counts kept limit is over), λ e. absurd (cc))
 keeps_all (Some kind) text place packet counts kept limit old new is fits (inr (named, within, shown)) =
     (inr (named, subst (λ (n : ℕ). n ≤ limit) (sum_within counts kept limit is within fits) within, shown), λ e. absurd (cc))
+
+-- what the same offer and text were advertised by is the same
+pub same_advertised : (text : List ℕ) (offer other : Offer) → offer ≡ other
+    → ◌≡◌ {A = Advertised} (record { offer = offer; text = text }) (record { offer = other; text = text })
+same_advertised text offer other same = ap (λ (o : Offer). record { offer = o; text = text }) same
 
 -- what the same was brought by is the same
 pub same_place : {A : Type 0} (got other : ReadGot A) (next : Place) → got ≡ other → place_brought got next ≡ place_brought other next
@@ -618,30 +506,52 @@ module _ {A : Type 0} where
   reads_behind Stop on = absurd (cc)
   reads_behind (Failed fault) on = absurd (cc)
 
-module _ {A : Type 0} (old new : JudgedRequests A) (used : ℕ) (ready : IsReady old) (some : 0 < used)
-    (sound : packet_fault new.packets ≡ None) (gathers : passes_of new.packets ≡ false) (same_limit : new.limit ≡ old.limit) where
-  -- it goes on with the reader inside as it was
-  ready_still : new.requests ≡ old.requests → new.kept ≤ old.limit → takes_bytes new.stage ≡ true → IsReady new
-  ready_still same kept wants = record {
-    wants = wants;
+module _ {A : Type 0} (old new : JudgedRequests A) (used : ℕ) (ready : IsJudging old.judge) (some : 0 < used)
+    (sound : packet_fault new.packets ≡ None) (gathers : passes_of new.packets ≡ false) (same_offer : new.judge.offer ≡ old.judge.offer)
+    (same_limit : new.judge.limits.args ≡ old.judge.limits.args) where
+  -- it goes on
+  ready_with : takes_bytes new.judge.stage ≡ true → reader_fault new.judge.requests ≡ None → is_waiting new.judge.requests ≡ false
+      → HasTaken new.judge.requests → offer_in new.judge.requests ≡ offer_in old.judge.requests
+      → limit_in new.judge.requests ≡ limit_in old.judge.requests → new.judge.kept ≤ old.judge.limits.args → IsReady new
+  ready_with wants open_ended waits taken offer limit kept = record {
+    judging = record {
+      wants = wants;
+      open_ended = open_ended;
+      ready = waits;
+      taken = taken;
+      same_offer = same_offer ∙ ready.same_offer ∙ sym offer;
+      same_limit = same_limit ∙ ready.same_limit ∙ sym limit;
+      within = subst (λ (n : ℕ). new.judge.kept ≤ n) (sym same_limit) kept;
+      fits = subst (λ (n : ℕ). n ≤ 4294967295) (sym same_limit) ready.fits;
+    };
     gathers = gathers;
     sound = sound;
-    open_ended = rw same ready.open_ended;
-    ready = rw same ready.ready;
-    taken = subst (λ (r : RequestReader A). HasTaken r) (sym same) ready.taken;
-    same_limit = same_limit ∙ ready.same_limit ∙ ap (λ (r : RequestReader A). limit_in r) (sym same);
-    within = subst (λ (n : ℕ). new.kept ≤ n) (sym same_limit) kept;
-    fits = subst (λ (n : ℕ). n ≤ 4294967295) (sym same_limit) ready.fits;
   }
 
-  pub goes_leaves : new.requests ≡ old.requests → new.kept ≤ old.limit → takes_bytes new.stage ≡ true → StepLeaves {A = A} Got.More used new
+  -- with the reader inside as it was
+  ready_still : new.judge.requests ≡ old.judge.requests → new.judge.kept ≤ old.judge.limits.args → takes_bytes new.judge.stage ≡ true → IsReady new
+  ready_still same kept wants =
+      ready_with wants (rw same ready.open_ended) (rw same ready.ready)
+      (subst (λ (r : RequestReader A). HasTaken r) (sym same) ready.taken) (ap (λ (r : RequestReader A). offer_in r) same)
+      (ap (λ (r : RequestReader A). limit_in r) same) kept
+
+  -- or with a new one
+  pub named_leaves : new.judge.stage ≡ Passing → reader_fault new.judge.requests ≡ None → is_waiting new.judge.requests ≡ false
+      → Takes [] new.judge.requests → offer_in new.judge.requests ≡ old.judge.offer → limit_in new.judge.requests ≡ old.judge.limits.args
+      → new.judge.kept ≡ 0 → StepLeaves {A = A} Got.More used new
+  named_leaves is open_ended waits takes offer limit kept = (
+    some,
+    ready_with (ap takes_bytes is) open_ended waits ([], takes) (offer ∙ ready.same_offer) (limit ∙ ready.same_limit) (omega (arith, kept)),
+  )
+
+  pub goes_leaves : new.judge.requests ≡ old.judge.requests → new.judge.kept ≤ old.judge.limits.args → takes_bytes new.judge.stage ≡ true → StepLeaves {A = A} Got.More used new
   goes_leaves same kept wants = (some, ready_still same kept wants)
 
-  pub passed_leaves : new.requests ≡ old.requests → new.kept ≤ old.limit → new.stage ≡ old.stage → StepLeaves {A = A} Got.More used new
+  pub passed_leaves : new.judge.requests ≡ old.judge.requests → new.judge.kept ≤ old.judge.limits.args → new.judge.stage ≡ old.judge.stage → StepLeaves {A = A} Got.More used new
   passed_leaves same kept is = goes_leaves same kept (ap takes_bytes is ∙ ready.wants)
 
   module _ (shut : is_open new.packets ≡ false) where
-    pub passing_leaves : (p : Pkt) (others : OtherLines A) → new.requests ≡ old.requests → new.kept ≤ old.limit → new.stage ≡ stage_passed p
+    pub passing_leaves : (p : Pkt) (others : OtherLines A) → new.judge.requests ≡ old.judge.requests → new.judge.kept ≤ old.judge.limits.args → new.judge.stage ≡ stage_passed p
         → StepLeaves (got_passed {A = A} p others) used new
     passing_leaves flush others same kept is =
         record { some = some; onward = ready_still same kept (ap takes_bytes is); between = ap stage_is_between is; shut = shut }
@@ -650,26 +560,18 @@ module _ {A : Type 0} (old new : JudgedRequests A) (used : ℕ) (ready : IsReady
     passing_leaves (payload bytes) others same kept is = goes_leaves same kept (ap takes_bytes is)
 
     module _ (g : Given) where
-      ready_behind : (got : ReadGot A) → goes_on got ≡ true → Brings nothing_barred old.requests g got new.requests → new.kept ≤ old.limit
-          → new.stage ≡ stage_brought got → IsReady new
-      ready_behind got on brings kept is = record {
-        wants = ap takes_bytes is ∙ reads_behind got on;
-        gathers = gathers;
-        sound = sound;
-        open_ended = brings.sound on;
-        ready = brings.ready on;
-        taken = taken_behind old.requests new.requests g got brings on ready.taken;
-        same_limit = same_limit ∙ ready.same_limit ∙ sym brings.limit;
-        within = subst (λ (n : ℕ). new.kept ≤ n) (sym same_limit) kept;
-        fits = subst (λ (n : ℕ). n ≤ 4294967295) (sym same_limit) ready.fits;
-      }
+      ready_behind : (got : ReadGot A) → goes_on got ≡ true → Brings nothing_barred old.judge.requests g got new.judge.requests → new.judge.kept ≤ old.judge.limits.args
+          → new.judge.stage ≡ stage_brought got → IsReady new
+      ready_behind got on brings kept is =
+          ready_with (ap takes_bytes is ∙ reads_behind got on) (brings.sound on) (brings.ready on)
+          (taken_behind old.judge.requests new.judge.requests g got brings on ready.taken) brings.offer brings.limit kept
 
       pub packet_leaves : (got : ReadGot A) (refused : Option Kind) (offset kept : ℕ) (others : OtherLines A)
-          → Brings nothing_barred old.requests g got new.requests → (refused ≡ None → kept ≤ old.limit)
-          → new.stage ≡ stage_brought (limited_got refused offset got) → new.kept ≡ kept_brought (limited_got refused offset got) kept
+          → Brings nothing_barred old.judge.requests g got new.judge.requests → (refused ≡ None → kept ≤ old.judge.limits.args)
+          → new.judge.stage ≡ stage_brought (limited_got refused offset got) → new.judge.kept ≡ kept_brought (limited_got refused offset got) kept
           → StepLeaves (got_as (limited_got refused offset got) others) used new
       packet_leaves More None offset kept others brings within is counted =
-          (some, ready_behind More refl brings (subst (λ (n : ℕ). n ≤ old.limit) (sym counted) (within refl)) is)
+          (some, ready_behind More refl brings (subst (λ (n : ℕ). n ≤ old.judge.limits.args) (sym counted) (within refl)) is)
       packet_leaves (Request request) None offset kept others brings within is counted =
           let (left, takes) = ready.taken in (
             record {
@@ -696,8 +598,8 @@ no_news resp_end others fault used piece is = absurd (cc)
 no_news (payload bytes) others fault used piece is = absurd (cc)
 
 -- a fault of a packet is none that the bytes show
-fault_news : {A : Type 0} (old : JudgedRequests A) (new : RequestReader A) (g : Given) → IsReady old → (told : Fault)
-    → Brings nothing_barred old.requests g (Failed told) new → (fault : Fault) (used : ℕ) (piece : List ℕ) → told ≡ fault → ShownByFeed fault used piece
+fault_news : {A : Type 0} (old : JudgedRequests A) (new : RequestReader A) (g : Given) → IsJudging old.judge → (told : Fault)
+    → Brings nothing_barred old.judge.requests g (Failed told) new → (fault : Fault) (used : ℕ) (piece : List ℕ) → told ≡ fault → ShownByFeed fault used piece
 fault_news old new g ready told brings fault used piece same =
     let (left, takes) = ready.taken in
     let t = told_by_none _ _ (left ++ g ∷ []) told (brings.brings left takes) in
@@ -721,7 +623,7 @@ unnamed_news offset fault used piece same =
 
 pub packet_news : {A : Type 0} (old : JudgedRequests A) (new : RequestReader A) (g : Given) (got : ReadGot A) (refused : Option Kind)
     (text : List ℕ) (place : Place) (packet : Pkt) (kept limit : ℕ) (before after : Noted) (offset : ℕ) (others : OtherLines A)
-    → KeepsWithin refused text place packet kept limit before after → IsReady old → Brings nothing_barred old.requests g got new
+    → KeepsWithin refused text place packet kept limit before after → IsJudging old.judge → Brings nothing_barred old.judge.requests g got new
     → (fault : Fault) (used : ℕ) (piece : List ℕ) → got_as (limited_got refused offset got) others ≡ Got.Failed fault → ShownByFeed fault used piece
 packet_news old new g More None text place packet kept limit before after offset others keeps ready brings fault used piece is = absurd (cc)
 packet_news old new g (Request request) None text place packet kept limit before after offset others keeps ready brings fault used piece is = absurd (cc)

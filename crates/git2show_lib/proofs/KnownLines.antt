@@ -12,12 +12,13 @@ use Rattle.git_msg.specs.Asked.{Asked}
 use Rattle.git_msg.specs.declared.offers.Offer.{Offer}
 use Rattle.git2show_lib.specs.Others.{IsOtherRequest, given_as, is_advertised, is_allowed_key, is_allowed_value}
 use Rattle.git2show_lib.specs.Others.{is_other_argument, is_other_capability, is_other_command, is_own_key, is_own_word}
-use Rattle.git2show_lib.specs.Others.{first_place, judged_in, judged_line, judged_packet, line_has, names_other, place_next}
+use Rattle.git2show_lib.specs.Others.{first_place, judged_in, judged_line, judged_packet, line_has, names_other, place_after, place_next}
 use Rattle.git2show_lib.specs.OtherLines.{Noted, Question, known, other, asks_line, is_fetch, line_with, nothing_noted, noted_from, noted_with}
 use Rattle.git2show_lib.specs.OtherLines.{shown_line}
 use Rattle.git2show_lib.specs.Machine.JudgedRequests.{AreQuestions}
 use Rattle.git2show_lib.specs.declared.other_lines.Asks.{Asks}
 use Rattle.git2show_lib.specs.declared.others.Place.{Place}
+use Rattle.git2show_lib.specs.declared.others.Place.TheVariants.{Unnamed, Named, Arguments}
 
 no_word : (command : Command) (word : List ℕ) → is_advertised [] (Some command) word ≡ false
 unfolding is_advertised line_has
@@ -56,13 +57,9 @@ no_capability line =
 
 known_line : (place : Place) (bytes : List ℕ) → judged_line [] place bytes ≡ Some (payload bytes)
 unfolding judged_line
-known_line place bytes = at place.arguments where
-  at : (b : Bool)
-      → (if b then (if is_other_argument [] place.command (text_of bytes) then None else Some (payload bytes))
-      else (if is_other_capability [] (text_of bytes) then Some (payload (codes "agent")) else Some (payload bytes)))
-      ≡ Some (payload bytes)
-  at true = rw (no_argument place.command (text_of bytes)) refl
-  at false = rw (no_capability (text_of bytes)) refl
+known_line Unnamed bytes = rw (no_capability (text_of bytes)) refl
+known_line (Named command) bytes = rw (no_capability (text_of bytes)) refl
+known_line (Arguments command) bytes = rw (no_argument command (text_of bytes)) refl
 
 known_packet : (place : Place) (packet : Pkt) → judged_packet [] place packet ≡ Some packet
 known_packet place flush = refl
@@ -79,12 +76,14 @@ all_known place (g ∷ gs) =
 
 -- ---- and no request is for another command, so that nothing passes
 
-names_nothing : (p : Pkt) → names_other [] p ≡ false
+names_nothing : (place : Place) (p : Pkt) → names_other [] place p ≡ false
 unfolding is_other_command
-names_nothing flush = refl
-names_nothing delim = refl
-names_nothing resp_end = refl
-names_nothing (payload bytes) =
+names_nothing (Named command) p = refl
+names_nothing (Arguments command) p = refl
+names_nothing Unnamed flush = refl
+names_nothing Unnamed delim = refl
+names_nothing Unnamed resp_end = refl
+names_nothing Unnamed (payload bytes) =
     not_named (bytes_eq (key_of (text_of bytes)) (codes "command")) (is_own_key (value_of (text_of bytes)))
     (is_advertised [] None (value_of (text_of bytes))) (no_key (value_of (text_of bytes)))
   where
@@ -95,24 +94,25 @@ names_nothing (payload bytes) =
     not_named true false true (inl e) = cc
     not_named true false true (inr e) = cc
 
-no_other : (packets : List Given) → IsOtherRequest [] packets → ⊥
-no_other [] request = request.begins
-no_other (g ∷ packets) request = let named : names_other [] g.packet ≡ true = request.begins in absurd (cc (names_nothing g.packet))
+no_other : (offer : Offer) (limit : ℕ) (packets : List Given) → IsOtherRequest (record { offer = offer; text = [] }) limit packets → ⊥
+no_other offer limit packets request =
+    let begins = request.begins in
+    let named : names_other [] (place_after first_place begins.front) begins.named.packet ≡ true = begins.names in
+    absurd (cc (names_nothing (place_after first_place begins.front) begins.named.packet))
 
 -- ---- and nothing is noted
 
 no_line : (place : Place) (line : List ℕ) → shown_line [] place line ≡ []
 unfolding shown_line
-no_line place line = at place.arguments where
-  at : (b : Bool)
-      → (if b then (if is_other_argument [] place.command line then line_with (codes "argument ") line else [])
-      else (if is_other_capability [] line then line_with (codes "capability ") line else [])) ≡ []
-  at true = rw (no_argument place.command line) refl
-  at false = rw (no_capability line) refl
+no_line Unnamed line = rw (no_capability line) refl
+no_line (Named command) line = rw (no_capability line) refl
+no_line (Arguments command) line = rw (no_argument command line) refl
 
 asks_no_more : (place : Place) (asks : Asks) (line : List ℕ) → asks_line [] place asks line ≡ asks
 unfolding asks_line
-asks_no_more place asks line = rw (no_argument place.command line, and_false (place.arguments && is_fetch place.command)) refl
+asks_no_more Unnamed asks line = refl
+asks_no_more (Named command) asks line = refl
+asks_no_more (Arguments command) asks line = rw (no_argument command line, and_false (is_fetch command)) refl
 
 nothing_more : (place : Place) (noted : Noted) (packet : Pkt) → noted_with [] place noted packet ≡ noted
 nothing_more place noted flush = ap (λ (l : List ℕ). record { lines = l; asks = noted.asks }) (append-nil noted.lines)
@@ -135,7 +135,7 @@ plain q = known q nothing_noted
 pub all_asked : (offer : Offer) (limit : ℕ) (packets : List Given) (asked : List Question) (left : List Given)
     → AreQuestions (record { offer = offer; text = [] }) limit packets asked left → (qs : List Asked) × (asked ≡ map plain qs)
 all_asked offer limit packets [] left same = ([], refl)
-all_asked offer limit packets (other lines ∷ qs) left (front, more, whole, (is, named), rest) = absurd (no_other front is)
+all_asked offer limit packets (other lines ∷ qs) left (front, more, whole, (is, named), rest) = absurd (no_other offer limit front is)
 all_asked offer limit packets (known q noted ∷ qs) left (front, more, whole, (one, kept, noted_is), rest) =
     let (others, same) = all_asked offer limit more qs left rest in (
       q ∷ others,

@@ -9,6 +9,8 @@ pub mod Turns
 pub mod PassedAnswers
 pub mod KnownLines
 pub mod KnownChecks
+pub mod NamedCommands
+pub mod JudgedStages
 pub mod JudgedSteps
 pub mod JudgedReadings
 pub mod AdvertisementNoted

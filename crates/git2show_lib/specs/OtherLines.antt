@@ -10,9 +10,10 @@ use Rattle.git_msg.specs.Advertisement.{value_of}
 use Rattle.git_msg.specs.Asked.{Asked}
 use Rattle.git_msg.specs.declared.arguments.Command.{Command}
 use Rattle.git_msg.specs.declared.arguments.Command.TheVariants.{LsRefs, Fetch, ObjectInfo}
-use Rattle.git2show_lib.specs.Others.{first_place, is_other_argument, is_other_capability, place_next}
+use Rattle.git2show_lib.specs.Others.{first_place, is_other_argument, is_other_capability, names_other, place_next}
 use Rattle.git2show_lib.specs.declared.other_lines.Asks.{Asks}
 use Rattle.git2show_lib.specs.declared.others.Place.{Place}
+use Rattle.git2show_lib.specs.declared.others.Place.TheVariants.{Arguments}
 use Rattle.git2show_lib.specs.declared.sieve.Form.{Form}
 
 -- ---- lines of the transcript
@@ -23,23 +24,28 @@ line_with word text = word ++ escaped_of text ++ codes "\n"
 
 -- the line for a line of a request: only what was advertised and is not known has one
 unfoldable pub shown_line : List ℕ → Place → List ℕ → List ℕ
-shown_line text place line =
-    if place.arguments then (if is_other_argument text place.command line then line_with (codes "argument ") line else [])
-    else (if is_other_capability text line then line_with (codes "capability ") line else [])
+shown_line text (Arguments command) line = if is_other_argument text command line then line_with (codes "argument ") line else []
+shown_line text place line = if is_other_capability text line then line_with (codes "capability ") line else []
 
 -- the line for a packet of a request
 abbrev pub shown_at : List ℕ → Place → Pkt → List ℕ
 shown_at text place (payload bytes) = shown_line text place (text_of bytes)
 shown_at text place packet = []
 
--- the line for a request whose command is not known, which its first packet names
+-- the line for a request whose command is not known, which the packet names
 abbrev pub name_shown : Pkt → List ℕ
 name_shown (payload bytes) = line_with (codes "request ") (value_of (text_of bytes))
 name_shown packet = []
 
-abbrev pub named_by : List Given → List ℕ
-named_by [] = []
-named_by (g ∷ gs) = name_shown g.packet
+-- the lines for the packets of such a request: those of the packets before the one that names the command, and the line for that one
+abbrev pub named_in : List ℕ → Place → List Given → List ℕ
+named_in text place [] = []
+named_in text place (g ∷ gs) =
+    if names_other text place g.packet then name_shown g.packet
+    else shown_at text place g.packet ++ named_in text (place_next place g.packet) gs
+
+abbrev pub named_by : List ℕ → List Given → List ℕ
+named_by text packets = named_in text first_place packets
 
 -- ---- what changes the response
 
@@ -56,10 +62,9 @@ is_fetch command = false
 
 -- an argument of `fetch` asks for it by its first word, if it was advertised
 unfoldable pub asks_line : List ℕ → Place → Asks → List ℕ → Asks
-asks_line text place asks line =
-    if place.arguments && is_fetch place.command && is_other_argument text place.command line
-    then asks_word asks (before_first (λ c. c == 32) line)
-    else asks
+asks_line text (Arguments command) asks line =
+    if is_fetch command && is_other_argument text command line then asks_word asks (before_first (λ c. c == 32) line) else asks
+asks_line text place asks line = asks
 
 abbrev pub asks_at : List ℕ → Place → Asks → Pkt → Asks
 asks_at text place asks (payload bytes) = asks_line text place asks (text_of bytes)
@@ -93,7 +98,7 @@ noted_from text place noted (g ∷ gs) = noted_from text (place_next place g.pac
 abbrev pub noted_of : List ℕ → List Given → Noted
 noted_of text packets = noted_from text first_place nothing_noted packets
 
--- a request: one that asks for this, with what it has beside that, or one whose command is not known, with its line
+-- a request: one that asks for this, with what it has beside that, or one whose command is not known, with its lines
 pub data Question : Type 0 where
   known : (q : Asked) (noted : Noted) → Question
   other : (lines : List ℕ) → Question

@@ -1,6 +1,6 @@
 -- What a request of another client may have since its server advertised it, beside what this project knows: keys of capability lines, commands,
 -- and words of the values of `fetch` and `ls-refs`.
-use Rattle.std.specs.Prelude.{◌≡◌, ◌≢◌, ◌⊎◌, ℕ, ◌+◌, ◌-◌, ◌==◌, Bool, true, false, not, ◌&&◌, ◌||◌, Option, Some, None, List, [], ◌∷◌}
+use Rattle.std.specs.Prelude.{◌≡◌, ◌≢◌, ◌⊎◌, ℕ, ◌+◌, ◌≤◌, ◌-◌, ◌==◌, Bool, true, false, not, ◌&&◌, ◌||◌, Option, Some, None, List, [], ◌∷◌}
 use Rattle.std.specs.Prelude.{◌++◌, length, codes, if◌then◌else◌}
 use Rattle.std.specs.List.{before_first, list_any, list_all}
 use Rattle.std.specs.Str.{bytes_eq}
@@ -16,9 +16,11 @@ use Rattle.git_msg.specs.Texts.{parts_of, spaced_words}
 use Rattle.git_msg.specs.declared.arguments.Command.{Command}
 use Rattle.git_msg.specs.declared.arguments.Command.TheVariants.{LsRefs, Fetch}
 use Rattle.git_msg.specs.declared.offers.Offer.{Offer}
+use Rattle.git_msg.specs.Machine.StreamStages.{AreBegun}
 use Rattle.git_client.specs.declared.events.Ending.{Ending}
 use Rattle.git_client.specs.declared.events.Ending.TheVariants.{FlushOnly, ResponseEnd}
 use Rattle.git2show_lib.specs.declared.others.Place.{Place}
+use Rattle.git2show_lib.specs.declared.others.Place.TheVariants.{Unnamed, Named, Arguments}
 
 -- ---- what is known
 
@@ -119,31 +121,30 @@ unfoldable pub is_other_command : List ℕ → List ℕ → Bool
 is_other_command text line =
     bytes_eq (key_of line) (codes "command") && not (is_own_key (value_of line)) && is_advertised text None (value_of line)
 
-abbrev pub names_other : List ℕ → Pkt → Bool
-names_other text (payload bytes) = is_other_command text (text_of bytes)
-names_other text packet = false
-
 -- the command that a value names, if it has words of its own in an advertisement
 unfoldable pub command_named : List ℕ → Option Command
 command_named value =
     if bytes_eq value (codes "fetch") then Some Fetch else if bytes_eq value (codes "ls-refs") then Some LsRefs else None
 
--- the command of a request after a capability line
-unfoldable pub command_at_line : Option Command → List ℕ → Option Command
-command_at_line before line = if bytes_eq (key_of line) (codes "command") then command_named (value_of line) else before
+-- the command of a request at a place, if a line before it named one that has words of its own in an advertisement
+abbrev pub command_in : Place → Option Command
+command_in Unnamed = None
+command_in (Named command) = command
+command_in (Arguments command) = command
 
--- that of a request's first packet
+-- where a request's first packet is
 abbrev pub first_place : Place
-first_place = record { arguments = false; command = None }
+first_place = Unnamed
 
+-- where the packet is that comes after this line: the first line whose key is `command` names the command
 unfoldable pub place_at_line : Place → List ℕ → Place
-place_at_line place line =
-    if place.arguments then place else record { arguments = false; command = command_at_line place.command line }
+place_at_line Unnamed line = if bytes_eq (key_of line) (codes "command") then Named (command_named (value_of line)) else Unnamed
+place_at_line place line = place
 
 -- where the packet is that comes after this one
 abbrev pub place_next : Place → Pkt → Place
 place_next place flush = first_place
-place_next place delim = record { arguments = true; command = place.command }
+place_next place delim = Arguments (command_in place)
 place_next place resp_end = place
 place_next place (payload bytes) = place_at_line place (text_of bytes)
 
@@ -152,10 +153,19 @@ abbrev pub place_after : Place → List Given → Place
 place_after place [] = place
 place_after place (g ∷ gs) = place_after (place_next place g.packet) gs
 
+-- the packet is the first line that names a command, and that is not known, and was advertised by its key
+abbrev pub names_other : List ℕ → Place → Pkt → Bool
+names_other text Unnamed (payload bytes) = is_other_command text (text_of bytes)
+names_other text place packet = false
+
+-- none of the packets is such a line
+abbrev pub NoneNames : List ℕ → Place → List Given → Type 0
+NoneNames text place [] = Unit {0}
+NoneNames text place (g ∷ gs) = (names_other text place g.packet ≡ false) × NoneNames text (place_next place g.packet) gs
+
 unfoldable pub judged_line : List ℕ → Place → List ℕ → Option Pkt
-judged_line text place bytes =
-    if place.arguments then (if is_other_argument text place.command (text_of bytes) then None else Some (payload bytes))
-    else (if is_other_capability text (text_of bytes) then Some (payload (codes "agent")) else Some (payload bytes))
+judged_line text (Arguments command) bytes = if is_other_argument text command (text_of bytes) then None else Some (payload bytes)
+judged_line text place bytes = if is_other_capability text (text_of bytes) then Some (payload (codes "agent")) else Some (payload bytes)
 
 -- the packet that a request's packet is read as: what was advertised and is not known is a capability line as `agent`, which changes
 -- nothing, and an argument as none; any other is read as it is
@@ -179,7 +189,8 @@ judged_of text packets = judged_in text first_place packets
 -- how many bytes of a packet of a request count as kept of it: those of the text of an argument, whether it is known or not, and of a
 -- capability line that is not known
 unfoldable pub counted_line : List ℕ → Place → List ℕ → ℕ
-counted_line text place line = if place.arguments || is_other_capability text line then length line else 0
+counted_line text (Arguments command) line = length line
+counted_line text place line = if is_other_capability text line then length line else 0
 
 abbrev pub counted_at : List ℕ → Place → Pkt → ℕ
 counted_at text place (payload bytes) = counted_line text place (text_of bytes)
@@ -213,19 +224,25 @@ pub record EndAt (packet : Pkt) (packets : List Given) : Type 0 where
   pub none_before : NoneIs packet front
   pub is_last : last.packet ≡ packet
 
--- the first of the packets is a line that names a command which is not known, and was advertised
-abbrev pub BeginWithOther : List ℕ → List Given → Type 0
-BeginWithOther text [] = ⊥
-BeginWithOther text (g ∷ gs) = names_other text g.packet ≡ true
+-- the packets begin with lines that a request may begin with, and no more of them counts as kept than the limit; after them comes the first
+-- line that names a command, which is not known, and was advertised
+pub record BeginWithOther (by : Advertised) (limit : ℕ) (packets : List Given) : Type 0 where
+  pub front : List Given
+  pub named : Given
+  pub more : List Given
+  pub parts : packets ≡ front ++ named ∷ more
+  pub begun : AreBegun by.offer limit (judged_of by.text front)
+  pub kept : counted_of by.text front ≤ limit
+  pub names : names_other by.text (place_after first_place front) named.packet ≡ true
 
 -- the packets are such a request, which passes up to its flush
-pub record IsOtherRequest (text : List ℕ) (packets : List Given) : Type 0 where
-  pub begins : BeginWithOther text packets
+pub record IsOtherRequest (by : Advertised) (limit : ℕ) (packets : List Given) : Type 0 where
+  pub begins : BeginWithOther by limit packets
   pub ends : EndAt flush packets
 
 -- the packets begin such a request
-pub record IsOtherBegun (text : List ℕ) (packets : List Given) : Type 0 where
-  pub begins : BeginWithOther text packets
+pub record IsOtherBegun (by : Advertised) (limit : ℕ) (packets : List Given) : Type 0 where
+  pub begins : BeginWithOther by limit packets
   pub goes_on : NoneIs flush packets
 
 -- the packet that ends each response

@@ -1,7 +1,8 @@
 //! Requests of another client, read from bytes that come in chunks, against all that its server advertised.
 
-ghost use Rattle.std.specs.Prelude.{◌≡◌, ◌<◌, ◌≤◌, [], length, true, false};
+ghost use Rattle.std.specs.Prelude.{◌≡◌, ◌≢◌, ◌<◌, ◌≤◌, [], length, true, false};
 ghost use Rattle.git_pkt.specs.Packets.{seen};
+ghost use Rattle.git2show_lib.specs.Others.{names_other};
 ghost use Rattle.git2show_lib.specs.Machine.JudgedRequests.{got_as, got_passed, kept_brought, limited_got, noted_brought, noted_passed, place_brought};
 ghost use Rattle.git2show_lib.specs.Machine.JudgedRequests.{stage_brought, stage_passed};
 ghost use Rattle.git2show_lib.specs.Machine.KeptLines.{noted_in};
@@ -52,7 +53,7 @@ pub(crate) enum JudgedGot<A: Allocator + Copy> {
     More,
     /// A whole request.
     Request(Judged<A>),
-    /// A whole request for a command that is not known, and was advertised, with its line.
+    /// A whole request for a command that is not known, and was advertised, with its lines.
     Other(OtherLines<A>),
     /// A flush with nothing before it: the other end leaves. Nothing after it is read.
     Stop,
@@ -70,32 +71,13 @@ impl<A: Allocator + Copy> JudgedRead<A> {
             got: JudgedGot::More,
         }
     }
-
-    /// Bytes that were refused.
-    fn failed(used: usize, fault: Fault) -> JudgedRead<A>
-        ensures { result ≡ record { used = used; got = JudgedGot.Failed fault } }
-    {
-        JudgedRead {
-            used,
-            got: JudgedGot::Failed(fault),
-        }
-    }
 }
 
 /// Reads requests, gitprotocol-v2(5), against what was offered, and takes what else was advertised as it comes.
 #[derive(Drop)]
 pub(crate) struct JudgedRequests<A: Allocator + Copy> {
     packets: PacketReader,
-    requests: RequestReader<A>,
-    // The lines of the advertisement that have something which is not known, each with an LF after it.
-    advertised: Vec<u8, A>,
-    place: Place,
-    stage: Stage,
-    limit: u32,
-    // How many bytes count as kept of the request that has begun, within the limit.
-    kept: u64,
-    // What it has so far that is not known.
-    others: OtherLines<A>,
+    judge: RequestJudge<A>,
 }
 
 impl<A: Allocator + Copy> JudgedRequests<A> {
@@ -115,13 +97,17 @@ impl<A: Allocator + Copy> JudgedRequests<A> {
     {
         JudgedRequests {
             packets: PacketReader::new(),
-            requests: RequestReader::new(alloc, offer, limits),
-            advertised,
-            place: Place::first(),
-            stage: Stage::Between,
-            limit: limits.args,
-            kept: 0,
-            others: OtherLines::new(alloc),
+            judge: RequestJudge {
+                alloc,
+                offer,
+                advertised,
+                limits,
+                requests: RequestReader::new(alloc, offer, limits),
+                place: Place::first(),
+                stage: Stage::Between,
+                kept: 0,
+                others: OtherLines::new(alloc),
+            },
         }
     }
 
@@ -151,17 +137,17 @@ impl<A: Allocator + Copy> JudgedRequests<A> {
         ensures { Closes result self.old self.new }
     {
         if let Err(fault) = self.packets.close() {
-            self.stage = Stage::Failed(fault);
+            self.judge.stage = Stage::Failed(fault);
             return Err(fault);
         }
-        if let Stage::Between = self.stage {
+        if let Stage::Between = self.judge.stage {
             return Ok(());
         }
         let fault = Fault {
             kind: Kind::Truncated,
             offset: self.packets.position(),
         };
-        self.stage = Stage::Failed(fault);
+        self.judge.stage = Stage::Failed(fault);
         Err(fault)
     }
 
@@ -177,61 +163,116 @@ impl<A: Allocator + Copy> JudgedRequests<A> {
         match fed.got {
             Got::More => JudgedRead::more(used),
             Got::Failed(fault) => {
-                self.stage = Stage::Failed(fault);
-                JudgedRead::failed(used, fault)
-            }
-            Got::Packet(packet, offset) => {
-                if let Stage::Passing = self.stage {
-                    self.stage = stage_passed(packet);
-                    return JudgedRead {
-                        used,
-                        got: got_passed(packet, &mut self.others),
-                    };
-                }
-                if let Stage::Between = self.stage {
-                    if names_other(&self.advertised, packet) {
-                        if self.others.keep_name(packet).is_err() {
-                            let fault = fault_at(Kind::OutOfMemory, offset);
-                            self.stage = Stage::Failed(fault);
-                            return JudgedRead::failed(used, fault);
-                        }
-                        self.stage = Stage::Passing;
-                        return JudgedRead::more(used);
-                    }
-                }
-                let more = counted(&self.advertised, self.place, packet) as u64;
-                let kept = self.kept.saturating_add(more);
-                let refused = self
-                    .others
-                    .keep_within(&self.advertised, self.place, packet, kept, self.limit);
-                let next = self.place.after(packet);
-                let Some(judged) = judged_packet(&self.advertised, self.place, packet) else {
-                    if let Some(kind) = refused {
-                        let fault = fault_at(kind, offset);
-                        self.stage = Stage::Failed(fault);
-                        return JudgedRead::failed(used, fault);
-                    }
-                    self.place = next;
-                    self.kept = kept;
-                    return JudgedRead::more(used);
-                };
-                let taken = take_packet(
-                    &mut self.requests,
-                    &AdmitsAll,
-                    judged,
-                    offset,
-                    &mut Steps::new(),
-                );
-                let got = limited(taken, refused, offset);
-                self.place = place_brought(&got, next);
-                self.kept = kept_brought(&got, kept);
-                self.stage = stage_after(&got);
+                self.judge.stage = Stage::Failed(fault);
                 JudgedRead {
                     used,
-                    got: judged_got(got, &mut self.others),
+                    got: JudgedGot::Failed(fault),
                 }
             }
+            Got::Packet(packet, offset) => {
+                let got = self.judge.take(packet, offset);
+                JudgedRead { used, got }
+            }
         }
+    }
+}
+
+/// Takes the packets of requests.
+#[derive(Drop)]
+struct RequestJudge<A: Allocator + Copy> {
+    alloc: A,
+    offer: Offer,
+    // The lines of the advertisement that have something which is not known, each with an LF after it.
+    advertised: Vec<u8, A>,
+    limits: Limits,
+    requests: RequestReader<A>,
+    place: Place,
+    stage: Stage,
+    // How many bytes count as kept of the request that has begun, within the limit.
+    kept: u64,
+    // What it has so far that is not known.
+    others: OtherLines<A>,
+}
+
+impl<A: Allocator + Copy> RequestJudge<A> {
+    ghost use Rattle.git2show_lib.specs.Machine.JudgedRequests.{IsJudging, TakesPacket};
+
+    /// Takes a packet of a request.
+    fn take(&mut self, packet: Packet<'_>, offset: u64) -> JudgedGot<A>
+        requires { IsJudging self.old }
+        ensures { TakesPacket self.old (record { packet = seen packet.entry; offset = offset }) result self.new }
+    {
+        if let Stage::Passing = self.stage {
+            self.stage = stage_passed(packet);
+            return got_passed(packet, &mut self.others);
+        }
+        if names_other(&self.advertised, self.place, packet) {
+            return self.take_name(packet, offset);
+        }
+        self.take_line(packet, offset)
+    }
+
+    /// Takes the line that names a command which is not known: from here on the request passes.
+    fn take_name(&mut self, packet: Packet<'_>, offset: u64) -> JudgedGot<A>
+        requires judging { IsJudging self.old }
+        requires lines { self.old.stage ≢ Stage.Passing }
+        requires names { names_other self.old.advertised.items self.old.place (seen packet) ≡ true }
+        ensures { TakesPacket self.old (record { packet = seen packet.entry; offset = offset }) result self.new }
+    {
+        if self.others.keep_name(packet).is_err() {
+            return self.fail(Kind::OutOfMemory, offset);
+        }
+        self.requests = RequestReader::new(self.alloc, self.offer, self.limits);
+        self.place = Place::first();
+        self.kept = 0;
+        self.stage = Stage::Passing;
+        JudgedGot::More
+    }
+
+    /// Takes any other packet of a request that does not pass.
+    fn take_line(&mut self, packet: Packet<'_>, offset: u64) -> JudgedGot<A>
+        requires judging { IsJudging self.old }
+        requires lines { self.old.stage ≢ Stage.Passing }
+        requires unnamed { names_other self.old.advertised.items self.old.place (seen packet) ≡ false }
+        ensures { TakesPacket self.old (record { packet = seen packet.entry; offset = offset }) result self.new }
+    {
+        let more = counted(&self.advertised, self.place, packet) as u64;
+        let kept = self.kept.saturating_add(more);
+        let limit = self.limits.args;
+        let refused = self
+            .others
+            .keep_within(&self.advertised, self.place, packet, kept, limit);
+        let next = self.place.after(packet);
+        let Some(judged) = judged_packet(&self.advertised, self.place, packet) else {
+            if let Some(kind) = refused {
+                return self.fail(kind, offset);
+            }
+            self.place = next;
+            self.kept = kept;
+            return JudgedGot::More;
+        };
+        let taken = take_packet(
+            &mut self.requests,
+            &AdmitsAll,
+            judged,
+            offset,
+            &mut Steps::new(),
+        );
+        let got = limited(taken, refused, offset);
+        self.place = place_brought(&got, next);
+        self.kept = kept_brought(&got, kept);
+        self.stage = stage_after(&got);
+        judged_got(got, &mut self.others)
+    }
+
+    /// Ends the reading at the packet at this offset.
+    fn fail(&mut self, kind: Kind, offset: u64) -> JudgedGot<A>
+        ensures got { result ≡ JudgedGot.Failed (record { kind = kind; offset = offset }) }
+        ensures failed { self.new ≡ record self.old { stage = Stage.Failed (record { kind = kind; offset = offset }) } }
+    {
+        let fault = fault_at(kind, offset);
+        self.stage = Stage::Failed(fault);
+        JudgedGot::Failed(fault)
     }
 }
 

@@ -53,13 +53,15 @@ impl Asks {
     fn with_line(self, advertised: &[u8], place: Place, line: &[u8]) -> Asks
         ensures { result ≡ asks_line advertised.now place self line.now }
     {
-        if place.arguments
-            && is_fetch(place.command)
-            && is_other_argument(advertised, place.command, line)
-        {
-            return self.with_word(first_word(line));
+        match place {
+            Place::Arguments(command) => {
+                if is_fetch(command) && is_other_argument(advertised, command, line) {
+                    return self.with_word(first_word(line));
+                }
+                self
+            }
+            Place::Unnamed | Place::Named(_) => self,
         }
-        self
     }
 }
 
@@ -184,14 +186,17 @@ fn keep_line<A: Allocator + Copy>(
     ensures ok { OnOk result (lines.new.items ≡ lines.old.items ++ shown_line advertised.now place line.now) }
     ensures err { IfErr result (λ _. shown_line advertised.now place line.now ≢ []) }
 {
-    if place.arguments {
-        if is_other_argument(advertised, place.command, line) {
-            return push_line(lines, b"argument ", line);
+    match place {
+        Place::Arguments(command) => {
+            if is_other_argument(advertised, command, line) {
+                return push_line(lines, b"argument ", line);
+            }
         }
-        return Ok(());
-    }
-    if is_other_capability(advertised, line) {
-        return push_line(lines, b"capability ", line);
+        Place::Unnamed | Place::Named(_) => {
+            if is_other_capability(advertised, line) {
+                return push_line(lines, b"capability ", line);
+            }
+        }
     }
     Ok(())
 }

@@ -5,7 +5,7 @@ ghost use Rattle.std.specs.Option.{option_copied};
 ghost use Rattle.git_pkt.specs.Packets.{seen};
 ghost use Rattle.git_msg.specs.Advertisement.{key_of, value_of};
 ghost use Rattle.git_msg.specs.Texts.{spaced_words};
-ghost use Rattle.git2show_lib.specs.Others.{command_at_line, command_named, counted_at, counted_line, first_place, has_word, is_advertised};
+ghost use Rattle.git2show_lib.specs.Others.{command_in, command_named, counted_at, counted_line, first_place, has_word, is_advertised};
 ghost use Rattle.git2show_lib.specs.Others.{is_allowed_key, is_allowed_value};
 ghost use Rattle.git2show_lib.specs.Others.{is_feature, is_own_key, is_own_word, is_other_argument, is_other_capability, is_other_command, is_other_line};
 ghost use Rattle.git2show_lib.specs.Others.{is_word_of_answers, is_word_of_objects, judged_line, judged_packet, line_has, names_other, place_at_line};
@@ -16,11 +16,13 @@ use git_pkt::{Packet, text};
 
 /// Where a packet of a request is.
 #[derive(Clone, Copy, Debug)]
-pub(crate) struct Place {
-    /// Whether the delimiter came before it.
-    pub(crate) arguments: bool,
-    /// The request's command, if it is one that has words of its own in an advertisement.
-    pub(crate) command: Option<Command>,
+pub(crate) enum Place {
+    /// Before the line that names the command.
+    Unnamed,
+    /// After that line. The command is here, if it is one that has words of its own in an advertisement.
+    Named(Option<Command>),
+    /// After the delimiter, with the same.
+    Arguments(Option<Command>),
 }
 
 impl Place {
@@ -28,9 +30,15 @@ impl Place {
     pub(crate) fn first() -> Place
         ensures { result ≡ first_place }
     {
-        Place {
-            arguments: false,
-            command: None,
+        Place::Unnamed
+    }
+
+    fn command(self) -> Option<Command>
+        ensures { result ≡ command_in self }
+    {
+        match self {
+            Place::Unnamed => None,
+            Place::Named(command) | Place::Arguments(command) => command,
         }
     }
 
@@ -40,10 +48,7 @@ impl Place {
     {
         match packet {
             Packet::Flush => Place::first(),
-            Packet::Delim => Place {
-                arguments: true,
-                command: self.command,
-            },
+            Packet::Delim => Place::Arguments(self.command()),
             Packet::RespEnd => self,
             Packet::Payload(payload) => self.after_line(text(payload)),
         }
@@ -53,12 +58,15 @@ impl Place {
     fn after_line(self, line: &[u8]) -> Place
         ensures { result ≡ place_at_line self line.now }
     {
-        if self.arguments {
-            return self;
-        }
-        Place {
-            arguments: false,
-            command: command_at_line(self.command, line),
+        match self {
+            Place::Unnamed => {
+                let (key, value) = key_and_value(line);
+                if is_word(key, b"command") {
+                    return Place::Named(command_named(value));
+                }
+                self
+            }
+            Place::Named(_) | Place::Arguments(_) => self,
         }
     }
 }
@@ -86,14 +94,17 @@ fn judged_line<'p>(advertised: &[u8], place: Place, payload: &'p [u8]) -> Option
     ensures { MatchOption result (judged_line advertised.now place payload.now ≡ None)
         (λ judged. judged_line advertised.now place payload.now ≡ Some (seen judged)) }
 {
-    if place.arguments {
-        if is_other_argument(advertised, place.command, text(payload)) {
-            return None;
+    match place {
+        Place::Arguments(command) => {
+            if is_other_argument(advertised, command, text(payload)) {
+                return None;
+            }
         }
-        return Some(Packet::Payload(payload));
-    }
-    if is_other_capability(advertised, text(payload)) {
-        return Some(Packet::Payload(b"agent"));
+        Place::Unnamed | Place::Named(_) => {
+            if is_other_capability(advertised, text(payload)) {
+                return Some(Packet::Payload(b"agent"));
+            }
+        }
     }
     Some(Packet::Payload(payload))
 }
@@ -112,19 +123,27 @@ pub(crate) fn counted(advertised: &[u8], place: Place, packet: Packet<'_>) -> us
 fn counted_line(advertised: &[u8], place: Place, line: &[u8]) -> usize
     ensures { result ≡ counted_line advertised.now place line.now }
 {
-    if place.arguments || is_other_capability(advertised, line) {
-        return line.len();
+    match place {
+        Place::Arguments(_) => line.len(),
+        Place::Unnamed | Place::Named(_) => {
+            if is_other_capability(advertised, line) {
+                return line.len();
+            }
+            0
+        }
     }
-    0
 }
 
-/// Whether the packet is a line that names a command which is not known, and was advertised.
-pub(crate) fn names_other(advertised: &[u8], packet: Packet<'_>) -> bool
-    ensures { result ≡ names_other advertised.now (seen packet.entry) }
+/// Whether the packet is the first line that names a command, and that is not known, and was advertised.
+pub(crate) fn names_other(advertised: &[u8], place: Place, packet: Packet<'_>) -> bool
+    ensures { result ≡ names_other advertised.now place (seen packet.entry) }
 {
-    match packet {
-        Packet::Payload(payload) => is_other_command(advertised, text(payload)),
-        Packet::Flush | Packet::Delim | Packet::RespEnd => false,
+    match place {
+        Place::Unnamed => match packet {
+            Packet::Payload(payload) => is_other_command(advertised, text(payload)),
+            Packet::Flush | Packet::Delim | Packet::RespEnd => false,
+        },
+        Place::Named(_) | Place::Arguments(_) => false,
     }
 }
 
@@ -247,18 +266,7 @@ pub(crate) fn first_word(line: &[u8]) -> &[u8]
     split_at_first(line, b' ').0
 }
 
-/// The command of a request after a capability line.
-#[tactic(auto, unfolding(crate::specs::Others::command_at_line))]
-fn command_at_line(before: Option<Command>, line: &[u8]) -> Option<Command>
-    ensures { result ≡ command_at_line before line.now }
-{
-    let (key, value) = key_and_value(line);
-    if is_word(key, b"command") {
-        return command_named(value);
-    }
-    before
-}
-
+/// The command that a value names, if it has words of its own in an advertisement.
 #[tactic(auto, unfolding(crate::specs::Others::command_named))]
 fn command_named(value: &[u8]) -> Option<Command>
     ensures { result ≡ command_named value.now }

@@ -4,7 +4,7 @@ use Rattle.git_pkt.specs.Packets.{flush}
 use Rattle.git_pkt.specs.declared.fault.Kind.TheVariants.{UnknownCommand}
 use Rattle.git_msg.specs.Advertisement.{takes_command}
 use Rattle.git_msg.specs.Arguments.{name_of, ReadsAs, alone, of_flag, want, with_id}
-use Rattle.git_msg.specs.Lines.{HasFault, key_by, IsLine, Line, argument, command, delimiter}
+use Rattle.git_msg.specs.Lines.{HasFault, key_by, IsLine, Line, agent, argument, command, delimiter}
 use Rattle.git_msg.specs.Requests.{AreLines, Asks}
 use Rattle.git_msg.specs.Asked.{fetch, ls_refs}
 use Rattle.git_msg.specs.WrittenRequest.{text_line}
@@ -38,6 +38,16 @@ fetch_command limit = record {
   has_key = record { word = codes "command"; is_capability = (refl, refl, refl); is_word = refl };
   allowed = (refl, ((Fetch, refl), ((λ c e. takes_all c), tt)));
   line_is = refl;
+}
+
+pub agent_line : (limit : ℕ) → IsLine offer_all limit [] (text_line (codes "agent=a")) agent
+agent_line limit = record {
+  no_error = no_error_by (codes "agent=a") refl;
+  key = key_by (codes "agent");
+  value = Some (codes "a");
+  has_key = record { word = codes "agent"; is_capability = (refl, refl, refl); is_word = refl };
+  allowed = tt;
+  line_is = tt;
 }
 
 -- the lines of a fetch up to its delimiter

@@ -2,11 +2,13 @@
 use Rattle.std.specs.Prelude.{ℕ, Bool, false, true, List, [], ◌++◌, None, codes}
 use Rattle.git_names.specs.declared.object_format.Format.TheVariants.{Sha1}
 use Rattle.git_server.specs.Repository.{Repository, RepoState}
+use Rattle.git2show_lib.specs.Others.{Advertised}
 use Rattle.git2show_lib.specs.Machine.CheckFaults.{Standing}
 use Rattle.git2show_lib.specs.declared.views.Form.TheVariants.{Json, Lines}
 use Rattle.git2show_lib.specs.declared.views.RequestState.TheVariants.{Between}
 use Rattle.git2show_lib.specs.declared.views.Tally.{Tally}
 use Rattle.git2show_lib.specs.declared.views.View.{View}
+use Rattle.git_rows.specs.Worked.{offer_all}
 use Rattle.git_rows.specs.WorkedSessions.{repo}
 
 -- no read failed, and the stream has ended if the flag is set
@@ -50,3 +52,7 @@ from_eight = record { form = Json; from = 8; no_pack = false; only = None }
 -- what was counted up to a packfile section
 abbrev pub tally_before : Tally
 tally_before = record { bytes = 9; packets = 1; requests = 0; pack = 0; in_pack = true; request = Between; stray = None }
+
+-- what a server advertised that has bundles, beside all features
+abbrev pub with_bundles : Advertised
+with_bundles = record { offer = offer_all; text = codes "bundle-uri\n" }

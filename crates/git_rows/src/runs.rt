@@ -1,7 +1,8 @@
 //! Runs: the bytes of their streams, and the results of `show`, `check` and `play`.
 
 ghost use Rattle.std.specs.Prelude.{ℕ, ◌≡◌, ◌++◌, ◌∷◌, [], Err, List, None, Ok, Some, codes, false, true};
-ghost use Rattle.git2show_lib.specs.Others.{IsOtherAnswer, counted_of, names_other};
+ghost use Rattle.git2show_lib.specs.Others.{IsOtherAnswer, IsOtherRequest, counted_of, first_place, names_other};
+ghost use Rattle.git2show_lib.specs.OtherLines.{named_by};
 ghost use Rattle.git2show_lib.specs.Machine.CheckedStreams.{Checked, moved};
 ghost use Rattle.git2show_lib.specs.Machine.ShownStream.{Shows};
 ghost use Rattle.git_both_ends.specs.Plays.{Played};
@@ -18,7 +19,7 @@ ghost use Rattle.git_pkt.specs.declared.fault.Kind.TheVariants.{BadLength, Strea
 ghost use Rattle.git_pkt.specs.declared.fault.RunFault.TheVariants.{ReadFault, Refused};
 ghost use Rattle.git_rows.specs.Worked.{asked_with, at, fault_at};
 ghost use Rattle.git_rows.specs.WorkedConversations.{offer_bytes, terms};
-ghost use Rattle.git_rows.specs.WorkedRuns.{bare_state, from_eight, offer_transcript, repo_state, standing, tally_before, without_packs};
+ghost use Rattle.git_rows.specs.WorkedRuns.{bare_state, from_eight, offer_transcript, repo_state, standing, tally_before, with_bundles, without_packs};
 
 use git_both_ends::answer_laws::heard_offer;
 use git_both_ends::play_laws::played_as_told;
@@ -85,15 +86,21 @@ pub fn streams_checked<A: Allocator + Copy>()
 
 /// A command that was advertised but is not known, and the offset of an error after the bytes that were passed on for it.
 pub fn another_command()
-    ensures named { names_other (codes "bundle-uri\n") (payload (codes "command=bundle-uri\n")) ≡ true }
+    ensures named { names_other (codes "bundle-uri\n") first_place (payload (codes "command=bundle-uri\n")) ≡ true }
+    ensures behind_a_line { IsOtherRequest with_bundles 0 (at 0 (payload (codes "agent=a\n")) ∷ at 12 (payload (codes "command=bundle-uri\n"))
+        ∷ at 35 delim ∷ at 39 flush ∷ []) }
+    ensures shown { named_by (codes "x-later\nbundle-uri\n") (at 0 (payload (codes "x-later=1\n")) ∷ at 14 (payload (codes "command=bundle-uri\n")) ∷ [])
+        ≡ codes "capability x-later=1\nrequest bundle-uri\n" }
     ensures passes { IsOtherAnswer FlushOnly (codes "0006a\n0000") }
     ensures counted { counted_of (codes "x-later\n") (at 0 (payload (codes "x-later=1")) ∷ at 13 delim ∷ at 17 (payload (codes "done\n")) ∷ []) ≡ 13 }
     ensures reported { moved 10 (fault_at BadLength 5) ≡ fault_at BadLength 15 }
     ensures none_passed { moved 0 (fault_at BadLength 5) ≡ fault_at BadLength 5 }
-    ensures not_unadvertised { names_other (codes "other\n") (payload (codes "command=bundle-uri\n")) ≡ false }
-    ensures not_known { names_other (codes "fetch=other\n") (payload (codes "command=fetch\n")) ≡ false }
+    ensures not_behind_a_command { ¬ IsOtherRequest with_bundles 0 (at 0 (payload (codes "command=ls-refs\n")) ∷ at 20 (payload (codes "command=bundle-uri\n"))
+        ∷ at 43 flush ∷ []) }
+    ensures not_unadvertised { names_other (codes "other\n") first_place (payload (codes "command=bundle-uri\n")) ≡ false }
+    ensures not_known { names_other (codes "fetch=other\n") first_place (payload (codes "command=fetch\n")) ≡ false }
     ensures not_past_its_flush { ¬ IsOtherAnswer FlushOnly (codes "00000000") }
-    ensures not_a_capability { names_other (codes "bundle-uri\n") (payload (codes "bundle-uri\n")) ≡ false }
+    ensures not_a_capability { names_other (codes "bundle-uri\n") first_place (payload (codes "bundle-uri\n")) ≡ false }
 {}
 
 /// A play without requests: the client receives the advertisement, and leaves.

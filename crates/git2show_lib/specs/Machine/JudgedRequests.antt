@@ -2,11 +2,11 @@
 use Rattle.std.specs.Prelude.{◌≡◌, ◌⊎◌, ℕ, ◌<◌, ◌≤◌, Bool, true, false, List, [], ◌∷◌, ◌++◌, length, take, Option, Some, None, Result, Ok, Err}
 use Rattle.git_pkt.specs.Packets.{Pkt, flush}
 use Rattle.git_pkt.specs.Splits.{Given, Splits}
-use Rattle.git_pkt.specs.Machine.PacketReader.{Reads, ShownByFeed, fault_of as packet_fault, is_open, passes_of, position_of}
+use Rattle.git_pkt.specs.Machine.PacketReader.{Reads, ReadsOn, ShownByFeed, fault_of as packet_fault, is_open, passes_of, position_of}
 use Rattle.git_pkt.specs.declared.fault.Fault.{Fault}
+use Rattle.git_pkt.specs.declared.reader.PacketReader.{PacketReader}
 use Rattle.git_pkt.specs.declared.fault.Kind.{Kind}
 use Rattle.git_pkt.specs.declared.fault.Kind.TheVariants.{OutOfMemory, Truncated}
-use Rattle.git_msg.specs.Asked.{Asked}
 use Rattle.git_msg.specs.Machine.HeldRequest.{asked_of, format_of}
 use Rattle.git_msg.specs.Machine.RequestReader.{Takes, fault_of as reader_fault, is_waiting, limit_in, offer_of as offer_in}
 use Rattle.git_msg.specs.Machine.RequestStreams.{IsLeftIn, IsOne, IsRefusedAs}
@@ -15,7 +15,8 @@ use Rattle.git_msg.specs.declared.offers.Offer.{Offer}
 use Rattle.git_msg.specs.declared.streams.ReadGot.{ReadGot}
 use Rattle.git_msg.specs.declared.streams.ReadGot.TheVariants as OfReader
 use Rattle.git_msg.specs.declared.streams.Stage.TheVariants as OfRequests
-use Rattle.git2show_lib.specs.Others.{Advertised, BreakOff, IsOtherBegun, IsOtherRequest, counted_of, first_place, judged_of, names_other, place_after}
+use Rattle.git2show_lib.specs.Others.{Advertised, BeginWithOther, BreakOff, IsOtherBegun, IsOtherRequest, NoneNames, counted_of, first_place}
+use Rattle.git2show_lib.specs.Others.{judged_of, place_after}
 use Rattle.git2show_lib.specs.OtherLines.{Noted, Question, known, other, asks_nothing, named_by, nothing_noted, noted_of, shown_at}
 use Rattle.git2show_lib.specs.Machine.KeptLines.{IsNotKept, noted_in}
 use Rattle.git2show_lib.specs.declared.other_lines.OtherLines.{OtherLines}
@@ -26,6 +27,7 @@ use Rattle.git2show_lib.specs.declared.judged_requests.JudgedGot.TheVariants.{St
 use Rattle.git2show_lib.specs.declared.judged_requests.Judged.{Judged}
 use Rattle.git2show_lib.specs.declared.judged_requests.JudgedRead.{JudgedRead}
 use Rattle.git2show_lib.specs.declared.judged_requests.JudgedRequests.{JudgedRequests}
+use Rattle.git2show_lib.specs.declared.judged_requests.RequestJudge.{RequestJudge}
 use Rattle.git2show_lib.specs.declared.judged_requests.Stage.{Stage}
 use Rattle.git2show_lib.specs.declared.judged_requests.Stage.TheVariants.{Between, Within, Passing, Stopped, Failed}
 
@@ -34,7 +36,7 @@ use Rattle.git2show_lib.specs.declared.judged_requests.Stage.TheVariants.{Betwee
 abbrev pub IsQuestion : Advertised → ℕ → List Given → Question → Type 0
 IsQuestion by limit packets (known q noted) =
     IsOne by.offer limit (judged_of by.text packets) q × (counted_of by.text packets ≤ limit) × (noted ≡ noted_of by.text packets)
-IsQuestion by limit packets (other lines) = IsOtherRequest by.text packets × (lines ≡ named_by packets)
+IsQuestion by limit packets (other lines) = IsOtherRequest by limit packets × (lines ≡ named_by by.text packets)
 
 -- the packets are whole requests, one after another, and then what is left
 abbrev pub AreQuestions : Advertised → ℕ → List Given → List Question → List Given → Type 0
@@ -50,7 +52,7 @@ pub record AreAskedBy (by : Advertised) (limit : ℕ) (bytes : List ℕ) (asked 
 
 -- what is left after the whole requests begins one
 abbrev pub IsBegun : Advertised → ℕ → List Given → Type 0
-IsBegun by limit left = AreBegun by.offer limit (judged_of by.text left) ⊎ IsOtherBegun by.text left
+IsBegun by limit left = AreBegun by.offer limit (judged_of by.text left) ⊎ IsOtherBegun by limit left
 
 -- the last packet is the first that can't be kept: with it more counts as kept than the limit, or there was no memory for its line. It is
 -- not refused otherwise, nor are those before it.
@@ -64,27 +66,28 @@ pub record IsUnkept (by : Advertised) (limit : ℕ) (left : List Given) (rest : 
   pub no_rest : rest ≡ []
   pub at : fault.offset ≡ last.offset
 
--- the packet begins a request for a command that is not known, and there was no memory for its line
-pub record IsUnnamed (by : Advertised) (left : List Given) (rest : List ℕ) (fault : Fault) : Type 0 where
-  pub first : Given
-  pub alone : left ≡ first ∷ []
-  pub names : names_other by.text first.packet ≡ true
+-- the last packet names a command that is not known, and there was no memory for its line
+pub record IsUnnamed (by : Advertised) (limit : ℕ) (left : List Given) (rest : List ℕ) (fault : Fault) : Type 0 where
+  pub begins : BeginWithOther by limit left
+  pub at_name : begins.more ≡ []
   pub no_rest : rest ≡ []
-  pub fault_is : fault ≡ record { kind = OutOfMemory; offset = first.offset }
+  pub fault_is : fault ≡ record { kind = OutOfMemory; offset = begins.named.offset }
 
--- what is left after the whole requests is refused
+-- what is left after the whole requests is refused: none of it names a command that passes, and it is refused as it is read; or a request for
+-- such a command breaks off; or the line of the last packet is not kept
 abbrev pub IsRefused : Advertised → ℕ → List Given → List ℕ → ℕ → Fault → Type 0
 IsRefused by limit left rest end fault =
-    IsRefusedAs by.offer limit (judged_of by.text left) rest end fault
-    ⊎ ((IsOtherBegun by.text left × BreakOff rest end fault) ⊎ (IsUnkept by limit left rest fault ⊎ IsUnnamed by left rest fault))
+    (NoneNames by.text first_place left × IsRefusedAs by.offer limit (judged_of by.text left) rest end fault)
+    ⊎ ((IsOtherBegun by limit left × BreakOff rest end fault) ⊎ (IsUnkept by limit left rest fault ⊎ IsUnnamed by limit left rest fault))
 
 -- ---- the stage of a reader
 
 -- what is left in a stage
 abbrev pub IsLeft : Stage → Advertised → ℕ → List Given → List ℕ → ℕ → Type 0
 IsLeft Between by limit left rest end = left ≡ []
-IsLeft Within by limit left rest end = IsLeftIn OfRequests.Within by.offer limit (judged_of by.text left) rest end
-IsLeft Passing by limit left rest end = IsOtherBegun by.text left
+IsLeft Within by limit left rest end =
+    NoneNames by.text first_place left × IsLeftIn OfRequests.Within by.offer limit (judged_of by.text left) rest end
+IsLeft Passing by limit left rest end = IsOtherBegun by limit left
 IsLeft Stopped by limit left rest end = IsLeftIn OfRequests.Stopped by.offer limit (judged_of by.text left) rest end
 IsLeft (Failed fault) by limit left rest end = IsRefused by limit left rest end fault
 
@@ -105,7 +108,7 @@ counted_for stage text left = counted_of text left
 
 -- and what is noted of it
 abbrev pub noted_for : Stage → List ℕ → List Given → Noted
-noted_for Passing text left = record { lines = named_by left; asks = asks_nothing }
+noted_for Passing text left = record { lines = named_by text left; asks = asks_nothing }
 noted_for stage text left = noted_of text left
 
 -- the fault of a stage
@@ -134,6 +137,13 @@ stage_passed packet = Passing
 abbrev pub noted_passed : Pkt → Noted → Noted
 noted_passed flush noted = nothing_noted
 noted_passed packet noted = noted
+
+-- a reader of packets used these bytes, at the end of this packet
+pub record EndsPacket (before : PacketReader) (bytes : List ℕ) (g : Given) (after : PacketReader) : Type 0 where
+  pub reads : ReadsOn before bytes (g ∷ []) after
+  pub gathers : passes_of after ≡ false
+  pub sound : packet_fault after ≡ None
+  pub shut : is_open after ≡ false
 
 module _ {A : Type 0} where
   -- and what it brought
@@ -180,29 +190,29 @@ module _ {A : Type 0} where
 
   -- what the requests are read against
   abbrev pub offer_of : JudgedRequests A → Offer
-  offer_of s = offer_in s.requests
+  offer_of s = offer_in s.judge.requests
 
   abbrev pub text_of : JudgedRequests A → List ℕ
-  text_of s = s.advertised.items
+  text_of s = s.judge.advertised.items
 
   abbrev pub advertised_by : JudgedRequests A → Advertised
   advertised_by s = record { offer = offer_of s; text = text_of s }
 
   -- how many bytes a request's argument texts may have
   abbrev pub limit_of : JudgedRequests A → ℕ
-  limit_of s = limit_in s.requests
+  limit_of s = limit_in s.judge.requests
 
   -- the fault that ended the reading
   abbrev pub fault_of : JudgedRequests A → Option Fault
-  fault_of s = fault_in s.stage
+  fault_of s = fault_in s.judge.stage
 
   -- bytes are read on: no fault came, and no flush instead of a request
   abbrev pub wants_input : JudgedRequests A → Bool
-  wants_input s = takes_bytes s.stage
+  wants_input s = takes_bytes s.judge.stage
 
   -- no request is begun
   abbrev pub is_between : JudgedRequests A → Bool
-  is_between s = stage_is_between s.stage
+  is_between s = stage_is_between s.judge.stage
 
   -- a packet has begun that is not whole
   abbrev pub is_within_packet : JudgedRequests A → Bool
@@ -212,17 +222,22 @@ module _ {A : Type 0} where
   abbrev pub bytes_used : JudgedRequests A → ℕ
   bytes_used s = position_of s.packets
 
-  -- bytes are read on, and the readers inside are ready for them
+  -- packets are taken on, and the reader of requests inside is ready for them
+  pub record IsJudging (j : RequestJudge A) : Type 0 where
+    pub wants : takes_bytes j.stage ≡ true
+    pub open_ended : reader_fault j.requests ≡ None
+    pub ready : is_waiting j.requests ≡ false
+    pub taken : HasTaken j.requests
+    pub same_offer : j.offer ≡ offer_in j.requests
+    pub same_limit : j.limits.args ≡ limit_in j.requests
+    pub within : j.kept ≤ j.limits.args
+    pub fits : j.limits.args ≤ 4294967295
+
+  -- bytes are read on, and what is inside is ready for them
   pub record IsReady (s : JudgedRequests A) : Type 0 where
-    pub wants : wants_input s ≡ true
+    pub judging : IsJudging s.judge
     pub gathers : passes_of s.packets ≡ false
     pub sound : packet_fault s.packets ≡ None
-    pub open_ended : reader_fault s.requests ≡ None
-    pub ready : is_waiting s.requests ≡ false
-    pub taken : HasTaken s.requests
-    pub same_limit : s.limit ≡ limit_of s
-    pub within : s.kept ≤ s.limit
-    pub fits : s.limit ≤ 4294967295
 
   -- the reader has used these bytes, and handed out these requests
   pub record HasRead (used : List ℕ) (asked : List Question) (s : JudgedRequests A) : Type 0 where
@@ -231,11 +246,11 @@ module _ {A : Type 0} where
     pub rest : List ℕ
     pub reads : Reads s.packets 0 used packets rest
     pub requests : AreQuestions (advertised_by s) (limit_of s) packets asked left
-    pub left_is : IsLeft s.stage (advertised_by s) (limit_of s) left rest (length used)
-    pub place_is : wants_input s ≡ true → s.place ≡ place_for s.stage left
-    pub kept_is : wants_input s ≡ true → s.kept ≡ counted_for s.stage (text_of s) left
-    pub noted_is : wants_input s ≡ true → noted_in s.others ≡ noted_for s.stage (text_of s) left
-    pub onward : wants_input s ≡ true → Takes (taken_in s.stage (text_of s) left) s.requests
+    pub left_is : IsLeft s.judge.stage (advertised_by s) (limit_of s) left rest (length used)
+    pub place_is : wants_input s ≡ true → s.judge.place ≡ place_for s.judge.stage left
+    pub kept_is : wants_input s ≡ true → s.judge.kept ≡ counted_for s.judge.stage (text_of s) left
+    pub noted_is : wants_input s ≡ true → noted_in s.judge.others ≡ noted_for s.judge.stage (text_of s) left
+    pub onward : wants_input s ≡ true → Takes (taken_in s.judge.stage (text_of s) left) s.judge.requests
 
   -- what a request asks, with what it has beside that
   abbrev pub question_of : Judged A → Question
@@ -293,6 +308,12 @@ module _ {A : Type 0} where
   -- what the bytes up to the end of a packet do, or all of them
   abbrev pub Steps : JudgedRequests A → List ℕ → JudgedRead A → JudgedRequests A → Type 0
   Steps old piece read new = ReadsBy StepLeaves old piece read new
+
+  -- what a packet does: with any reader of packets that comes to its end, this is such a step
+  abbrev pub TakesPacket : RequestJudge A → Given → JudgedGot A → RequestJudge A → Type 0
+  TakesPacket old g got new =
+      (before after : PacketReader) (piece : List ℕ) (used : ℕ) → 0 < used → EndsPacket before (take used piece) g after
+      → Steps (record { packets = before; judge = old }) piece (record { used = used; got = got }) (record { packets = after; judge = new })
 
   -- what a call of `close` means: all was whole requests, or the last was cut off
   abbrev pub Closes : Result (Unit {0}) Fault → JudgedRequests A → JudgedRequests A → Type 0

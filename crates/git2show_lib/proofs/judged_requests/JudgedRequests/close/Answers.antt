@@ -34,5 +34,5 @@ returns g c =
       refl,
       refl,
       closed_within c.args.self.now _ _ c.requires refl refl refl refl c.in_default.ensures.carries shut
-          (not_between c.args.self.now.stage c.in_default-stage.not-Between) (c.position.ensures ∙ ap position_of same),
+          (not_between c.args.self.now.judge.stage c.in_default-stage.not-Between) (c.position.ensures ∙ ap position_of same),
     )
