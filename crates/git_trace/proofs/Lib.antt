@@ -2,3 +2,4 @@ pub mod Reading
 pub mod Words
 pub mod TextParts
 pub mod Feeding
+pub mod ReadBack

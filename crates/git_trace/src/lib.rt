@@ -3,6 +3,7 @@
 
 mod escapes;
 mod labels;
+pub mod laws;
 mod shown_lines;
 mod trace_lines;
 mod trace_texts;

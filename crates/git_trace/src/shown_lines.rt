@@ -65,7 +65,9 @@ fn read_packet(traced: &TraceLine<'_>, out: &mut Vec<u8>) -> Result<(), AllocErr
 {
     match traced.packet {
         TracePacket::Text(content) => read_bytes(traced.name, content, out),
-        TracePacket::Flush | TracePacket::Delim | TracePacket::RespEnd | TracePacket::Pack => Ok(()),
+        TracePacket::Flush | TracePacket::Delim | TracePacket::RespEnd | TracePacket::Pack => Ok(
+            (),
+        ),
     }
 }
 
@@ -84,11 +86,7 @@ fn put_line(
     }
 }
 
-fn put_plain(
-    traced: &TraceLine<'_>,
-    bytes: &[u8],
-    out: &mut Vec<u8>,
-) -> Result<(), AllocError>
+fn put_plain(traced: &TraceLine<'_>, bytes: &[u8], out: &mut Vec<u8>) -> Result<(), AllocError>
     ensures { OnOk result (out.new.items ≡ out.old.items ++ plain_line (seen_line traced.now) bytes.now) }
 {
     out.extend_from_slice(traced.name)?;
@@ -165,11 +163,7 @@ fn put_columns(
 }
 
 /// Appends the columns of the process and of the direction.
-fn put_process(
-    name: &[u8],
-    direction: Direction,
-    out: &mut Vec<u8>,
-) -> Result<(), AllocError>
+fn put_process(name: &[u8], direction: Direction, out: &mut Vec<u8>) -> Result<(), AllocError>
     ensures { OnOk result (out.new.items ≡ out.old.items ++ process_columns name.now direction) }
 {
     put_name(name, out)?;
@@ -229,12 +223,7 @@ fn put_label(colours: bool, label: Label, out: &mut Vec<u8>) -> Result<(), Alloc
 }
 
 /// Appends the text of a packet in its column.
-fn put_text(
-    width: u32,
-    label: Label,
-    bytes: &[u8],
-    out: &mut Vec<u8>,
-) -> Result<(), AllocError>
+fn put_text(width: u32, label: Label, bytes: &[u8], out: &mut Vec<u8>) -> Result<(), AllocError>
     ensures { OnOk result (out.new.items ≡ out.old.items ++ text_column width label bytes.now) }
 {
     let mut escapes = [0; 4 * FRONT];

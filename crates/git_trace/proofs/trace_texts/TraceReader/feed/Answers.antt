@@ -20,7 +20,7 @@ bytes-preserved c =
     let so_far = c.bytes.invariant in
     let byte : List ℕ = slice_index piece i ∷ [] in
     let next : Took c.args.self.now.look c.bytes.self.begun.items c.bytes.out.items c.bytes.self.has_packets byte c.take.new.self.begun.items
-        c.take.new.out.items c.take.new.self.has_packets =
+    c.take.new.out.items c.take.new.self.has_packets =
     record {
       left_is = c.in_ok-take.ensures.begun;
       shown_is = c.in_ok-take.ensures.shown
@@ -39,7 +39,7 @@ returns-in_err-take-clause-fault c =
     let line : TraceFault → Type 0 = IsLineFault c.bytes.self.begun.items (slice_index piece c.bytes.byte-index ∷ []) in
     IfErr-weaker c.from_residual.result line (λ fault. (fed : List ℕ) → HasRead c.args.self.now fed → IsFeedFault (fed ++ piece) fault)
     (λ fault at fed read. fault_on fed piece c.bytes.self.begun.items c.bytes.byte-index fault c.bytes-test.true
-        (c.bytes.invariant.took.left_is ∙ ap (λ (l : List ℕ). left_after l (take c.bytes.byte-index piece)) read.begun) at)
+    (c.bytes.invariant.took.left_is ∙ ap (λ (l : List ℕ). left_after l (take c.bytes.byte-index piece)) read.begun) at)
     (search rules)
 
 pub returns-clause-read : goal.returns-clause-read
@@ -47,12 +47,12 @@ returns-clause-read c fed read =
     let piece = c.args.piece.now in
     let all : take c.bytes.byte-index piece ≡ piece = take_all _ _ c.bytes-test.false in
     let before : Took c.args.self.now.look [] [] false fed c.args.self.now.begun.items
-        (shown_lines c.args.self.now.look (lines_after [] fed)) c.args.self.now.has_packets =
+    (shown_lines c.args.self.now.look (lines_after [] fed)) c.args.self.now.has_packets =
     record { left_is = read.begun; shown_is = refl; has_is = read.packets; short = read.short } in
     let shown : Took c.args.self.now.look c.args.self.now.begun.items c.args.out.now.items c.args.self.now.has_packets piece c.bytes.self.begun.items
-        c.bytes.out.items c.bytes.self.has_packets = rw all at c.bytes.invariant.took in
+    c.bytes.out.items c.bytes.self.has_packets = rw all at c.bytes.invariant.took in
     let next : Took c.args.self.now.look c.args.self.now.begun.items (shown_lines c.args.self.now.look (lines_after [] fed)) c.args.self.now.has_packets
-        piece c.bytes.self.begun.items _ c.bytes.self.has_packets =
+    piece c.bytes.self.begun.items _ c.bytes.self.has_packets =
     record { left_is = shown.left_is; shown_is = refl; has_is = shown.has_is; short = shown.short } in
     let done = took_then before next in
     record { begun = done.left_is; packets = done.has_is; short = done.short }
