@@ -684,7 +684,11 @@ fn tell(rt: &HostRuntime, error: NotTaken) -> u8 {
 
 /// Reports a failure: by its error line and, if standard error is a terminal, by a second line with the details. The words are those after
 /// the command, if the command line was accepted. Returns the exit status.
-pub(crate) fn tell_failure(rt: &HostRuntime, words: Option<&ArgMatches<'_>>, failure: &Failure) -> u8 {
+pub(crate) fn tell_failure(
+    rt: &HostRuntime,
+    words: Option<&ArgMatches<'_>>,
+    failure: &Failure,
+) -> u8 {
     let status = tell_fault(rt, failure.fault);
     if rt.stderr().is_terminal() {
         let _ = explain(rt, words, failure);

@@ -4,11 +4,14 @@ use crate::failures::{Failure, Stream, Watched};
 use crate::showing::form_of;
 use crate::{PIECE, TURNS, tell_failure, tell_fault};
 use clap::ArgMatches;
-use git_pkt::{Retries, RunFault, Told, receive, send};
+use git_pkt::{Retries, RunFault, Told, flush, receive, send};
 use git_trace::{LONGEST_TRACE_LINE, Look, TraceFault, TraceReader};
 use git2show_lib::{Form, ProgramFault};
 use std::alloc::Global;
-use std::io::{IsTerminal, Read, Write};
+use std::io::{self, IsTerminal, Read, Write};
+
+/// The exit status where a trace is refused.
+const STATUS: u8 = 1;
 
 /// Why a trace is not shown to its end.
 #[derive(Clone, Copy, Debug)]
@@ -75,35 +78,43 @@ fn show_trace<R: Read, W: Write>(
         if count == 0 {
             let ended = text.finish(&mut lines);
             send(writer, &lines)?;
+            flush(writer)?;
             return Ok(ended?);
         }
         let fed = text.feed(&piece[..count], &mut lines);
         send(writer, &lines)?;
+        flush(writer)?;
         fed?;
         lines.clear();
     }
     Err(Stopped::Run(RunFault::ReadLimit))
 }
 
-/// Reports why a trace is refused. Returns the exit status.
+/// Reports why a trace is refused: by its error line and, if standard error is a terminal, by a second line with the details. Returns the
+/// exit status.
 fn tell_trace_fault(rt: &HostRuntime, fault: TraceFault) -> u8 {
-    match fault {
-        TraceFault::LongLine(line) => {
-            let _ = eprintln!(rt; "git2show: BadTrace at {line}");
-            if rt.stderr().is_terminal() {
-                let _ = eprintln!(rt; "line {line} is longer than {LONGEST_TRACE_LINE} bytes");
-            }
-        }
-        TraceFault::NoPackets(line) => {
-            let _ = eprintln!(rt; "git2show: BadTrace at {line}");
-            if rt.stderr().is_terminal() {
-                let _ = eprintln!(rt; "the text ends before line {line}, and no line of it is one of GIT_TRACE_PACKET");
-            }
-        }
+    let line = match fault {
+        TraceFault::LongLine(line) | TraceFault::NoPackets(line) => line,
         TraceFault::OutOfMemory => return tell_fault(rt, ProgramFault::OutOfMemory),
+    };
+    let _ = eprintln!(rt; "git2show: BadTrace at {line}");
+    if rt.stderr().is_terminal() {
+        let _ = explain_trace(rt, fault);
     }
-    STOPPED
+    STATUS
 }
 
-/// The exit status where a trace is refused.
-const STOPPED: u8 = 1;
+/// Prints on standard error why a trace is refused.
+fn explain_trace(rt: &HostRuntime, fault: TraceFault) -> io::Result<()> {
+    match fault {
+        TraceFault::LongLine(line) => {
+            eprintln!(rt; "line {line} is longer than {LONGEST_TRACE_LINE} bytes")
+        }
+        TraceFault::NoPackets(line) => {
+            eprintln!(rt;
+                "the text ends before line {line}, and none of its lines is one of GIT_TRACE_PACKET"
+            )
+        }
+        TraceFault::OutOfMemory => Ok(()),
+    }
+}

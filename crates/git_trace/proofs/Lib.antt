@@ -3,3 +3,4 @@ pub mod Words
 pub mod TextParts
 pub mod Feeding
 pub mod ReadBack
+pub mod OneLine
