@@ -4,3 +4,4 @@ pub mod TextParts
 pub mod Feeding
 pub mod ReadBack
 pub mod OneLine
+pub mod PartsRead

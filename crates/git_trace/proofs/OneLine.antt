@@ -1,9 +1,8 @@
 -- What is shown of a packet is one line.
-use Rattle.std.proofs.Common.{◌≡◌, ℕ, ◌+◌, ◌-◌, ◌/◌, ◌%◌, ◌<◌, ◌≤◌, ◌==◌, Bool, true, false, ◌&&◌, not, nat_eq, nat_lt, nat_le, zero, suc, List, [], ◌∷◌, ◌++◌, Option, None, Some}
-use Rattle.std.proofs.Common.{codes, length, take, drop, replicate, refl, sym, ap, ◌∙◌, arith, append_assoc, if◌then◌else◌, min, subst, get_or}
-use Rattle.std.specs.List.{list_all, flat_map, prefix_len, starts_with}
+use Rattle.std.proofs.Common.{◌≡◌, ℕ, ◌+◌, ◌-◌, ◌/◌, ◌%◌, ◌==◌, Bool, true, false, ◌&&◌, nat_eq, nat_le, zero, suc, List, [], ◌∷◌, ◌++◌, Option, None, Some}
+use Rattle.std.proofs.Common.{codes, length, take, drop, refl, ap, arith, min, subst, get_or}
+use Rattle.std.specs.List.{list_all, prefix_len, starts_with}
 use Rattle.std.proofs.lemmas.Bool.{and_parts}
-use Rattle.std.proofs.lemmas.Grind.{common_steps}
 use Rattle.git_names.specs.Digits.{lower_digit}
 use Rattle.git_pkt.specs.Escape.{escape_of, escaped_of}
 use Rattle.git_trace.specs.declared.labels.Label.{Label}
@@ -13,7 +12,7 @@ use Rattle.git_trace.specs.declared.trace_lines.Direction.{Direction}
 use Rattle.git_trace.specs.declared.trace_lines.Direction.TheVariants.{Received, Sent}
 use Rattle.git_trace.specs.Escapes.{is_written}
 use Rattle.git_trace.specs.TraceLines.{Said, Traced, flush, delim, resp_end, pack, payload, after_name, after_word, behind_word, in_parts, is_name_byte, traced_in, without_return, without_spaces}
-use Rattle.git_trace.specs.ShownLines.{arrow, colour_of, cut, in_column, kind_word, label_of, line_of, line_with, name_column, name_of, named, payload_shown, plain_line, process_columns, said_bytes, spaces, text_column, bytes_shown, widest, columns_before, longest_front}
+use Rattle.git_trace.specs.ShownLines.{arrow, colour_of, cut, in_column, kind_word, label_of, line_of, name_column, name_of, named, payload_shown, process_columns, said_bytes, spaces, text_column, bytes_shown, widest, columns_before, longest_front}
 
 -- no LF
 abbrev pub OnLine : List ℕ → Type 0
@@ -158,9 +157,11 @@ pub line_is_one : (look : Look) (t : Traced) → OnLine t.name → (shown : List
 line_is_one Lines t e =
     let bytes = said_bytes t.name t.said in
     let head = joined (t.name ++ codes " ") (arrow t.direction) (joined t.name (codes " ") e refl) (arrow_on t.direction) in
-    let kind = joined (t.name ++ codes " " ++ arrow t.direction) (kind_word t.said) head (kind_on t.said) in
-    (t.name ++ codes " " ++ arrow t.direction ++ kind_word t.said ++ payload_shown bytes, refl,
-    joined (t.name ++ codes " " ++ arrow t.direction ++ kind_word t.said) (payload_shown bytes) kind (payload_on bytes))
+    let kind = joined (t.name ++ codes " " ++ arrow t.direction) (kind_word t.said) head (kind_on t.said) in (
+      t.name ++ codes " " ++ arrow t.direction ++ kind_word t.said ++ payload_shown bytes,
+      refl,
+      joined (t.name ++ codes " " ++ arrow t.direction ++ kind_word t.said) (payload_shown bytes) kind (payload_on bytes),
+    )
 line_is_one (Columns colours width) t e =
     let bytes = said_bytes t.name t.said in
     let label = label_of t.said bytes in
@@ -169,9 +170,11 @@ line_is_one (Columns colours width) t e =
     let process = joined (name_column t.name ++ codes " " ++ arrow t.direction) (codes "  ") arrowed refl in
     let labelled = joined (process_columns t.name t.direction) (named colours label) process (named_on colours label) in
     let text = column_on label (min width widest - columns_before) (escaped_of (take longest_front (bytes_shown label bytes)))
-    (escaped_on (take longest_front (bytes_shown label bytes))) in
-    (process_columns t.name t.direction ++ named colours label ++ text_column width label bytes, refl,
-    joined (process_columns t.name t.direction ++ named colours label) (text_column width label bytes) labelled text)
+    (escaped_on (take longest_front (bytes_shown label bytes))) in (
+      process_columns t.name t.direction ++ named colours label ++ text_column width label bytes,
+      refl,
+      joined (process_columns t.name t.direction ++ named colours label) (text_column width label bytes) labelled text,
+    )
 
 pub name_is_on : (line : List ℕ) (t : Traced) → traced_in line ≡ Some t → OnLine t.name
 name_is_on line t e = behind_on (after_word (without_return line)) t e

@@ -1,11 +1,10 @@
 -- What is written of bytes is read back.
-use Rattle.std.proofs.Common.{◌≡◌, ℕ, ◌+◌, ◌-◌, ◌*◌, ◌/◌, ◌%◌, ◌<◌, ◌≤◌, ◌==◌, Bool, true, false, ◌&&◌, not, nat_eq, nat_lt, nat_le, zero, suc, List, [], ◌∷◌, ◌++◌}
-use Rattle.std.proofs.Common.{Some, codes, length, drop, refl, sym, ap, ◌∙◌, arith, append_assoc, if◌then◌else◌, subst}
-use Rattle.std.specs.List.{All, filter, starts_with}
-use Rattle.std.proofs.lemmas.Bool.{and_parts, eqb-true, eqb-false, leb-true, leb-false, ltb-true, ltb-false}
-use Rattle.std.proofs.lemmas.Grind.{common_steps}
+use Rattle.std.proofs.Common.{◌≡◌, ℕ, ◌+◌, ◌-◌, ◌*◌, ◌/◌, ◌%◌, ◌<◌, ◌≤◌, ◌==◌, Bool, true, false, ◌&&◌, not, nat_eq, nat_lt, nat_le, List, [], ◌∷◌, ◌++◌}
+use Rattle.std.proofs.Common.{Some, codes, length, refl, sym, ap, ◌∙◌, arith, if◌then◌else◌, subst}
+use Rattle.std.specs.List.{All, filter}
+use Rattle.std.proofs.lemmas.Bool.{and_parts, eqb-true, eqb-false, leb-true, ltb-true, ltb-false}
 use Rattle.git_trace.specs.declared.escapes.Escape.{Escape}
-use Rattle.git_trace.specs.Escapes.{are_three_at, digits_of, escape_at, has_eleven, has_three, has_two, is_octal_at, is_printable, octal, octal_at, octal_value, read_after, three_at, two_of, unescaped}
+use Rattle.git_trace.specs.Escapes.{digits_of, escape_at, has_eleven, is_printable, octal, octal_at, octal_value, read_after, three_at, unescaped}
 use Rattle.git_trace.specs.Escapes.{IsClear, NoDigit, is_written, written, written_byte}
 use Rattle.std.proofs.Math.Seq.{drop-append_seam}
 use Rattle.std.proofs.lemmas.List.Elements.{All-head, All-tail}

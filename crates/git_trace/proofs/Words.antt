@@ -1,8 +1,7 @@
 -- The word before the parts of a line.
-use Rattle.std.proofs.Common.{◌≡◌, ℕ, ◌+◌, ◌-◌, ◌<◌, ◌≤◌, Bool, true, false, Some, List, [], ◌∷◌, ◌++◌, length, take, drop, slice_index, nat_eq, codes, refl, sym, ap, ◌∙◌, arith}
+use Rattle.std.proofs.Common.{◌≡◌, ℕ, ◌+◌, ◌<◌, true, false, Some, List, length, drop, nat_eq, codes, refl, sym, ap, ◌∙◌}
 use Rattle.std.specs.List.{starts_with}
 use Rattle.std.proofs.lemmas.List.{drop_more, drop-drop}
-use Rattle.git_pkt.proofs.Pieces.{left_of}
 use Rattle.git_trace.specs.TraceLines.{after_word}
 
 pub word_here : (line : List ℕ) (at : ℕ) → at < length line → starts_with nat_eq (drop at line) (codes "packet: ") ≡ true

@@ -1,7 +1,7 @@
 -- How a trace writes bytes, and how they are read back. An LF is not written; other bytes from 0x20 to 0x7e stand as they are, a backslash too;
 -- the rest are a backslash and their octal digits, without zeros before them. So several lists of bytes have the same text.
-use Rattle.std.specs.Prelude.{◌≡◌, ℕ, ◌+◌, ◌-◌, ◌*◌, ◌/◌, ◌%◌, ◌==◌, ◌&&◌, Bool, true, false, not, List, [], ◌∷◌, zero, suc}
-use Rattle.std.specs.Prelude.{◌++◌, Option, None, Some, codes, drop, nat_eq, nat_le, nat_lt, if◌then◌else◌, slice_get}
+use Rattle.std.specs.Prelude.{◌≡◌, ℕ, ◌+◌, ◌-◌, ◌*◌, ◌/◌, ◌%◌, ◌==◌, ◌&&◌, Bool, false, not, List, [], ◌∷◌, zero, suc}
+use Rattle.std.specs.Prelude.{◌++◌, Option, None, Some, codes, nat_eq, nat_le, nat_lt, if◌then◌else◌, slice_get}
 use Rattle.std.specs.List.{flat_map, starts_with}
 use Rattle.git_trace.specs.declared.escapes.Escape.{Escape}
 

@@ -1,6 +1,6 @@
 -- A line of a text that GIT_TRACE_PACKET wrote: `12:34:56.789012 pkt-line.c:80  packet:        clone< version 2`.
-use Rattle.std.specs.Prelude.{◌≡◌, ℕ, ◌==◌, ◌&&◌, Bool, true, false, not, List, [], ◌∷◌, length, take, drop, slice_index, zero, suc}
-use Rattle.std.specs.Prelude.{Option, None, Some, codes, nat_eq, nat_le, nat_lt, ◌-◌, ◌||◌, if◌then◌else◌}
+use Rattle.std.specs.Prelude.{ℕ, ◌==◌, ◌&&◌, Bool, not, List, [], ◌∷◌, length, take, drop, slice_index}
+use Rattle.std.specs.Prelude.{Option, None, Some, codes, nat_eq, nat_lt, ◌-◌, ◌||◌, if◌then◌else◌}
 use Rattle.std.specs.List.{prefix_len, starts_with}
 use Rattle.std.specs.Str.{bytes_eq}
 use Rattle.git_trace.specs.Escapes.{unescaped}

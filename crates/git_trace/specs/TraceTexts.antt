@@ -1,6 +1,6 @@
 -- The lines of a text, and what is shown of them.
 use Rattle.std.specs.Prelude.{ℕ, ◌+◌, ◌==◌, ◌||◌, Bool, true, false, nat_lt, List, [], ◌∷◌, ◌++◌, Option, None, Some, length, if◌then◌else◌}
-use Rattle.std.specs.List.{flat_map, list_any}
+use Rattle.std.specs.List.{flat_map}
 use Rattle.git_trace.specs.TraceLines.{Traced, traced_in}
 use Rattle.git_trace.specs.ShownLines.{shown_line}
 use Rattle.git_trace.specs.declared.shown_lines.Look.{Look}

@@ -1,11 +1,20 @@
 //! Laws on traces.
 
-ghost use Rattle.std.specs.Prelude.{◌≡◌, ◌<◌, ◌++◌, [], ℕ, Bool, List, None, Some, codes, true};
+ghost use Rattle.std.specs.Prelude.{◌≡◌, ◌<◌, ◌++◌, [], ℕ, Bool, List, None, Some, codes, length, true};
 ghost use Rattle.std.specs.List.{All, filter, list_all};
 ghost use Rattle.git_trace.specs.Escapes.{IsClear, is_written, unescaped, written};
-ghost use Rattle.git_trace.specs.ShownLines.{shown_line};
-ghost use Rattle.git_trace.specs.TraceLines.{Traced, traced_in};
+ghost use Rattle.git_trace.specs.ShownLines.{arrow, shown_line, spaces};
+ghost use Rattle.git_trace.specs.TraceLines.{Traced, after_word, is_name_byte, said_in, traced_in, without_return};
 ghost use Rattle.git_trace.specs.declared.shown_lines.Look.{Look};
+ghost use Rattle.git_trace.specs.declared.trace_lines.Direction.{Direction};
+
+/// A line is read as its parts: a front, the first `packet: `, spaces, a name, `<` or `>`, a space and a content, with no CR at the end.
+pub fn lines_are_read()
+    ensures { (front name content line : List ℕ) (pad : ℕ) (direction : Direction)
+        → line ≡ front ++ codes "packet: " ++ spaces pad ++ name ++ arrow direction ++ codes " " ++ content
+        → after_word (front ++ codes "packet:") ≡ None → list_all is_name_byte name ≡ true → 0 < length name → without_return line ≡ line
+        → traced_in line ≡ Some (record { name = name; direction = direction; said = said_in content }) }
+{}
 
 /// Of a line of a packet one line is shown, and of any other nothing.
 pub fn a_packet_has_one_line()

@@ -1,5 +1,5 @@
 -- What a `TraceReader` has read.
-use Rattle.std.specs.Prelude.{◌≡◌, ℕ, Bool, true, false, List, [], ◌++◌}
+use Rattle.std.specs.Prelude.{◌≡◌, ℕ, true, false, List, [], ◌++◌}
 use Rattle.std.specs.List.{list_any}
 use Rattle.git_trace.specs.TraceTexts.{has_long, is_packet_line, left_after, lines_after, lines_of, shown_lines}
 use Rattle.git_trace.specs.declared.shown_lines.Look.{Look}

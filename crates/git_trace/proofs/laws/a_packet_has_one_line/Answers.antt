@@ -1,4 +1,4 @@
-use Rattle.std.proofs.Common.{◌≡◌, ◌++◌, ◌∙◌, ap, Some, None, List, ℕ, codes}
+use Rattle.std.proofs.Common.{◌∙◌, ap}
 use Rattle.git_trace.specs.ShownLines.{shown_if}
 use Rattle.git_trace.proofs.OneLine.{line_is_one, name_is_on}
 use Rattle.git_trace.proofs.laws.a_packet_has_one_line.Goals as goal

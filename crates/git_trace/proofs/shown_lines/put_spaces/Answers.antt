@@ -1,4 +1,4 @@
-use Rattle.std.proofs.Common.{◌≡◌, take, replicate, ◌++◌, List, ℕ, arith}
+use Rattle.std.proofs.Common.{ℕ, arith}
 use Rattle.std.proofs.lemmas.List.{take-replicate}
 use Rattle.std.proofs.lemmas.Grind.{common_steps}
 use Rattle.git_trace.proofs.shown_lines.put_spaces.Goals as goal

@@ -1,7 +1,7 @@
-use Rattle.std.proofs.Common.{◌≡◌, ◌++◌, ◌∙◌, ◌-◌, ap, List, ℕ, take, min, arith, rules}
+use Rattle.std.proofs.Common.{◌≡◌, ◌∙◌, ◌-◌, ap, ℕ, take, min, arith, rules}
 use Rattle.std.proofs.lemmas.List.{take_min}
 use Rattle.git_pkt.specs.Escape.{escaped_of}
-use Rattle.git_trace.specs.ShownLines.{bytes_shown, in_column}
+use Rattle.git_trace.specs.ShownLines.{bytes_shown}
 use Rattle.git_trace.proofs.shown_lines.put_text.Goals as goal
 
 pub returns : goal.returns

@@ -1,5 +1,4 @@
-use Rattle.std.proofs.Common.{◌≡◌, ◌+◌, ◌-◌, ◌≤◌, ◌<◌, ◌∙◌, ap, sym, true, false, Some, List, ℕ, length, take, drop, nat_eq, codes, arith, rules}
-use Rattle.std.specs.List.{starts_with}
+use Rattle.std.proofs.Common.{◌+◌, ◌≤◌, ◌∙◌, ap, sym, Some, length, drop, arith, rules}
 use Rattle.std.proofs.lemmas.List.{length-drop}
 use Rattle.git_pkt.proofs.Pieces.{left_of}
 use Rattle.git_trace.proofs.Words.{word_here, word_later}

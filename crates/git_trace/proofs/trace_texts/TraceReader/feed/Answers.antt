@@ -1,12 +1,11 @@
-use Rattle.std.proofs.Common.{◌≡◌, ◌+◌, ◌++◌, ◌∙◌, ◌||◌, ap, sym, refl, subst, List, ℕ, Bool, false, [], ◌∷◌, take, length, slice_index, append_assoc, append-nil, arith, rules}
-use Rattle.std.specs.List.{list_any}
+use Rattle.std.proofs.Common.{◌≡◌, ◌++◌, ◌∙◌, ap, sym, refl, List, ℕ, false, [], ◌∷◌, take, slice_index, append_assoc, append-nil, rules}
 use Rattle.std.proofs.lemmas.List.{take_more, take_all}
 use Rattle.std.proofs.lemmas.Result.{IfErr-weaker}
 use Rattle.git_trace.specs.declared.shown_lines.Look.{Look}
 use Rattle.git_trace.specs.declared.trace_texts.TraceFault.{TraceFault}
 use Rattle.git_trace.specs.Machine.TraceReader.{HasRead, IsFeedFault, IsLineFault}
-use Rattle.git_trace.specs.TraceTexts.{is_packet_line, left_after, lines_after, shown_lines}
-use Rattle.git_trace.proofs.TextParts.{left_joined, shown_joined}
+use Rattle.git_trace.specs.TraceTexts.{left_after, lines_after, shown_lines}
+use Rattle.git_trace.proofs.TextParts.{shown_joined}
 use Rattle.git_trace.proofs.Feeding.{Took, took_none, took_then, fault_on}
 use Rattle.git_trace.proofs.trace_texts.TraceReader.feed.Goals as goal
 
