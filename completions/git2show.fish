@@ -16,6 +16,7 @@ __git2show_option show -l width -x -d 'Columns of a line of --pretty'
 __git2show_option show -l no-pack -d 'Leave out bytes of packs'
 __git2show_option show -l from -x -d 'Leave out packets before this offset'
 __git2show_option show -l only -x -a 'fetch ls-refs object-info bundle-uri' -d 'Requests with this command'
+__git2show_option show -l trace -d 'A text of GIT_TRACE_PACKET'
 for command in check fetch
     __git2show_option $command -l format -x -a 'sha1 sha256' -d 'Object format'
 end

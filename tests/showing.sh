@@ -280,6 +280,171 @@ case_a_conversation_is_recorded() {
     expect_status 2
 }
 
+# traced PROCESS.. TEXT: the line of a trace, as Git writes it, for each text.
+traced() {
+    printf '12:34:56.789012 pkt-line.c:80           packet: %12s%s %s\n' "$@"
+}
+
+# A trace with a line of each kind, beside lines of other keys.
+write_trace() {
+    {
+        echo '12:34:56.789012 git.c:460               trace: built-in: git clone served'
+        traced upload-pack '>' 'version 2' clone '<' 'version 2' clone '<' 0000
+        traced clone '>' 'command=ls-refs' clone '>' 0001 clone '>' 'server-option=k\37777777703\37777777674\11\0' git '>' '\303\274\177\377'
+        echo '   [0001]  0.001'
+        traced clone '<' '' clone '<' 0002 clone '<' shallow-info receive-pack '>' 'a<b> packet: c< d' upload-archive '>' 'a\b'
+        traced sideband '<' '\212 files' sideband '<' '\2half\15' sideband '<' 'PACK ...' sideband '<' '\3oh!' fetch '<' 'ERR no'
+        printf '%s\r\n' 'packet:          git< from an older Git'
+        printf 'no line feed: packet: git> done'
+    } > trace
+}
+
+# Each packet that a trace names has a line, with the process, the direction, the kind and the bytes.
+case_a_trace_is_shown() {
+    write_trace
+    run git2show show --trace < trace
+    expect 0 <(cat << 'END'
+upload-pack > data version 2
+clone < data version 2
+clone < flush
+clone > data command=ls-refs
+clone > delim
+clone > data server-option=k\xc3\xbc\x09\x00
+git > data \xc3\xbc\x7f\xff
+clone < data
+clone < end
+clone < data shallow-info
+receive-pack > data a<b> packet: c< d
+upload-archive > data a\\b
+sideband < data \x0212 files
+sideband < data \x02half\x0d
+sideband < pack
+sideband < data \x03oh!
+fetch < data ERR no
+git < data from an older Git
+git > data done
+END
+    ) /dev/null
+    cp out plain
+    run git2show show --trace --pretty --width 44 < trace
+    expect 0 <(cat << 'END'
+   upload-pack >  data      version 2
+         clone <  data      version 2
+         clone <  flush
+         clone >  command   command=ls-refs
+         clone >  delim
+         clone >  data      server-option=..
+           git >  data      \xc3\xbc\x7f\xff
+         clone <  data
+         clone <  end
+         clone <  section   shallow-info
+  receive-pack >  data      a<b> packet: c..
+upload-archive >  data      a\\b
+      sideband <  progress  12 files
+      sideband <  progress  half\x0d
+      sideband <  pack
+      sideband <  error     oh!
+         fetch <  error     ERR no
+           git <  data      from an older ..
+           git >  data      done
+END
+    ) /dev/null
+    # A reader that gives few bytes at a time.
+    run git2show show --trace --plain < <(while IFS= read -r -n 7 part; do printf '%s' "$part"; done < <(tr '\n' '\v' < trace) | tr '\v' '\n')
+    expect 0 plain /dev/null
+}
+
+# A text without a packet, a line that is too long, and options that do not fit.
+case_a_text_that_is_no_trace_is_refused() {
+    run git2show show --trace < /dev/null
+    expect 1 /dev/null <(fault 'BadTrace at 1')
+    run git2show show --trace < "$sessions/clone-responses.pkt"
+    expect_status 1
+    expect_same 'what is shown of packets' /dev/null out
+    run git2show show --trace < <(printf 'a\nb packet: \nc')
+    expect 1 /dev/null <(fault 'BadTrace at 4')
+    run git2show show --trace < <(traced clone '>' done; printf '%1048577s' x; echo; traced clone '>' 0000)
+    expect 1 <(echo 'clone > data done') <(fault 'BadTrace at 2')
+    run git2show show --trace < <(traced clone '>' done; printf '%1048576s\n' x; traced clone '>' 0000)
+    expect 0 <(printf '%s\n' 'clone > data done' 'clone > flush') /dev/null
+    expect_refused show --trace --json
+    expect_refused show --trace --no-pack
+    expect_refused show --trace --from 1
+    expect_refused show --trace --only fetch
+    command -v script > /dev/null || return 0
+    echo nothing > shown
+    on_terminal 'git2show show --trace < shown'
+    explained 'BadTrace at 2' 'the text ends before line 2, and none of its lines is one of GIT_TRACE_PACKET'
+    printf '%1048577s' x > shown
+    on_terminal 'git2show show --trace < shown'
+    explained 'BadTrace at 1' 'line 1 is longer than 1048576 bytes'
+    traced clone '>' command=fetch > shown
+    on_terminal 'git2show show --trace < shown'
+    expect_line 'the terminal' $'         clone >  \e[1;36mcommand\e[0m   command=fetch' terminal
+}
+
+# without_places: the lines of `show` without what a trace hides: offsets, lengths and LFs, and the packets of a pack after the first.
+without_places() {
+    sed -E 's/^[0-9]+ //; s/^data [0-9]+/data/; s/\\n//g' | awk '/^data \\x01/ { if (!packs++) print "pack"; next } { print }'
+}
+
+# of_process NAME DIRECTION: the packets of one process in the last output, in one direction.
+of_process() {
+    sed -n "s/^$1 $2 //p" out
+}
+
+# The packets that Git's trace of a clone names are those that were recorded, apart from what it hides: from Git's own server, whose packets
+# it names as well, and from ours.
+case_a_trace_has_the_recorded_packets() {
+    rm -f trace
+    git init -q traced
+    git -C traced -c user.name=a -c user.email=b commit -q --allow-empty -m first
+    GIT_TRACE_PACKET=$room/trace run "$top/examples/record.sh" requests responses clone --progress traced traced-copy
+    expect_status 0
+    run git2show show --trace < trace
+    expect_status 0
+    git2show show < requests | without_places > wanted
+    expect_same 'what the client sent' wanted <(of_process clone '>')
+    expect_same 'what the server received' wanted <(of_process upload-pack '<')
+    git2show show < responses | without_places > wanted
+    expect_same 'what the client received' wanted <(of_process '\(clone\|sideband\)' '<')
+    # Git's server does not name what it sends on bands.
+    expect_same 'what the server sent' <(grep -v '^pack$\|^data .x02' wanted) <(of_process upload-pack '>')
+    offer traced
+    printf '#!/bin/sh\ncd "%s"\ntee requests | git2show serve --repo traced.repo --pack traced.pack | tee responses\n' "$room" > bin/recorded-serve
+    chmod +x bin/recorded-serve
+    rm trace
+    GIT_TRACE_PACKET=$room/trace run git -c protocol.version=2 -c protocol.ext.allow=always clone -q ext::recorded-serve traced-ours
+    expect_status 0
+    run git2show show --trace < trace
+    expect_status 0
+    expect_same 'what was sent to our server' <(git2show show < requests | without_places) <(of_process clone '>')
+    expect_same 'what our server sent' <(git2show show < responses | without_places) <(of_process '\(clone\|sideband\)' '<')
+}
+
+# A fetch that failed is explained on one screen, by the trace of the client alone.
+case_a_failed_fetch_is_explained_by_its_trace() {
+    rm -f trace
+    git init -q lacking
+    git -C lacking -c user.name=a -c user.email=b commit -q --allow-empty -m first
+    git init -q failing
+    GIT_TRACE_PACKET=$room/trace run git -C failing -c protocol.version=2 fetch -q --upload-pack 'env -u GIT_TRACE_PACKET git-upload-pack' \
+        "$room/lacking" refs/heads/missing
+    [ $status != 0 ] || differs 'a reference is fetched that is not there'
+    run git2show show --trace --pretty < trace
+    expect_status 0
+    [ "$(wc -l < out)" -le 25 ] || differs 'more than a screen' out
+    expect_line 'what was asked' '         fetch >  data      ref-prefix refs/heads/missing' out
+    expect_same 'what came' <(echo '         fetch <  flush') <(tail -n 1 out)
+    rm trace
+    GIT_TRACE_PACKET=$room/trace run git -C failing -c protocol.version=2 fetch -q --upload-pack 'env -u GIT_TRACE_PACKET git-upload-pack' \
+        "$room/lacking" "$one"
+    [ $status != 0 ] || differs 'an object is fetched that is not there'
+    run git2show show --trace --pretty --width 200 < trace
+    expect_status 0
+    expect_line 'what came' "         fetch <  error     ERR upload-pack: not our ref $one" out
+}
+
 # completed WORD..: what bash's completion proposes after these words. The last word is not complete yet.
 completed() {
     bash -c '

@@ -73,6 +73,9 @@ git_repository *: io fs
 git_repository packs text_faults: drafts repository_lines
 git_repository repository_lines: drafts repository_progress
 git_repository repository_reader: repository_lines drafts
+git_trace *: io
+git_trace escapes labels: TraceLine
+git_trace trace_lines: shown_lines trace_texts
 git2show_lib judged_requests others noting scripts script_lines sieve: io
 git2show_lib left_over: judged_requests
 git2show_lib advertisement: Request

@@ -12,12 +12,14 @@ mod pack_file;
 mod reasons;
 mod remote_lines;
 mod showing;
+mod tracing;
 
 use crate::explanations::explain;
 use crate::failures::{Cause, FailedCall, Failure, Stream, Watched};
 use crate::fetching::run_fetch;
 use crate::one_request::{Left, take_request};
 use crate::showing::{run_show, show_command};
+use crate::tracing::run_trace;
 use clap::error::ErrorKind;
 use clap::{Arg, ArgAction, ArgMatches, Command, Error, value_parser};
 use git_client::Ending;
@@ -597,6 +599,7 @@ fn run(rt: &HostRuntime, matches: &ArgMatches<'_>) -> u8 {
         return BAD_COMMAND_LINE;
     };
     let done = match name {
+        "show" if words.get_flag("trace") => return run_trace(rt, words),
         "show" => run_show(rt, words),
         "check" => run_check(rt, words),
         "serve" => run_serve(rt, words),
@@ -681,7 +684,11 @@ fn tell(rt: &HostRuntime, error: NotTaken) -> u8 {
 
 /// Reports a failure: by its error line and, if standard error is a terminal, by a second line with the details. The words are those after
 /// the command, if the command line was accepted. Returns the exit status.
-fn tell_failure(rt: &HostRuntime, words: Option<&ArgMatches<'_>>, failure: &Failure) -> u8 {
+pub(crate) fn tell_failure(
+    rt: &HostRuntime,
+    words: Option<&ArgMatches<'_>>,
+    failure: &Failure,
+) -> u8 {
     let status = tell_fault(rt, failure.fault);
     if rt.stderr().is_terminal() {
         let _ = explain(rt, words, failure);
@@ -690,7 +697,7 @@ fn tell_failure(rt: &HostRuntime, words: Option<&ArgMatches<'_>>, failure: &Fail
 }
 
 /// Writes an error's line on standard error. Returns the exit status.
-fn tell_fault(rt: &HostRuntime, fault: ProgramFault) -> u8 {
+pub(crate) fn tell_fault(rt: &HostRuntime, fault: ProgramFault) -> u8 {
     report(&fault, &mut Told::new(rt.stderr()))
 }
 

@@ -59,6 +59,16 @@ pub(crate) fn show_command<'a>(alloc: Global) -> Result<Command<'a>, AllocError>
                 .help(
                     "Only the requests with this command, as fetch or ls-refs, of what a client sent",
                 ),
+        )?
+        .arg(
+            flag_argument(alloc, "trace")
+                .conflicts_with("json")?
+                .conflicts_with("no-pack")?
+                .conflicts_with("from")?
+                .conflicts_with("only")?
+                .help(
+                    "Standard input is a text that GIT_TRACE_PACKET wrote: a line for each packet that it names, of both ends",
+                ),
         )
 }
 
@@ -106,7 +116,7 @@ fn view_of<'a>(matches: &'a ArgMatches<'_>, form: Form) -> Option<View<'a>> {
 }
 
 /// What the line of a packet is, by the command line. A terminal gets columns if no other form is chosen.
-fn form_of(rt: &HostRuntime, matches: &ArgMatches<'_>) -> Form {
+pub(crate) fn form_of(rt: &HostRuntime, matches: &ArgMatches<'_>) -> Form {
     let on_terminal = rt.stdout().is_terminal();
     if matches.get_flag("json") {
         return Form::Json;

@@ -1,0 +1,5 @@
+pub mod Escapes
+pub mod TraceLines
+pub mod ShownLines
+pub mod TraceTexts
+pub mod Machine
