@@ -23,6 +23,7 @@ end
 for command in check fetch play
     __git2show_option $command -l stateless -d 'Each response ends with a response-end packet'
 end
+__git2show_option check -l explain -d 'Show the packets up to the refused one'
 __git2show_option check -F
 for command in serve play
     __git2show_option $command -l repo -r -F -d 'Text of the references and objects'

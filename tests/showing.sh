@@ -477,3 +477,43 @@ case_completions_are_those_of_the_help() {
     command -v fish > /dev/null && { fish -n "$top/completions/git2show.fish" || differs 'fish does not read its completion'; }
     true
 }
+
+# explained_check LINE..: that `check` of the files `requests` and `responses`, which reports an error in its first line, shows these below it.
+explained_check() {
+    run git2show check --explain requests responses
+    expect_status 1
+    expect_same 'what is explained' <(printf '%s\n' "$@") err
+}
+
+# The packets of the stream that is refused: at most four before the refused one, and none after it.
+case_check_shows_the_packets_up_to_the_refused_one() {
+    cp "$sessions/clone-requests.pkt" requests
+    head -c 600 "$sessions/clone-responses.pkt" > responses
+    explained_check 'git2show: responses: Truncated at 571' 'the packets of `responses` up to 571:' \
+        '     350    58  data      9977b80e005f refs/heads/topic' \
+        '     412   102  data      256d6ade9677 refs/tags/v1 peeled:1bc6dddeff81' '     518        flush' \
+        '     522     9  section   packfile' '     535    32  progress  Enumerating objects: 13, done.'
+    cp "$sessions/clone-responses.pkt" responses
+    { packet command=fetch; packet agent=x; printf 0001; packet nothing; printf 0000; packet command=ls-refs; printf 0000; } > requests
+    explained_check "git2show: requests: UnknownArgument at 34" 'the packets of `requests` up to 34:' \
+        '       0    14  command   command=fetch' '      18     8  data      agent=x' '      30        delim' \
+        '      34     8  data      nothing'
+    mkfifo pipe
+    cat requests > pipe &
+    run git2show check --explain pipe responses
+    expect_same 'what is explained of a pipe' <(echo 'git2show: requests: UnknownArgument at 34') err
+    printf 00g0 > requests
+    explained_check 'git2show: requests: BadDigit at 2'
+}
+
+# A terminal gets the same without being asked, and a file only the error.
+case_check_is_explained_on_a_terminal() {
+    command -v script > /dev/null || return 0
+    cp "$sessions/clone-responses.pkt" responses
+    { packet command=fetch; printf zzzz; } > requests
+    on_terminal 'NO_COLOR=1 git2show check requests responses > out'
+    expect_same 'what is explained' <(printf '%s\n' 'git2show: requests: BadDigit at 18' 'the packets of `requests` up to 18:' \
+        '       0    14  command   command=fetch') terminal
+    run git2show check requests responses
+    expect_same 'the error' <(echo 'git2show: requests: BadDigit at 18') err
+}

@@ -2,12 +2,13 @@
 
 use crate::failures::{Cause, FailedCall, Failure, Stream};
 use crate::line_reasons::{repository_reason, script_reason};
+use crate::packets_around::show_around;
 use crate::reasons::Shown;
 use clap::ArgMatches;
 use git_names::Format;
 use git_pkt::Retries;
 use git_repository::LONGEST_LINE;
-use git2show_lib::ProgramFault;
+use git2show_lib::{CheckFault, ProgramFault};
 use std::fmt::{self, Display, Formatter};
 use std::fs::{self, File};
 use std::io::{self, Read};
@@ -22,8 +23,8 @@ enum Text {
     Script(Format),
 }
 
-/// Prints on standard error what is known of a failure beside its name: which file or stream it is, and what the system reported, or which
-/// word of a line is refused, and why. The words are those after the command, if the command line was accepted.
+/// Prints on standard error what is known of a failure beside its name: which file or stream it is, and what the system reported; which word
+/// of a line is refused, and why; or the packets of a recording up to the one that is refused. The words are those after the command, if the command line was accepted.
 pub(crate) fn explain(
     rt: &HostRuntime,
     words: Option<&ArgMatches<'_>>,
@@ -35,6 +36,12 @@ pub(crate) fn explain(
         }
         (ProgramFault::Script(number), Cause::ScriptLine(format)) => {
             explain_line(rt, path_of(words, "script"), number, Text::Script(format))
+        }
+        (ProgramFault::Check(CheckFault::Requests(fault)), _) => {
+            show_around(rt, path_of(words, "REQUESTS"), fault.offset)
+        }
+        (ProgramFault::Check(CheckFault::Responses(fault)), _) => {
+            show_around(rt, path_of(words, "RESPONSES"), fault.offset)
         }
         (_, Cause::Call(call)) => explain_call(rt, words, call),
         (_, Cause::Stray) => eprintln!(rt; "not what a client sent: no request begins there"),

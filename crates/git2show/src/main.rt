@@ -9,6 +9,7 @@ mod fetching;
 mod line_reasons;
 mod one_request;
 mod pack_file;
+mod packets_around;
 mod reasons;
 mod remote_lines;
 mod showing;
@@ -91,6 +92,9 @@ fn check_command<'a>(alloc: Global) -> Result<Command<'a>, AllocError> {
                 .required(true)
                 .help("File of what the server sent, its advertisement first"),
         )?
+        .arg(flag_argument(alloc, "explain").help(
+            "Shows the packets up to the one that is refused, on standard error, also where that is no terminal",
+        ))?
         .arg(format_argument(alloc))?
         .arg(stateless_argument(
             alloc,
@@ -682,7 +686,7 @@ fn tell(rt: &HostRuntime, error: NotTaken) -> u8 {
     }
 }
 
-/// Reports a failure: by its error line and, if standard error is a terminal, by a second line with the details. The words are those after
+/// Reports a failure: by its error line and, if standard error is a terminal or details are asked for, by these below it. The words are those after
 /// the command, if the command line was accepted. Returns the exit status.
 pub(crate) fn tell_failure(
     rt: &HostRuntime,
@@ -690,10 +694,18 @@ pub(crate) fn tell_failure(
     failure: &Failure,
 ) -> u8 {
     let status = tell_fault(rt, failure.fault);
-    if rt.stderr().is_terminal() {
+    if rt.stderr().is_terminal() || wants_explanation(words) {
         let _ = explain(rt, words, failure);
     }
     status
+}
+
+/// Whether the command line asks for the details of an error.
+fn wants_explanation(words: Option<&ArgMatches<'_>>) -> bool {
+    match words {
+        Some(words) => words.get_flag("explain"),
+        None => false,
+    }
 }
 
 /// Writes an error's line on standard error. Returns the exit status.

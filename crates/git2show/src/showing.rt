@@ -124,10 +124,15 @@ pub(crate) fn form_of(rt: &HostRuntime, matches: &ArgMatches<'_>) -> Form {
     if matches.get_flag("plain") || !(on_terminal || matches.get_flag("pretty")) {
         return Form::Lines;
     }
-    Form::Columns(Look {
-        colours: on_terminal && !forbids_colours(rt),
-        width: matches.get_one::<u32>("width").unwrap_or(COLUMNS),
-    })
+    Form::Columns(look_on(rt, on_terminal, matches.get_one::<u32>("width")))
+}
+
+/// What lines of columns look like: with colours on a terminal, unless the environment forbids them, and of this width or the default one.
+pub(crate) fn look_on(rt: &HostRuntime, terminal: bool, width: Option<u32>) -> Look {
+    Look {
+        colours: terminal && !forbids_colours(rt),
+        width: width.unwrap_or(COLUMNS),
+    }
 }
 
 /// Whether the environment forbids colours: it has a `NO_COLOR` that is not empty.
