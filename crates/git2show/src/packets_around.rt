@@ -1,4 +1,4 @@
-//! The packets of a recording at an error and before it, which say more than the error's offset.
+//! The packets of a recording at an error and before it, which show more than the error's offset.
 
 ghost use Rattle.std.specs.Prelude.{◌≡◌, false};
 ghost use Rattle.git_pkt.specs.Machine.PacketReader.{passes_of};
