@@ -24,7 +24,8 @@ enum Text {
 }
 
 /// Prints on standard error what is known of a failure beside its name: which file or stream it is, and what the system reported; which word
-/// of a line is refused, and why; or the packets of a recording up to the one that is refused. The words are those after the command, if the command line was accepted.
+/// of a line is refused, and why; or the packets of a recording up to the one that is refused. The words are those after the command, if the
+/// command line was accepted.
 pub(crate) fn explain(
     rt: &HostRuntime,
     words: Option<&ArgMatches<'_>>,
