@@ -1,17 +1,14 @@
-use Rattle.std.proofs.Common.{arith, ◌≡◌, true, Some, List, [], ◌∷◌, ◌++◌, codes, refl, sym, ap, ◌∙◌}
+use Rattle.std.proofs.Common.{arith, ◌≡◌, true, List, [], ◌∷◌, ◌++◌, codes, refl, sym, ap, ◌∙◌}
 use Rattle.git_names.specs.Digits.{lower_digit}
 use Rattle.git_pkt.specs.Escape.{escape_of}
-use Rattle.git_pkt.specs.Packets.{Pkt, delim, flush, payload}
+use Rattle.git_pkt.specs.Packets.{delim, flush, payload}
 use Rattle.git_pkt.specs.Splits.{Given}
 use Rattle.git_pkt.proofs.Spelling.{none_begins_nothing}
 use Rattle.git_pkt.proofs.Streams.{one_split}
 use Rattle.git2show_lib.specs.Others.{NoneIs, counted_line, is_advertised, is_allowed_key, is_allowed_value, is_other_capability, is_other_command}
-use Rattle.git2show_lib.specs.Others.{command_named, first_place, is_own_key, judged_line, line_has, names_other, place_after, place_at_line, place_next}
+use Rattle.git2show_lib.specs.Others.{first_place, is_own_key, judged_line, line_has, names_other, place_after, place_at_line, place_next}
 use Rattle.git2show_lib.specs.OtherLines.{shown_line}
-use Rattle.git2show_lib.specs.declared.others.Place.{Place}
-use Rattle.git2show_lib.specs.declared.others.Place.TheVariants.{Unnamed, Named, Arguments}
 use Rattle.git_msg.specs.Lines.{agent}
-use Rattle.git_msg.specs.declared.arguments.Command.TheVariants.{LsRefs}
 use Rattle.git_rows.specs.Worked.{at}
 use Rattle.git_rows.proofs.RequestLines.{agent_line}
 use Rattle.git_rows.proofs.WrittenPackets.{splits_written}
@@ -49,17 +46,7 @@ pub returns-clause-shown : goal.returns-clause-shown
 unfolding escape_of is_advertised is_allowed_key is_allowed_value is_other_capability is_other_command is_own_key line_has place_at_line shown_line
 returns-clause-shown c = refl
 
--- behind a line that names a command, no packet names another
-behind_a_command : (x named : Given) → at 0 (payload (codes "command=ls-refs\n")) ≡ x
-    → names_other (codes "bundle-uri\n") (place_next first_place x.packet) named.packet ≡ true → ⊥
-unfolding command_named place_at_line
-behind_a_command x named same names =
-    let behind : place_next first_place x.packet ≡ Named (Some LsRefs) = ap (λ (g : Given). place_next first_place g.packet) (sym same) in
-    let wrong : names_other (codes "bundle-uri\n") (Named (Some LsRefs)) named.packet ≡ true =
-    ap (λ (p : Place). names_other (codes "bundle-uri\n") p named.packet) (sym behind) ∙ names in
-    cc
-
--- of these packets none names another command
+-- of these packets none names another command first
 none_named : (front : List Given) (named : Given) (more : List Given)
     → at 0 (payload (codes "command=ls-refs\n")) ∷ at 20 (payload (codes "command=bundle-uri\n")) ∷ at 43 flush ∷ [] ≡ front ++ named ∷ more
     → names_other (codes "bundle-uri\n") (place_after first_place front) named.packet ≡ true → ⊥
@@ -69,18 +56,20 @@ none_named [] named more parts names =
     let wrong : names_other (codes "bundle-uri\n") first_place (payload (codes "command=ls-refs\n")) ≡ true =
     ap (λ (g : Given). names_other (codes "bundle-uri\n") first_place g.packet) same ∙ names in
     cc
-none_named (x ∷ []) named more parts names = behind_a_command x named (cc) names
+none_named (x ∷ []) named more parts names =
+    let first : at 0 (payload (codes "command=ls-refs\n")) ≡ x = cc in
+    let wrong : names_other (codes "bundle-uri\n") (place_next first_place (payload (codes "command=ls-refs\n"))) named.packet ≡ true =
+    ap (λ (g : Given). names_other (codes "bundle-uri\n") (place_next first_place g.packet) named.packet) first ∙ names in
+    cc
 none_named (x ∷ y ∷ []) named more parts names =
-    let last : at 43 flush ≡ named = cc in
-    let flush_is : named.packet ≡ flush = ap (λ (g : Given). g.packet) (sym last) in
-    let wrong : names_other (codes "bundle-uri\n") (place_after first_place (x ∷ y ∷ [])) flush ≡ true =
-    ap (λ (p : Pkt). names_other (codes "bundle-uri\n") (place_after first_place (x ∷ y ∷ [])) p) (sym flush_is) ∙ names in
-    no_flush_names (place_after first_place (x ∷ y ∷ [])) wrong
-  where
-    no_flush_names : (place : Place) → names_other (codes "bundle-uri\n") place flush ≡ true → ⊥
-    no_flush_names Unnamed e = cc
-    no_flush_names (Named command) e = cc
-    no_flush_names (Arguments command) e = cc
+    let first : at 0 (payload (codes "command=ls-refs\n")) ≡ x = cc in
+    let second : at 20 (payload (codes "command=bundle-uri\n")) ≡ y = cc in
+    let behind = place_next (place_next first_place (payload (codes "command=ls-refs\n"))) (payload (codes "command=bundle-uri\n")) in
+    let wrong : names_other (codes "bundle-uri\n") behind named.packet ≡ true =
+    ap (λ (g : Given). names_other (codes "bundle-uri\n") (place_next (place_next first_place g.packet) (payload (codes "command=bundle-uri\n")))
+    named.packet) first
+    ∙ ap (λ (g : Given). names_other (codes "bundle-uri\n") (place_next (place_next first_place x.packet) g.packet) named.packet) second ∙ names in
+    cc
 none_named (x ∷ y ∷ z ∷ []) named more parts names = cc
 none_named (x ∷ y ∷ z ∷ w ∷ front) named more parts names = cc
 
