@@ -350,7 +350,7 @@ upload-archive >  data      a\\b
 END
     ) /dev/null
     # A reader that gives few bytes at a time.
-    run git2show show --trace --plain < <(while IFS= read -r -n 7 part; do printf '%s' "$part"; done < <(tr '\n' '\v' < trace) | tr '\v' '\n')
+    run git2show show --trace --plain < <(tr '\n' '\v' < trace | while IFS= read -r -n 7 part || [ -n "$part" ]; do printf '%s' "$part"; done | tr '\v' '\n')
     expect 0 plain /dev/null
 }
 

@@ -10,7 +10,7 @@ use Rattle.git_trace.specs.declared.trace_lines.TraceLine.{TraceLine}
 use Rattle.git_trace.specs.declared.trace_lines.TracePacket.{TracePacket}
 use Rattle.git_trace.specs.declared.trace_lines.TracePacket.TheVariants.{Flush, Delim, RespEnd, Pack, Text}
 
--- what a line says of a packet: bytes of a pack are not written, and a payload is the text that is written for its bytes
+-- what a line has of a packet: bytes of a pack are not written, and a payload is the text that is written for its bytes
 pub data Said : Type 0 where
   flush : Said
   delim : Said
@@ -18,7 +18,7 @@ pub data Said : Type 0 where
   pack : Said
   payload : List ℕ → Said
 
--- which process wrote a line, whether it received or sent the packet, and what is said of it
+-- which process wrote a line, whether it received or sent the packet, and what the line has of it
 pub record Traced : Type 0 where
   pub name : List ℕ
   pub direction : Direction
@@ -85,7 +85,7 @@ abbrev pub behind_word : Option (List ℕ) → Option Traced
 behind_word None = None
 behind_word (Some parts) = in_parts (without_spaces parts)
 
--- what a line says, if it is one of a packet
+-- what a line has, if it is one of a packet
 abbrev pub traced_in : List ℕ → Option Traced
 traced_in line = behind_word (after_word (without_return line))
 

@@ -1,4 +1,4 @@
-//! A line of a trace that says what a packet has.
+//! A line of a trace that names a packet.
 
 ghost use Rattle.std.specs.Prelude.{◌≡◌, ◌++◌, ◌≤◌, None, Some, length, drop, take, MatchOption, OnOk, IfSome};
 ghost use Rattle.std.specs.List.{prefix_len};
@@ -16,7 +16,7 @@ pub struct TraceLine<'a> {
     pub name: &'a [u8],
     /// Whether it received or sent the packet.
     pub direction: Direction,
-    /// What the line says of the packet.
+    /// What the line has of the packet.
     pub packet: TracePacket<'a>,
 }
 
@@ -29,7 +29,7 @@ pub enum Direction {
     Sent,
 }
 
-/// What a line says of a packet.
+/// What a line has of a packet.
 #[derive(Clone, Copy, Debug)]
 pub enum TracePacket<'a> {
     /// `0000`, a flush packet.
@@ -89,7 +89,7 @@ fn without_spaces(text: &[u8]) -> &[u8]
     &text[count..]
 }
 
-/// What a line says whose parts from the name on are these.
+/// What a line has whose parts from the name on are these.
 fn in_parts(parts: &[u8]) -> Option<TraceLine<'_>>
     ensures { MatchOption result (in_parts parts.now ≡ None) (λ t. in_parts parts.now ≡ Some (seen_line t)) }
 {
