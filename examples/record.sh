@@ -11,7 +11,7 @@
 # than once, the last conversation is left. It takes bash for git://, and GNU's sed for HTTP.
 set -eu
 
-# pass COMMAND [WORD..]: runs it between two recorders. A client that waits for more is told that the command has ended.
+# pass COMMAND [WORD..]: runs it between two recorders. Where it ends first, the client's connection ends too.
 pass() {
     rm -f "$requests.pipe"
     mkfifo "$requests.pipe"
@@ -83,7 +83,8 @@ if [ $remote != yes ]; then
     set -- --upload-pack='"$recorder" pass git-upload-pack' "$@"
     [ "$command" != clone ] || set -- --no-local "$@"
 fi
-# Over ssh, it runs what it would run, between the recorders. Over HTTP, it is told to run a helper `remote-record`, which is its own between them.
+# Over ssh, it runs what it would run, between the recorders. Over HTTP, the rewritten address names a helper
+# `record`, which is its own between them.
 ssh=${GIT_SSH_COMMAND:-$(git config core.sshCommand || echo "'${GIT_SSH:-ssh}'")}
 export requests responses recorder GIT_SSH_COMMAND="\"\$recorder\" pass $ssh" GIT_SSH_VARIANT="${GIT_SSH_VARIANT:-ssh}"
 status=0
@@ -91,7 +92,7 @@ status=0
 git -c protocol.version=2 -c core.gitProxy="$recorder" -c protocol.record.allow=always -c url.record::http.insteadOf=http \
     -c alias.remote-record='!"$recorder" pass git remote-http' "$command" "$@" || status=$?
 
-# What comes before the protocol: a greeting of one packet, or lines by which Git tells its helper what to do, and two empty ones of that.
+# What comes before the protocol: a greeting of one packet, or lines of Git for its helper, and of that up to the second empty one.
 case $(head -c 20 "$requests" 2> /dev/null | tr -d '\0') in
 ????git-upload-pack*) tail -c +$((0x$(head -c 4 "$requests") + 1)) "$requests" > "$requests.rest" ;;
 capabilities*)

@@ -326,7 +326,7 @@ case_a_conversation_over_http_is_recorded() {
     recorded_from "$web/history-sha1" --stateless
 }
 
-# A client that waits for more is told that its server has ended, and so it ends.
+# Where the server ends, the connection of a client that waits for more ends too.
 case_a_server_that_ends_at_once_is_recorded() {
     local address
     over_ssh
