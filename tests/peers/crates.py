@@ -9,7 +9,7 @@ DEPENDS, PROVIDERS = {}, {}
 
 
 def names_in(words, separator):
-    """The names of packages, each of which a version or an architecture may follow."""
+    """The names of packages, without their versions."""
     return [it.strip().split(" ")[0].split(":")[0] for it in words.split(separator)]
 
 
