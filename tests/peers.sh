@@ -7,13 +7,15 @@
 # empty, `serve`, `fetch` and `check` alone are tried. The peers are unpacked into the folder of
 # PEERS, once, and installed nowhere. A PEER is one of those of `all` below; without one all are tried. Prints tables, whose words docs/PEERS.md
 # explains; the status is 1 if a cell is not as it may be. If KEEP is set, the working folder stays. It is made in TMPDIR: in memory all goes faster.
+# CASES, if set, is an extended regular expression of the clients' cases to be run, and LIMIT how many seconds each has, 30 without it.
 set -eu -o pipefail
 shopt -s inherit_errexit
 export LC_ALL=C.UTF-8 TZ=UTC
 
 top=$(cd "$(dirname "$0")/.." && pwd)
 cache=${PEERS:-/var/tmp/gitwire-peers}
-all=(git-bookworm git-trixie git-sid dulwich-trixie dulwich-sid jgit-trixie libgit2-trixie libgit2-sid got-trixie got-sid)
+all=(git-bookworm git-trixie git-sid dulwich-trixie dulwich-sid jgit-trixie gitoxide-trixie gitoxide-sid gogit-trixie gogit-sid libgit2-trixie
+    libgit2-sid got-trixie got-sid)
 
 stop() {
     echo "tests/peers.sh: $*" >&2
@@ -28,7 +30,7 @@ peers=("$@")
 mkdir -p "$cache"
 
 . "$top/tests/clones.sh" # for write_history
-for part in get serving clients asked watched refused; do
+for part in get built serving clients asked watched refused; do
     . "$top/tests/peers/$part.sh"
 done
 
@@ -42,6 +44,12 @@ for suite in trixie sid; do
     fi
 done
 build_jgit
+for peer in "${peers[@]}"; do
+    case $peer in
+    gitoxide-*) build_gitoxide "${peer#*-}" ;;
+    gogit-*) build_gogit "${peer#*-}" ;;
+    esac
+done
 
 room=$(mktemp -d "${TMPDIR:-/tmp}/gitwire-peers.XXXXXX")
 trap 'end_started; [ -n "${KEEP:-}" ] || rm -rf "$room"' EXIT
@@ -67,6 +75,8 @@ title_of() {
     git-*) echo "Git $(version_of "${1#*-}" git)" ;;
     dulwich-*) echo "dulwich $(version_of "${1#*-}" python3-dulwich)" ;;
     jgit-*) echo "JGit $(version_of "${1#*-}" libjgit-java)" ;;
+    gitoxide-*) echo "gitoxide $(version_of "${1#*-}-crates" librust-gix-dev)" ;;
+    gogit-*) echo "go-git $(version_of "${1#*-}-go" golang-github-go-git-go-git-dev)" ;;
     got-*) echo "Got $(version_of "${1#*-}" got)" ;;
     libgit2-*) echo "libgit2 $("$cache/${1#*-}.bin/python3" -c 'import pygit2; print(pygit2.LIBGIT2_VERSION)')" ;;
     esac
@@ -77,13 +87,14 @@ chosen() {
     printf '%s\n' "${peers[@]}" | grep -E "^($1)-" || true
 }
 
+mapfile -t cases < <(printf '%s\n' "${cases[@]}" | grep -E "^(${CASES:-.*}) ")
 bad=0
 write_served
 write_extras
 write_ssh
 write_watcher
 start_servers
-for peer in $(chosen 'git|dulwich|jgit'); do
+for peer in $(chosen 'git|dulwich|jgit|gitoxide'); do
     echo "trying $peer as a client" >&2
     try_peer "$peer"
 done
@@ -99,7 +110,7 @@ for peer in "${gits[@]}"; do
     watch_peer "$peer"
 done
 [ ${#gits[@]} = 0 ] || table_of_watched "${gits[@]}"
-mapfile -t unable < <(chosen 'libgit2|got')
+mapfile -t unable < <(chosen 'gogit|libgit2|got')
 for suite in trixie sid; do
     write_got $suite
 done

@@ -445,6 +445,66 @@ case_a_failed_fetch_is_explained_by_its_trace() {
     expect_line 'what came' "         fetch <  error     ERR upload-pack: not our ref $one" out
 }
 
+# recorded_from ADDRESS [OPTION..]: that a clone of the real Git from there is recorded, that its address stays what it was, and that `check` accepts
+# what was recorded, with these options.
+recorded_from() {
+    rm -rf recording
+    mkdir recording
+    run "$top/examples/record.sh" recording/requests recording/responses clone -q "$1" recording/copy
+    expect 0 /dev/null /dev/null
+    expect_same 'the address' <(echo "$1") <(git -C recording/copy config remote.origin.url)
+    expect_same 'the files' <(printf '%s\n' copy requests responses) <(ls recording)
+    run git2show check "${@:2}" recording/requests recording/responses
+    expect_status 0
+    expect_line 'the transcript' 'request ls-refs' out
+    expect_line 'the transcript' 'request fetch' out
+}
+
+# over_ssh: a command in the place of ssh.
+over_ssh() {
+    printf '%s\n' '#!/bin/sh' 'while [ $# -gt 1 ]; do shift; done' 'exec sh -c "$1"' > bin/no-ssh
+    chmod +x bin/no-ssh
+    export GIT_SSH=$room/bin/no-ssh
+}
+
+case_a_conversation_over_ssh_is_recorded() {
+    over_ssh
+    recorded_from "ssh://here$room/history-sha1"
+    git -C recording/copy config core.sshCommand "$room/bin/no-ssh"
+    unset GIT_SSH
+    cd recording/copy
+    run "$top/examples/record.sh" ../requests ../responses fetch origin
+    expect 0 /dev/null /dev/null
+    run git2show check ../requests ../responses
+    expect_status 0
+    expect_line 'the transcript' 'request ls-refs' out
+}
+
+case_a_conversation_over_git_is_recorded() {
+    start_daemon history-sha1 daemon
+    recorded_from "$address"
+    end_daemon
+}
+
+case_a_conversation_over_http_is_recorded() {
+    start_web
+    recorded_from "$web/history-sha1" --stateless
+}
+
+# Where the server ends, the connection of a client that waits for more ends too.
+case_a_server_that_ends_at_once_is_recorded() {
+    local address
+    over_ssh
+    start_web
+    rm -rf recording
+    mkdir recording
+    for address in ssh://here/nothing "$web/nothing" git://127.0.0.1:1/nothing; do
+        run "$top/examples/record.sh" recording/requests recording/responses ls-remote "$address"
+        expect_status 128
+        expect_same 'what was recorded' /dev/null recording/responses
+    done
+}
+
 # completed WORD..: what bash's completion proposes after these words. The last word is not complete yet.
 completed() {
     bash -c '

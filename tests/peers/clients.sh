@@ -44,6 +44,7 @@ client() {
     git-bookworm) limited bash -c 'client_git "$@"' git "${@:2}" ;;
     git-*) PATH=$cache/$suite.bin:$PATH limited bash -c 'client_git "$@"' git "${@:2}" ;;
     dulwich-*) limited "$cache/$suite.bin/python3" "$top/tests/peers/dulwich_client.py" "${@:2}" ;;
+    gitoxide-*) limited "$cache/$suite.bin/gix_peer" "${@:2}" ;;
     jgit-*) limited java -Duser.home="$HOME" -cp "$cache/jgit:$jgit_path" JGitPeer "${@:2}" ;;
     esac
 }

@@ -1,11 +1,12 @@
 # Gets packages of other suites of Debian, with all that they depend on, and unpacks them into the cache folder; nothing is installed on the system.
 
-# apt_of NAME WORD..: apt-get with sources and a state of its own, in which no package is installed: so what a package depends on is got as well.
+# apt_of NAME COMMAND WORD..: apt-get or apt-cache with sources and a state of its own, in which no package is installed: so what a package depends
+# on is got as well.
 apt_of() {
     local at=$cache/apt/$1
-    timeout 900 apt-get -qq -o Dir::Etc::sourcelist="$at/sources.list" -o Dir::Etc::sourceparts=/dev/null -o Dir::Etc::preferences=/dev/null \
+    timeout 1800 "$2" -qq -o Dir::Etc::sourcelist="$at/sources.list" -o Dir::Etc::sourceparts=/dev/null -o Dir::Etc::preferences=/dev/null \
         -o Dir::Etc::preferencesparts=/dev/null -o Dir::State="$at" -o Dir::State::lists="$at/lists" -o Dir::State::status="$at/status" \
-        -o Dir::Cache="$at" -o APT::Sandbox::User=root -o Acquire::Languages=none "${@:2}"
+        -o Dir::Cache="$at" -o APT::Sandbox::User=root -o Acquire::Languages=none "${@:3}"
 }
 
 # get NAME PACKAGE..: unpacks packages, once, into CACHE/NAME, a suite or a suite and more after a hyphen. To get later versions, remove the cache
@@ -18,8 +19,8 @@ get() {
     mkdir -p "$cache/$name" "$at/lists/partial" "$at/archives/partial"
     : > "$at/status"
     echo "deb [signed-by=/usr/share/keyrings/debian-archive-keyring.gpg] http://deb.debian.org/debian $suite main" > "$at/sources.list"
-    apt_of "$name" update
-    apt_of "$name" -y --no-install-recommends --download-only install "${@:2}" > /dev/null
+    apt_of "$name" apt-get update
+    apt_of "$name" apt-get -y --no-install-recommends --download-only install "${@:2}" > /dev/null
     for package in "$at"/archives/*.deb; do
         dpkg -x "$package" "$cache/$name"
         dpkg-deb -f "$package" Package Version | sed 's/^[A-Za-z]*: //' | paste -d ' ' - -
@@ -68,14 +69,4 @@ wrap_git() {
 wrap_python() {
     wrap "$1" python3 /usr/bin/python3
     sed -i "2i export PYTHONHOME='$cache/$1/usr' PYTHONDONTWRITEBYTECODE=1" "$cache/$1.bin/python3"
-}
-
-# build_jgit: our client and server over JGit, by the system's Java, if there is one. Sets `jgit_path`, where its classes are.
-build_jgit() {
-    local jars=$cache/trixie/usr/share/java
-    jgit_path=$jars/org.eclipse.jgit.jar:$jars/javaewah.jar:$jars/slf4j-api.jar:$jars/slf4j-nop.jar:$jars/commons-codec.jar
-    command -v javac > /dev/null || return 0
-    mkdir -p "$cache/jgit"
-    [ "$cache/jgit/JGitPeer.class" -nt "$top/tests/peers/JGitPeer.java" ] ||
-        javac -nowarn -cp "$jgit_path" -d "$cache/jgit" "$top/tests/peers/JGitPeer.java"
 }

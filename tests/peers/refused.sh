@@ -22,6 +22,7 @@ unspoken() {
     libgit2-*)
         limited "$cache/$suite.bin/python3" -c 'import sys, pygit2; pygit2.clone_repository(sys.argv[1], sys.argv[2])' "$2" unspoken.clone
         ;;
+    gogit-*) limited "$cache/$suite.bin/gogit_clone" "$2" unspoken.clone ;;
     got-*) limited env -i HOME=/tmp PATH=/usr/bin:/usr/sbin chroot "$cache/$suite" /usr/bin/got clone -q "$2" /tmp/clone.git ;;
     esac > unspoken.out 2>&1 || status=$?
     if [ $status = 0 ]; then echo 'clones'; else grep -v '^ *$' unspoken.out | tail -n 1; fi

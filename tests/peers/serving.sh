@@ -75,19 +75,26 @@ cut_as() {
 write_ssh() {
     cat > bin/ssh-here << END
 #!/bin/bash
-while [ \$# -gt 2 ]; do
+while [[ \$1 = -* ]]; do
+    case \${2:-} in
+    'SetEnv GIT_PROTOCOL='*) export GIT_PROTOCOL=\${2#SetEnv GIT_PROTOCOL=} ;;
+    esac
     case \$1 in
-    'SetEnv GIT_PROTOCOL='*) export GIT_PROTOCOL=\${1#SetEnv GIT_PROTOCOL=} ;;
+    -o | -p | -i) shift ;;
     esac
     shift
 done
-name=\${2#*/}
+host=\$1
+shift
+# gitoxide gives the command and the repository as two words.
+name=\$*
+name=\${name#*/}
 name=\${name%\'}
 name=\${name%.git}
 # These are of the client's Git.
 unset GIT_EXEC_PATH GIT_TEMPLATE_DIR
 PATH=$room/bin:$system_path
-case \${1#*@} in
+case \${host#*@} in
 theirs) exec git upload-pack "$room/folders/\$name.git" ;;
 folder) exec upload-pack --strict "$room/folders/\$name.git" ;;
 text)
