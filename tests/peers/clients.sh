@@ -18,6 +18,7 @@ cases=(
     'new-commits grown fetch clone'
     'up-to-date history fetch clone'
     'depth-1-of-whole history depth -'
+    'named-bases named clone -'
 )
 
 # client_git VERB ADDRESS FOLDER: what Git's client does.

@@ -19,7 +19,8 @@ def read_package(block):
     name = fields.get("Package", "")
     if name.startswith("librust-"):
         DEPENDS[name] = [names_in(it, "|") for it in fields.get("Depends", "").split(",")]
-        for it in [name, *names_in(fields.get("Provides", ""), ",")]:
+        PROVIDERS[name] = name
+        for it in names_in(fields.get("Provides", ""), ","):
             PROVIDERS.setdefault(it, name)
 
 

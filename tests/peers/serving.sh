@@ -23,13 +23,17 @@ write_served() {
         git -C "$name" config uploadpack.allowFilter true
         offer "$name" texts
     done
+    # The same with a pack whose deltas name their bases by object names, as `git pack-objects` writes it by itself.
+    ln -s history.git folders/named.git
+    cp texts/history.repo texts/named.repo
+    git -C history pack-objects -q --all --stdout < /dev/null > texts/named.pack
     # What a client fetches that has a part of the history, or wants a part alone: a folder serves that as it is, a text only if it has those lines.
     for name in partial cut deeper rest; do
         ln -s history.git "folders/$name.git"
     done
     cp texts/history.repo texts/partial.repo
     cp texts/history.pack texts/partial.pack
-    git -C history pack-objects -q --all --revs --stdout --filter=blob:none --missing=allow-any < /dev/null > texts/partial.filtered
+    git -C history pack-objects -q --delta-base-offset --all --revs --stdout --filter=blob:none --missing=allow-any < /dev/null > texts/partial.filtered
 }
 
 # write_grown: the history with further commits and tags.
@@ -53,7 +57,7 @@ offer() {
     local name=${1##*/}
     name=$2/${name%.git}
     (cd "$1" && "$top/sample/repository-text.sh") > "$name.repo"
-    git -C "$1" pack-objects -q --all --stdout < /dev/null > "$name.pack"
+    git -C "$1" pack-objects -q --delta-base-offset --all --stdout < /dev/null > "$name.pack"
 }
 
 # cut_as NAME CLONE [OLD]: the text and the pack of a clone whose history is cut off, so that it is served to a client that asks for that. OLD is the
@@ -67,7 +71,7 @@ cut_as() {
             comm -23 <(sort "$3/.git/shallow" 2> /dev/null) <(sort "$2/.git/shallow" 2> /dev/null) | sed 's/^/unshallow /'
         fi
     } > "texts/$1.repo"
-    git -C "$2" pack-objects -q --all --stdout < /dev/null > "texts/$1.pack"
+    git -C "$2" pack-objects -q --delta-base-offset --all --stdout < /dev/null > "texts/$1.pack"
 }
 
 # write_ssh: a command in the place of ssh, which runs a server here. The host in the address names which one: `theirs` is Git's own, `text` and `folder`
