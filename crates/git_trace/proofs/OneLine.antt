@@ -11,8 +11,10 @@ use Rattle.git_trace.specs.declared.shown_lines.Look.TheVariants.{Lines, Columns
 use Rattle.git_trace.specs.declared.trace_lines.Direction.{Direction}
 use Rattle.git_trace.specs.declared.trace_lines.Direction.TheVariants.{Received, Sent}
 use Rattle.git_trace.specs.Escapes.{is_written}
-use Rattle.git_trace.specs.TraceLines.{Said, Traced, flush, delim, resp_end, pack, payload, after_name, after_word, behind_word, in_parts, is_name_byte, traced_in, without_return, without_spaces}
-use Rattle.git_trace.specs.ShownLines.{arrow, colour_of, cut, in_column, kind_word, label_of, line_of, name_column, name_of, named, payload_shown, process_columns, said_bytes, spaces, text_column, bytes_shown, widest, columns_before, longest_front}
+use Rattle.git_trace.specs.TraceLines.{Said, Traced, flush, delim, resp_end, pack, payload}
+use Rattle.git_trace.specs.TraceLines.{after_name, after_word, behind_word, in_parts, is_name_byte, traced_in, without_return, without_spaces}
+use Rattle.git_trace.specs.ShownLines.{arrow, colour_of, cut, in_column, kind_word, label_of, line_of, name_column}
+use Rattle.git_trace.specs.ShownLines.{name_of, named, payload_shown, process_columns, said_bytes, spaces, text_column, bytes_shown, widest, columns_before, longest_front}
 
 -- no LF
 abbrev pub OnLine : List ℕ → Type 0
@@ -54,7 +56,8 @@ escape_by b false false false e f g = rw (e, f, g, digit_on (b / 16), digit_on (
 
 escaped_on : (bytes : List ℕ) → OnLine (escaped_of bytes)
 escaped_on [] = refl
-escaped_on (b ∷ bytes) = joined (escape_of b) (escaped_of bytes) (escape_by b (b == 10) (b == 92) (nat_le 32 b && nat_le b 126) refl refl refl) (escaped_on bytes)
+escaped_on (b ∷ bytes) =
+    joined (escape_of b) (escaped_of bytes) (escape_by b (b == 10) (b == 92) (nat_le 32 b && nat_le b 126) refl refl refl) (escaped_on bytes)
 
 name_byte_on : (b : ℕ) → is_name_byte b ≡ true → is_written b ≡ true
 name_byte_on b e = grind (arith)
@@ -90,7 +93,9 @@ in_parts_on : (parts : List ℕ) (t : Traced) → in_parts parts ≡ Some t → 
 in_parts_on parts t e = at (prefix_len is_name_byte parts == 0) refl where
   at : (none : Bool) → (prefix_len is_name_byte parts == 0) ≡ none → OnLine t.name
   at true f = let is = rw f at e in absurd (cc)
-  at false f = let is = rw f at e in subst OnLine (after_name_is (take (prefix_len is_name_byte parts) parts) (drop (prefix_len is_name_byte parts) parts) t is) (name_on parts)
+  at false f =
+      let is = rw f at e in
+      subst OnLine (after_name_is (take (prefix_len is_name_byte parts) parts) (drop (prefix_len is_name_byte parts) parts) t is) (name_on parts)
 
 behind_on : (parts : Option (List ℕ)) (t : Traced) → behind_word parts ≡ Some t → OnLine t.name
 behind_on None t e = absurd (cc)
@@ -149,7 +154,8 @@ colour_on Label.Refusal = refl
 colour_on Label.Data = refl
 
 named_on : (colours : Bool) (label : Label) → OnLine (named colours label)
-named_on true label = joined (colour_of label ++ name_of label) (codes "\u{1b}[0m") (joined (colour_of label) (name_of label) (colour_on label) (word_on label)) refl
+named_on true label =
+    joined (colour_of label ++ name_of label) (codes "\u{1b}[0m") (joined (colour_of label) (name_of label) (colour_on label) (word_on label)) refl
 named_on false label = word_on label
 
 -- what is shown of a packet is a text without an LF, and one

@@ -8,7 +8,8 @@ use Rattle.std.proofs.lemmas.List.{take-append-le}
 use Rattle.std.proofs.Math.Seq.{drop-append_seam, take-append_seam}
 use Rattle.git_trace.specs.declared.trace_lines.Direction.{Direction}
 use Rattle.git_trace.specs.declared.trace_lines.Direction.TheVariants.{Received, Sent}
-use Rattle.git_trace.specs.TraceLines.{after_name, after_word, behind_word, in_parts, is_name_byte, is_space, said_in, traced_in, without_return, without_spaces}
+use Rattle.git_trace.specs.TraceLines.{after_name, after_word, behind_word, in_parts}
+use Rattle.git_trace.specs.TraceLines.{is_name_byte, is_space, said_in, traced_in, without_return, without_spaces}
 use Rattle.git_trace.specs.ShownLines.{arrow, spaces}
 
 -- whether the word begins a text is settled by eight of its characters
@@ -64,7 +65,9 @@ parts_read name content direction all some =
     by_count (prefix_len is_name_byte (name ++ rest)) counted
   where
     by_count : (count : ℕ) → count ≡ length name
-        → (if count == 0 then None else after_name (take count (name ++ (arrow direction ++ (codes " " ++ content)))) (drop count (name ++ (arrow direction ++ (codes " " ++ content)))))
+        → (if count == 0
+        then None
+        else after_name (take count (name ++ (arrow direction ++ (codes " " ++ content)))) (drop count (name ++ (arrow direction ++ (codes " " ++ content)))))
         ≡ Some (record { name = name; direction = direction; said = said_in content })
     by_count count is =
         let rest = arrow direction ++ (codes " " ++ content) in

@@ -121,7 +121,8 @@ eleven_read a b c rest below under last least =
     let text = 51 ∷ 55 ∷ 55 ∷ 55 ∷ 55 ∷ 55 ∷ 55 ∷ 55 ∷ (a + 48) ∷ (b + 48) ∷ (c + 48) ∷ rest in
     let number : three_at text 8 ≡ a * 64 + b * 8 + c = rw (octal_digit a below, octal_digit b under, octal_digit c last) refl in
     let is : has_eleven text ≡ true =
-    by_digits (octal_at text 8) (octal_at text 9) (octal_at text 10) a b c (octal_digit a below) (octal_digit b under) (octal_digit c last) below under last least in
+    by_digits (octal_at text 8) (octal_at text 9) (octal_at text 10) a b c (octal_digit a below) (octal_digit b under)
+    (octal_digit c last) below under last least in
     ap (λ (e : Bool). by e (three_at text 8) (octal_at text 0) (octal_at text 1) (octal_at text 2)) is
     ∙ ap (λ (n : ℕ). by true n (octal_at text 0) (octal_at text 1) (octal_at text 2)) number
   where
@@ -141,7 +142,8 @@ above b not_printable least = grind (arith)
 digits_read : (signed : Bool) (b : ℕ) (rest : List ℕ) → b < 256 → is_printable b ≡ false → (b ≡ 10 → ⊥) → octal_at rest 0 ≡ 8
     → escape_at (digits_of signed b ++ rest) ≡ record { byte = b; digits = length (digits_of signed b) }
 digits_read signed b rest below not_printable no_lf none = at (signed && nat_le 128 b) refl where
-  long : (n : ℕ) → 384 ≤ n → n < 512 → escape_at (codes "37777777" ++ octal n ++ rest) ≡ record { byte = n - 256; digits = length (codes "37777777" ++ octal n) }
+  long : (n : ℕ) → 384 ≤ n → n < 512
+      → escape_at (codes "37777777" ++ octal n ++ rest) ≡ record { byte = n - 256; digits = length (codes "37777777" ++ octal n) }
   long n least most =
       rw (octal_3 n (omega (arith, least))) (eleven_read (n / 64) (n / 8 % 8) (n % 8) rest (omega (arith, most)) (omega arith) (omega arith)
       (omega (arith, least, three_digits n)) ∙ ap (λ (k : ℕ). record { byte = k - 256; digits = 11 }) (three_digits n))
@@ -165,7 +167,8 @@ digits_read signed b rest below not_printable no_lf none = at (signed && nat_le 
       → escape_at (digits_of signed b ++ rest) ≡ record { byte = b; digits = length (digits_of signed b) }
   at true e =
       let least : 128 ≤ b = leb-true 128 b ((and_parts signed (nat_le 128 b) e).1) in
-      rw e (long (b + 256) (omega (arith, least)) (omega (arith, below)) ∙ ap (λ (k : ℕ). record { byte = k; digits = length (codes "37777777" ++ octal (b + 256)) }) (omega arith))
+      rw e (long (b + 256) (omega (arith, least)) (omega (arith, below))
+      ∙ ap (λ (k : ℕ). record { byte = k; digits = length (codes "37777777" ++ octal (b + 256)) }) (omega arith))
   at false e = rw e (short (nat_lt b 8) (nat_lt b 64) refl refl)
 
 -- the first character of what is written of bytes is no octal digit, where their first but LFs is none

@@ -36,12 +36,18 @@ long_joined begun (b ∷ s) t = at (long_joined [] s t) (long_joined (begun ++ b
       → has_long (begun ++ b ∷ []) (s ++ t) ≡ (has_long (begun ++ b ∷ []) s || has_long (left_after (begun ++ b ∷ []) s) t)
       → (ends : Bool) → (b == 10) ≡ ends → has_long begun (b ∷ s ++ t) ≡ (has_long begun (b ∷ s) || has_long (left_after begun (b ∷ s)) t)
   at next on true e = rw (e) next
-  at next on false e = rw (e) (ap (λ (x : Bool). nat_lt longest_line (length begun + 1) || x) on ∙ or_joined (nat_lt longest_line (length begun + 1)) (has_long (begun ++ b ∷ []) s) (has_long (left_after (begun ++ b ∷ []) s) t))
+  at next on false e =
+      rw (e) (ap (λ (x : Bool). nat_lt longest_line (length begun + 1) || x) on
+      ∙ or_joined (nat_lt longest_line (length begun + 1)) (has_long (begun ++ b ∷ []) s) (has_long (left_after (begun ++ b ∷ []) s) t))
 
 pub shown_joined : (look : Look) (begun s t : List ℕ)
     → shown_lines look (lines_after begun (s ++ t)) ≡ shown_lines look (lines_after begun s) ++ shown_lines look (lines_after (left_after begun s) t)
-shown_joined look begun s t = ap (shown_lines look) (lines_joined begun s t) ∙ flat_map-append (shown_line look) (lines_after begun s) (lines_after (left_after begun s) t)
+shown_joined look begun s t =
+    ap (shown_lines look) (lines_joined begun s t)
+    ∙ flat_map-append (shown_line look) (lines_after begun s) (lines_after (left_after begun s) t)
 
 pub packets_joined : (begun s t : List ℕ) → list_any is_packet_line (lines_after begun (s ++ t))
     ≡ (list_any is_packet_line (lines_after begun s) || list_any is_packet_line (lines_after (left_after begun s) t))
-packets_joined begun s t = ap (list_any is_packet_line) (lines_joined begun s t) ∙ list_any-append is_packet_line (lines_after begun s) (lines_after (left_after begun s) t)
+packets_joined begun s t =
+    ap (list_any is_packet_line) (lines_joined begun s t)
+    ∙ list_any-append is_packet_line (lines_after begun s) (lines_after (left_after begun s) t)

@@ -80,7 +80,8 @@ impl TraceReader {
     fn take(&mut self, byte: u8, out: &mut Vec<u8>) -> Result<(), TraceFault>
         ensures begun { OnOk result (self.new.begun.items ≡ left_after self.old.begun.items (byte ∷ [])) }
         ensures shown { OnOk result (out.new.items ≡ out.old.items ++ shown_lines self.old.look (lines_after self.old.begun.items (byte ∷ []))) }
-        ensures packets { OnOk result (self.new.has_packets ≡ (self.old.has_packets || list_any is_packet_line (lines_after self.old.begun.items (byte ∷ [])))) }
+        ensures packets { OnOk result (self.new.has_packets
+            ≡ (self.old.has_packets || list_any is_packet_line (lines_after self.old.begun.items (byte ∷ [])))) }
         ensures look { self.new.look ≡ self.old.look }
         ensures short { OnOk result (has_long self.old.begun.items (byte ∷ []) ≡ false) }
         ensures fault { IfErr result (IsLineFault self.old.begun.items (byte ∷ [])) }
