@@ -11,12 +11,11 @@ use Rattle.git_msg.specs.Asked.{Asked, FetchAsked, LsRefsAsked, ObjectInfoAsked,
 use Rattle.git_msg.specs.WrittenRequest.{text_line}
 use Rattle.git_server.specs.FetchAnswers.{negotiates}
 use Rattle.git_server.specs.Packs.{whole}
-use Rattle.git_server.specs.Repository.{Entry}
 use Rattle.git_host.specs.Admissions.{AdmissionFacts, IsAdmitted, StandsAtStep, all_there, nothing_reported, step_of}
 use Rattle.git_host.specs.FetchFacts.{AreSoundFacts, FetchFacts, before_pack, no_facts}
 use Rattle.git_host.specs.FetchPlaces.{StandsAt, asked_of as fetch_of, format_of as fetch_format, is_before_pack, is_pack, place_by, step_at}
 use Rattle.git_host.specs.FetchPlaces.{step_of as fetch_step}
-use Rattle.git_host.specs.ReferencesPlaces.{IsReferencesAnswerOf, ReferencesFacts, RepresentsReferences, StandsAtReferences, no_references}
+use Rattle.git_host.specs.ReferencesPlaces.{IsReferencesAnswerOf, ReferencesFacts, RepresentsReferences, StandsAtReferences, last_reported, no_references}
 use Rattle.git_host.specs.ReferencesPlaces.{with_references_end}
 use Rattle.git_host.specs.SizesPlaces.{Asks, AtObject, IsSizesAnswerOf, RepresentsSizes, StandsAtSizes, size_line, sizes_asked}
 use Rattle.git_host.specs.HostSessions.{Facts, IsAnswerBy, IsFront, IsFrontBy, IsSoFar, nothing_for, of_fetch, of_references, of_sizes}
@@ -202,7 +201,7 @@ before_place AtLoss alone q t given is h = absurd (cc)
 
 -- ---- references
 
-refs_front : (place : ReferencesPlace) (format : Format) (q : LsRefsAsked) (t : ReferencesFacts) (last : Option Entry) (given : List Pkt)
+refs_front : (place : ReferencesPlace) (format : Format) (q : LsRefsAsked) (t : ReferencesFacts) (last : Option (List ℕ)) (given : List Pkt)
     → StandsAtReferences place format q t last given → (more : List Pkt) × IsReferencesAnswerOf format q (with_references_end t) (given ++ more)
 refs_front First format q t last given h = (flush ∷ [], after_refs format q t last given (first_entries format q t last given h))
 refs_front Entries format q t last given h = (flush ∷ [], after_refs format q t last given h.1)
@@ -314,7 +313,7 @@ module _ {A : Type 0} where
   references_front : (answer : ReferencesAnswer A) (format : Format) (q : LsRefsAsked) (t : ReferencesFacts) (front : List Pkt) → answer.format ≡ format
       → RepresentsReferences q t front answer → IsFrontBy format (ls_refs q) (of_references t) front
   references_front answer format q t front same h =
-      let (more, is) = refs_front answer.place answer.format q t answer.last front h.stands in
+      let (more, is) = refs_front answer.place answer.format q t (last_reported answer) front h.stands in
       record {
         later = of_references (with_references_end t);
         grows = record { unborn = λ target there. there; refs = no_more t.refs; ended = λ is. refl };

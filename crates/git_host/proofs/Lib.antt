@@ -2,7 +2,12 @@ pub mod Picked
 pub mod FetchMoves
 pub mod AdmissionMoves
 pub mod RepositoryFacts
+pub mod NameOrder
+pub mod NamesFrom
+pub mod WrittenIds
 pub mod ReferencesMoves
+pub mod PlainLines
+pub mod JudgedNames
 pub mod SizesMoves
 pub mod HostAnswerMoves
 pub mod FetchFronts
@@ -10,6 +15,7 @@ pub mod AnswerFronts
 pub mod LentStreams
 pub mod HostMoves
 pub mod HostFaults
+pub mod PlainMoves
 pub mod FeedMoves
 pub mod HostMemoryMoves
 pub mod HostCallMoves

@@ -57,16 +57,16 @@ pub asks_alike : (q kept : LsRefsAsked) (b : Bool) → IsAlike q kept → asks_f
 asks_alike q kept b h is = rw (h.symrefs, h.unborn, ← h.alike (codes "HEAD")) at is
 
 -- the reference added last is the last one
-last_before : (refs : List Entry) (last : Option Entry) (entry d : Entry) → IsLast refs last → comes_after last entry.name ≡ true
+last_before : (refs : List Entry) (last : Option (List ℕ)) (entry d : Entry) → IsLast refs last → comes_after last entry.name ≡ true
     → 0 < length refs → comes_before (get_or refs (length refs - 1) d).name entry.name ≡ true
 last_before refs None entry d none after some = absurd (omega (arith, some, ap length none))
-last_before refs (Some last) entry d (front, is) after some =
+last_before refs (Some name) entry d (front, last, is, named) after some =
     let at : length refs - 1 ≡ length front = omega (arith, ap length is, length_more front last) in
     let here : get_or refs (length refs - 1) d ≡ last =
     ap (λ (l : List Entry). get_or l (length refs - 1) d) is ∙ last_is front last (length refs - 1) d at in
-    ap (λ (e : Entry). comes_before e.name entry.name) here ∙ after
+    ap (λ (e : Entry). comes_before e.name entry.name) here ∙ ap (λ (n : List ℕ). comes_before n entry.name) named ∙ after
 
-more_rising : (t : ReferencesFacts) (last : Option Entry) (entry : Entry) → IsRising t.refs → IsLast t.refs last → comes_after last entry.name ≡ true
+more_rising : (t : ReferencesFacts) (last : Option (List ℕ)) (entry : Entry) → IsRising t.refs → IsLast t.refs last → comes_after last entry.name ≡ true
     → IsRising (t.refs ++ entry ∷ [])
 more_rising t last entry rising is after =
     rising_more (λ a b. comes_before a.name b.name ≡ true) t.refs entry rising (λ d some. last_before t.refs last entry d is after some)
@@ -75,20 +75,20 @@ true_false : true ≡ false → ⊥
 true_false e = cc
 
 -- with a reference that does not come after the last, the names do not rise
-not_rising : (t : ReferencesFacts) (last : Option Entry) (entry : Entry) → IsLast t.refs last → comes_after last entry.name ≡ false
+not_rising : (t : ReferencesFacts) (last : Option (List ℕ)) (entry : Entry) → IsLast t.refs last → comes_after last entry.name ≡ false
     → IsRising (t.refs ++ entry ∷ []) → ⊥
 not_rising t None entry is after rising = absurd (cc)
-not_rising t (Some last) entry (front, is) after rising =
+not_rising t (Some name) entry (front, last, is, named) after rising =
     let some : 0 < length t.refs = omega (arith, ap length is, length_more front last) in
     let at : length t.refs - 1 ≡ length front = omega (arith, ap length is, length_more front last) in
     let here : get_or t.refs (length t.refs - 1) last ≡ last =
     ap (λ (l : List Entry). get_or l (length t.refs - 1) last) is ∙ last_is front last (length t.refs - 1) last at in
     let less = last_rises (λ a b. comes_before a.name b.name ≡ true) t.refs entry rising last some in
     let less_here : comes_before last.name entry.name ≡ true = sym (ap (λ (e : Entry). comes_before e.name entry.name) here) ∙ less in
-    absurd (true_false (sym less_here ∙ after))
+    absurd (true_false (sym less_here ∙ ap (λ (n : List ℕ). comes_before n entry.name) named ∙ after))
 
 -- with one reference more, which is no second `HEAD`, what was reported stays sound
-pub one_more_sound : (format : Format) (t : ReferencesFacts) (last : Option Entry) (entry : Entry) → AreSoundReferences format t → IsLast t.refs last
+pub one_more_sound : (format : Format) (t : ReferencesFacts) (last : Option (List ℕ)) (entry : Entry) → AreSoundReferences format t → IsLast t.refs last
     → comes_after last entry.name ≡ true → IsNamed entry.name entry.target → IsOfFormat format entry
     → ForSome t.unborn (λ target. entry.name ≢ codes "HEAD") → AreSoundReferences format (with_ref entry t)
 one_more_sound format t last entry h is after named of_format other = record {
@@ -105,7 +105,7 @@ one_more_sound format t last entry h is after named of_format other = record {
 pub sound_to_the_end : (format : Format) (t : ReferencesFacts) → AreSoundReferences format t → AreSoundReferences format (with_references_end t)
 sound_to_the_end format t h = record { rising = h.rising; named = h.named; of_format = h.of_format; unborn = h.unborn }
 
-module _ (format : Format) (q : LsRefsAsked) (t : ReferencesFacts) (last : Option Entry) (given : List Pkt) (at : AtEntries format q t last given) where
+module _ (format : Format) (q : LsRefsAsked) (t : ReferencesFacts) (last : Option (List ℕ)) (given : List Pkt) (at : AtEntries format q t last given) where
   refs_on : (entry : Entry) (b : Bool) → is_shown q.ref_prefixes entry.name ≡ b
       → packets_so_far q (with_ref entry t) ≡ packets_so_far q t ++ (if b then reference_packet q.symrefs q.peel entry ∷ [] else [])
   refs_on entry true e =
@@ -121,19 +121,19 @@ module _ (format : Format) (q : LsRefsAsked) (t : ReferencesFacts) (last : Optio
 
   -- a reference that is shown
   pub after_shown : (entry : Entry) → AreSoundReferences format (with_ref entry t) → is_shown q.ref_prefixes entry.name ≡ true
-      → AtEntries format q (with_ref entry t) (Some entry) (given ++ reference_packet q.symrefs q.peel entry ∷ [])
+      → AtEntries format q (with_ref entry t) (Some entry.name) (given ++ reference_packet q.symrefs q.peel entry ∷ [])
   after_shown entry sound e = record {
     sound = sound;
-    last_is = (t.refs, refl);
+    last_is = (t.refs, entry, refl, refl);
     given_is = ap (λ (l : List Pkt). l ++ reference_packet q.symrefs q.peel entry ∷ []) at.given_is ∙ sym (refs_on entry true e);
   }
 
   -- a reference that is hidden
   pub after_hidden : (entry : Entry) → AreSoundReferences format (with_ref entry t) → is_shown q.ref_prefixes entry.name ≡ false
-      → AtEntries format q (with_ref entry t) (Some entry) given
+      → AtEntries format q (with_ref entry t) (Some entry.name) given
   after_hidden entry sound e = record {
     sound = sound;
-    last_is = (t.refs, refl);
+    last_is = (t.refs, entry, refl, refl);
     given_is = at.given_is ∙ sym (append-nil (packets_so_far q t)) ∙ sym (refs_on entry false e);
   }
 
@@ -154,7 +154,7 @@ nothing_sound format = record {
 }
 
 -- nothing was reported: no references so far
-pub first_entries : (format : Format) (q : LsRefsAsked) (t : ReferencesFacts) (last : Option Entry) (given : List Pkt) → AtFirst t last given
+pub first_entries : (format : Format) (q : LsRefsAsked) (t : ReferencesFacts) (last : Option (List ℕ)) (given : List Pkt) → AtFirst t last given
     → AtEntries format q t last given
 first_entries format q t last given h = record {
   sound = subst (AreSoundReferences format) (sym h.nothing) (nothing_sound format);
@@ -162,7 +162,7 @@ first_entries format q t last given h = record {
   given_is = h.given_is ∙ sym (ap (packets_so_far q) h.nothing);
 }
 
-pub entries_of : (place : ReferencesPlace) (format : Format) (q : LsRefsAsked) (t : ReferencesFacts) (last : Option Entry) (given : List Pkt)
+pub entries_of : (place : ReferencesPlace) (format : Format) (q : LsRefsAsked) (t : ReferencesFacts) (last : Option (List ℕ)) (given : List Pkt)
     → (place ≡ Whole → ⊥) → StandsAtReferences place format q t last given → AtEntries format q t last given
 entries_of First format q t last given unended h = first_entries format q t last given h
 entries_of Entries format q t last given unended h = h.1
@@ -170,16 +170,16 @@ entries_of AfterUnborn format q t last given unended h = h.1
 entries_of Whole format q t last given unended h = absurd (unended refl)
 
 -- with one more reference in the facts, the place is that after a reference
-pub stands_after : (place : ReferencesPlace) (format : Format) (q : LsRefsAsked) (t : ReferencesFacts) (last : Option Entry) (given : List Pkt)
+pub stands_after : (place : ReferencesPlace) (format : Format) (q : LsRefsAsked) (t : ReferencesFacts) (last : Option (List ℕ)) (given : List Pkt)
     (entry : Entry) (now : List Pkt) → (place ≡ Whole → ⊥) → StandsAtReferences place format q t last given
-    → AtEntries format q (with_ref entry t) (Some entry) now
-    → StandsAtReferences (after_entry place) format q (with_ref entry t) (Some entry) now
+    → AtEntries format q (with_ref entry t) (Some entry.name) now
+    → StandsAtReferences (after_entry place) format q (with_ref entry t) (Some entry.name) now
 stands_after First format q t last given entry now unended h new = (ap (λ (f : ReferencesFacts). f.unborn) h.nothing, new)
 stands_after Entries format q t last given entry now unended h new = (h.0, new)
 stands_after AfterUnborn format q t last given entry now unended h new = (h.0, new)
 stands_after Whole format q t last given entry now unended h new = absurd (unended refl)
 
-pub head_allowed : (place : ReferencesPlace) (format : Format) (q : LsRefsAsked) (t : ReferencesFacts) (last : Option Entry) (given : List Pkt)
+pub head_allowed : (place : ReferencesPlace) (format : Format) (q : LsRefsAsked) (t : ReferencesFacts) (last : Option (List ℕ)) (given : List Pkt)
     (name : List ℕ) → (place ≡ Whole → ⊥) → refuses_head_at place name ≡ false → StandsAtReferences place format q t last given
     → ForSome t.unborn (λ target. name ≢ codes "HEAD")
 head_allowed First format q t last given name unended other h =
@@ -192,7 +192,7 @@ head_allowed Whole format q t last given name unended other h = absurd (unended 
 
 -- ---- what is refused would not be sound
 
-pub unsound_order : (format : Format) (t : ReferencesFacts) (last : Option Entry) (entry : Entry) → IsLast t.refs last
+pub unsound_order : (format : Format) (t : ReferencesFacts) (last : Option (List ℕ)) (entry : Entry) → IsLast t.refs last
     → comes_after last entry.name ≡ false → ¬ AreSoundReferences format (with_ref entry t)
 unsound_order format t last entry is after sound = not_rising t last entry is after sound.rising
 
@@ -200,7 +200,7 @@ pub unsound_format : (format : Format) (t : ReferencesFacts) (entry : Entry) →
 unsound_format format t entry other sound =
     other (All-pop (IsOfFormat format) (t.refs ++ entry ∷ []) t.refs (Some entry) refl sound.of_format).1
 
-pub unsound_head : (place : ReferencesPlace) (format : Format) (q : LsRefsAsked) (t : ReferencesFacts) (last : Option Entry) (given : List Pkt)
+pub unsound_head : (place : ReferencesPlace) (format : Format) (q : LsRefsAsked) (t : ReferencesFacts) (last : Option (List ℕ)) (given : List Pkt)
     (entry : Entry) → refuses_head_at place entry.name ≡ true → StandsAtReferences place format q t last given
     → ¬ AreSoundReferences format (with_ref entry t)
 unsound_head First format q t last given entry is h sound = absurd (cc)
@@ -214,7 +214,7 @@ unsound_head AfterUnborn format q t last given entry is h sound =
           (All-pop (λ (ref : Entry). ref.name ≢ codes "HEAD") (t.refs ++ entry ∷ []) t.refs (Some entry) refl (u target refl).no_head).1
           ((bytes_eq-Decides entry.name (codes "HEAD")).0 is)
 
-module _ (format : Format) (q : LsRefsAsked) (t : ReferencesFacts) (last : Option Entry) (given : List Pkt) (target : List ℕ) (at : AtFirst t last given) where
+module _ (format : Format) (q : LsRefsAsked) (t : ReferencesFacts) (last : Option (List ℕ)) (given : List Pkt) (target : List ℕ) (at : AtFirst t last given) where
   head_on : (b : Bool) → asks_for_unborn q ≡ b
       → packets_so_far q (with_unborn target t) ≡ (if b then unborn_packet target ∷ [] else [])
   head_on b e =

@@ -1,6 +1,7 @@
 -- How far the answer to the request at hand has come, by what was reported and what was sent; and what a report does.
-use Rattle.std.specs.Prelude.{◌≡◌, ◌≢◌, ℕ, ◌≤◌, Bool, true, false, ◌||◌, List, [], ◌∷◌, ◌++◌, take, Option, Some, None}
-use Rattle.git_names.specs.ObjectName.{ObjectName}
+use Rattle.std.specs.Prelude.{◌≡◌, ◌≢◌, ℕ, ◌≤◌, Bool, true, false, ◌||◌, List, [], ◌∷◌, ◌++◌, take, Option, Some, None, Result, Ok, Err}
+use Rattle.git_names.specs.ObjectName.{ObjectName, hex_of}
+use Rattle.git_names.specs.RefName.{IsRefName}
 use Rattle.git_names.specs.declared.object_format.Format.{Format}
 use Rattle.git_names.specs.NameBytes.{name_bytes}
 use Rattle.git_pkt.specs.Packets.{Pkt, spelling_of}
@@ -20,7 +21,7 @@ use Rattle.git_host.specs.FetchPlaces.{with_boundary_end}
 use Rattle.git_host.specs.FetchPlaces.{with_pack, with_progress, with_ready}
 use Rattle.git_host.specs.FetchPlaces.{WantsNoProgress, asked_of as fetch_of, format_of as fetch_format, step_of as fetch_step}
 use Rattle.git_host.specs.ReferencesPlaces.{HasBegun, IsUnsoundAfter, ReferencesFacts, RepresentsReferences, is_whole, with_ref, with_unborn}
-use Rattle.git_host.specs.ReferencesPlaces.{format_of as references_format, with_references_end}
+use Rattle.git_host.specs.ReferencesPlaces.{RefusesName, format_of as references_format, plain_entry, plain_line, with_references_end}
 use Rattle.git_host.specs.SizesPlaces.{IsAsking, RepresentsSizes, sizes_asked}
 use Rattle.git_host.specs.HostSessions.{Facts, IsAnswerBy, IsBeforePack, IsFrontBy, IsLacking, nothing_for, of_fetch, of_references, of_sizes}
 use Rattle.git_host.specs.declared.admission.Admission.{Admission as AdmissionMachine}
@@ -52,6 +53,7 @@ use Rattle.git_host.specs.declared.host_answer.AnswerStep.{AnswerStep}
 use Rattle.git_host.specs.declared.host_answer.AnswerStep.TheVariants.{Packet as GivesPacket, Need as Needs, Whole as AllGiven, Broken, Refused as IsRefused}
 use Rattle.git_host.specs.declared.report.HostReported.{HostReported}
 use Rattle.git_host.specs.declared.report.HostReported.TheVariants.{Packet, Taken, Hidden, NotAsked, MixedFormats, Unsorted, HeadTwice, NotShallow, OutOfMemory}
+use Rattle.git_host.specs.declared.report.ReferenceFault.{ReferenceFault}
 use Rattle.git_host.specs.declared.report.Need.{Need}
 use Rattle.git_host.specs.declared.report.Need.TheVariants.{Want as NeedWant, WantRef as NeedWantRef, Have as NeedHave, Ready as NeedReady}
 use Rattle.git_host.specs.declared.report.Need.TheVariants.{Boundary as NeedBoundary, Pack as NeedPack, Reference as NeedReference, Size as NeedSize}
@@ -377,3 +379,9 @@ module _ {A : Type 0} where
   ReportsBy report old Taken bytes new = GoesOn (with_report report) old new × IsTaken report new
   ReportsBy report old Hidden bytes new = GoesOn (with_hidden report) old new × IsUnwanted report old
   ReportsBy report old reported bytes new = GoesOn (λ f. f) old new × IsReason report old reported
+
+  -- what the report of a reference does that points to no other and is no annotated tag, but for its packet, which is still to be written
+  abbrev pub TakesPlain : Format → List ℕ → HostAnswer A → Result HostReported ReferenceFault → HostAnswer A → Type 0
+  TakesPlain format name old (Ok reported) new = IsRefName name × ((id : ObjectName) → id.format ≡ format
+      → ReportsBy (Reference (plain_entry id name)) old reported (spelling_of (plain_line (hex_of id) name)) new)
+  TakesPlain format name old (Err fault) new = RefusesName fault name × (new ≡ old)

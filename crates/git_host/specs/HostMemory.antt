@@ -1,9 +1,9 @@
 -- How many bytes a host's server holds, and what bounds them.
-use Rattle.std.specs.Prelude.{◌≡◌, ℕ, ◌+◌, ◌*◌, List, length, Option, Some, None}
+use Rattle.std.specs.Prelude.{◌≡◌, ℕ, ◌+◌, ◌*◌, length}
 use Rattle.git_msg.specs.Machine.HeldRequest.{kept_of, stored_of}
 use Rattle.git_msg.specs.Memory.{HasRefused}
 use Rattle.git_msg.specs.Machine.RequestStreams.{bytes_held as stream_held}
-use Rattle.git_server.specs.Repository.{Entry}
+use Rattle.git_host.specs.LastNames.{last_bytes}
 use Rattle.git_host.specs.declared.admission.Admission.{Admission as AdmissionMachine}
 use Rattle.git_host.specs.declared.fetch_answer.FetchAnswer.{FetchAnswer}
 use Rattle.git_host.specs.declared.references_answer.ReferencesAnswer.{ReferencesAnswer}
@@ -15,16 +15,6 @@ use Rattle.git_host.specs.declared.host_server.Phase.TheVariants.{Asked as Whole
 use Rattle.git_host.specs.declared.host_server.HostServer.{HostServer}
 use Rattle.git_host.specs.declared.report.HostReported.{HostReported}
 use Rattle.git_host.specs.declared.report.HostReported.TheVariants.{OutOfMemory}
-
--- of the name that a symbolic reference points to
-abbrev pub target_bytes : Option (List ℕ) → ℕ
-target_bytes None = 0
-target_bytes (Some target) = length target
-
--- of a reference: of its name, and of the name that it points to. Its object names lie in the struct
-abbrev pub entry_bytes : Option Entry → ℕ
-entry_bytes None = 0
-entry_bytes (Some entry) = length entry.name + target_bytes entry.target
 
 module _ {A : Type 0} where
   -- the bytes counted of the lines of the request that is asked about or answered, and those stored of their values
@@ -90,9 +80,9 @@ module _ {A : Type 0} where
   abbrev pub wanted_by : HostServer A → ℕ
   wanted_by server = wanted_in server.phase
 
-  -- the bytes of the reference that was reported last
+  -- the bytes that the name of the reference that was reported last takes
   abbrev pub last_for : HostAnswer A → ℕ
-  last_for (References answer) = entry_bytes answer.last
+  last_for (References answer) = last_bytes answer.last
   last_for answer = 0
 
   abbrev pub last_in : Phase A → ℕ
@@ -121,7 +111,7 @@ module _ {A : Type 0} where
   abbrev pub references_by_fields : ReferencesAnswer A → ℕ
   references_by_fields answer =
       let record { listing = listing; format = format; last = last; place = place } = answer in
-      listing.stored + 33 * 0 + entry_bytes last
+      listing.stored + 33 * 0 + last_bytes last
 
   abbrev pub sizes_by_fields : SizesAnswer A → ℕ
   sizes_by_fields answer =

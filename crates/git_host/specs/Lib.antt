@@ -2,6 +2,9 @@ pub mod Admissions
 pub mod AdmittedAnswers
 pub mod FetchFacts
 pub mod FetchPlaces
+pub mod LastNames
+pub mod NextNames
+pub mod WrittenDigits
 pub mod ReferencesPlaces
 pub mod SizesPlaces
 pub mod RepositoryFacts

@@ -1,20 +1,27 @@
 -- How far an answer for references has come, by what was reported and what was sent.
-use Rattle.std.specs.Prelude.{◌≡◌, ◌≢◌, ℕ, ◌≤◌, Bool, true, false, All, List, [], ◌∷◌, ◌++◌, codes, map, Option, Some, None, IsSome}
+use Rattle.std.specs.Prelude.{◌≡◌, ◌≢◌, ℕ, ◌≤◌, Bool, true, false, All, List, [], ◌∷◌, ◌++◌, codes, map, Option, Some, None, IsSome, Result, Ok, Err}
 use Rattle.std.specs.Option.{ForSome}
 use Rattle.std.specs.Str.{bytes_eq}
 use Rattle.git_names.specs.declared.object_format.Format.{Format}
-use Rattle.git_pkt.specs.Packets.{Pkt}
+use Rattle.git_names.specs.ObjectName.{ObjectName, hex_of}
+use Rattle.git_names.specs.RefName.{IsRefName}
+use Rattle.git_pkt.specs.Packets.{Pkt, spelling_of}
 use Rattle.git_msg.specs.Asked.{LsRefsAsked}
 use Rattle.git_msg.specs.Kept.{Kept}
 use Rattle.git_msg.specs.Prefixes.{ShowAlike}
+use Rattle.git_msg.specs.WrittenRequest.{text_line}
 use Rattle.git_server.specs.Answers.{reference_packet, reference_packets, shown_refs, unborn_packets}
-use Rattle.git_server.specs.Repository.{Entry, IsNamed, IsOfFormat, IsRising, IsUnbornHead, comes_before}
+use Rattle.git_server.specs.Repository.{Entry, IsNamed, IsOfFormat, IsRising, IsUnbornHead}
 use Rattle.git_host.specs.FetchPlaces.{Holds}
+use Rattle.git_host.specs.LastNames.{last_name}
+pub use Rattle.git_host.specs.NextNames.{comes_after}
 use Rattle.git_host.specs.declared.references_answer.ReferencesPlace.{ReferencesPlace}
 use Rattle.git_host.specs.declared.references_answer.ReferencesPlace.TheVariants.{First, Entries, AfterUnborn, Whole}
 use Rattle.git_host.specs.declared.references_answer.Reported.{Reported}
 use Rattle.git_host.specs.declared.references_answer.Reported.TheVariants.{Packet, Hidden, NotAsked}
 use Rattle.git_host.specs.declared.references_answer.ReferencesAnswer.{ReferencesAnswer}
+use Rattle.git_host.specs.declared.report.ReferenceFault.{ReferenceFault}
+use Rattle.git_host.specs.declared.report.ReferenceFault.TheVariants.{BadObjectName, BadRefName, OutOfMemory}
 
 -- what a store reported for one request for references: what an unborn `HEAD` points to, its references, and whether those are all of them
 pub record ReferencesFacts : Type 0 where
@@ -38,15 +45,10 @@ pub record IsReferencesAnswerOf (format : Format) (q : LsRefsAsked) (t : Referen
   pub ended : t.ended ≡ true
   pub packets_are : packets ≡ unborn_packets q t.unborn ++ reference_packets q t.refs
 
--- the reference that was reported last, if one was
-abbrev pub IsLast : List Entry → Option Entry → Type 0
+-- the name of the reference that was reported last, if one was
+abbrev pub IsLast : List Entry → Option (List ℕ) → Type 0
 IsLast refs None = refs ≡ []
-IsLast refs (Some entry) = (front : List Entry) × (refs ≡ front ++ entry ∷ [])
-
--- a name comes after that of the reference that was reported last
-abbrev pub comes_after : Option Entry → List ℕ → Bool
-comes_after None name = true
-comes_after (Some last) name = comes_before last.name name
+IsLast refs (Some name) = (front : List Entry) × (entry : Entry) × (refs ≡ front ++ entry ∷ []) × (entry.name ≡ name)
 
 -- the request that is answered is this one, but for the order of its prefixes
 pub record IsAlike (q kept : LsRefsAsked) : Type 0 where
@@ -60,18 +62,18 @@ abbrev pub packets_so_far : LsRefsAsked → ReferencesFacts → List Pkt
 packets_so_far q t = unborn_packets q t.unborn ++ map (reference_packet q.symrefs q.peel) (shown_refs q.ref_prefixes t.refs)
 
 -- references were reported, perhaps none so far
-pub record AtEntries (format : Format) (q : LsRefsAsked) (t : ReferencesFacts) (last : Option Entry) (given : List Pkt) : Type 0 where
+pub record AtEntries (format : Format) (q : LsRefsAsked) (t : ReferencesFacts) (last : Option (List ℕ)) (given : List Pkt) : Type 0 where
   pub sound : AreSoundReferences format t
   pub last_is : IsLast t.refs last
   pub given_is : given ≡ packets_so_far q t
 
 -- nothing was reported
-pub record AtFirst (t : ReferencesFacts) (last : Option Entry) (given : List Pkt) : Type 0 where
+pub record AtFirst (t : ReferencesFacts) (last : Option (List ℕ)) (given : List Pkt) : Type 0 where
   pub nothing : t ≡ no_references
   pub last_is : last ≡ None
   pub given_is : given ≡ []
 
-abbrev pub StandsAtReferences : ReferencesPlace → Format → LsRefsAsked → ReferencesFacts → Option Entry → List Pkt → Type 0
+abbrev pub StandsAtReferences : ReferencesPlace → Format → LsRefsAsked → ReferencesFacts → Option (List ℕ) → List Pkt → Type 0
 StandsAtReferences First format q t last given = AtFirst t last given
 StandsAtReferences Entries format q t last given = (t.unborn ≡ None) × AtEntries format q t last given
 StandsAtReferences AfterUnborn format q t last given = IsSome t.unborn × AtEntries format q t last given
@@ -101,8 +103,9 @@ abbrev pub with_references_end : ReferencesFacts → ReferencesFacts
 with_references_end t = record t { ended = true }
 
 module _ {A : Type 0} where
-  abbrev pub last_reported : ReferencesAnswer A → Option Entry
-  last_reported answer = answer.last
+  -- the name of the reference that was reported last, if one was
+  abbrev pub last_reported : ReferencesAnswer A → Option (List ℕ)
+  last_reported answer = last_name answer.last
 
   abbrev pub format_of : ReferencesAnswer A → Format
   format_of answer = answer.format
@@ -121,7 +124,7 @@ module _ {A : Type 0} where
   -- these facts were reported for a request, and these packets were sent
   pub record RepresentsReferences (q : LsRefsAsked) (t : ReferencesFacts) (given : List Pkt) (answer : ReferencesAnswer A) : Type 0 where
     pub alike : IsAlike q answer.listing.asked
-    pub stands : StandsAtReferences answer.place answer.format q t answer.last given
+    pub stands : StandsAtReferences answer.place answer.format q t (last_reported answer) given
 
   -- no more is kept of this request than of the other
   pub record KeepsAs (request : Kept LsRefsAsked) (answer : ReferencesAnswer A) : Type 0 where
@@ -170,3 +173,26 @@ module _ {A : Type 0} where
   abbrev pub Ends : ReferencesAnswer A → Bool → List ℕ → ReferencesAnswer A → Type 0
   Ends old true bytes new = IsToTheSame old new × ReportsOn with_references_end old bytes new × is_whole new
   Ends old false bytes new = (new ≡ old) × is_whole old
+
+-- ---- a reference that points to no other and is no annotated tag
+
+-- the reference, by its object and its name
+abbrev pub plain_entry : ObjectName → List ℕ → Entry
+plain_entry id name = record { name = name; id = id; target = None; peeled = None }
+
+-- its line, whatever the request asks for
+abbrev pub plain_line : List ℕ → List ℕ → Pkt
+plain_line digits name = text_line (digits ++ 32 ∷ name)
+
+-- why it is no reference
+abbrev pub RefusesName : ReferenceFault → List ℕ → Type 0
+RefusesName BadRefName name = ¬ IsRefName name
+RefusesName OutOfMemory name = IsRefName name
+RefusesName BadObjectName name = ⊥
+
+module _ {A : Type 0} where
+  -- what the report of such a reference does, but for its packet, which is still to be written
+  abbrev pub TakesPlain : Format → List ℕ → ReferencesAnswer A → Result Reported ReferenceFault → ReferencesAnswer A → Type 0
+  TakesPlain format name old (Ok reported) new = IsRefName name × ((id : ObjectName) → id.format ≡ format
+      → Reports (plain_entry id name) old reported (spelling_of (plain_line (hex_of id) name)) new)
+  TakesPlain format name old (Err fault) new = RefusesName fault name × (new ≡ old)

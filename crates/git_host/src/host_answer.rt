@@ -1,16 +1,19 @@
 //! The answer to the request at hand, of whichever command: it is asked for what it needs, one thing after another.
 
-ghost use Rattle.std.specs.Prelude.{◌≡◌, true, false};
+ghost use Rattle.std.specs.Prelude.{◌≡◌, MatchResult, true, false};
+ghost use Rattle.git_names.specs.RefName.{IsRefName};
 ghost use Rattle.git_host.specs.HostAnswers.{GoesOn, IsThrough, ended_as, is_admission, of_fetch_step, of_sizes_step, part_of, reported_as};
 ghost use Rattle.git_host.specs.HostAnswers.{FailsFetch, asks_wanted, cut_where, line_as, progress_as};
 
 use crate::admission::{Admission, AdmissionStep, WantRefReported};
 use crate::fetch_answer::{BoundaryEnd, BoundaryReported, FetchAnswer, ProgressReported, Step};
 use crate::references_answer::{ReferencesAnswer, Reported};
-use crate::report::{HostReported, LONGEST_PART, Need, Report, packet_where, taken_where};
+use crate::report::{
+    HostReported, LONGEST_PART, Need, ReferenceFault, Report, packet_where, taken_where,
+};
 use crate::sizes_answer::{SizesAnswer, SizesStep};
 use git_msg::{Boundary, Memory, Request};
-use git_names::{Format, Oid, RefName};
+use git_names::{Format, Oid, RefName, Steps};
 use git_pkt::{Hold, Kind};
 use git_server::RefEntry;
 use std::alloc::Allocator;
@@ -250,7 +253,9 @@ impl<A: Allocator + Copy> HostAnswer<A> {
 }
 
 impl<A: Memory + Copy> HostAnswer<A> {
-    ghost use Rattle.git_host.specs.HostAnswers.{ReportsBy, is_failure};
+    ghost use Rattle.std.specs.Prelude.{Err, length};
+    ghost use Rattle.git_msg.specs.Memory.{HasRefused};
+    ghost use Rattle.git_host.specs.HostAnswers.{ReportsBy, TakesPlain, is_failure};
     ghost use Rattle.git_host.specs.HostMemory.{AnswerNeedsRefusal};
 
     /// Takes what the host reports, but for a failure, and gives its packet, if it has one.
@@ -274,6 +279,26 @@ impl<A: Memory + Copy> HostAnswer<A> {
             Report::Unborn(target) => self.unborn(target, hold),
             Report::ReferencesEnd => self.references_end(hold),
             Report::Size(size) => self.size(size, hold),
+        }
+    }
+
+    /// Takes a reference with an object of this format and this name, which points to no other and is no annotated tag. If it has a packet,
+    /// that is its line, which is still to be written.
+    pub(crate) fn plain(
+        &mut self,
+        alloc: A,
+        format: Format,
+        name: &[u8],
+    ) -> Result<HostReported, ReferenceFault>
+        ensures takes { TakesPlain format name.now self.old result self.new }
+        ensures memory { result ≡ Err ReferenceFault.OutOfMemory → HasRefused A.refuses (length name.now) }
+    {
+        let HostAnswer::References(answer) = self else {
+            return unasked(name);
+        };
+        match answer.plain(alloc, format, name) {
+            Ok(reported) => Ok(reported_as(reported)),
+            Err(fault) => Err(fault),
         }
     }
 
@@ -391,6 +416,17 @@ fn ended_as(end: BoundaryEnd) -> HostReported
         BoundaryEnd::NotAsked => HostReported::NotAsked,
         BoundaryEnd::Absent => HostReported::Taken,
         BoundaryEnd::Packet => HostReported::Packet,
+    }
+}
+
+/// What comes of a reference with this name that was not asked for.
+pub(crate) fn unasked(name: &[u8]) -> Result<HostReported, ReferenceFault>
+    ensures { MatchResult result (λ reported. (reported ≡ HostReported.NotAsked) × IsRefName name.now)
+        (λ fault. (fault ≡ ReferenceFault.BadRefName) × ¬ IsRefName name.now) }
+{
+    match RefName::read(name, &mut Steps::new()) {
+        Ok(_) => Ok(HostReported::NotAsked),
+        Err(_) => Err(ReferenceFault::BadRefName),
     }
 }
 

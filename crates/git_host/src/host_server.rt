@@ -14,9 +14,11 @@ ghost use Rattle.git_pkt.specs.Packets.{spelling_of};
 ghost use Rattle.git_server.specs.Answers.{error_packet};
 ghost use Rattle.git_host.specs.HostServer.{IsAccepted, ended_by, first_phase, is_answering, is_asked, refused_by};
 
-use crate::host_answer::{AnswerStep, Failing, HostAnswer};
-use crate::report::{HostReported, HostStep, Report};
+use crate::host_answer::{AnswerStep, Failing, HostAnswer, unasked};
+use crate::references_answer::put_reported;
+use crate::report::{HostReported, HostStep, ReferenceFault, Report};
 use crate::request_at_hand::{RequestAtHand, request_answered};
+use crate::written_digits::written_digits;
 use git_msg::{Limits, Memory, Offer, ReadGot, Request, RequestStream, put_line};
 use git_names::{Format, Steps};
 use git_pkt::{Fault, Hold, Kind};
@@ -358,6 +360,46 @@ impl<A: Memory + Copy> HostServer<A> {
         let reported = answer.report(report, hold);
         let _ = hold.len();
         reported
+    }
+}
+
+impl<A: Memory + Copy> HostServer<A> {
+    ghost use Rattle.std.specs.Prelude.{Err, Ok};
+    ghost use Rattle.git_msg.specs.Memory.{HasRefused};
+    ghost use Rattle.git_host.specs.HostServer.{KeepsFault, ReportsTexts, credit_of};
+
+    /// Takes the report of a reference by the digits of its object, of either case, and its name. It points to no other reference and is no
+    /// annotated tag. Both texts are checked: where one is refused, or memory runs out, nothing changed. Beside that it is as [`report`] of that
+    /// reference, and much faster.
+    ///
+    /// [`report`]: HostServer::report
+    pub fn plain_reference(
+        &mut self,
+        digits: &[u8],
+        name: &[u8],
+    ) -> Result<HostReported, ReferenceFault>
+        ensures reports { ReportsTexts digits.now name.now self.old result self.new }
+        ensures credit { credit_of self.new ≤ credit_of self.old }
+        ensures fault { KeepsFault self.old self.new }
+        ensures never { result ≢ Ok HostReported.OutOfMemory }
+
+        // Memory refused a list that was to have a copy of the name.
+        ensures memory { result ≡ Err ReferenceFault.OutOfMemory → HasRefused A.refuses (length name.now) }
+    {
+        let mut room = [0; 64];
+        let Some(digits) = written_digits(self.offer.format, digits, &mut room) else {
+            return Err(ReferenceFault::BadObjectName);
+        };
+        let Phase::Answering(answer) = &mut self.phase else {
+            return unasked(name);
+        };
+        let reported = answer.plain(self.alloc, self.offer.format, name)?;
+        let Some(hold) = self.stream.lend() else {
+            return Ok(HostReported::NotAsked);
+        };
+        put_reported(hold, reported, digits, name);
+        let _ = hold.len();
+        Ok(reported)
     }
 }
 

@@ -1,6 +1,6 @@
 //! What follows from the definitions of what a store reports.
 
-ghost use Rattle.std.specs.Prelude.{◌≡◌, ◌⊎◌, ◌≤◌, ℕ, Bool, List, [], ◌∷◌, true, false, Option, length, map, take};
+ghost use Rattle.std.specs.Prelude.{◌≡◌, ◌≢◌, ◌⊎◌, ◌≤◌, ℕ, Bool, List, [], ◌∷◌, true, false, Option, Ok, Err, length, map, take};
 ghost use Rattle.git_names.specs.declared.object_format.Format.{Format};
 ghost use Rattle.git_pkt.specs.Packets.{Pkt};
 ghost use Rattle.git_pkt.specs.Bands.{AreBands};
@@ -25,11 +25,13 @@ ghost use Rattle.git_server.specs.declared.outcome.Outcome.TheVariants.{Refused}
 ghost use Rattle.git_pkt.specs.declared.fault.Fault.{Fault};
 ghost use Rattle.git_pkt.specs.declared.fault.Kind.TheVariants.{PackSource};
 ghost use Rattle.git_host.specs.HostServer.{AcceptsHost, ClosesHost, FeedsHost, Hosts, KeepsFault, KeepsHostToMemory, RefusesHost, ReportsHost, StepsHost};
+ghost use Rattle.git_host.specs.HostServer.{ReportsTexts};
 ghost use Rattle.git_host.specs.HostServer.{begun_in, bytes_of, credit_of, given_with, is_of_host};
 ghost use Rattle.git_host.specs.HostMemory.{ReportNeedsRefusal, bytes_held, bytes_held_by_fields};
 ghost use Rattle.git_host.specs.HostCalls.{HostCall, HostHeadline, Makes, accept, close, feed, given_at, next, nothing, refuse, report};
 ghost use Rattle.git_host.specs.declared.report.HostReported.{HostReported};
 ghost use Rattle.git_host.specs.declared.report.HostStep.{HostStep};
+ghost use Rattle.git_host.specs.declared.report.ReferenceFault.{ReferenceFault};
 ghost use Rattle.git_host.specs.declared.report.Report.{Report};
 
 use crate::host_server::HostServer;
@@ -63,11 +65,11 @@ pub fn no_progress_is_given()
 {}
 
 /// However the input is cut, after any calls of a host's server that was new before them it holds at most 65,520 buffered bytes, twice its limit
-/// of kept arguments, 33 bytes for each reference that the request at hand wants, and the names of the reference that was reported last; and it
-/// has taken at most 64 steps for each byte used and each call of `feed`. If the session has ended, its output is the session that its whole
-/// input calls for by what was reported of each request, and the first malformed packet was refused at its offset by name. It waits for
-/// input only where each request was answered, and while one is answered it has given the front of an answer. It lacks memory only where
-/// memory refused a list.
+/// of kept arguments, 33 bytes for each reference that the request at hand wants, and the names of the reference that was reported last, or the
+/// buffer of its name; and it has taken at most 64 steps for each byte used and each call of `feed`. If the session has ended, its output is the
+/// session that its whole input calls for by what was reported of each request, and the first malformed packet was refused at its offset by
+/// name. It waits for input only where each request was answered, and while one is answered it has given the front of an answer. It lacks
+/// memory only where memory refused a list.
 pub fn host_headline<A: Memory + Copy>(server: &HostServer<A>)
     ensures { (s : HostSetting) (calls : List HostCall) (before after : ℕ) (first : HostServer A) → Hosts s [] false [] [] first
         → credit_of first ≡ 0 → MakesAll (Makes A.refuses) calls before first after server.now
@@ -95,6 +97,11 @@ pub fn methods_make_calls<A: Memory + Copy>()
     ensures reported { (old new : HostServer A) (fact : Report) (what : HostReported) (steps : ℕ) → ReportsHost fact old what new
         → credit_of new ≤ credit_of old → KeepsFault old new → ReportNeedsRefusal A.refuses old what
         → Makes A.refuses (report fact what (given_with what new.stream)) steps old steps new }
+    ensures texts { (old new : HostServer A) (digits name : List ℕ) (what : HostReported) (steps : ℕ) → ReportsTexts digits name old (Ok what) new
+        → what ≢ HostReported.OutOfMemory → credit_of new ≤ credit_of old → KeepsFault old new
+        → (fact : Report) × Makes A.refuses (report fact what (given_with what new.stream)) steps old steps new }
+    ensures unread { (old new : HostServer A) (digits name : List ℕ) (fault : ReferenceFault) (steps : ℕ)
+        → ReportsTexts digits name old (Err fault) new → Makes A.refuses nothing steps old steps new }
     ensures accepted { (old new : HostServer A) (steps : ℕ) → AcceptsHost old true new → credit_of new ≤ credit_of old → KeepsFault old new
         → Makes A.refuses accept steps old steps new }
     ensures unaccepted { (old new : HostServer A) (steps : ℕ) → AcceptsHost old false new → Makes A.refuses nothing steps old steps new }

@@ -1,17 +1,22 @@
 //! The answer to one `ls-refs`, gitprotocol-v2(5), over a store that is asked: its references are reported one after another, in the
 //! order of their names, and the line of each that the request asks for is sent at once. Only the last one is kept.
 
-ghost use Rattle.std.specs.Prelude.{◌≡◌};
+ghost use Rattle.std.specs.Prelude.{◌≡◌, ◌≤◌, ℕ, ◌∷◌, ◌++◌, Err, List, length};
 ghost use Rattle.git_names.specs.RefName.{IsRefName};
+ghost use Rattle.git_pkt.specs.Packets.{spelling_of};
+ghost use Rattle.git_msg.specs.Memory.{HasRefused};
 ghost use Rattle.git_msg.specs.Prefixes.{IsOrdered, is_shown};
 ghost use Rattle.git_server.specs.Answers.{reference_packet, unborn_packet};
 ghost use Rattle.git_server.specs.Repository.{HasOneFormat};
-ghost use Rattle.git_host.specs.ReferencesPlaces.{after_entry, comes_after};
+ghost use Rattle.git_host.specs.ReferencesPlaces.{after_entry, comes_after, plain_line};
 ghost use Rattle.git_host.specs.FetchPlaces.{Holds};
 
-use git_msg::{Listing, LsRefs, is_word, put_reference};
+use crate::last_name::LastName;
+use crate::next_name::{NextName, judge_name};
+use crate::report::{HostReported, ReferenceFault};
+use git_msg::{Listing, LsRefs, Memory, is_word, put_reference};
 use git_names::Format;
-use git_pkt::{Hold, Packet, put};
+use git_pkt::{Hold, Packet, append, begin, put};
 use git_server::{RefEntry, asks_for_unborn, entry_line, unborn_line};
 use std::alloc::Allocator;
 
@@ -49,7 +54,7 @@ pub enum Reported {
 pub struct ReferencesAnswer<A: Allocator + Copy> {
     listing: Listing<A>,
     format: Format,
-    last: Option<RefEntry>,
+    last: LastName<A>,
     place: ReferencesPlace,
 }
 
@@ -69,7 +74,7 @@ impl<A: Allocator + Copy> ReferencesAnswer<A> {
         ReferencesAnswer {
             listing,
             format,
-            last: None,
+            last: LastName::Nothing,
             place: ReferencesPlace::First,
         }
     }
@@ -117,11 +122,11 @@ impl<A: Allocator + Copy> ReferencesAnswer<A> {
         self.listing.put_in_order();
         self.place = after_reference(self.place);
         if !shows(&self.listing, &entry) {
-            self.last = Some(entry);
+            self.last = LastName::Entry(entry);
             return Reported::Hidden;
         }
         put_entry(hold, &entry, &self.listing);
-        self.last = Some(entry);
+        self.last = LastName::Entry(entry);
         Reported::Packet
     }
 
@@ -141,8 +146,15 @@ impl<A: Allocator + Copy> ReferencesAnswer<A> {
     fn refuses_head(&self, entry: &RefEntry) -> bool
         ensures { result ≡ refuses_head self.now entry.now.name }
     {
+        self.is_second_head(entry.name())
+    }
+
+    // The same by its name.
+    fn is_second_head(&self, name: &[u8]) -> bool
+        ensures { result ≡ refuses_head self.now name.now }
+    {
         match self.place {
-            ReferencesPlace::AfterUnborn => is_word(entry.name(), b"HEAD"),
+            ReferencesPlace::AfterUnborn => is_word(name, b"HEAD"),
             _ => false,
         }
     }
@@ -151,10 +163,53 @@ impl<A: Allocator + Copy> ReferencesAnswer<A> {
     fn comes_next(&self, entry: &RefEntry) -> bool
         ensures { result ≡ comes_after (last_reported self.now) entry.now.name }
     {
-        match &self.last {
-            Some(last) => last.name().cmp(entry.name()).is_lt(),
+        match self.last.name() {
+            Some(last) => last.cmp(entry.name()).is_lt(),
             None => true,
         }
+    }
+}
+
+impl<A: Memory + Copy> ReferencesAnswer<A> {
+    ghost use Rattle.git_host.specs.ReferencesPlaces.{TakesPlain};
+
+    /// A reference with an object of this format and this name, which points to no other and is no annotated tag, and has to come after those
+    /// reported before it. If it has a packet, that is its line, which is still to be written.
+    pub(crate) fn plain(
+        &mut self,
+        alloc: A,
+        format: Format,
+        name: &[u8],
+    ) -> Result<Reported, ReferenceFault>
+        ensures takes { TakesPlain format name.now self.old result self.new }
+        ensures memory { result ≡ Err ReferenceFault.OutOfMemory → HasRefused A.refuses (length name.now) }
+    {
+        let found = judge_name(self.last.name(), name);
+        if let NextName::Bad = found {
+            return Err(ReferenceFault::BadRefName);
+        }
+        if let ReferencesPlace::Whole = self.place {
+            return Ok(Reported::NotAsked);
+        }
+        if format != self.format {
+            return Ok(Reported::MixedFormats);
+        }
+        if self.is_second_head(name) {
+            return Ok(Reported::HeadTwice);
+        }
+        if let NextName::Unsorted = found {
+            return Ok(Reported::Unsorted);
+        }
+        match self.last.keep(alloc, name) {
+            Ok(()) => {}
+            Err(_) => return Err(ReferenceFault::OutOfMemory),
+        }
+        self.listing.put_in_order();
+        self.place = after_reference(self.place);
+        if !shows_name(&self.listing, name) {
+            return Ok(Reported::Hidden);
+        }
+        Ok(Reported::Packet)
     }
 }
 
@@ -172,7 +227,13 @@ fn shows<A: Allocator + Copy>(listing: &Listing<A>, entry: &RefEntry) -> bool
     requires { IsOrdered listing.now.asked.ref_prefixes }
     ensures { result ≡ is_shown listing.now.asked.ref_prefixes entry.now.name }
 {
-    let name = entry.name();
+    shows_name(listing, entry.name())
+}
+
+fn shows_name<A: Allocator + Copy>(listing: &Listing<A>, name: &[u8]) -> bool
+    requires { IsOrdered listing.now.asked.ref_prefixes }
+    ensures { result ≡ is_shown listing.now.asked.ref_prefixes name.now }
+{
     listing.shows_at(listing.split(name), name)
 }
 
@@ -192,4 +253,27 @@ fn put_entry<A: Allocator + Copy>(hold: &mut Hold, entry: &RefEntry, listing: &L
     ensures { Holds hold.new.items (reference_packet listing.now.asked.symrefs listing.now.asked.peel entry.now) }
 {
     put_reference(hold, entry_line(entry, listing));
+}
+
+/// Makes the hold the line of such a reference, by the digits of its object and its name, if it has a packet.
+pub(crate) fn put_reported(hold: &mut Hold, reported: HostReported, digits: &[u8], name: &[u8])
+    requires digits { length digits.now ≤ 64 }
+    requires name { length name.now ≤ 32000 }
+    ensures { reported ≡ HostReported.Packet → hold.new.items ≡ spelling_of (plain_line digits.now name.now) }
+{
+    if let HostReported::Packet = reported {
+        put_plain(hold, digits, name);
+    }
+}
+
+fn put_plain(hold: &mut Hold, digits: &[u8], name: &[u8])
+    requires digits { length digits.now ≤ 64 }
+    requires name { length name.now ≤ 32000 }
+    ensures { hold.new.items ≡ spelling_of (plain_line digits.now name.now) }
+{
+    begin(hold, digits.len() + name.len() + 2);
+    append(hold, digits);
+    append(hold, b" ");
+    append(hold, name);
+    append(hold, b"\n");
 }

@@ -66,6 +66,17 @@ pub enum HostReported {
     OutOfMemory,
 }
 
+/// Why the texts of a reference are none.
+#[derive(Clone, Copy, Debug, PartialEq, Eq)]
+pub enum ReferenceFault {
+    /// The digits are no object name of the request's format.
+    BadObjectName,
+    /// The name breaks a rule of reference names.
+    BadRefName,
+    /// Memory for a copy of the name ran out.
+    OutOfMemory,
+}
+
 /// What a host is asked of its store.
 #[derive(Clone, Copy, Debug, PartialEq, Eq)]
 pub enum Need {

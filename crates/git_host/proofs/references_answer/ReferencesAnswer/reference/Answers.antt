@@ -2,6 +2,7 @@ use Rattle.std.proofs.Common.{◌≡◌, [], ◌∷◌, ◌++◌, Some, refl, sy
 use Rattle.git_pkt.specs.Packets.{Pkt}
 use Rattle.git_server.specs.Answers.{reference_packet}
 use Rattle.git_host.specs.FetchPlaces.{Holds}
+use Rattle.git_host.specs.LastNames.{last_name}
 use Rattle.git_host.specs.ReferencesPlaces.{StandsAtReferences, with_ref}
 use Rattle.git_host.specs.declared.references_answer.ReferencesPlace.{ReferencesPlace}
 use Rattle.git_host.proofs.ReferencesMoves.{after_hidden, after_shown, entries_of, head_allowed, one_more_sound, ordered_alike, packet_alike, shown_alike}
@@ -27,7 +28,7 @@ returns-then-refuses_head g c = (
   refl,
   λ q t given h.
       let old = c.args.self.now in
-      unsound_head old.place old.format q t old.last given c.args.entry (sym c.refuses_head.ensures ∙ c.if-refuses_head.true) h.stands,
+      unsound_head old.place old.format q t (last_name old.last) given c.args.entry (sym c.refuses_head.ensures ∙ c.if-refuses_head.true) h.stands,
 )
 
 pub returns-then-not-comes_next : goal.returns-then-not-comes_next
@@ -35,8 +36,8 @@ returns-then-not-comes_next g c = (
   refl,
   λ q t given h.
       let old = c.args.self.now in
-      let at = entries_of old.place old.format q t old.last given c.in_default.not-Whole h.stands in
-      unsound_order old.format t old.last c.args.entry at.last_is (sym c.comes_next.ensures ∙ c.if-not-comes_next.true),
+      let at = entries_of old.place old.format q t (last_name old.last) given c.in_default.not-Whole h.stands in
+      unsound_order old.format t (last_name old.last) c.args.entry at.last_is (sym c.comes_next.ensures ∙ c.if-not-comes_next.true),
 )
 
 pub returns-then-not-shows : goal.returns-then-not-shows
@@ -47,17 +48,17 @@ returns-then-not-shows g c = (
       let entry = c.args.entry in
       let kept = c.put_in_order.new.self in
       let alike = ordered_alike q old.listing kept h.alike c.put_in_order.ensures.same in
-      let at = entries_of old.place old.format q t old.last given c.in_default.not-Whole h.stands in
+      let at = entries_of old.place old.format q t (last_name old.last) given c.in_default.not-Whole h.stands in
       let hidden = shown_alike q kept.asked entry.name false alike (sym c.shows.ensures ∙ c.if-not-shows.true) in
-      let sound = one_more_sound old.format t old.last entry at.sound at.last_is (sym c.comes_next.ensures ∙ c.if-not-comes_next.false)
+      let sound = one_more_sound old.format t (last_name old.last) entry at.sound at.last_is (sym c.comes_next.ensures ∙ c.if-not-comes_next.false)
       c.is_of.ensures.named (c.is_of.ensures.of_format.0 c.if-not-is_of.false)
-      (head_allowed old.place old.format q t old.last given entry.name c.in_default.not-Whole
+      (head_allowed old.place old.format q t (last_name old.last) given entry.name c.in_default.not-Whole
       (sym c.refuses_head.ensures ∙ c.if-refuses_head.false) h.stands) in
       record {
         alike = alike;
-        stands = subst (λ (p : ReferencesPlace). StandsAtReferences p old.format q (with_ref entry t) (Some entry) given) (sym c.after_reference-self.ensures)
-            (stands_after old.place old.format q t old.last given entry given c.in_default.not-Whole h.stands
-            (after_hidden old.format q t old.last given at entry sound hidden));
+        stands = subst (λ (p : ReferencesPlace). StandsAtReferences p old.format q (with_ref entry t) (Some entry.name) given) (sym c.after_reference-self.ensures)
+            (stands_after old.place old.format q t (last_name old.last) given entry given c.in_default.not-Whole h.stands
+            (after_hidden old.format q t (last_name old.last) given at entry sound hidden));
       },
 )
 
@@ -69,21 +70,21 @@ returns g c = (
       let entry = c.args.entry in
       let kept = c.put_in_order.new.self in
       let alike = ordered_alike q old.listing kept h.alike c.put_in_order.ensures.same in
-      let at = entries_of old.place old.format q t old.last given c.in_default.not-Whole h.stands in
+      let at = entries_of old.place old.format q t (last_name old.last) given c.in_default.not-Whole h.stands in
       let shown = shown_alike q kept.asked entry.name true alike (sym c.shows.ensures ∙ c.if-not-shows.false) in
-      let sound = one_more_sound old.format t old.last entry at.sound at.last_is (sym c.comes_next.ensures ∙ c.if-not-comes_next.false)
+      let sound = one_more_sound old.format t (last_name old.last) entry at.sound at.last_is (sym c.comes_next.ensures ∙ c.if-not-comes_next.false)
       c.is_of.ensures.named (c.is_of.ensures.of_format.0 c.if-not-is_of.false)
-      (head_allowed old.place old.format q t old.last given entry.name c.in_default.not-Whole
+      (head_allowed old.place old.format q t (last_name old.last) given entry.name c.in_default.not-Whole
       (sym c.refuses_head.ensures ∙ c.if-refuses_head.false) h.stands) in
       let packet = reference_packet q.symrefs q.peel entry in (
         packet,
         subst (λ (p : Pkt). Holds c.put_entry.new.hold.items p) (packet_alike q kept.asked entry alike) c.put_entry.ensures,
         record {
           alike = alike;
-          stands = subst (λ (p : ReferencesPlace). StandsAtReferences p old.format q (with_ref entry t) (Some entry) (given ++ packet ∷ []))
+          stands = subst (λ (p : ReferencesPlace). StandsAtReferences p old.format q (with_ref entry t) (Some entry.name) (given ++ packet ∷ []))
               (sym c.after_reference-self.ensures)
-              (stands_after old.place old.format q t old.last given entry (given ++ packet ∷ []) c.in_default.not-Whole h.stands
-              (after_shown old.format q t old.last given at entry sound shown));
+              (stands_after old.place old.format q t (last_name old.last) given entry (given ++ packet ∷ []) c.in_default.not-Whole h.stands
+              (after_shown old.format q t (last_name old.last) given at entry sound shown));
         },
       ),
 )
