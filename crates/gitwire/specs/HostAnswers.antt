@@ -21,6 +21,7 @@ use Rattle.git_host.specs.HostServer.{AcceptsHost, ClosesHost, FeedsHost, Hosts,
 use Rattle.git_host.specs.HostLookups.{request_of}
 use Rattle.git_host.specs.declared.host_server.HostServer.{HostServer}
 use Rattle.git_host.specs.declared.report.HostReported.{HostReported}
+use Rattle.git_host.specs.declared.report.ReferenceFault.{ReferenceFault}
 use Rattle.git_host.specs.declared.report.HostStep.{HostStep}
 use Rattle.git_host.specs.declared.report.Need.{Need}
 use Rattle.git_host.specs.declared.report.Report.{Report}
@@ -228,6 +229,12 @@ Meant = Result Report Unread
 abbrev pub unread_as : Unread → GitwireAnswer
 unread_as (Unread.Refused kind) = refused_as kind
 unread_as Unread.OutOfMemory = answering What.OutOfMemory
+
+-- why texts are no reference
+abbrev pub unread_by : ReferenceFault → Unread
+unread_by ReferenceFault.BadObjectName = Unread.Refused BadObjectName
+unread_by ReferenceFault.BadRefName = Unread.Refused BadRefName
+unread_by ReferenceFault.OutOfMemory = Unread.OutOfMemory
 
 -- the report that the texts mean is made; or it is reported why there is none, and nothing changes
 abbrev pub ReportsBy : Meant → HostServer Global → List ℕ → GitwireAnswer → List ℕ → HostServer Global → Type 0

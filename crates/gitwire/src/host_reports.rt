@@ -1,6 +1,6 @@
 //! What a host reports of its store to the server that C holds.
 
-ghost use Rattle.std.specs.Prelude.{◌≡◌, ◌≤◌, length};
+ghost use Rattle.std.specs.Prelude.{◌≡◌, ◌≤◌, [], length};
 ghost use Rattle.git_host.specs.HostAnswers.{part_of};
 ghost use Rattle.git_host.specs.HostLookups.{format_of};
 ghost use Rattle.git_host.specs.HostServer.{bytes_of};
@@ -8,14 +8,14 @@ ghost use Rattle.git_host.specs.declared.report.Report.{Report as Reported};
 ghost use Rattle.gitwire.specs.Calls.{HasNone, On};
 ghost use Rattle.gitwire.specs.Handles.{host_in};
 ghost use Rattle.gitwire.specs.HostAnswers.{MeansBoundary, MeansReference, MeansUnborn, MeansWantRef, ReportsAnswers, ReportsInRoom};
-ghost use Rattle.gitwire.specs.HostAnswers.{ReportsMeant, ReportsMeantInRoom, bytes_in, filled_by, reporting, size_given};
+ghost use Rattle.gitwire.specs.HostAnswers.{ReportsMeant, ReportsMeantInRoom, bytes_in, filled_by, reporting, size_given, unread_by};
 
 use crate::answer::{GitwireAnswer, What};
 use crate::handles::{GitwireHost, Holds};
 use crate::host::{hand_out, refused_as};
-use crate::host_texts::read_entry;
+use crate::host_texts::{Unread, read_entry};
 use crate::line_writers::{boundary_of, read_given_id};
-use git_host::{HostReported, HostServer, LONGEST_PART, Report};
+use git_host::{HostReported, HostServer, LONGEST_PART, ReferenceFault, Report};
 use git_names::{Oid, RefName, Steps};
 use git_pkt::{Kind, LONGEST_PACKET};
 use std::alloc::Global;
@@ -389,9 +389,38 @@ fn reference(
     if room.len() < LONGEST_PACKET {
         return GitwireAnswer::of(What::BufferTooSmall);
     }
+    if target.is_empty() && peeled.is_empty() {
+        return plain_reference(server, id, name, room);
+    }
     match read_entry(alloc, server.format(), id, name, target, peeled) {
         Ok(entry) => report_to(server, Report::Reference(entry), room),
         Err(why) => why.answer(),
+    }
+}
+
+// A reference with neither a target nor a peeled object: its texts are copied to nowhere but its line and the name that is kept.
+fn plain_reference(
+    server: &mut HostServer<Global>,
+    id: &[u8],
+    name: &[u8],
+    room: &mut [u8],
+) -> GitwireAnswer
+    requires { 65520 ≤ length room.old }
+    ensures { ReportsMeant (MeansReference (format_of server.old) id.now name.now [] []) server.old room.old result room.new server.new }
+{
+    match server.plain_reference(id, name) {
+        Ok(reported) => show(server, reported, 0, 0, room),
+        Err(fault) => unread_by(fault).answer(),
+    }
+}
+
+fn unread_by(fault: ReferenceFault) -> Unread
+    ensures { result ≡ unread_by fault }
+{
+    match fault {
+        ReferenceFault::BadObjectName => Unread::Refused(Kind::BadObjectName),
+        ReferenceFault::BadRefName => Unread::Refused(Kind::BadRefName),
+        ReferenceFault::OutOfMemory => Unread::OutOfMemory,
     }
 }
 
