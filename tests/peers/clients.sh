@@ -66,7 +66,7 @@ state_of() {
         "${git[@]}" symbolic-ref -q HEAD || "${git[@]}" rev-parse HEAD
         "${git[@]}" rev-parse --show-object-format
     } > "$1.refs" 2>&1
-    sort "$at/shallow" > "$1.shallow" 2> /dev/null || true
+    sort -u "$at/shallow" > "$1.shallow" 2> /dev/null || true
     "${git[@]}" fsck --full --no-dangling 2>&1 | grep -v -E '^(notice: |broken links? |Checking )' > "$1.fsck" || true
     "${git[@]}" rev-list --objects --all --missing=print 2>&1 | sed 's/^?//; s/ .*//' | sort > "$1.reached" || true
     "${git[@]}" cat-file --batch-all-objects --batch-check='%(objectname)' 2>&1 | sort > "$1.objects" || true
