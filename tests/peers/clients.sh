@@ -66,7 +66,7 @@ state_of() {
         "${git[@]}" symbolic-ref -q HEAD || "${git[@]}" rev-parse HEAD
         "${git[@]}" rev-parse --show-object-format
     } > "$1.refs" 2>&1
-    sort "$at/shallow" > "$1.shallow" 2> /dev/null || true
+    sort -u "$at/shallow" > "$1.shallow" 2> /dev/null || true
     "${git[@]}" fsck --full --no-dangling 2>&1 | grep -v -E '^(notice: |broken links? |Checking )' > "$1.fsck" || true
     "${git[@]}" rev-list --objects --all --missing=print 2>&1 | sed 's/^?//; s/ .*//' | sort > "$1.reached" || true
     "${git[@]}" cat-file --batch-all-objects --batch-check='%(objectname)' 2>&1 | sort > "$1.objects" || true
@@ -166,14 +166,13 @@ try_peer() {
 
 # cuts_of PEER: the texts that cut a history off as this peer has it from Git's own server, and their daemons.
 cuts_of() {
-    local at=out/$1/pipe-theirs- name
+    local at=out/$1/pipe-theirs- it name case
     [ -e "$at"depth-1/.git ] || return 0
-    cut_as cut "$at"depth-1
-    cut_as deeper "$at"deepen "$at"depth-1
-    cut_as rest "$at"unshallow "$at"depth-1
-    is_tried git text || return 0
-    for name in cut deeper rest; do
-        start_daemon text $name
+    for it in 'cut depth-1' 'deeper deepen' 'rest unshallow'; do
+        read -r name case <<< "$it"
+        [ -e "$at$case/.git" ] || continue
+        if [ "$name" = cut ]; then cut_as cut "$at$case"; else cut_as "$name" "$at$case" "${at}depth-1"; fi
+        ! is_tried git text || start_daemon text "$name"
     done
 }
 

@@ -66,9 +66,9 @@ cut_as() {
     local id
     {
         cat texts/history.repo
-        sort "$2/.git/shallow" 2> /dev/null | sed 's/^/shallow /' || true
+        sort -u "$2/.git/shallow" 2> /dev/null | sed 's/^/shallow /' || true
         if [ $# = 3 ]; then
-            comm -23 <(sort "$3/.git/shallow" 2> /dev/null) <(sort "$2/.git/shallow" 2> /dev/null) | sed 's/^/unshallow /'
+            comm -23 <(sort -u "$3/.git/shallow" 2> /dev/null) <(sort -u "$2/.git/shallow" 2> /dev/null) | sed 's/^/unshallow /'
         fi
     } > "texts/$1.repo"
     git -C "$2" pack-objects -q --delta-base-offset --all --stdout < /dev/null > "texts/$1.pack"
