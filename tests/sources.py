@@ -19,12 +19,12 @@ NEVER = """
 git_names *: io
 git_pkt digits hold packet band reader progress fault escape: io
 git_pkt digits hold: packet reader band
-git_pkt packet band: reader told engine
+git_pkt packet band: reader recorded engine
 git_pkt progress: hold
-git_pkt calls told retries stops engine output: packet reader band hold
+git_pkt calls recorded retries stops engine output: packet reader band hold
 git_pkt escape: packet reader
 git_loop machine: io git_pkt
-git_msg *: io Told
+git_msg *: io Recorded
 git_msg capabilities capability_key: offers judge reader PacketReader
 git_msg offers: judge reader Packet PacketReader
 git_msg arguments flags texts numbers: reader requests PacketReader Packet
@@ -51,9 +51,9 @@ git_server object_info: ls_refs fetching server io
 git_server admission: Packet PacketReader
 git_server machine: io
 git_server run: answer Request
-git_host admission asking fetch_answer host_answer host_server hosted laws machine references_answer report request_at_hand sizes_answer: io Told
-git_host store: io Told host_server hosted
-git_host repo_store: Told host_server hosted
+git_host admission asking fetch_answer host_answer host_server hosted laws machine references_answer report request_at_hand sizes_answer: io Recorded
+git_host store: io Recorded host_server hosted
+git_host repo_store: Recorded host_server hosted
 git_host admission: put Packet
 git_host fetch_answer: references_answer sizes_answer host_server
 git_host references_answer: fetch_answer sizes_answer host_server
@@ -61,14 +61,14 @@ git_host sizes_answer: fetch_answer references_answer host_server
 git_host report: host_server host_answer
 git_host host_answer: host_server RequestStream
 git_host request_at_hand: report
-git_client phase sections judge judge_lines asking events event_parts client: io Told transcript line
+git_client phase sections judge judge_lines asking events event_parts client: io Recorded transcript line
 git_client judge judge_lines: Hold Fault client
 git_client sections: judge judge_lines
 git_client event_parts: transcript line
 git_client transcript: client
 git_client line: events client
-git_client hearing: Request
-git_client conversing: Event HeardGot
+git_client receiving: Request
+git_client conversing: Event ReceivedGot
 git_repository *: io fs
 git_repository packs text_faults: drafts repository_lines
 git_repository repository_lines: drafts repository_progress

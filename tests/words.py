@@ -1,8 +1,8 @@
 #!/usr/bin/env python3
-"""Words that comments do not have any more: a native reader has to read a sentence with them twice. Prints nothing, and fails if a comment has one.
+"""Words that comments and names do not have any more: a native reader has to read a sentence with them twice. Prints nothing, and fails if one is found.
 
 The comments are those of sources, specs, proofs, examples, tests and benches. Text between backticks is a name and is not looked at, nor is the
-beginning of a comment on a shell function, which shows how it is called, up to its colon.
+beginning of a comment on a shell function, which shows how it is called, up to its colon. The names are those of sources, specs and proofs.
 """
 import os, re, signal, sys
 from pathlib import Path
@@ -25,6 +25,15 @@ of which|of whom|by which|by whom: whose, with which, or a second sentence
 is given|are given|was given|were given: is passed, returned, sent
 what is had|that is had|which it has: its, those of
 """
+
+# Words that no name has as a part, as `heard` in `bytes_heard`.
+NOT_IN_NAMES = set("hear hears heard hearing tell tells told telling say says said saying due owe owes owed owing piece pieces room rooms".split())
+
+# Names of the kit, and others that may have one.
+NAMES_ALLOWED = {
+    "handle_tells": "of the kit", "leb_tells": "of the kit", "shr_Tells": "of the kit", "uint_Tells": "of the kit", "says": "of the kit", "told": "of the kit",
+    "make_room": "that it fits", "room_at_all": "that it fits",
+}
 
 # Comments that may have such a word: a file, some of the words around it, and the reason.
 ALLOWED = [
@@ -72,6 +81,24 @@ def comments(path, text):
     return [(place, without_call(comment.strip(), functions)) for place, comment in line_comments(text, "#")]
 
 
+# What is no code: comments, texts and characters.
+NO_CODE = {
+    ".rt": re.compile(r'//[^\n]*|b?"(?:\\.|[^"\\])*"|b?\'(?:\\.[^\']*|[^\'\\\n])\'', re.S),
+    ".antt": re.compile(r'--[^\n]*|"(?:\\.|[^"\\])*"'),
+}
+
+
+def names_found():
+    """The names in sources, specs and proofs that have a retired word as a part: the file and the name. A fact that the kit calls `told-` with a name after
+    it is no name of ours."""
+    for path in files():
+        if path.suffix in NO_CODE:
+            code = NO_CODE[path.suffix].sub(" ", path.read_text())
+            for name in sorted(set(re.findall(r"(?!told-[a-z])\b[A-Za-z_][A-Za-z0-9_]*", code)) - set(NAMES_ALLOWED)):
+                if NOT_IN_NAMES & {part.lower() for part in re.findall(r"[A-Z]?[a-z0-9]+|[A-Z]+(?![a-z])", name)}:
+                    yield str(path.relative_to(TOP)), name
+
+
 def files():
     """The files with comments, those that were built apart, and this one."""
     for folder in FOLDERS:
@@ -99,6 +126,9 @@ def main():
     bad = [f"{name}:{number}: {around}" for name, number, word, around in found() if not any(name == file and part in around for file, part, _ in ALLOWED)]
     if bad:
         sys.exit("tests/words.py: comments with retired words:\n" + "\n".join(bad))
+    bad = [f"{file}: {name}" for file, name in names_found()]
+    if bad:
+        sys.exit("tests/words.py: names with retired words:\n" + "\n".join(bad))
 
 
 if __name__ == "__main__":

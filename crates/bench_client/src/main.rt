@@ -6,7 +6,7 @@
 ghost use Rattle.std.specs.Prelude.{◌≡◌, ◌+◌, ◌≤◌, ◌%◌, ◌^◌, true, length, IfOk};
 ghost use Rattle.git_client.specs.Machine.Client.{can_ask, wants_input};
 
-use git_client::{Client, Ending, Event, HeardGot, Sent};
+use git_client::{Client, Ending, Event, ReceivedGot, Sent};
 use git_msg::{Argument, Command, Limits, Request};
 use git_names::{Format, Oid, Steps};
 use git_pkt::{Fault, Kind, RunFault};
@@ -15,7 +15,7 @@ use std::io::{self, BufRead, BufReader};
 use std::process::ExitCode;
 
 /// How many bytes of input are read at a time.
-const PIECE_BYTES: usize = 65_536;
+const CHUNK_BYTES: usize = 65_536;
 
 /// The wanted object.
 const WANTED: &[u8] = b"1111111111111111111111111111111111111111";
@@ -85,40 +85,40 @@ fn go_on(client: &mut Client<Global>, asking: &mut Option<Request<Global>>) -> R
 }
 
 /// Receives what a chunk contains, up to where the client can ask, and counts it. Returns how many bytes were used.
-fn hear_piece(
+fn receive_chunk(
     client: &mut Client<Global>,
-    piece: &[u8],
+    chunk: &[u8],
     counts: &mut Counts,
 ) -> Result<usize, RunFault>
-    ensures { IfOk result (λ used. used ≤ length piece.now) }
+    ensures { IfOk result (λ used. used ≤ length chunk.now) }
 {
     let mut used = 0;
-    while used < piece.len() && client.wants_input() {
-        let heard = client.feed(&piece[used..], &mut Steps::new());
-        match heard.got {
-            HeardGot::More => return Ok(piece.len()),
-            HeardGot::Failed(fault) => return Err(RunFault::Refused(fault)),
-            HeardGot::Event(Event::Pack(pack)) => counts.add(pack),
-            HeardGot::Event(_) => {}
+    while used < chunk.len() && client.wants_input() {
+        let arrived = client.feed(&chunk[used..], &mut Steps::new());
+        match arrived.got {
+            ReceivedGot::More => return Ok(chunk.len()),
+            ReceivedGot::Failed(fault) => return Err(RunFault::Refused(fault)),
+            ReceivedGot::Event(Event::Pack(pack)) => counts.add(pack),
+            ReceivedGot::Event(_) => {}
         }
-        used += heard.used;
+        used += arrived.used;
     }
     Ok(used)
 }
 
 /// Receives the next bytes of the input.
-fn hear_next<R: BufRead>(
+fn receive_next<R: BufRead>(
     input: &mut R,
     client: &mut Client<Global>,
     counts: &mut Counts,
 ) -> Result<(), RunFault>
     requires { wants_input client.old ≡ true }
 {
-    let piece = input.fill_buf().map_err(|_| RunFault::ReadFault)?;
-    if piece.is_empty() {
+    let chunk = input.fill_buf().map_err(|_| RunFault::ReadFault)?;
+    if chunk.is_empty() {
         return Err(RunFault::Refused(client.close()));
     }
-    let used = hear_piece(client, piece, counts)?;
+    let used = receive_chunk(client, chunk, counts)?;
     input.consume(used);
     Ok(())
 }
@@ -133,7 +133,7 @@ fn take_turn<R: BufRead>(
     match client.pull() {
         Sent::Packet(_) => Ok(true),
         Sent::NeedInput => {
-            hear_next(input, client, counts)?;
+            receive_next(input, client, counts)?;
             Ok(true)
         }
         Sent::CanAsk => {
@@ -146,7 +146,10 @@ fn take_turn<R: BufRead>(
 }
 
 /// Receives the whole conversation, and counts its pack. What the client sends is dropped.
-fn hear<R: BufRead>(input: &mut R, request: Request<Global>) -> Result<Counts, RunFault> {
+fn receive_response<R: BufRead>(
+    input: &mut R,
+    request: Request<Global>,
+) -> Result<Counts, RunFault> {
     let mut client = Client::new(Format::Sha1, Ending::FlushOnly);
     let mut asking = Some(request);
     let mut counts = Counts::none();
@@ -159,8 +162,8 @@ fn hear<R: BufRead>(input: &mut R, request: Request<Global>) -> Result<Counts, R
 }
 
 /// Prints the counts, or reports the error. Returns the exit status.
-fn tell(rt: &HostRuntime, heard: Result<Counts, RunFault>) -> io::Result<ExitCode> {
-    match heard {
+fn announce(rt: &HostRuntime, arrived: Result<Counts, RunFault>) -> io::Result<ExitCode> {
+    match arrived {
         Ok(counts) => {
             println!(rt; "{} {}", counts.bytes, counts.checksum)?;
             Ok(ExitCode::SUCCESS)
@@ -173,10 +176,10 @@ fn tell(rt: &HostRuntime, heard: Result<Counts, RunFault>) -> io::Result<ExitCod
 }
 
 fn main(rt: HostRuntime) -> io::Result<ExitCode> {
-    let mut input = BufReader::with_capacity(rt.alloc(), PIECE_BYTES, rt.stdin())?;
-    let heard = match request(rt.alloc()) {
-        Ok(request) => hear(&mut input, request),
+    let mut input = BufReader::with_capacity(rt.alloc(), CHUNK_BYTES, rt.stdin())?;
+    let arrived = match request(rt.alloc()) {
+        Ok(request) => receive_response(&mut input, request),
         Err(kind) => Err(RunFault::Refused(Fault { kind, offset: 0 })),
     };
-    tell(&rt, heard)
+    announce(&rt, arrived)
 }

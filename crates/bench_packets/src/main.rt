@@ -17,7 +17,7 @@ use std::io::{self, Read};
 use std::process::ExitCode;
 
 /// How many bytes of input are read at a time.
-const PIECE_BYTES: usize = 65_536;
+const CHUNK_BYTES: usize = 65_536;
 
 /// The maximum number of bytes in a payload.
 const PAYLOAD_BYTES: usize = 65_516;
@@ -65,34 +65,34 @@ impl Counts {
 }
 
 /// The same packet, with its payload borrowed from the buffer if it fits there.
-fn copied<'a>(packet: Packet<'a>, room: &'a mut [u8]) -> Packet<'a>
+fn copied<'a>(packet: Packet<'a>, buffer: &'a mut [u8]) -> Packet<'a>
     ensures { seen result ≡ seen packet.entry }
 {
     match packet {
-        Packet::Payload(payload) if payload.len() <= room.len() => {
-            room[..payload.len()].copy_from_slice(payload);
-            Packet::Payload(&room[..payload.len()])
+        Packet::Payload(payload) if payload.len() <= buffer.len() => {
+            buffer[..payload.len()].copy_from_slice(payload);
+            Packet::Payload(&buffer[..payload.len()])
         }
         _ => packet,
     }
 }
 
 /// Counts the packets that a chunk completes.
-fn count_piece(
+fn count_chunk(
     reader: &mut PacketReader,
-    piece: &[u8],
-    room: &mut [u8],
+    chunk: &[u8],
+    buffer: &mut [u8],
     counts: &mut Counts,
 ) -> Result<(), Fault>
     requires gathers { passes_of reader.old ≡ false }
     ensures gathers { passes_of reader.new ≡ false }
 {
-    let mut rest = piece;
+    let mut rest = chunk;
     while !rest.is_empty() {
         let fed = reader.feed(rest, &mut Steps::new());
         match fed.got {
             Got::More => return Ok(()),
-            Got::Packet(packet, _) => counts.add(copied(packet, room)),
+            Got::Packet(packet, _) => counts.add(copied(packet, buffer)),
             Got::Failed(fault) => return Err(fault),
         }
         rest = &rest[fed.used..];
@@ -103,17 +103,17 @@ fn count_piece(
 /// Counts the packets of the whole input, which is read into the chunk. Returns the first error, if there is one.
 fn count_input<R: Read>(
     input: &mut R,
-    piece: &mut [u8],
-    room: &mut [u8],
+    chunk: &mut [u8],
+    buffer: &mut [u8],
     counts: &mut Counts,
 ) -> io::Result<Result<(), Fault>> {
     let mut reader = PacketReader::new();
     for _ in 0..u64::MAX {
-        let count = input.read(piece)?;
+        let count = input.read(chunk)?;
         if count == 0 {
             break;
         }
-        if let Err(fault) = count_piece(&mut reader, &piece[..count], room, counts) {
+        if let Err(fault) = count_chunk(&mut reader, &chunk[..count], buffer, counts) {
             return Ok(Err(fault));
         }
     }
@@ -121,11 +121,11 @@ fn count_input<R: Read>(
 }
 
 /// Counts the packets that a chunk completes, and the parts of a pack and of a progress in it.
-fn pass_piece(reader: &mut PacketReader, piece: &[u8], counts: &mut Counts) -> Result<(), Fault>
+fn pass_chunk(reader: &mut PacketReader, chunk: &[u8], counts: &mut Counts) -> Result<(), Fault>
     requires { MayPass reader.old }
     ensures { MayPass reader.new }
 {
-    let mut rest = piece;
+    let mut rest = chunk;
     while !rest.is_empty() {
         let fed = reader.feed_band(rest, &mut Steps::new());
         match fed.got {
@@ -142,16 +142,16 @@ fn pass_piece(reader: &mut PacketReader, piece: &[u8], counts: &mut Counts) -> R
 /// The same as [`count_input`], but bytes of a pack and of a progress pass.
 fn pass_input<R: Read>(
     input: &mut R,
-    piece: &mut [u8],
+    chunk: &mut [u8],
     counts: &mut Counts,
 ) -> io::Result<Result<(), Fault>> {
     let mut reader = PacketReader::new();
     for _ in 0..u64::MAX {
-        let count = input.read(piece)?;
+        let count = input.read(chunk)?;
         if count == 0 {
             break;
         }
-        if let Err(fault) = pass_piece(&mut reader, &piece[..count], counts) {
+        if let Err(fault) = pass_chunk(&mut reader, &chunk[..count], counts) {
             return Ok(Err(fault));
         }
     }
@@ -166,18 +166,18 @@ fn refuse(rt: &impl Eprint, fault: Fault) -> io::Result<ExitCode> {
 
 fn main(rt: HostRuntime) -> io::Result<ExitCode> {
     let mut input = rt.stdin();
-    let mut piece = vec![in rt.alloc(); 0; PIECE_BYTES]?;
+    let mut chunk = vec![in rt.alloc(); 0; CHUNK_BYTES]?;
     let mut counts = Counts::none();
     let word = env::args(&rt)?.nth(1);
     let counted = if word.as_deref() == Some("bands") {
-        pass_input(&mut input, piece.as_mut_slice(), &mut counts)?
+        pass_input(&mut input, chunk.as_mut_slice(), &mut counts)?
     } else {
         let bytes = if word.is_some() { PAYLOAD_BYTES } else { 0 };
-        let mut room = vec![in rt.alloc(); 0; bytes]?;
+        let mut buffer = vec![in rt.alloc(); 0; bytes]?;
         count_input(
             &mut input,
-            piece.as_mut_slice(),
-            room.as_mut_slice(),
+            chunk.as_mut_slice(),
+            buffer.as_mut_slice(),
             &mut counts,
         )?
     };

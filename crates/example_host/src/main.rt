@@ -27,11 +27,11 @@ fn host<R: BufRead, W: Write>(
             Pulled::Finished(outcome) => return Ok(outcome),
             Pulled::NeedInput => {
                 output.flush()?;
-                let piece = input.fill_buf()?;
-                if piece.is_empty() {
+                let chunk = input.fill_buf()?;
+                if chunk.is_empty() {
                     server.close();
                 }
-                let used = server.feed(piece, &mut Steps::new());
+                let used = server.feed(chunk, &mut Steps::new());
                 input.consume(used);
             }
         }

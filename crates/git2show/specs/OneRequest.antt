@@ -11,8 +11,8 @@ use Rattle.git2show.specs.declared.one_request.Left.{Left}
 
 -- the bytes read after the request: these of the chunk
 abbrev pub left_in : {E : Type 0} → Result Left E → List ℕ → List ℕ
-left_in (Ok left) piece = drop left.from (take left.to piece)
-left_in (Err fault) piece = []
+left_in (Ok left) chunk = drop left.from (take left.to chunk)
+left_in (Err fault) chunk = []
 
 -- the server used what was read except what is left of it, and all of it if the input ended, which the reader reported; nothing was sent,
 -- and no byte of a pack was looked at

@@ -78,24 +78,24 @@ fn read_again(rt: &HostRuntime, path: &str, number: u64) -> io::Result<Vec<u8>> 
     }
     let mut file = Retries::new(File::open(rt, path)?);
     let mut text = Vec::new(rt.alloc());
-    let mut piece = [0; PART];
+    let mut chunk = [0; PART];
     // How many lines before it have not ended.
     let mut missing = number.saturating_sub(1);
     for _ in 0..u64::MAX {
         let has_come = missing == 0;
-        let count = file.read(&mut piece)?;
-        text.extend_from_slice(&piece[..count])?;
+        let count = file.read(&mut chunk)?;
+        text.extend_from_slice(&chunk[..count])?;
         if count == 0 || has_come {
             break;
         }
-        missing = missing.saturating_sub(count_lines(&piece[..count]));
+        missing = missing.saturating_sub(count_lines(&chunk[..count]));
     }
     Ok(text)
 }
 
 /// How many lines end in a chunk of a text.
-fn count_lines(piece: &[u8]) -> u64 {
-    piece.iter().filter(|byte| **byte == b'\n').count() as u64
+fn count_lines(chunk: &[u8]) -> u64 {
+    chunk.iter().filter(|byte| **byte == b'\n').count() as u64
 }
 
 /// Prints what the system reported about a call.

@@ -6,11 +6,11 @@ ghost use Rattle.git_client.specs.Machine.Client.{wants_input};
 use crate::failures::{Failure, Stream, Watched};
 use crate::pack_file::PackFile;
 use crate::remote_lines::RemoteLines;
-use crate::{PIECE, TURNS, ending_of, format_of, read_requests};
+use crate::{CHUNK, TURNS, ending_of, format_of, read_requests};
 use clap::ArgMatches;
 use git_client::{Client, converse};
 use git_msg::Request;
-use git_pkt::{Discard, Output, Retries, Told, escape_into};
+use git_pkt::{Discard, Output, Recorded, Retries, escape_into};
 use git2show_lib::ProgramFault;
 use std::alloc::Global;
 use std::fs::File;
@@ -82,7 +82,7 @@ fn fetch<O: Write + Drop>(
     let mut client = Client::new(format_of(matches), ending_of(matches));
     let done = if matches.get_flag("progress") || rt.stderr().is_terminal() {
         let mut lines = RemoteLines::new(buffered(rt, rt.stderr())?);
-        let mut progress = Told::new(&mut lines);
+        let mut progress = Recorded::new(&mut lines);
         let done = ask_all(rt, &mut client, requests, pack, transcript, &mut progress);
         let _ = lines.end();
         done
@@ -90,7 +90,7 @@ fn fetch<O: Write + Drop>(
         ask_all(rt, &mut client, requests, pack, transcript, &mut Discard)
     };
     if let Some(message) = client.message() {
-        let _ = tell_message(rt, message);
+        let _ = announce_message(rt, message);
     }
     done
 }
@@ -111,13 +111,13 @@ fn ask_all<O: Write + Drop, E: Output>(
     let mut output = Watched::new(Stream::Output, rt.stdout());
     let mut pack = Watched::new(Stream::File("pack"), pack);
     let done = converse(
-        &mut Told::new(&mut input),
-        &mut Told::new(&mut output),
-        &mut [0; PIECE],
+        &mut Recorded::new(&mut input),
+        &mut Recorded::new(&mut output),
+        &mut [0; CHUNK],
         client,
         requests,
-        &mut Told::new(&mut transcript),
-        &mut Told::new(&mut pack),
+        &mut Recorded::new(&mut transcript),
+        &mut Recorded::new(&mut pack),
         progress,
         TURNS,
     );
@@ -128,11 +128,11 @@ fn ask_all<O: Write + Drop, E: Output>(
 
 /// A writer over this one that passes on what it has at each flush, and before that only in large chunks.
 fn buffered<O: Write + Drop>(rt: &HostRuntime, inner: O) -> Result<BufWriter<O>, ProgramFault> {
-    BufWriter::with_capacity(rt.alloc(), PIECE, inner).map_err(|_| ProgramFault::OutOfMemory)
+    BufWriter::with_capacity(rt.alloc(), CHUNK, inner).map_err(|_| ProgramFault::OutOfMemory)
 }
 
 /// Writes a server's message on one line of standard error, without the line feed at its end, and each byte as `show` shows it.
-fn tell_message(rt: &HostRuntime, message: &[u8]) -> io::Result<()> {
+fn announce_message(rt: &HostRuntime, message: &[u8]) -> io::Result<()> {
     let mut error = rt.stderr();
     let text = match message {
         [front @ .., b'\n'] => front,

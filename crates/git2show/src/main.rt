@@ -26,7 +26,7 @@ use clap::{Arg, ArgAction, ArgMatches, Command, Error, value_parser};
 use git_client::Ending;
 use git_msg::{Limits, Offer, Request};
 use git_names::Format;
-use git_pkt::{Discard, LONGEST_PACKET, Retries, RunFault, Told};
+use git_pkt::{Discard, LONGEST_PACKET, Recorded, Retries, RunFault};
 use git_repository::{LONGEST_LINE, Packs, RepositoryReader, TextFault};
 use git_server::{LateRepo, ListRepo, Outcome, Repo, Server, serve, write_pending};
 use git2show_lib::{ProgramFault, check, play, read_script, report};
@@ -37,7 +37,7 @@ use std::process::ExitCode;
 use std::{env, fs, io};
 
 /// How many bytes are read at a time.
-const PIECE: usize = 65_536;
+const CHUNK: usize = 65_536;
 
 /// The maximum number of reads of a run.
 const TURNS: u64 = 1_073_741_824;
@@ -229,17 +229,17 @@ fn run_check(rt: &HostRuntime, matches: &ArgMatches<'_>) -> Result<(), Failure> 
     let mut requests = watched_file(rt, matches, "REQUESTS")?;
     let mut responses = watched_file(rt, matches, "RESPONSES")?;
     let mut output = buffered_output(rt)?;
-    let mut piece = [0; PIECE];
-    let mut other_piece = [0; PIECE];
+    let mut chunk = [0; CHUNK];
+    let mut other_chunk = [0; CHUNK];
     let done = check(
         rt.alloc(),
-        &mut Told::new(&mut requests),
-        &mut Told::new(&mut responses),
+        &mut Recorded::new(&mut requests),
+        &mut Recorded::new(&mut responses),
         format_of(matches),
         ending_of(matches),
-        &mut piece,
-        &mut other_piece,
-        &mut Told::new(&mut output),
+        &mut chunk,
+        &mut other_chunk,
+        &mut Recorded::new(&mut output),
         TURNS,
     );
     let inputs = requests.failed_call().or(responses.failed_call());
@@ -385,26 +385,26 @@ fn answer_all<In: Read, W: Write>(
     output: &mut W,
     server: &mut FileServer<'_>,
 ) -> Result<Outcome, RunFault> {
-    let mut piece = [0; PIECE];
-    let mut kept = [0; PIECE];
+    let mut chunk = [0; CHUNK];
+    let mut kept = [0; CHUNK];
     let mut left = Left::NONE;
     let mut turns = TURNS;
     for _ in 0..TURNS {
-        if let Some(outcome) = write_pending(&mut Told::new(&mut *output), server)? {
+        if let Some(outcome) = write_pending(&mut Recorded::new(&mut *output), server)? {
             return Ok(outcome);
         }
-        let rest = &piece[left.from..left.to];
+        let rest = &chunk[left.from..left.to];
         let count = rest.len();
         kept[..count].copy_from_slice(rest);
-        let mut reader = Told::new((&kept[..count]).chain(&mut *input));
-        left = take_request(&mut reader, &mut piece, server, turns)?;
+        let mut reader = Recorded::new((&kept[..count]).chain(&mut *input));
+        left = take_request(&mut reader, &mut chunk, server, turns)?;
         turns = turns.saturating_sub(reader.reads());
         if server.wants_pack() {
             server.read_packs();
-            let mut reader = Told::new((&piece[left.from..left.to]).chain(input));
+            let mut reader = Recorded::new((&chunk[left.from..left.to]).chain(input));
             return serve(
                 &mut reader,
-                &mut Told::new(output),
+                &mut Recorded::new(output),
                 &mut kept,
                 server,
                 turns,
@@ -420,7 +420,12 @@ fn take_one_request(rt: &HostRuntime, server: &mut FileServer<'_>) -> Result<(),
         return Ok(());
     }
     let mut input = Watched::new(Stream::Input, Retries::new(rt.stdin()));
-    match take_request(&mut Told::new(&mut input), &mut [0; PIECE], server, TURNS) {
+    match take_request(
+        &mut Recorded::new(&mut input),
+        &mut [0; CHUNK],
+        server,
+        TURNS,
+    ) {
         Ok(_) => Ok(()),
         Err(fault) => Err(Failure::of_run(fault, input.failed_call())),
     }
@@ -429,7 +434,7 @@ fn take_one_request(rt: &HostRuntime, server: &mut FileServer<'_>) -> Result<(),
 /// Writes on standard output what the server has to send.
 fn send_pending(rt: &HostRuntime, server: &mut FileServer<'_>) -> Result<(), Failure> {
     let mut output = buffered_output(rt)?;
-    match write_pending(&mut Told::new(&mut output), server) {
+    match write_pending(&mut Recorded::new(&mut output), server) {
         Ok(None) => Ok(()),
         Ok(Some(outcome)) => ended(Ok(outcome), None),
         Err(fault) => ended(Err(fault), output.failed_call()),
@@ -471,7 +476,7 @@ fn play_requests(
         requests,
         cut_of(matches),
         ending_of(matches),
-        &mut Told::new(&mut output),
+        &mut Recorded::new(&mut output),
         &mut Discard,
     );
     done.map_err(|fault| Failure::of_run(fault, output.failed_call()))
@@ -502,12 +507,12 @@ fn read_requests(
 fn read_script_text(rt: &HostRuntime, matches: &ArgMatches<'_>) -> Result<Vec<u8>, Failure> {
     let mut file = Retries::new(open(rt, matches, "script")?);
     let mut text = Vec::new(rt.alloc());
-    let mut piece = [0; PIECE];
+    let mut chunk = [0; CHUNK];
     for _ in 0..u64::MAX {
         let count = file
-            .read(&mut piece)
+            .read(&mut chunk)
             .map_err(|error| Failure::of_file("script", error))?;
-        text.extend_from_slice(&piece[..count])
+        text.extend_from_slice(&chunk[..count])
             .map_err(|_| ProgramFault::OutOfMemory)?;
         if count == 0 || ends_too_long(&text) {
             return Ok(text);
@@ -560,9 +565,9 @@ fn judge_repository(text: RepositoryReader, packs: Packs) -> Result<ListRepo, Pr
 fn read_text(rt: &HostRuntime, file: File) -> Result<RepositoryReader, Failure> {
     let mut file = Retries::new(file);
     let mut reader = RepositoryReader::new(rt.alloc());
-    let mut piece = [0; PIECE];
+    let mut chunk = [0; CHUNK];
     for _ in 0..u64::MAX {
-        if reader.has_refused() || !read_piece(&mut file, &mut piece, &mut reader)? {
+        if reader.has_refused() || !read_chunk(&mut file, &mut chunk, &mut reader)? {
             return Ok(reader);
         }
     }
@@ -570,19 +575,19 @@ fn read_text(rt: &HostRuntime, file: File) -> Result<RepositoryReader, Failure> 
 }
 
 /// Reads the next chunk of the text of a repository. Returns whether there was one.
-fn read_piece(
+fn read_chunk(
     file: &mut Retries<File>,
-    piece: &mut [u8],
+    chunk: &mut [u8],
     reader: &mut RepositoryReader,
 ) -> Result<bool, Failure> {
     let count = file
-        .read(piece)
+        .read(chunk)
         .map_err(|error| Failure::of_file("repo", error))?;
     if count == 0 {
         return Ok(false);
     }
     reader
-        .feed(&piece[..count])
+        .feed(&chunk[..count])
         .map_err(|_| ProgramFault::OutOfMemory)?;
     Ok(true)
 }
@@ -614,7 +619,7 @@ fn run(rt: &HostRuntime, matches: &ArgMatches<'_>) -> u8 {
     };
     match done {
         Ok(()) => 0,
-        Err(failure) => tell_failure(rt, Some(words), &failure),
+        Err(failure) => announce_failure(rt, Some(words), &failure),
     }
 }
 
@@ -662,9 +667,9 @@ fn run_command_line(rt: &HostRuntime) -> Result<u8, NotTaken> {
 }
 
 /// Reports why the command line was refused, by clap's own text. Returns the exit status.
-fn tell(rt: &HostRuntime, error: NotTaken) -> u8 {
+fn announce(rt: &HostRuntime, error: NotTaken) -> u8 {
     match error {
-        NotTaken::Memory => tell_fault(rt, ProgramFault::OutOfMemory),
+        NotTaken::Memory => announce_fault(rt, ProgramFault::OutOfMemory),
         NotTaken::NotUtf8 => {
             let _ = rt.eprintln("error: an argument is not UTF-8");
             BAD_COMMAND_LINE
@@ -679,7 +684,7 @@ fn tell(rt: &HostRuntime, error: NotTaken) -> u8 {
                 Err(error) => {
                     let stream = Stream::Output;
                     let call = Some(FailedCall { stream, error });
-                    tell_failure(rt, None, &Failure::of_run(RunFault::WriteFault, call))
+                    announce_failure(rt, None, &Failure::of_run(RunFault::WriteFault, call))
                 }
             }
         }
@@ -688,12 +693,12 @@ fn tell(rt: &HostRuntime, error: NotTaken) -> u8 {
 
 /// Reports a failure: by its error line and, if standard error is a terminal or details are asked for, by these below it. The words are those after
 /// the command, if the command line was accepted. Returns the exit status.
-pub(crate) fn tell_failure(
+pub(crate) fn announce_failure(
     rt: &HostRuntime,
     words: Option<&ArgMatches<'_>>,
     failure: &Failure,
 ) -> u8 {
-    let status = tell_fault(rt, failure.fault);
+    let status = announce_fault(rt, failure.fault);
     if rt.stderr().is_terminal() || wants_explanation(words) {
         let _ = explain(rt, words, failure);
     }
@@ -709,13 +714,13 @@ fn wants_explanation(words: Option<&ArgMatches<'_>>) -> bool {
 }
 
 /// Writes an error's line on standard error. Returns the exit status.
-pub(crate) fn tell_fault(rt: &HostRuntime, fault: ProgramFault) -> u8 {
-    report(&fault, &mut Told::new(rt.stderr()))
+pub(crate) fn announce_fault(rt: &HostRuntime, fault: ProgramFault) -> u8 {
+    report(&fault, &mut Recorded::new(rt.stderr()))
 }
 
 fn main(rt: HostRuntime) -> ExitCode {
     ExitCode::from(match run_command_line(&rt) {
         Ok(status) => status,
-        Err(error) => tell(&rt, error),
+        Err(error) => announce(&rt, error),
     })
 }

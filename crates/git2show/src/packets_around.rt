@@ -5,9 +5,9 @@ ghost use Rattle.git_pkt.specs.Machine.PacketReader.{passes_of};
 
 use crate::reasons::Shown;
 use crate::showing::look_on;
-use crate::{PIECE, TURNS};
+use crate::{CHUNK, TURNS};
 use git_names::Steps;
-use git_pkt::{Got, PacketReader, Retries, Told};
+use git_pkt::{Got, PacketReader, Recorded, Retries};
 use git2show_lib::{Form, Tally, View, show_view};
 use std::fs::{self, File};
 use std::io::{self, IsTerminal, Read};
@@ -28,7 +28,7 @@ pub(crate) fn show_around(rt: &HostRuntime, path: &str, offset: u64) -> io::Resu
     if !fs::metadata(rt, path)?.is_file() {
         return Ok(());
     }
-    let mut chunk = [0; PIECE];
+    let mut chunk = [0; CHUNK];
     let file = &mut Retries::new(File::open(rt, path)?);
     let Some(extent) = extent_around(file, offset, &mut chunk)? else {
         return Ok(());
@@ -44,11 +44,11 @@ pub(crate) fn show_around(rt: &HostRuntime, path: &str, offset: u64) -> io::Resu
         no_pack: false,
         only: None,
     };
-    let output = &mut Told::new(rt.stderr());
+    let output = &mut Recorded::new(rt.stderr());
     let tally = &mut Tally::START;
     // The error was reported already, and so was a stream that breaks off here.
     let _ = show_view(
-        &mut Told::new(&mut input),
+        &mut Recorded::new(&mut input),
         output,
         &mut chunk,
         TURNS,

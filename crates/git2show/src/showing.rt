@@ -1,9 +1,9 @@
 //! The packets of standard input, on standard output.
 
 use crate::failures::{Failure, Stream, Watched};
-use crate::{PIECE, TURNS, flag_argument};
+use crate::{CHUNK, TURNS, flag_argument};
 use clap::{Arg, ArgMatches, Command, value_parser};
-use git_pkt::{Retries, Told};
+use git_pkt::{Recorded, Retries};
 use git2show_lib::{Form, Look, Tally, View, show, show_view, summarize};
 use std::alloc::{AllocError, Global};
 use std::env::{self, VarError};
@@ -76,18 +76,18 @@ pub(crate) fn show_command<'a>(alloc: Global) -> Result<Command<'a>, AllocError>
 pub(crate) fn run_show(rt: &HostRuntime, matches: &ArgMatches<'_>) -> Result<(), Failure> {
     let mut input = Watched::new(Stream::Input, Retries::new(rt.stdin()));
     let mut output = Watched::new(Stream::Output, rt.stdout());
-    let mut piece = [0; PIECE];
+    let mut chunk = [0; CHUNK];
     let mut tally = Tally::START;
     let form = form_of(rt, matches);
-    let reader = &mut Told::new(&mut input);
-    let writer = &mut Told::new(&mut output);
+    let reader = &mut Recorded::new(&mut input);
+    let writer = &mut Recorded::new(&mut output);
     let done = match view_of(matches, form) {
-        Some(view) => show_view(reader, writer, &mut piece, TURNS, view, &mut tally),
-        None => show(reader, writer, &mut piece, TURNS),
+        Some(view) => show_view(reader, writer, &mut chunk, TURNS, view, &mut tally),
+        None => show(reader, writer, &mut chunk, TURNS),
     };
     let done = match done {
         Ok(()) if matches!(form, Form::Columns(_)) && tally.stray.is_none() => {
-            summarize(tally, &mut Told::new(&mut output))
+            summarize(tally, &mut Recorded::new(&mut output))
         }
         _ => done,
     };

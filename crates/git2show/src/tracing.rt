@@ -2,9 +2,9 @@
 
 use crate::failures::{Failure, Stream, Watched};
 use crate::showing::form_of;
-use crate::{PIECE, TURNS, tell_failure, tell_fault};
+use crate::{CHUNK, TURNS, announce_failure, announce_fault};
 use clap::ArgMatches;
-use git_pkt::{Retries, RunFault, Told, flush, receive, send};
+use git_pkt::{Recorded, Retries, RunFault, flush, receive, send};
 use git_trace::{LONGEST_TRACE_LINE, Look, TraceFault, TraceReader};
 use git2show_lib::{Form, ProgramFault};
 use std::alloc::Global;
@@ -39,15 +39,15 @@ pub(crate) fn run_trace(rt: &HostRuntime, matches: &ArgMatches<'_>) -> u8 {
     let mut input = Watched::new(Stream::Input, Retries::new(rt.stdin()));
     let mut output = Watched::new(Stream::Output, rt.stdout());
     let text = TraceReader::new(rt.alloc(), look_of(form_of(rt, matches)));
-    let reader = &mut Told::new(&mut input);
-    let done = show_trace(rt.alloc(), reader, &mut Told::new(&mut output), text);
+    let reader = &mut Recorded::new(&mut input);
+    let done = show_trace(rt.alloc(), reader, &mut Recorded::new(&mut output), text);
     match done {
         Ok(()) => 0,
         Err(Stopped::Run(fault)) => {
             let call = input.failed_call().or(output.failed_call());
-            tell_failure(rt, Some(matches), &Failure::of_run(fault, call))
+            announce_failure(rt, Some(matches), &Failure::of_run(fault, call))
         }
-        Err(Stopped::Text(fault)) => tell_trace_fault(rt, fault),
+        Err(Stopped::Text(fault)) => report_trace_fault(rt, fault),
     }
 }
 
@@ -66,22 +66,22 @@ fn look_of(form: Form) -> Look {
 /// answered.
 fn show_trace<R: Read, W: Write>(
     alloc: Global,
-    reader: &mut Told<R>,
-    writer: &mut Told<W>,
+    reader: &mut Recorded<R>,
+    writer: &mut Recorded<W>,
     text: TraceReader,
 ) -> Result<(), Stopped> {
     let mut text = text;
     let mut lines = Vec::new(alloc);
-    let mut piece = [0; PIECE];
+    let mut chunk = [0; CHUNK];
     for _ in 0..TURNS {
-        let count = receive(reader, &mut piece)?;
+        let count = receive(reader, &mut chunk)?;
         if count == 0 {
             let ended = text.finish(&mut lines);
             send(writer, &lines)?;
             flush(writer)?;
             return Ok(ended?);
         }
-        let fed = text.feed(&piece[..count], &mut lines);
+        let fed = text.feed(&chunk[..count], &mut lines);
         send(writer, &lines)?;
         flush(writer)?;
         fed?;
@@ -92,10 +92,10 @@ fn show_trace<R: Read, W: Write>(
 
 /// Reports why a trace is refused: by its error line and, if standard error is a terminal, by a second line with the details. Returns the
 /// exit status.
-fn tell_trace_fault(rt: &HostRuntime, fault: TraceFault) -> u8 {
+fn report_trace_fault(rt: &HostRuntime, fault: TraceFault) -> u8 {
     let line = match fault {
         TraceFault::LongLine(line) | TraceFault::NoPackets(line) => line,
-        TraceFault::OutOfMemory => return tell_fault(rt, ProgramFault::OutOfMemory),
+        TraceFault::OutOfMemory => return announce_fault(rt, ProgramFault::OutOfMemory),
     };
     let _ = eprintln!(rt; "git2show: BadTrace at {line}");
     if rt.stderr().is_terminal() {

@@ -12,8 +12,8 @@ use Rattle.git_pkt.specs.declared.fault.Fault.{Fault}
 use Rattle.git_pkt.specs.declared.fault.Kind.TheVariants.{UnexpectedPacket}
 use Rattle.git_pkt.specs.declared.fault.RunFault.{RunFault}
 use Rattle.git_pkt.specs.declared.fault.RunFault.TheVariants.{ReadFault, WriteFault, ReadLimit, Refused}
-use Rattle.git_pkt.specs.Machine.Told.{has_ended, has_failed}
-use Rattle.git_pkt.specs.declared.told.Told.{Told}
+use Rattle.git_pkt.specs.Machine.Recorded.{has_ended, has_failed}
+use Rattle.git_pkt.specs.declared.recorded.Recorded.{Recorded}
 use Rattle.git_pkt.proofs.EngineLemmas.{written_then}
 use Rattle.git_pkt.proofs.Spelling.{none_begins_nothing}
 use Rattle.git_msg.specs.Requests.{IsStop}
@@ -22,13 +22,13 @@ use Rattle.git_client.specs.Machine.Client.{History, Converses, bytes_used as cl
 use Rattle.git_client.specs.Machine.Client.{wants_input}
 use Rattle.git_client.specs.Parts.{Terms}
 use Rattle.git_client.specs.Events.{EventValue}
-use Rattle.git_client.specs.Machine.RunSteps.{HearsBytes, HearsTo, HearsWhole, no_counts, window_of}
-use Rattle.git_client.specs.declared.hearing.Counts.{Counts}
+use Rattle.git_client.specs.Machine.RunSteps.{ReceivesBytes, ReceivesResponse, ReceivesWholeResponse, no_counts, window_of}
+use Rattle.git_client.specs.declared.receiving.Counts.{Counts}
 use Rattle.git_client.specs.declared.client.Client.{Client}
-use Rattle.git_client.specs.declared.hearing.Window.{Window}
+use Rattle.git_client.specs.declared.receiving.Window.{Window}
 use Rattle.git_client.proofs.AskedInTurn.{commands_advertised}
 use Rattle.git_client.proofs.ClientRuns.{Running, ran, begins, asks_on, read_on, refused_next}
-use Rattle.git_client.proofs.EventsHeard.{awaits_more, has_events, is_whole, position_is}
+use Rattle.git_client.proofs.EventsReceived.{awaits_more, has_events, is_whole, position_is}
 use Rattle.git_client.proofs.Faults.{first_fault}
 use Rattle.git2show_lib.specs.Others.{Advertised, judged_of}
 use Rattle.git2show_lib.specs.Machine.JudgedRequests.{AreAskedBy, IsBegun, IsRefused, advertised_by, limit_of, question_of}
@@ -37,12 +37,12 @@ use Rattle.git2show_lib.specs.Machine.Noting.{IsLost}
 use Rattle.git2show_lib.specs.declared.judged_requests.JudgedRequests.{JudgedRequests}
 use Rattle.git2show_lib.specs.declared.noting.Noting.{Noting}
 use Rattle.git2show_lib.specs.Machine.CheckFaults.{run_fault, run_result, standing_of}
-use Rattle.git2show_lib.specs.Machine.CheckSteps.{Asking, HearsNoting, ReadsAll, ReadsNoMore, ReadsOn, ReadsRequest, ReadsTo, ReadsWhole, SeesEnd}
-use Rattle.git2show_lib.specs.Machine.CheckedStreams.{AllEnded, AreAllAsked, AreAnswered, AreHeard, AreOver, AreUnread, Begun, Checked, EndsAs}
+use Rattle.git2show_lib.specs.Machine.CheckSteps.{Asking, ReceivesNoting, ReadsAll, ReadsNoMore, ReadsOn, ReadsRequest, ReadsTo, ReadsWhole, SeesEnd}
+use Rattle.git2show_lib.specs.Machine.CheckedStreams.{AllEnded, AreAllAsked, AreAnswered, AreReceived, AreOver, AreUnread, Begun, Checked, EndsAs}
 use Rattle.git2show_lib.specs.Machine.CheckedStreams.{Found, IsSieved, IsSoFar, Receives, SieveBreaksOff, SieveRefuses}
 use Rattle.git2show_lib.specs.Machine.CheckedStreams.{SieveRefusesLater, last_form, place_after}
-use Rattle.git2show_lib.specs.Machine.CheckedStreams.{HasEnded, Heard, IsOffered, IsOtherDue, IsWithinAnswer, IsWithinRequest, Turn}
-use Rattle.git2show_lib.specs.Machine.CheckedStreams.{bytes_begun, events_shown, heard_shown, lines_begun, moved, passed_in, placed}
+use Rattle.git2show_lib.specs.Machine.CheckedStreams.{HasEnded, Received, IsOffered, IsOtherExpected, IsWithinAnswer, IsWithinRequest, Turn}
+use Rattle.git2show_lib.specs.Machine.CheckedStreams.{bytes_begun, events_shown, received_shown, lines_begun, moved, passed_in, placed}
 use Rattle.git2show_lib.specs.Machine.CheckedStreams.{placed_result, questions_in, turns_shown, whole_of}
 use Rattle.git2show_lib.specs.Machine.TurnSteps.{AnswersTo, AsksJudged, AsksShown, PassesOtherTo, ReceivesNot}
 use Rattle.git2show_lib.specs.Machine.Sieving.{BreaksOffAt, IsRefusedBefore, IsRefusedBy, Sieves, SievesTo}
@@ -61,20 +61,21 @@ use Rattle.git2show_lib.specs.declared.checking.CheckFault.{CheckFault}
 use Rattle.git2show_lib.specs.declared.checking.CheckFault.TheVariants.{Requests, Responses}
 use Rattle.git2show_lib.specs.declared.checking.CheckFault.TheVariants.{ReadFault as CheckReadFault, WriteFault as CheckWriteFault}
 use Rattle.git2show_lib.specs.declared.checking.CheckFault.TheVariants.{ReadLimit as CheckReadLimit}
-use Rattle.git2show_lib.proofs.CheckRuns.{Awaiting, Checking, Reading, advertised, asks_within, bytes_heard, counted_place, form_due, found_in, known_on}
-use Rattle.git2show_lib.proofs.CheckRuns.{lines_written, none_asked, place_is, reads_on, response_due, silent, still_offered, turn_of, uses_of}
+use Rattle.git2show_lib.proofs.CheckRuns.{Awaiting, Checking, Reading, advertised, asks_within, bytes_received, counted_place, form_expected}
+use Rattle.git2show_lib.proofs.CheckRuns.{found_in, known_on}
+use Rattle.git2show_lib.proofs.CheckRuns.{lines_written, none_asked, place_is, reads_on, response_expected, silent, still_offered, turn_of, uses_of}
 
 -- which of its streams failed, and what shows it, is the same of a fault and of what is reported of it
-told_as : (S T : Type 0) (own : RunFault) (place : ℕ) (fault : CheckFault) (read written : Bool) → fault ≡ placed place own
+announced_as : (S T : Type 0) (own : RunFault) (place : ℕ) (fault : CheckFault) (read written : Bool) → fault ≡ placed place own
     → FailsAs {T = S} (run_result (Err fault)) read written → FailsAs {T = T} (Err own) read written
-told_as S T own place fault read written same told =
-    at own (subst (λ (f : CheckFault). FailsAs {T = S} (run_result (Err f)) read written) same told)
+announced_as S T own place fault read written same announced =
+    at own (subst (λ (f : CheckFault). FailsAs {T = S} (run_result (Err f)) read written) same announced)
   where
     at : (own : RunFault) → FailsAs {T = S} (run_result (Err (placed place own))) read written → FailsAs {T = T} (Err own) read written
-    at ReadFault told = told
-    at WriteFault told = told
-    at ReadLimit told = told
-    at (Refused fault) told = told
+    at ReadFault announced = announced
+    at WriteFault announced = announced
+    at ReadLimit announced = announced
+    at (Refused fault) announced = announced
 
 shown_as : (own : RunFault) (place : ℕ) (fault : CheckFault) (F W S : Type 0) → fault ≡ placed place own → IsShownBy F W S (run_fault fault)
     → IsShownBy F W S own
@@ -97,11 +98,11 @@ well_placed before (Ok over) done is = let same : over ≡ done = cc in ap Ok sa
 well_placed before (Err fault) done is = absurd (cc)
 
 -- nothing came of an answer that passes and is not whole
-begun_nothing : (r : Heard) (unused : List ℕ) → r.begun ≡ None → (whole_of r ++ bytes_begun r.begun) ++ unused ≡ whole_of r ++ unused
+begun_nothing : (r : Received) (unused : List ℕ) → r.begun ≡ None → (whole_of r ++ bytes_begun r.begun) ++ unused ≡ whole_of r ++ unused
 begun_nothing r unused none =
     ap (λ (l : List ℕ). l ++ unused) (ap (λ (b : Option Begun). whole_of r ++ bytes_begun b) none ∙ append-nil (whole_of r))
 
-module _ (A : Type 0) (t : Terms) (limit : ℕ) {Q R : Type 0} (of_requests : Told Q) (of_responses : Told R) where
+module _ (A : Type 0) (t : Terms) (limit : ℕ) {Q R : Type 0} (of_requests : Recorded Q) (of_responses : Recorded R) where
   -- how a check with this answer moved its streams
   abbrev pub CheckEnds : Result (Unit {0}) CheckFault → Flow → Flow → Flow → Type 0
   CheckEnds result requests responses out =
@@ -109,18 +110,18 @@ module _ (A : Type 0) (t : Terms) (limit : ℕ) {Q R : Type 0} (of_requests : To
       (requests ∷ responses ∷ []) (out ∷ [])
 
   -- what the run of the client and the requests mean for a check that ends here
-  ends : (result : Result (Unit {0}) CheckFault) (found : Found) (by : Advertised) (h : History) (r : Heard) (front : List (Request A)) (client : Client A)
+  ends : (result : Result (Unit {0}) CheckFault) (found : Found) (by : Advertised) (h : History) (r : Received) (front : List (Request A)) (client : Client A)
       {counts : Counts} (unused : List ℕ) (requests responses out : Flow) → Consumes requests.before requests.after (found.used ++ found.unused)
       → Consumes responses.before responses.after ((whole_of r ++ bytes_begun r.begun) ++ unused)
-      → WrittenAs (is_broken (run_result result)) out (heard_shown r)
-      → Running false t h front client counts [] silent silent silent silent silent → AreHeard t h.asked h.used h.events r
+      → WrittenAs (is_broken (run_result result)) out (received_shown r)
+      → Running false t h front client counts [] silent silent silent silent silent → AreReceived t h.asked h.used h.events r
       → IsOffered t h.used by ⊎ AreUnread found → AreAskedBy by limit found.used found.asked found.left found.rest
       → EndsAs A t by limit result (standing_of of_requests) (standing_of of_responses) unused h r found → CheckEnds result requests responses out
-  ends result found by h r front client unused requests responses out read heard told runs received offered asks ended = let at = ran runs in record {
+  ends result found by h r front client unused requests responses out read arrived announced runs received offered asks ended = let at = ran runs in record {
     used = (found.used ++ found.unused) ∷ ((whole_of r ++ bytes_begun r.begun) ++ unused) ∷ [];
-    given = heard_shown r ∷ [];
-    read = (read, (heard, tt));
-    written = (told, tt);
+    given = received_shown r ∷ [];
+    read = (read, (arrived, tt));
+    written = (announced, tt);
     related = record {
       h = h;
       unused = unused;
@@ -128,9 +129,9 @@ module _ (A : Type 0) (t : Terms) (limit : ℕ) {Q R : Type 0} (of_requests : To
       by = by;
       r = r;
       were_read = refl;
-      told = refl;
+      announced = refl;
       received = received;
-      heard = has_events t h client at.stands;
+      arrived = has_events t h client at.stands;
       may_be = commands_advertised t h.asked h.used h.events front at.in_turn;
       in_turn = at.in_turn.in_turn;
       offered = offered;
@@ -150,26 +151,27 @@ module _ (A : Type 0) (t : Terms) (limit : ℕ) {Q R : Type 0} (of_requests : To
 
   module _ {form : Option Form} {front : List (Request A)} {old : Client A} (new : Client A) {waiting : List ℕ} {requests : Flow}
       {before held out_before out_held : Option (List ℕ)} (after out_after : Option (List ℕ))
-      (a : Awaiting t limit false form front old waiting requests (flow before held) (flow out_before out_held)) (due : wants_input old ≡ true) where
+      (a : Awaiting t limit false form front old waiting requests (flow before held) (flow out_before out_held)) (expected : wants_input old ≡ true) where
     -- of its bytes the client received these, and then this was reported
-    heard_up_to : (result : Result (Unit {0}) CheckFault) {counts : Counts} {used heard : List ℕ} (unused : List ℕ)
+    received_up_to : (result : Result (Unit {0}) CheckFault) {counts : Counts} {used arrived : List ℕ} (unused : List ℕ)
         → Uses used waiting unused (flow held after)
-        → (b : HearsBytes (is_broken (run_result result)) old new no_counts counts heard (flow out_held out_after) silent silent) → Receives form used heard
-        → ((h : History) → Converses t h new → AreAllAsked (a.grown used heard b.events) a.found
-        → EndsAs A t a.offer limit result (standing_of of_requests) (standing_of of_responses) unused h (a.grown used heard b.events) a.found)
+        → (b : ReceivesBytes (is_broken (run_result result)) old new no_counts counts arrived (flow out_held out_after) silent silent)
+        → Receives form used arrived
+        → ((h : History) → Converses t h new → AreAllAsked (a.grown used arrived b.events) a.found
+        → EndsAs A t a.offer limit result (standing_of of_requests) (standing_of of_responses) unused h (a.grown used arrived b.events) a.found)
         → CheckEnds result requests (flow before after) (flow out_before out_after)
-    heard_up_to result {used = used} {heard} unused uses b receives ended =
-        let on = bytes_heard a.runs due b in
-        ends result a.found a.offer _ (a.grown used heard b.events) front new unused _ _ _ a.read
-        (rw (all_of a used heard b.events unused)
+    received_up_to result {used = used} {arrived} unused uses b receives ended =
+        let on = bytes_received a.runs expected b in
+        ends result a.found a.offer _ (a.grown used arrived b.events) front new unused _ _ _ a.read
+        (rw (all_of a used arrived b.events unused)
         (read_on before held after a.whole waiting uses.came used unused a.read_so_far uses.read uses.parts))
-        (rw (a.shown_is used heard b.events) (lines_written a.runs out_before out_held out_after a.lines a.told b)) on
-        (a.received used heard b.events (can_ask new) receives b.one_turn) (known_on t a.h.used heard _ a.offer a.found refl a.offered) a.asks
+        (rw (a.shown_is used arrived b.events) (lines_written a.runs out_before out_held out_after a.lines a.announced b)) on
+        (a.received used arrived b.events (can_ask new) receives b.one_turn) (known_on t a.h.used arrived _ a.offer a.found refl a.offered) a.asks
         (ended _ on.along.stands (record {
-          asked = a.asked used heard b.events;
+          asked = a.asked used arrived b.events;
           nothing_left = a.nothing_left;
           no_rest = a.no_rest;
-          nothing_begun = a.nothing_begun used heard b.events;
+          nothing_begun = a.nothing_begun used arrived b.events;
         }))
 
     module _ (plain : form ≡ None) where
@@ -177,47 +179,47 @@ module _ (A : Type 0) (t : Terms) (limit : ℕ) {Q R : Type 0} (of_requests : To
       receives_plain bytes = subst (λ (f : Option Form). Receives f bytes bytes) (sym plain) refl
 
       -- it was not received to its end
-      pub hearing_stopped : (count : ℕ) → count ≡ min a.passed 18446744073709551615 → (fault : RunFault) (piece : List ℕ) (turns : ℕ) (written : Bool)
-          (F W : Type 0) → HearsTo (Err fault) (has_ended of_responses) old new waiting piece (flow held after) (flow out_held out_after) silent silent
+      pub receiving_ended : (count : ℕ) → count ≡ min a.passed 18446744073709551615 → (fault : RunFault) (chunk : List ℕ) (turns : ℕ) (written : Bool)
+          (F W : Type 0) → ReceivesResponse (Err fault) (has_ended of_responses) old new waiting chunk (flow held after) (flow out_held out_after) silent silent
           → FailsAs {T = Window} (Err fault) (has_failed of_responses) written → IsShownBy F W (IsSpent of_responses turns) fault
           → CheckEnds (Err (placed count fault)) requests (flow before after) (flow out_before out_after)
-      hearing_stopped count is ReadFault piece turns written F W step told shown =
-          let f = step.hears in
-          heard_up_to (Err CheckReadFault) [] (uses_of f) f.bytes (receives_plain f.used) (λ h stands all_asked.
+      receiving_ended count is ReadFault chunk turns written F W step announced shown =
+          let f = step.arrives in
+          received_up_to (Err CheckReadFault) [] (uses_of f) f.bytes (receives_plain f.used) (λ h stands all_asked.
           inl (
             inl (record {
               all_asked = all_asked;
               so_far = subst (λ (o : Option Form). IsSoFar t (a.grown f.used f.used f.bytes.events) o)
                   (sym (a.form_is f.used f.used f.bytes.events ∙ plain)) tt;
               all_used = refl;
-              goes_on = awaits_more t h new stands step.due;
+              goes_on = awaits_more t h new stands step.expected;
             }),
-            told.0,
+            announced.0,
           ))
-      hearing_stopped count is WriteFault piece turns written F W step told shown =
-          let f = step.hears in
-          heard_up_to (Err CheckWriteFault) step.unused (uses_of f) f.bytes (receives_plain f.used) (λ h stands all_asked. inl all_asked)
-      hearing_stopped count is ReadLimit piece turns written F W step told shown =
-          let f = step.hears in
-          heard_up_to (Err CheckReadLimit) [] (uses_of f) f.bytes (receives_plain f.used) (λ h stands all_asked.
+      receiving_ended count is WriteFault chunk turns written F W step announced shown =
+          let f = step.arrives in
+          received_up_to (Err CheckWriteFault) step.unused (uses_of f) f.bytes (receives_plain f.used) (λ h stands all_asked. inl all_asked)
+      receiving_ended count is ReadLimit chunk turns written F W step announced shown =
+          let f = step.arrives in
+          received_up_to (Err CheckReadLimit) [] (uses_of f) f.bytes (receives_plain f.used) (λ h stands all_asked.
           inl (
             inl (record {
               all_asked = all_asked;
               so_far = subst (λ (o : Option Form). IsSoFar t (a.grown f.used f.used f.bytes.events) o)
                   (sym (a.form_is f.used f.used f.bytes.events ∙ plain)) tt;
               all_used = refl;
-              goes_on = awaits_more t h new stands step.due;
+              goes_on = awaits_more t h new stands step.expected;
             }),
             shown.open_ended,
           ))
-      hearing_stopped count is (Refused fault) piece turns written F W step told shown =
-          let f = step.hears in
-          heard_up_to (Err (Responses (moved count fault))) step.unused (uses_of f) f.bytes (receives_plain f.used) (λ h stands all_asked. inl (record {
+      receiving_ended count is (Refused fault) chunk turns written F W step announced shown =
+          let f = step.arrives in
+          received_up_to (Err (Responses (moved count fault))) step.unused (uses_of f) f.bytes (receives_plain f.used) (λ h stands all_asked. inl (record {
             own = fault;
             is = inl (record {
               all_asked = all_asked;
               plain = a.form_is f.used f.used f.bytes.events ∙ plain;
-              malformed = record { first = first_fault t h new fault stands step.told; timely = step.timely };
+              malformed = record { first = first_fault t h new fault stands step.announced; timely = step.timely };
             });
             reported = moved_by_count count (passed_in (a.grown f.used f.used f.bytes.events).turns) fault (
                 is
@@ -232,11 +234,11 @@ module _ (A : Type 0) (t : Terms) (limit : ℕ) {Q R : Type 0} (of_requests : To
   -- ---- a sieved response was not received to its end
 
   module _ {old middle : Client A} (new : Client A) {stream next : JudgedRequests A} {count : ℕ} {judged : Judged A} {ended : Bool}
-      {held later waiting : List ℕ} {before left after heard_before heard out_before out_held out_asked : Option (List ℕ)}
-      (heard_after out_after : Option (List ℕ))
-      (c : Checking t limit old stream count held waiting (flow before left) (flow heard_before heard) (flow out_before out_held))
+      {held later waiting : List ℕ} {before left after arrived_before arrived out_before out_held out_asked : Option (List ℕ)}
+      (arrived_after out_after : Option (List ℕ))
+      (c : Checking t limit old stream count held waiting (flow before left) (flow arrived_before arrived) (flow out_before out_held))
       (step : ReadsRequest ended stream next judged held later (flow left after)) (asks : AsksShown false old middle judged (flow out_held out_asked))
-      (due : wants_input middle ≡ true) (form : Form) (is : form_due c step ≡ Some form) where
+      (expected : wants_input middle ≡ true) (form : Form) (is : form_expected c step ≡ Some form) where
     -- what a client received of it
     abbrev sieved_of : {broken : Bool} {used : List ℕ} {out : Flow} (s : Sieves broken form middle new used out) → IsSieved form used s.received
     sieved_of s = record {
@@ -249,19 +251,19 @@ module _ (A : Type 0) (t : Terms) (limit : ℕ) {Q R : Type 0} (of_requests : To
       cut = s.cut;
     }
 
-    sieved_up_to : (result : Result (Unit {0}) CheckFault) {used : List ℕ} (unused : List ℕ) → Uses used waiting unused (flow heard heard_after)
+    sieved_up_to : (result : Result (Unit {0}) CheckFault) {used : List ℕ} (unused : List ℕ) → Uses used waiting unused (flow arrived arrived_after)
         → (s : Sieves (is_broken (run_result result)) form middle new used (flow out_asked out_after))
-        → ((h : History) (r : Heard) (found : Found) → Converses t h new → AreAllAsked r found
+        → ((h : History) (r : Received) (found : Found) → Converses t h new → AreAllAsked r found
         → r.turns ≡ c.r.turns ++ turn_of c step used s.received s.bytes.events ∷ [] → r.opening ≡ c.r.opening
         → EndsAs A t (advertised_by next) limit result (standing_of of_requests) (standing_of of_responses) unused h r found)
-        → CheckEnds result (flow before after) (flow heard_before heard_after) (flow out_before out_after)
+        → CheckEnds result (flow before after) (flow arrived_before arrived_after) (flow out_before out_after)
     sieved_up_to result {used} unused uses s ended =
-        heard_up_to new heard_after out_after (response_due c step asks) due result unused uses s.bytes
+        received_up_to new arrived_after out_after (response_expected c step asks) expected result unused uses s.bytes
         (subst (λ (f : Option Form). Receives f used s.received) (sym is) (sieved_of s))
         (λ h stands all_asked. ended h _ _ stands all_asked refl refl)
 
     -- nothing is wrong with it so far, and more is expected
-    sieved_so_far : (r : Heard) {broken : Bool} {used : List ℕ} {out : Flow} (s : Sieves broken form middle new used out)
+    sieved_so_far : (r : Received) {broken : Bool} {used : List ℕ} {out : Flow} (s : Sieves broken form middle new used out)
         → r.turns ≡ c.r.turns ++ turn_of c step used s.received s.bytes.events ∷ [] → s.bad ≡ [] → s.beyond ≡ [] → IsOpen s.rest
         → IsSoFar t r (last_form t.format r.turns)
     sieved_so_far r {used = used} s turns_are none all still_open =
@@ -280,11 +282,11 @@ module _ (A : Type 0) (t : Terms) (limit : ℕ) {Q R : Type 0} (of_requests : To
         })
 
     sieve_stopped : (fault : RunFault) (place : ℕ) → place ≡ min (place_after c.r.opening c.r.turns) 18446744073709551615
-        → (piece : List ℕ) (turns : ℕ) (written : Bool) (F W : Type 0)
-        → SievesTo form (Err fault) (has_ended of_responses) middle new waiting piece (flow heard heard_after) (flow out_asked out_after)
+        → (chunk : List ℕ) (turns : ℕ) (written : Bool) (F W : Type 0)
+        → SievesTo form (Err fault) (has_ended of_responses) middle new waiting chunk (flow arrived arrived_after) (flow out_asked out_after)
         → FailsAs {T = Passed} (Err fault) (has_failed of_responses) written → IsShownBy F W (IsSpent of_responses turns) fault
-        → CheckEnds (Err (placed place fault)) (flow before after) (flow heard_before heard_after) (flow out_before out_after)
-    sieve_stopped ReadFault place at piece turns written F W to told shown =
+        → CheckEnds (Err (placed place fault)) (flow before after) (flow arrived_before arrived_after) (flow out_before out_after)
+    sieve_stopped ReadFault place at chunk turns written F W to announced shown =
         sieved_up_to (Err CheckReadFault) [] to.uses to.sieves (λ h r found stands all_asked turns_are opening_is.
         inl (
           inl (record {
@@ -293,11 +295,11 @@ module _ (A : Type 0) (t : Terms) (limit : ℕ) {Q R : Type 0} (of_requests : To
             all_used = refl;
             goes_on = awaits_more t h new stands to.waits;
           }),
-          told.0,
+          announced.0,
         ))
-    sieve_stopped WriteFault place at piece turns written F W to told shown =
+    sieve_stopped WriteFault place at chunk turns written F W to announced shown =
         sieved_up_to (Err CheckWriteFault) to.unused to.uses to.sieves (λ h r found stands all_asked turns_are opening_is. inl all_asked)
-    sieve_stopped ReadLimit place at piece turns written F W to told shown =
+    sieve_stopped ReadLimit place at chunk turns written F W to announced shown =
         sieved_up_to (Err CheckReadLimit) [] to.uses to.sieves (λ h r found stands all_asked turns_are opening_is.
         inl (
           inl (record {
@@ -308,7 +310,7 @@ module _ (A : Type 0) (t : Terms) (limit : ℕ) {Q R : Type 0} (of_requests : To
           }),
           shown.open_ended,
         ))
-    sieve_stopped (Refused fault) place at piece turns written F W to told shown =
+    sieve_stopped (Refused fault) place at chunk turns written F W to announced shown =
         sieved_up_to (Err (Responses (moved place fault))) to.unused to.uses to.sieves (λ h r found stands all_asked turns_are opening_is.
         inr (inr (
           c.r.turns,
@@ -369,55 +371,56 @@ module _ (A : Type 0) (t : Terms) (limit : ℕ) {Q R : Type 0} (of_requests : To
   -- ---- a request was not answered
 
   module _ {old : Client A} (new : Client A) {stream next : JudgedRequests A} {judged : Judged A} {ended : Bool} {held later waiting : List ℕ}
-      (now : Remaining) {before left after heard_before heard out_before out_held : Option (List ℕ)} (heard_after out_after : Option (List ℕ))
-      (c : Checking t limit old stream now.passed held waiting (flow before left) (flow heard_before heard) (flow out_before out_held))
+      (now : Remaining) {before left after arrived_before arrived out_before out_held : Option (List ℕ)} (arrived_after out_after : Option (List ℕ))
+      (c : Checking t limit old stream now.passed held waiting (flow before left) (flow arrived_before arrived) (flow out_before out_held))
       (step : ReadsRequest ended stream next judged held later (flow left after)) where
     receiving_stopped : {middle : Client A} {out_asked : Option (List ℕ)} → AsksShown false old middle judged (flow out_held out_asked)
-        → wants_input middle ≡ true → (form : Option Form) → form_due c step ≡ form → (fault : CheckFault) (piece : List ℕ) (turns : ℕ) (written : Bool)
+        → wants_input middle ≡ true → (form : Option Form) → form_expected c step ≡ form → (fault : CheckFault) (chunk : List ℕ) (turns : ℕ) (written : Bool)
         (F W : Type 0)
-        → ReceivesNot form fault (has_ended of_responses) middle new now waiting piece (flow heard heard_after) (flow out_asked out_after)
+        → ReceivesNot form fault (has_ended of_responses) middle new now waiting chunk (flow arrived arrived_after) (flow out_asked out_after)
         → FailsAs {T = Remaining} (run_result (Err fault)) (has_failed of_responses) written → IsShownBy F W (IsSpent of_responses turns) (run_fault fault)
-        → CheckEnds (Err fault) (flow before after) (flow heard_before heard_after) (flow out_before out_after)
-    receiving_stopped asks due None is fault piece turns written F W to told shown =
-        subst (λ (f : CheckFault). CheckEnds (Err f) (flow before after) (flow heard_before heard_after) (flow out_before out_after)) (sym to.placed_is)
-        (hearing_stopped new heard_after out_after (response_due c step asks) due is now.passed c.counts to.own piece turns written F W to.hears
-        (told_as Remaining Window to.own now.passed fault (has_failed of_responses) written to.placed_is told)
+        → CheckEnds (Err fault) (flow before after) (flow arrived_before arrived_after) (flow out_before out_after)
+    receiving_stopped asks expected None is fault chunk turns written F W to announced shown =
+        subst (λ (f : CheckFault). CheckEnds (Err f) (flow before after) (flow arrived_before arrived_after) (flow out_before out_after)) (sym to.placed_is)
+        (receiving_ended new arrived_after out_after (response_expected c step asks) expected is now.passed c.counts to.own chunk turns written F W to.arrives
+        (announced_as Remaining Window to.own now.passed fault (has_failed of_responses) written to.placed_is announced)
         (shown_as to.own now.passed fault F W (IsSpent of_responses turns) to.placed_is shown))
-    receiving_stopped {middle} asks due (Some form) is fault piece turns written F W to told shown =
+    receiving_stopped {middle} asks expected (Some form) is fault chunk turns written F W to announced shown =
         let place = min (client_bytes middle + now.passed) 18446744073709551615 in
         let runs = asks_on t false c.front old middle judged.request no_counts [] c.runs c.ready asks.asks in
         let same : client_bytes middle ≡ client_bytes old = position_is t _ middle runs.along.stands ∙ sym (place_is c) in
-        subst (λ (f : CheckFault). CheckEnds (Err f) (flow before after) (flow heard_before heard_after) (flow out_before out_after)) (sym to.placed_is)
-        (sieve_stopped new heard_after out_after c step asks due form is to.own place
-        (counted_place c place (ap (λ (n : ℕ). min (n + now.passed) 18446744073709551615) same)) piece turns written F W to.sieves
-        (told_as Remaining Passed to.own place fault (has_failed of_responses) written to.placed_is told)
+        subst (λ (f : CheckFault). CheckEnds (Err f) (flow before after) (flow arrived_before arrived_after) (flow out_before out_after)) (sym to.placed_is)
+        (sieve_stopped new arrived_after out_after c step asks expected form is to.own place
+        (counted_place c place (ap (λ (n : ℕ). min (n + now.passed) 18446744073709551615) same)) chunk turns written F W to.sieves
+        (announced_as Remaining Passed to.own place fault (has_failed of_responses) written to.placed_is announced)
         (shown_as to.own place fault F W (IsSpent of_responses turns) to.placed_is shown))
 
   -- the advertisement was not received to its end
   pub advertisement_stopped : {old : Client A} (new : Client A) (notes : Noting A) {requests : Flow} {before held out_before out_held : Option (List ℕ)}
       (after out_after : Option (List ℕ)) (a : Awaiting t limit false None [] old [] requests (flow before held) (flow out_before out_held))
       → a.passed ≡ 0 → wants_input old ≡ true → (result : Result Window RunFault) (fault : CheckFault) → placed_result 0 result ≡ Err fault
-      → (piece : List ℕ) (turns : ℕ) (written : Bool) (F W : Type 0)
-      → HearsNoting result (has_ended of_responses) old new notes piece (flow held after) (flow out_held out_after)
+      → (chunk : List ℕ) (turns : ℕ) (written : Bool) (F W : Type 0)
+      → ReceivesNoting result (has_ended of_responses) old new notes chunk (flow held after) (flow out_held out_after)
       → FailsAs result (has_failed of_responses) written → IfErr result (IsShownBy F W (IsSpent of_responses turns))
       → CheckEnds (Err fault) requests (flow before after) (flow out_before out_after)
-  advertisement_stopped new notes after out_after a none due (Ok window) fault met piece turns written F W step told shown = absurd (cc)
-  advertisement_stopped new notes {requests} {before} {out_before = out_before} after out_after a none due (Err own) fault met piece turns written F W
-      step told shown =
+  advertisement_stopped new notes after out_after a none expected (Ok window) fault met chunk turns written F W step announced shown = absurd (cc)
+  advertisement_stopped new notes {requests} {before} {out_before = out_before} after out_after a none expected (Err own) fault met chunk turns written F W
+      step announced shown =
       subst (λ (f : CheckFault). CheckEnds (Err f) requests (flow before after) (flow out_before out_after)) (cc)
-      (hearing_stopped new after out_after a due refl 0 (ap (λ (n : ℕ). min n 18446744073709551615) (sym none)) own piece turns written F W step told
+      (receiving_ended new after out_after a expected refl 0 (ap (λ (n : ℕ). min n 18446744073709551615) (sym none)) own chunk turns written F W step announced
       shown)
 
   -- the advertisement was received whole, and a line of it was not kept
-  pub not_noted : {old : Client A} (new : Client A) {window : Window} {piece : List ℕ} {requests : Flow}
+  pub not_noted : {old : Client A} (new : Client A) {window : Window} {chunk : List ℕ} {requests : Flow}
       {before held out_before out_held : Option (List ℕ)} (after out_after : Option (List ℕ)) (fault : Fault)
       → (a : Awaiting t limit false None [] old [] requests (flow before held) (flow out_before out_held))
       → ((b c : List ℕ) (e : List EventValue) → (a.grown b c e).turns ≡ []) → wants_input old ≡ true
-      → HearsWhole window old new [] piece (flow held after) (flow out_held out_after) silent silent → IsLost fault.kind → fault.offset ≡ client_bytes new
+      → ReceivesWholeResponse window old new [] chunk (flow held after) (flow out_held out_after) silent silent → IsLost fault.kind
+      → fault.offset ≡ client_bytes new
       → CheckEnds (Err (Responses (moved 0 fault))) requests (flow before after) (flow out_before out_after)
-  not_noted {old} new {window} {piece} {before = before} {held = held} after out_after fault a none due heard lost at =
-      let f = heard.hears in
-      heard_up_to new after out_after a due (Err (Responses (moved 0 fault))) (window_of window piece) (uses_of f) f.bytes refl (λ h stands all_asked.
+  not_noted {old} new {window} {chunk} {before = before} {held = held} after out_after fault a none expected arrived lost at =
+      let f = arrived.arrives in
+      received_up_to new after out_after a expected (Err (Responses (moved 0 fault))) (window_of window chunk) (uses_of f) f.bytes refl (λ h stands all_asked.
       inl (record {
         own = fault;
         is = inr (inl (record {
@@ -426,7 +429,7 @@ module _ (A : Type 0) (t : Terms) (limit : ℕ) {Q R : Type 0} (of_requests : To
             ended = subst (λ (turns : List Turn). AllEnded t turns) (sym (none f.used f.used f.bytes.events))
                 (All-nil (λ turn. HasEnded t turn.question turn.bytes turn.received turn.events));
             nothing_begun = all_asked.nothing_begun;
-            whole = is_whole t h new stands heard.can_ask_on;
+            whole = is_whole t h new stands arrived.can_ask_on;
           };
           none_asked = none f.used f.used f.bytes.events;
           why = lost;
@@ -447,14 +450,14 @@ module _ (A : Type 0) (t : Terms) (limit : ℕ) {Q R : Type 0} (of_requests : To
   asking_stopped ReadFault new out_after c step asks = absurd asks
   asking_stopped ReadLimit new out_after c step asks = absurd asks
   asking_stopped WriteFault new {judged = judged} {waiting = waiting} {out_before = out_before} out_after c step asks =
-      let a = response_due c step asks in
+      let a = response_expected c step asks in
       let r = a.grown [] [] [] in
-      let nothing = receives_nothing (form_due c step) in
+      let nothing = receives_nothing (form_expected c step) in
       ends (Err CheckWriteFault) a.found a.offer a.h r (c.front ++ judged.request ∷ []) new waiting _ _ _ a.read
       (rw (all_of a [] [] [] waiting, append-nil a.whole) a.read_so_far)
-      (rw (a.shown_is [] [] [], append-nil a.lines) a.told) a.runs
-      (subst (λ (used : List ℕ). AreHeard t a.h.asked used a.h.events r) (append-nil a.h.used)
-      (subst (λ (events : List EventValue). AreHeard t a.h.asked (a.h.used ++ []) events r) (append-nil a.h.events)
+      (rw (a.shown_is [] [] [], append-nil a.lines) a.announced) a.runs
+      (subst (λ (used : List ℕ). AreReceived t a.h.asked used a.h.events r) (append-nil a.h.used)
+      (subst (λ (events : List EventValue). AreReceived t a.h.asked (a.h.used ++ []) events r) (append-nil a.h.events)
       (a.received [] [] [] false nothing refl))) a.offered a.asks
       (inl (record { asked = a.asked [] [] []; nothing_left = a.nothing_left; no_rest = a.no_rest; nothing_begun = a.nothing_begun [] [] [] }))
   asking_stopped (Refused fault) {old} new {next = next} {count} {judged} {waiting = waiting} {out_before = o0} {out_held = o1} out_after c step asks =
@@ -463,8 +466,8 @@ module _ (A : Type 0) (t : Terms) (limit : ℕ) {Q R : Type 0} (of_requests : To
       let (remaining, rest, are_asked, (nothing, none)) = step.whole.alone reading.used asked reading.has_read in
       ends (Err (Responses (moved count fault))) (found_in reading remaining rest) (advertised_by next) c.h c.r c.front old waiting _ _ _ reading.read
       (rw (begun_nothing c.r waiting c.nothing_begun) c.read_so_far)
-      (subst (WrittenAs false (flow o0 out_after)) (append-nil (heard_shown c.r))
-      (written_then false o0 o1 out_after (heard_shown c.r) [] c.told asks.told)) c.runs c.received
+      (subst (WrittenAs false (flow o0 out_after)) (append-nil (received_shown c.r))
+      (written_then false o0 o1 out_after (received_shown c.r) [] c.announced asks.announced)) c.runs c.received
       (inl (still_offered t step.whole.reads.advertised refl c.offered)) (asks_within reading remaining rest are_asked)
       (inl (record {
         own = fault;
@@ -483,42 +486,43 @@ module _ (A : Type 0) (t : Terms) (limit : ℕ) {Q R : Type 0} (of_requests : To
 
   -- or it was, and the response was not received to its end
   pub answering_stopped : {old : Client A} (new : Client A) {stream next : JudgedRequests A} {judged : Judged A} {ended : Bool} {held later waiting : List ℕ}
-      (now : Remaining) {before left after heard_before heard out_before out_held : Option (List ℕ)} (heard_after out_after : Option (List ℕ))
-      → Checking t limit old stream now.passed held waiting (flow before left) (flow heard_before heard) (flow out_before out_held)
-      → ReadsRequest ended stream next judged held later (flow left after) → (fault : CheckFault) (piece : List ℕ) (turns : ℕ) (written : Bool)
+      (now : Remaining) {before left after arrived_before arrived out_before out_held : Option (List ℕ)} (arrived_after out_after : Option (List ℕ))
+      → Checking t limit old stream now.passed held waiting (flow before left) (flow arrived_before arrived) (flow out_before out_held)
+      → ReadsRequest ended stream next judged held later (flow left after) → (fault : CheckFault) (chunk : List ℕ) (turns : ℕ) (written : Bool)
       (F W : Type 0)
-      → AnswersTo t.format (Err fault) (has_ended of_responses) old new judged now waiting piece (flow heard heard_after) (flow out_held out_after)
+      → AnswersTo t.format (Err fault) (has_ended of_responses) old new judged now waiting chunk (flow arrived arrived_after) (flow out_held out_after)
       → FailsAs {T = Remaining} (run_result (Err fault)) (has_failed of_responses) written
       → IsShownBy F W (IsSpent of_responses turns) (run_fault fault)
-      → CheckEnds (Err fault) (flow before after) (flow heard_before heard_after) (flow out_before out_after)
-  answering_stopped new now {before = before} {after = after} {heard_before = heard_before} {heard} {out_before = out_before} heard_after out_after c step
-      fault piece turns written F W (inl n) told shown =
-      subst (λ (held : Option (List ℕ)). CheckEnds (Err fault) (flow before after) (flow heard_before held) (flow out_before out_after)) (sym n.unread)
-      (subst (λ (f : CheckFault). CheckEnds (Err f) (flow before after) (flow heard_before heard) (flow out_before out_after)) (sym n.placed_is)
+      → CheckEnds (Err fault) (flow before after) (flow arrived_before arrived_after) (flow out_before out_after)
+  answering_stopped new now {before = before} {after = after} {arrived_before = arrived_before} {arrived}
+      {out_before = out_before} arrived_after out_after c step
+      fault chunk turns written F W (inl n) announced shown =
+      subst (λ (held : Option (List ℕ)). CheckEnds (Err fault) (flow before after) (flow arrived_before held) (flow out_before out_after)) (sym n.unread)
+      (subst (λ (f : CheckFault). CheckEnds (Err f) (flow before after) (flow arrived_before arrived) (flow out_before out_after)) (sym n.placed_is)
       (asking_stopped n.own new out_after c step n.asks))
-  answering_stopped new now heard_after out_after c step fault piece turns written F W (inr b) told shown =
-      receiving_stopped new now heard_after out_after c step b.asks b.due _ refl fault piece turns written F W b.receives told shown
+  answering_stopped new now arrived_after out_after c step fault chunk turns written F W (inr b) announced shown =
+      receiving_stopped new now arrived_after out_after c step b.asks b.expected _ refl fault chunk turns written F W b.receives announced shown
 
   -- ---- the answer to another command did not pass
 
   module _ {client : Client A} {stream next : JudgedRequests A} {count : ℕ} {lines : List ℕ} {ended : Bool} {held later waiting : List ℕ}
-      {before left after heard_before heard out_before out_held : Option (List ℕ)} (heard_after out_after : Option (List ℕ))
-      (c : Checking t limit client stream count held waiting (flow before left) (flow heard_before heard) (flow out_before out_held))
+      {before left after arrived_before arrived out_before out_held : Option (List ℕ)} (arrived_after out_after : Option (List ℕ))
+      (c : Checking t limit client stream count held waiting (flow before left) (flow arrived_before arrived) (flow out_before out_held))
       (step : ReadsWhole ended stream next (other lines) held later (flow left after)) where
     -- of the answer these bytes were used, and then this was reported
     passed_up_to : (result : Result (Unit {0}) CheckFault) → (used unused : List ℕ)
-        → Uses used waiting unused (flow heard heard_after) → WrittenAs (is_broken (run_result result)) (flow out_held out_after) lines
-        → ((r : Heard) (found : Found) → r.turns ≡ c.r.turns → r.opening ≡ c.r.opening
-        → IsOtherDue t c.h r (record { lines = lines; bytes = used }) found
+        → Uses used waiting unused (flow arrived arrived_after) → WrittenAs (is_broken (run_result result)) (flow out_held out_after) lines
+        → ((r : Received) (found : Found) → r.turns ≡ c.r.turns → r.opening ≡ c.r.opening
+        → IsOtherExpected t c.h r (record { lines = lines; bytes = used }) found
         → EndsAs A t (advertised_by next) limit result (standing_of of_requests) (standing_of of_responses) unused c.h r found)
-        → CheckEnds result (flow before after) (flow heard_before heard_after) (flow out_before out_after)
+        → CheckEnds result (flow before after) (flow arrived_before arrived_after) (flow out_before out_after)
     passed_up_to result used unused uses shown ended =
         let asked = questions_in c.r.turns ++ other lines ∷ [] in
         let reading = reads_on c.reading step.reads in
         let (remaining, rest, are_asked, (nothing, none)) = step.alone reading.used asked reading.has_read in
         let begun : Begun = record { lines = lines; bytes = used } in
-        let r : Heard = record { opening = c.r.opening; greeting = c.r.greeting; turns = c.r.turns; begun = Some begun } in
-        let received : AreHeard t c.h.asked c.h.used c.h.events r =
+        let r : Received = record { opening = c.r.opening; greeting = c.r.greeting; turns = c.r.turns; begun = Some begun } in
+        let received : AreReceived t c.h.asked c.h.used c.h.events r =
         record {
           asked_is = c.received.asked_is;
           used_is = c.received.used_is;
@@ -527,12 +531,12 @@ module _ (A : Type 0) (t : Terms) (limit : ℕ) {Q R : Type 0} (of_requests : To
           in_turn = c.received.in_turn;
         } in
         ends result (found_in reading remaining rest) (advertised_by next) c.h r c.front client unused _ _ _ reading.read
-        (read_on heard_before heard heard_after (whole_of c.r) waiting uses.came used unused c.read_so_far uses.read uses.parts)
+        (read_on arrived_before arrived arrived_after (whole_of c.r) waiting uses.came used unused c.read_so_far uses.read uses.parts)
         (subst (WrittenAs (is_broken (run_result result)) (flow out_before out_after))
         (ap (λ (l : List ℕ). l ++ lines)
         (ap (λ (b : Option Begun). (events_shown c.r.greeting ++ turns_shown c.r.turns) ++ lines_begun b) c.nothing_begun
         ∙ append-nil (events_shown c.r.greeting ++ turns_shown c.r.turns)))
-        (written_then (is_broken (run_result result)) out_before out_held out_after (heard_shown c.r) lines c.told shown)) c.runs received
+        (written_then (is_broken (run_result result)) out_before out_held out_after (received_shown c.r) lines c.announced shown)) c.runs received
         (inl (still_offered t step.reads.advertised refl c.offered)) (asks_within reading remaining rest are_asked)
         (ended r (found_in reading remaining rest) refl refl (record {
           asked = refl;
@@ -544,15 +548,15 @@ module _ (A : Type 0) (t : Terms) (limit : ℕ) {Q R : Type 0} (of_requests : To
 
     module _ (shown : WrittenAs false (flow out_held out_after) lines) where
       answer_goes_on : (result : Result (Unit {0}) CheckFault) → is_broken (run_result result) ≡ false
-          → (P : Type 0) → P → PassesOn t.ending waiting (flow heard heard_after)
-          → ((r : Heard) (found : Found) → IsWithinAnswer t [] c.h r found × P
+          → (P : Type 0) → P → PassesOn t.ending waiting (flow arrived arrived_after)
+          → ((r : Received) (found : Found) → IsWithinAnswer t [] c.h r found × P
           → EndsAs A t (advertised_by next) limit result (standing_of of_requests) (standing_of of_responses) [] c.h r found)
-          → CheckEnds result (flow before after) (flow heard_before heard_after) (flow out_before out_after)
+          → CheckEnds result (flow before after) (flow arrived_before arrived_after) (flow out_before out_after)
       answer_goes_on result sound P p goes ended =
-          passed_up_to result goes.used [] goes.uses (rw sound shown) (λ r found same opening_is due. ended r found (
+          passed_up_to result goes.used [] goes.uses (rw sound shown) (λ r found same opening_is expected. ended r found (
             record {
               begun = record { lines = lines; bytes = goes.used };
-              due = due;
+              expected = expected;
               all_used = refl;
               rest = goes.rest;
               begins = goes.begun;
@@ -561,24 +565,24 @@ module _ (A : Type 0) (t : Terms) (limit : ℕ) {Q R : Type 0} (of_requests : To
             p,
           ))
 
-      answer_stopped : (fault : RunFault) (place : ℕ) (piece : List ℕ) (turns : ℕ) (written : Bool) (F W : Type 0)
+      answer_stopped : (fault : RunFault) (place : ℕ) (chunk : List ℕ) (turns : ℕ) (written : Bool) (F W : Type 0)
           → place ≡ min (client_bytes client + count) 18446744073709551615
-          → PassesTo t.ending (Err fault) (has_ended of_responses) waiting piece (flow heard heard_after)
+          → PassesTo t.ending (Err fault) (has_ended of_responses) waiting chunk (flow arrived arrived_after)
           → FailsAs {T = Passed} (Err fault) (has_failed of_responses) written → IsShownBy F W (IsSpent of_responses turns) fault
-          → CheckEnds (Err (placed place fault)) (flow before after) (flow heard_before heard_after) (flow out_before out_after)
-      answer_stopped ReadFault place piece turns written F W at passes told shows =
-          answer_goes_on (Err CheckReadFault) refl (has_failed of_responses ≡ true) told.0 passes (λ r found (within, failed). inl (inr within, failed))
-      answer_stopped WriteFault place piece turns written F W at passes told shows = absurd passes
-      answer_stopped ReadLimit place piece turns written F W at passes told shows =
+          → CheckEnds (Err (placed place fault)) (flow before after) (flow arrived_before arrived_after) (flow out_before out_after)
+      answer_stopped ReadFault place chunk turns written F W at passes announced shows =
+          answer_goes_on (Err CheckReadFault) refl (has_failed of_responses ≡ true) announced.0 passes (λ r found (within, failed). inl (inr within, failed))
+      answer_stopped WriteFault place chunk turns written F W at passes announced shows = absurd passes
+      answer_stopped ReadLimit place chunk turns written F W at passes announced shows =
           answer_goes_on (Err CheckReadLimit) refl (has_ended of_responses ≡ false) shows.open_ended passes
           (λ r found (within, open_ended). inl (inr within, open_ended))
-      answer_stopped (Refused fault) place piece turns written F W at passes told shows =
-          passed_up_to (Err (Responses (moved place fault))) passes.used passes.unused passes.uses shown (λ r found same opening_is due.
+      answer_stopped (Refused fault) place chunk turns written F W at passes announced shows =
+          passed_up_to (Err (Responses (moved place fault))) passes.used passes.unused passes.uses shown (λ r found same opening_is expected.
           inr (inl (record {
             own = fault;
             is = record {
               begun = record { lines = lines; bytes = passes.used };
-              due = due;
+              expected = expected;
               rest = passes.breaks.rest;
               begins = passes.breaks.begun;
               breaks = passes.breaks.breaks;
@@ -592,54 +596,56 @@ module _ (A : Type 0) (t : Terms) (limit : ℕ) {Q R : Type 0} (of_requests : To
 
   -- its line was not written, or the answer did not pass
   pub passing_stopped : {client : Client A} {stream next : JudgedRequests A} {lines : List ℕ} {ended : Bool} {held later waiting : List ℕ} (now : Remaining)
-      {before left after heard_before heard out_before out_held : Option (List ℕ)} (heard_after out_after : Option (List ℕ))
-      → Checking t limit client stream now.passed held waiting (flow before left) (flow heard_before heard) (flow out_before out_held)
+      {before left after arrived_before arrived out_before out_held : Option (List ℕ)} (arrived_after out_after : Option (List ℕ))
+      → Checking t limit client stream now.passed held waiting (flow before left) (flow arrived_before arrived) (flow out_before out_held)
       → ReadsWhole ended stream next (other lines) held later (flow left after) → (fault : CheckFault) (place : ℕ)
-      → place ≡ min (client_bytes client + now.passed) 18446744073709551615 → (piece : List ℕ) (turns : ℕ) (written : Bool) (F W : Type 0)
-      → PassesOtherTo t.ending place (Err fault) (has_ended of_responses) lines now waiting piece (flow heard heard_after) (flow out_held out_after)
+      → place ≡ min (client_bytes client + now.passed) 18446744073709551615 → (chunk : List ℕ) (turns : ℕ) (written : Bool) (F W : Type 0)
+      → PassesOtherTo t.ending place (Err fault) (has_ended of_responses) lines now waiting chunk (flow arrived arrived_after) (flow out_held out_after)
       → FailsAs {T = Remaining} (run_result (Err fault)) (has_failed of_responses) written
       → IsShownBy F W (IsSpent of_responses turns) (run_fault fault)
-      → CheckEnds (Err fault) (flow before after) (flow heard_before heard_after) (flow out_before out_after)
-  passing_stopped {lines = lines} {waiting = waiting} now {before = before} {after = after} {heard_before = heard_before} {heard} {out_before} heard_after
-      out_after c step fault place at piece turns written F W (inl n) told shown =
-      subst (λ (held : Option (List ℕ)). CheckEnds (Err fault) (flow before after) (flow heard_before held) (flow out_before out_after)) (sym n.unread)
-      (subst (λ (f : CheckFault). CheckEnds (Err f) (flow before after) (flow heard_before heard) (flow out_before out_after)) (sym n.placed_is)
-      (passed_up_to heard out_after c step (Err CheckWriteFault) [] waiting
-      (record { came = []; read = Consumes-nil heard; parts = append-nil waiting }) n.shown
-      (λ r found same opening_is due. inr (record { begun = record { lines = lines; bytes = [] }; due = due; none_came = refl }))))
-  passing_stopped now {before = before} {after = after} {heard_before = heard_before} {out_before = out_before} heard_after out_after c step fault place at
-      piece turns written F W (inr n) told shown =
-      subst (λ (f : CheckFault). CheckEnds (Err f) (flow before after) (flow heard_before heard_after) (flow out_before out_after)) (sym n.placed_is)
-      (answer_stopped heard_after out_after c step n.shown n.own place piece turns written F W at n.passes
-      (told_as Remaining Passed n.own place fault (has_failed of_responses) written n.placed_is told)
+      → CheckEnds (Err fault) (flow before after) (flow arrived_before arrived_after) (flow out_before out_after)
+  passing_stopped {lines = lines} {waiting = waiting} now {before = before} {after = after} {arrived_before = arrived_before} {arrived}
+      {out_before} arrived_after
+      out_after c step fault place at chunk turns written F W (inl n) announced shown =
+      subst (λ (held : Option (List ℕ)). CheckEnds (Err fault) (flow before after) (flow arrived_before held) (flow out_before out_after)) (sym n.unread)
+      (subst (λ (f : CheckFault). CheckEnds (Err f) (flow before after) (flow arrived_before arrived) (flow out_before out_after)) (sym n.placed_is)
+      (passed_up_to arrived out_after c step (Err CheckWriteFault) [] waiting
+      (record { came = []; read = Consumes-nil arrived; parts = append-nil waiting }) n.shown
+      (λ r found same opening_is expected. inr (record { begun = record { lines = lines; bytes = [] }; expected = expected; none_came = refl }))))
+  passing_stopped now {before = before} {after = after} {arrived_before = arrived_before}
+      {out_before = out_before} arrived_after out_after c step fault place at
+      chunk turns written F W (inr n) announced shown =
+      subst (λ (f : CheckFault). CheckEnds (Err f) (flow before after) (flow arrived_before arrived_after) (flow out_before out_after)) (sym n.placed_is)
+      (answer_stopped arrived_after out_after c step n.shown n.own place chunk turns written F W at n.passes
+      (announced_as Remaining Passed n.own place fault (has_failed of_responses) written n.placed_is announced)
       (shown_as n.own place fault F W (IsSpent of_responses turns) n.placed_is shown))
 
   -- ---- no further request was read
 
   module _ {client : Client A} {stream : JudgedRequests A} (next : JudgedRequests A) {count : ℕ} {held waiting : List ℕ}
-      {before left heard_before heard : Option (List ℕ)} {out : Flow} (after : Option (List ℕ))
-      (c : Checking t limit client stream count held waiting (flow before left) (flow heard_before heard) out) where
+      {before left arrived_before arrived : Option (List ℕ)} {out : Flow} (after : Option (List ℕ))
+      (c : Checking t limit client stream count held waiting (flow before left) (flow arrived_before arrived) out) where
     -- what is found in the requests: those that came in turn, and this after them
     abbrev pub found_after : (used unused : List ℕ) → List Given → List ℕ → Found
     found_after used unused remaining rest = record { used = used; unused = unused; asked = questions_in c.r.turns; left = remaining; rest = rest }
 
     -- the requests were read on, and bytes of what is left over of the responses, or none; then this was reported
-    told_then : (result : Result (Unit {0}) CheckFault) → is_broken (run_result result) ≡ false → (came : List ℕ) (heard_after : Option (List ℕ))
-        → Consumes heard heard_after came → (unused : List ℕ) → ReadsOn stream next [] held unused (flow left after)
+    announced_then : (result : Result (Unit {0}) CheckFault) → is_broken (run_result result) ≡ false → (came : List ℕ) (arrived_after : Option (List ℕ))
+        → Consumes arrived arrived_after came → (unused : List ℕ) → ReadsOn stream next [] held unused (flow left after)
         → (Stands : List ℕ → List Given → List ℕ → Type 0) → Asking next Stands
         → ((used : List ℕ) (remaining : List Given) (rest : List ℕ) → Stands used remaining rest
         → AreAnswered t c.h c.r (found_after used unused remaining rest)
         → EndsAs A t (advertised_by next) limit result (standing_of of_requests) (standing_of of_responses) (waiting ++ came) c.h c.r
-        (found_after used unused remaining rest)) → CheckEnds result (flow before after) (flow heard_before heard_after) out
-    told_then result sound came heard_after read unused step Stands asking ended =
+        (found_after used unused remaining rest)) → CheckEnds result (flow before after) (flow arrived_before arrived_after) out
+    announced_then result sound came arrived_after read unused step Stands asking ended =
         let asked = questions_in c.r.turns in
         let reading : Reading t limit asked next unused (flow before after) = rw (append-nil asked) at (reads_on c.reading step) in
         let (remaining, rest, are_asked, stands) = asking reading.used asked reading.has_read in
-        let all : Consumes heard_before heard_after (whole_of c.r ++ (waiting ++ came)) =
+        let all : Consumes arrived_before arrived_after (whole_of c.r ++ (waiting ++ came)) =
         rw (append_assoc (whole_of c.r) waiting came) at
-        (Consumes-trans heard_before heard heard_after (whole_of c.r ++ waiting) came c.read_so_far read) in
+        (Consumes-trans arrived_before arrived arrived_after (whole_of c.r ++ waiting) came c.read_so_far read) in
         ends result (found_after reading.used unused remaining rest) (advertised_by next) c.h c.r c.front client (waiting ++ came) _ _ _ reading.read
-        (rw (begun_nothing c.r (waiting ++ came) c.nothing_begun) all) (rw sound c.told) c.runs c.received
+        (rw (begun_nothing c.r (waiting ++ came) c.nothing_begun) all) (rw sound c.announced) c.runs c.received
         (inl (still_offered t step.advertised refl c.offered)) (asks_within reading remaining rest are_asked)
         (ended reading.used remaining rest stands
         (record {
@@ -654,9 +660,9 @@ module _ (A : Type 0) (t : Terms) (limit : ℕ) {Q R : Type 0} (of_requests : To
         → ReadsAll (has_ended of_requests) stream next held (flow left after)
         → ((found : Found) → IsWithinRequest t (advertised_by next) limit (standing_of of_requests) (standing_of of_responses) c.h c.r found
         → EndsAs A t (advertised_by next) limit result (standing_of of_requests) (standing_of of_responses) (waiting ++ []) c.h c.r found)
-        → CheckEnds result (flow before after) (flow heard_before heard) out
+        → CheckEnds result (flow before after) (flow arrived_before arrived) out
     all_read result sound more step ended =
-        told_then result sound [] heard (Consumes-nil heard) [] step.reads
+        announced_then result sound [] arrived (Consumes-nil arrived) [] step.reads
         (λ used remaining rest. IsBegun (advertised_by next) (limit_of next) remaining × IsOpen rest) step.begun
         (λ used remaining rest (begun, still_open) answered. ended (found_after used [] remaining rest) (record {
           answered = answered;
@@ -668,12 +674,12 @@ module _ (A : Type 0) (t : Terms) (limit : ℕ) {Q R : Type 0} (of_requests : To
         }))
 
     -- the next request was not read whole
-    pub reading_stopped : (fault : CheckFault) (window : Window) (piece : List ℕ) → has_ended of_responses ≡ false
-        → ReadsTo (Err fault) (has_ended of_requests) stream next held window piece (flow left after)
+    pub reading_stopped : (fault : CheckFault) (window : Window) (chunk : List ℕ) → has_ended of_responses ≡ false
+        → ReadsTo (Err fault) (has_ended of_requests) stream next held window chunk (flow left after)
         → FailsAs {T = Next A} (run_result (Err fault)) (has_failed of_requests) false
-        → CheckEnds (Err fault) (flow before after) (flow heard_before heard) out
-    reading_stopped (Requests fault) window piece more step told =
-        told_then (Err (Requests fault)) refl [] heard (Consumes-nil heard) step.unused step.reads
+        → CheckEnds (Err fault) (flow before after) (flow arrived_before arrived) out
+    reading_stopped (Requests fault) window chunk more step announced =
+        announced_then (Err (Requests fault)) refl [] arrived (Consumes-nil arrived) step.unused step.reads
         (λ used remaining rest. IsRefused (advertised_by next) (limit_of next) remaining rest (length used) fault) step.refused
         (λ used remaining rest refused answered. record {
           answered = answered;
@@ -681,37 +687,38 @@ module _ (A : Type 0) (t : Terms) (limit : ℕ) {Q R : Type 0} (of_requests : To
           timely = step.timely;
           more_can_come = more;
         })
-    reading_stopped (Responses fault) window piece more step told = absurd step
-    reading_stopped CheckReadFault window piece more step told = all_read (Err CheckReadFault) refl more step (λ found within. inr (inl (within, told.0)))
-    reading_stopped CheckWriteFault window piece more step told = absurd step
-    reading_stopped CheckReadLimit window piece more step told = all_read (Err CheckReadLimit) refl more step (λ found within. inr (inl (within, tt)))
+    reading_stopped (Responses fault) window chunk more step announced = absurd step
+    reading_stopped CheckReadFault window chunk more step announced =
+        all_read (Err CheckReadFault) refl more step (λ found within. inr (inl (within, announced.0)))
+    reading_stopped CheckWriteFault window chunk more step announced = absurd step
+    reading_stopped CheckReadLimit window chunk more step announced = all_read (Err CheckReadLimit) refl more step (λ found within. inr (inl (within, tt)))
 
     -- no request came any more: what is left over of the responses was seen
     module _ (step : ReadsNoMore (has_ended of_requests) stream next held (flow left after)) where
       -- these bytes of it, and then this was reported
-      seen_then : (result : Result (Unit {0}) CheckFault) → is_broken (run_result result) ≡ false → (came : List ℕ) (heard_after : Option (List ℕ))
-          → Consumes heard heard_after came
+      seen_then : (result : Result (Unit {0}) CheckFault) → is_broken (run_result result) ≡ false → (came : List ℕ) (arrived_after : Option (List ℕ))
+          → Consumes arrived arrived_after came
           → ((found : Found) → AreAnswered t c.h c.r found → AreOver (text_of next) (has_ended of_requests) found
           → EndsAs A t (advertised_by next) limit result (standing_of of_requests) (standing_of of_responses) (waiting ++ came) c.h c.r found)
-          → CheckEnds result (flow before after) (flow heard_before heard_after) out
-      seen_then result sound came heard_after read ended =
-          told_then result sound came heard_after read step.unused step.reads
+          → CheckEnds result (flow before after) (flow arrived_before arrived_after) out
+      seen_then result sound came arrived_after read ended =
+          announced_then result sound came arrived_after read step.unused step.reads
           (λ used remaining rest.
           (rest ≡ []) × (IsStop (judged_of (text_of next) remaining) ⊎ ((remaining ≡ []) × (step.unused ≡ []) × (has_ended of_requests ≡ true))))
           step.over (λ used remaining rest over answered. ended (found_after used step.unused remaining rest) answered over)
 
-      pub seen_the_end : (result : Result (Unit {0}) CheckFault) (position turns : ℕ) (F W : Type 0) (heard_after : Option (List ℕ))
+      pub seen_the_end : (result : Result (Unit {0}) CheckFault) (position turns : ℕ) (F W : Type 0) (arrived_after : Option (List ℕ))
           → position ≡ min (client_bytes client + count) 18446744073709551615
-          → SeesEnd result (has_ended of_responses) position waiting (flow heard heard_after)
+          → SeesEnd result (has_ended of_responses) position waiting (flow arrived arrived_after)
           → FailsAs (run_result result) (has_failed of_responses) false
           → IfErr result (λ fault. IsShownBy F W (IsSpent of_responses turns) (run_fault fault))
-          → CheckEnds result (flow before after) (flow heard_before heard_after) out
-      seen_the_end (Ok done) position turns F W heard_after place (seen, ended) told shown =
-          seen_then (Ok done) refl [] heard_after seen.read
+          → CheckEnds result (flow before after) (flow arrived_before arrived_after) out
+      seen_the_end (Ok done) position turns F W arrived_after place (seen, ended) announced shown =
+          seen_then (Ok done) refl [] arrived_after seen.read
           (λ found answered over. record { answered = answered; over = over; nothing_left = append-nil waiting ∙ seen.none_waits; ended = ended })
-      seen_the_end (Err (Requests fault)) position turns F W heard_after place seen told shown = absurd seen
-      seen_the_end (Err (Responses fault)) position turns F W heard_after place (seen, fault_is) told shown =
-          seen_then (Err (Responses fault)) refl seen.came heard_after seen.read (λ found answered over. inl (record {
+      seen_the_end (Err (Requests fault)) position turns F W arrived_after place seen announced shown = absurd seen
+      seen_the_end (Err (Responses fault)) position turns F W arrived_after place (seen, fault_is) announced shown =
+          seen_then (Err (Responses fault)) refl seen.came arrived_after seen.read (λ found answered over. inl (record {
             own = record { kind = UnexpectedPacket; offset = length c.h.used };
             is = inr (inr (inr (record { answered = answered; over = over; more = seen.some; fault_is = refl })));
             reported = fault_is ∙ ap (λ (n : ℕ). record { kind = UnexpectedPacket; offset = n }) (
@@ -720,12 +727,12 @@ module _ (A : Type 0) (t : Terms) (limit : ℕ) {Q R : Type 0} (of_requests : To
                 ∙ stops_once (length c.h.used) (passed_in c.r.turns) 18446744073709551615
                 );
           }))
-      seen_the_end (Err CheckReadFault) position turns F W heard_after place seen told shown =
-          seen_then (Err CheckReadFault) refl [] heard_after seen.read
-          (λ found answered over. inr (inr (record { answered = answered; over = over; nothing_left = append-nil waiting ∙ seen.none_waits }, told.0)))
-      seen_the_end (Err CheckWriteFault) position turns F W heard_after place seen told shown = absurd seen
-      seen_the_end (Err CheckReadLimit) position turns F W heard_after place seen told shown =
-          seen_then (Err CheckReadLimit) refl [] heard_after seen.read
+      seen_the_end (Err CheckReadFault) position turns F W arrived_after place seen announced shown =
+          seen_then (Err CheckReadFault) refl [] arrived_after seen.read
+          (λ found answered over. inr (inr (record { answered = answered; over = over; nothing_left = append-nil waiting ∙ seen.none_waits }, announced.0)))
+      seen_the_end (Err CheckWriteFault) position turns F W arrived_after place seen announced shown = absurd seen
+      seen_the_end (Err CheckReadLimit) position turns F W arrived_after place seen announced shown =
+          seen_then (Err CheckReadLimit) refl [] arrived_after seen.read
           (λ found answered over. inr (inr (
             record { answered = answered; over = over; nothing_left = append-nil waiting ∙ seen.none_waits },
             shown.open_ended,

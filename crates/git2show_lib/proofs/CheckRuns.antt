@@ -19,13 +19,13 @@ use Rattle.git_client.specs.Machine.Client.{wants_input}
 use Rattle.git_client.specs.Parts.{Terms}
 use Rattle.git_client.specs.Conversation.{IsConversation}
 use Rattle.git_client.specs.Events.{EventValue}
-use Rattle.git_client.specs.Machine.RunSteps.{HearsBytes, HearsFrom, HearsWhole, IsOneTurn, no_counts, window_of}
-use Rattle.git_client.specs.declared.hearing.Counts.{Counts}
+use Rattle.git_client.specs.Machine.RunSteps.{ReceivesBytes, ReceivesFrom, ReceivesWholeResponse, IsOneTurn, no_counts, window_of}
+use Rattle.git_client.specs.declared.receiving.Counts.{Counts}
 use Rattle.git_client.specs.declared.client.Client.{Client}
-use Rattle.git_client.specs.declared.hearing.Window.{Window}
+use Rattle.git_client.specs.declared.receiving.Window.{Window}
 use Rattle.git_client.proofs.Alongs.{counts_on}
-use Rattle.git_client.proofs.ClientRuns.{Running, anew, begins, asks_on, hears_on, read_on}
-use Rattle.git_client.proofs.EventsHeard.{has_noted, is_whole, position_is}
+use Rattle.git_client.proofs.ClientRuns.{Running, anew, begins, asks_on, receives_on, read_on}
+use Rattle.git_client.proofs.EventsReceived.{has_noted, is_whole, position_is}
 use Rattle.git2show_lib.specs.Others.{Advertised, HasLines}
 use Rattle.git2show_lib.specs.Machine.JudgedRequests.{HasRead, AreAskedBy, advertised_by, bytes_used, limit_of, offer_of, question_of}
 use Rattle.git2show_lib.specs.Machine.JudgedRequests.{text_of}
@@ -33,11 +33,11 @@ use Rattle.git2show_lib.specs.Machine.Noting.{AreLost, HasNotedLines, IsLost}
 use Rattle.git2show_lib.specs.declared.judged_requests.JudgedRequests.{JudgedRequests}
 use Rattle.git2show_lib.specs.declared.noting.Noting.{Noting}
 use Rattle.git2show_lib.specs.Machine.CheckSteps.{ReadsOn, ReadsRequest, ReadsWhole}
-use Rattle.git2show_lib.specs.Machine.CheckedStreams.{AllEnded, AreHeard, AreUnread, Comes}
+use Rattle.git2show_lib.specs.Machine.CheckedStreams.{AllEnded, AreReceived, AreUnread, Comes}
 use Rattle.git2show_lib.specs.Machine.CheckedStreams.{Found, Receives, ReceivesAll}
 use Rattle.git2show_lib.specs.Machine.CheckedStreams.{last_form, place_after}
-use Rattle.git2show_lib.specs.Machine.CheckedStreams.{HasEnded, Heard, IsOffered, MayCome, Turn}
-use Rattle.git2show_lib.specs.Machine.CheckedStreams.{events_in, events_shown, heard_shown, passed_in}
+use Rattle.git2show_lib.specs.Machine.CheckedStreams.{HasEnded, Received, IsOffered, MayCome, Turn}
+use Rattle.git2show_lib.specs.Machine.CheckedStreams.{events_in, events_shown, received_shown, passed_in}
 use Rattle.git2show_lib.specs.Machine.CheckedStreams.{question_shown, questions_in, received_in, whole_of}
 use Rattle.git2show_lib.specs.Machine.TurnSteps.{AnswersBy, AsksShown, ReceivesWhole}
 use Rattle.git2show_lib.specs.Sieve.{sieved}
@@ -48,7 +48,7 @@ use Rattle.git2show_lib.specs.OtherLines.{Question, form_asked, other}
 use Rattle.git2show_lib.specs.declared.judged_requests.Judged.{Judged}
 use Rattle.git2show_lib.specs.Machine.OtherAnswers.{PassesWhole, Uses}
 use Rattle.git2show_lib.specs.declared.other_answers.Passed.{Passed}
-use Rattle.git2show_lib.proofs.Turns.{heard_with, passed_snoc, questions_snoc, shown_with, stops_once, whole_with, with_turn}
+use Rattle.git2show_lib.proofs.Turns.{received_with, passed_snoc, questions_snoc, shown_with, stops_once, whole_with, with_turn}
 use Rattle.git2show_lib.proofs.Turns.{form_snoc}
 
 -- ---- what was read and written
@@ -118,14 +118,14 @@ comes_all (Some form) bytes received (given, splits, passed, cut) = record {
 }
 
 -- the advertisement alone
-abbrev pub greeting_alone : List ℕ → List EventValue → Heard
+abbrev pub greeting_alone : List ℕ → List EventValue → Received
 greeting_alone b e = record { opening = b; greeting = e; turns = []; begun = None }
 
-pub greeting_shown : (b : List ℕ) (e : List EventValue) → heard_shown (greeting_alone b e) ≡ events_shown e
+pub greeting_shown : (b : List ℕ) (e : List EventValue) → received_shown (greeting_alone b e) ≡ events_shown e
 greeting_shown b e = append-nil (events_shown e ++ []) ∙ append-nil (events_shown e)
 
-pub greeting_heard : {t : Terms} (b : List ℕ) (e : List EventValue) (all : Bool) → IsOneTurn e all → AreHeard t [] b e (greeting_alone b e)
-greeting_heard b e all one =
+pub greeting_received : {t : Terms} (b : List ℕ) (e : List EventValue) (all : Bool) → IsOneTurn e all → AreReceived t [] b e (greeting_alone b e)
+greeting_received b e all one =
     record { asked_is = refl; used_is = sym (append-nil b); events_are = sym (append-nil e); one_turn = (all, one); in_turn = tt }
 
 module _ {A : Type 0} (t : Terms) where
@@ -156,27 +156,27 @@ module _ {A : Type 0} (t : Terms) where
       pub passed : ℕ
       pub lines : List ℕ
       pub read_so_far : Consumes responses.before responses.after (whole ++ waiting)
-      pub told : WrittenAs broken out lines
-      pub grown : (bytes received : List ℕ) → List EventValue → Heard
+      pub announced : WrittenAs broken out lines
+      pub grown : (bytes received : List ℕ) → List EventValue → Received
       pub asked : (b c : List ℕ) (e : List EventValue) → found.asked ≡ questions_in (grown b c e).turns
       pub nothing_begun : (b c : List ℕ) (e : List EventValue) → (grown b c e).begun ≡ None
       pub form_is : (b c : List ℕ) (e : List EventValue) → last_form t.format (grown b c e).turns ≡ form
       pub passed_is : (b c : List ℕ) (e : List EventValue) → Receives form b c → passed_in (grown b c e).turns ≡ passed + (length b - length c)
       pub whole_is : (b c : List ℕ) (e : List EventValue) → whole_of (grown b c e) ≡ whole ++ b
-      pub shown_is : (b c : List ℕ) (e : List EventValue) → heard_shown (grown b c e) ≡ lines ++ events_shown e
+      pub shown_is : (b c : List ℕ) (e : List EventValue) → received_shown (grown b c e) ≡ lines ++ events_shown e
       pub received : (b c : List ℕ) (e : List EventValue) (all : Bool) → Receives form b c → IsOneTurn e all
-          → AreHeard t h.asked (h.used ++ c) (h.events ++ e) (grown b c e)
+          → AreReceived t h.asked (h.used ++ c) (h.events ++ e) (grown b c e)
 
     -- the next request can come: those that were read came in turn, and what came for each is whole
     pub record Checking (client : Client A) (stream : JudgedRequests A) (count : ℕ) (held waiting : List ℕ) (requests responses out : Flow) : Type 0 where
       pub front : List (Request A)
       pub h : History
-      pub r : Heard
+      pub r : Received
       pub runs : Running false t h front client no_counts [] silent silent silent silent silent
       pub reading : Reading (questions_in r.turns) stream held requests
       pub read_so_far : Consumes responses.before responses.after (whole_of r ++ waiting)
-      pub told : WrittenAs false out (heard_shown r)
-      pub received : AreHeard t h.asked h.used h.events r
+      pub announced : WrittenAs false out (received_shown r)
+      pub received : AreReceived t h.asked h.used h.events r
       pub greeted : IsOneTurn r.greeting true
       pub ended : AllEnded t r.turns
       pub nothing_begun : r.begun ≡ None
@@ -186,21 +186,21 @@ module _ {A : Type 0} (t : Terms) where
 
 -- what a client received, apart from what was read of the responses and written
 module _ {A : Type 0} where
-  abbrev quiet : {broken : Bool} {old new : Client A} {counts : Counts} {heard : List ℕ} {out packs progress : Flow}
-      → HearsBytes broken old new no_counts counts heard out packs progress → HearsFrom false old new heard [] silent silent silent silent
-  quiet {counts = counts} {heard = heard} b = record {
+  abbrev quiet : {broken : Bool} {old new : Client A} {counts : Counts} {arrived : List ℕ} {out packs progress : Flow}
+      → ReceivesBytes broken old new no_counts counts arrived out packs progress → ReceivesFrom false old new arrived [] silent silent silent silent
+  quiet {counts = counts} {arrived = arrived} b = record {
     came = [];
-    used = heard;
+    used = arrived;
     counts = counts;
     read = tt;
     parts = refl;
     bytes = record {
       events = b.events;
-      hears = b.hears;
+      arrives = b.arrives;
       one_turn = b.one_turn;
-      owes = b.owes;
+      has_unsent = b.has_unsent;
       counted = b.counted;
-      told = λ can. tt;
+      announced = λ can. tt;
       sent = tt;
       reported = tt;
     };
@@ -208,14 +208,14 @@ module _ {A : Type 0} where
 
   -- of a response that a client receives as it comes these bytes were used
   abbrev pub uses_of : {broken : Bool} {old new : Client A} {waiting unused : List ℕ} {reader out packs progress : Flow}
-      (f : HearsFrom broken old new waiting unused reader out packs progress) → Uses f.used waiting unused reader
+      (f : ReceivesFrom broken old new waiting unused reader out packs progress) → Uses f.used waiting unused reader
   uses_of f = record { came = f.came; read = f.read; parts = f.parts }
 
 module _ {A : Type 0} {t : Terms} where
   -- before the first byte nothing was asked and received
   pub nothing_run : (client : Client A) → wants_input client ≡ true → Converses t nothing_yet client
       → Running false t nothing_yet [] client no_counts [] silent silent silent silent silent
-  nothing_run client due stands = begins t client None None None None None None due stands tt
+  nothing_run client expected stands = begins t client None None None None None None expected stands tt
 
   -- a run of a client has no part in other bytes that wait
   waits_for : {h : History} {front : List (Request A)} {client : Client A} {waiting : List ℕ} (later : List ℕ)
@@ -228,25 +228,25 @@ module _ {A : Type 0} {t : Terms} where
     stays = r.stays;
     in_turn = r.in_turn;
     read = tt;
-    said = r.said;
-    told = r.told;
+    content = r.content;
+    announced = r.announced;
     sent = r.sent;
     reported = r.reported;
   }
 
-  module _ {broken : Bool} {h : History} {front : List (Request A)} {old new : Client A} {counts : Counts} {heard : List ℕ} {packs progress : Flow}
+  module _ {broken : Bool} {h : History} {front : List (Request A)} {old new : Client A} {counts : Counts} {arrived : List ℕ} {packs progress : Flow}
       (runs : Running false t h front old no_counts [] silent silent silent silent silent) where
     -- a client received bytes
-    pub bytes_heard : {out : Flow} → wants_input old ≡ true → (b : HearsBytes broken old new no_counts counts heard out packs progress)
-        → Running false t (record h { used = h.used ++ heard; events = h.events ++ b.events }) front new counts [] silent silent silent silent silent
-    bytes_heard due b = hears_on t false front old new heard [] (waits_for heard runs) due (quiet b)
+    pub bytes_received : {out : Flow} → wants_input old ≡ true → (b : ReceivesBytes broken old new no_counts counts arrived out packs progress)
+        → Running false t (record h { used = h.used ++ arrived; events = h.events ++ b.events }) front new counts [] silent silent silent silent silent
+    bytes_received expected b = receives_on t false front old new arrived [] (waits_for arrived runs) expected (quiet b)
 
     -- their lines were written, as far as no write failed
     pub lines_written : (before held after : Option (List ℕ)) (lines : List ℕ) → WrittenAs false (flow before held) lines
-        → (b : HearsBytes broken old new no_counts counts heard (flow held after) packs progress)
+        → (b : ReceivesBytes broken old new no_counts counts arrived (flow held after) packs progress)
         → WrittenAs broken (flow before after) (lines ++ events_shown b.events)
     lines_written before held after lines written b =
-        written_then broken before held after lines (events_shown b.events) written (b.told (counts_on runs.along b.hears))
+        written_then broken before held after lines (events_shown b.events) written (b.announced (counts_on runs.along b.arrives))
 
 module _ {A : Type 0} {t : Terms} {limit : ℕ} where
   -- ---- the requests
@@ -284,13 +284,13 @@ module _ {A : Type 0} {t : Terms} {limit : ℕ} where
   -- ---- the client
 
   -- before the first byte
-  abbrev pub advertisement_due : (client : Client A) (offer : Advertised) (requests responses out : Option (List ℕ)) → wants_input client ≡ true
+  abbrev pub advertisement_expected : (client : Client A) (offer : Advertised) (requests responses out : Option (List ℕ)) → wants_input client ≡ true
       → Converses t nothing_yet client → Awaiting t limit false None [] client [] (flow requests requests) (flow responses responses) (flow out out)
-  advertisement_due client offer requests responses out due stands = record {
+  advertisement_expected client offer requests responses out expected stands = record {
     found = nothing_found;
     offer = offer;
     h = nothing_yet;
-    runs = nothing_run client due stands;
+    runs = nothing_run client expected stands;
     read = Consumes-nil requests;
     asks = none_asked offer limit;
     nothing_left = refl;
@@ -300,7 +300,7 @@ module _ {A : Type 0} {t : Terms} {limit : ℕ} where
     passed = 0;
     lines = [];
     read_so_far = Consumes-nil responses;
-    told = written_nothing out;
+    announced = written_nothing out;
     grown = λ b c e. greeting_alone b e;
     asked = λ b c e. refl;
     nothing_begun = λ b c e. refl;
@@ -308,30 +308,31 @@ module _ {A : Type 0} {t : Terms} {limit : ℕ} where
     passed_is = λ b c e same. omega (arith, ap length same);
     whole_is = λ b c e. append-nil b;
     shown_is = λ b c e. greeting_shown b e;
-    received = λ b c e all same one. subst (λ (used : List ℕ). AreHeard t [] used e (greeting_alone b e)) (sym same) (greeting_heard b e all one);
+    received = λ b c e all same one. subst (λ (used : List ℕ). AreReceived t [] used e (greeting_alone b e)) (sym same) (greeting_received b e all one);
   }
 
   -- the advertisement was received whole, and a reader of requests was made of what it has
-  pub advertised : {old new : Client A} {stream : JudgedRequests A} {window : Window} {piece : List ℕ} {requests : Option (List ℕ)}
+  pub advertised : {old new : Client A} {stream : JudgedRequests A} {window : Window} {chunk : List ℕ} {requests : Option (List ℕ)}
       {before after out_before out_after : Option (List ℕ)}
       → Running false t nothing_yet [] old no_counts [] silent silent silent silent silent
-      → wants_input old ≡ true → (heard : HearsWhole window old new [] piece (flow before after) (flow out_before out_after) silent silent)
-      → HasRead [] [] stream → offer_of stream ≡ noted_offer (caps_of new) t.format → HasLines heard.hears.used (text_of stream) → limit_of stream ≡ limit
-      → Checking t limit new stream 0 [] (window_of window piece) (flow requests requests) (flow before after) (flow out_before out_after)
-  advertised {old} {new} {window = window} {piece} {requests} {before} {after} {out_before} {out_after} runs due heard reads offers lines kept =
-      let on = anew t heard.can_ask_on (bytes_heard runs due heard.hears.bytes) in
+      → wants_input old ≡ true → (arrived : ReceivesWholeResponse window old new [] chunk (flow before after) (flow out_before out_after) silent silent)
+      → HasRead [] [] stream → offer_of stream ≡ noted_offer (caps_of new) t.format → HasLines arrived.arrives.used (text_of stream) → limit_of stream ≡ limit
+      → Checking t limit new stream 0 [] (window_of window chunk) (flow requests requests) (flow before after) (flow out_before out_after)
+  advertised {old} {new} {window = window} {chunk} {requests} {before} {after} {out_before} {out_after} runs expected arrived reads offers lines kept =
+      let on = anew t arrived.can_ask_on (bytes_received runs expected arrived.arrives.bytes) in
       let stands = on.along.stands in
-      let now : History = record nothing_yet { used = heard.hears.used; events = heard.hears.bytes.events } in
-      let one : IsOneTurn now.events true = rw heard.can_ask_on at heard.hears.bytes.one_turn in
+      let now : History = record nothing_yet { used = arrived.arrives.used; events = arrived.arrives.bytes.events } in
+      let one : IsOneTurn now.events true = rw arrived.can_ask_on at arrived.arrives.bytes.one_turn in
       record {
         front = [];
         h = now;
         r = greeting_alone now.used now.events;
         runs = on;
         reading = record { used = []; has_read = reads; read = Consumes-nil requests; limit_is = kept };
-        read_so_far = rw (append-nil now.used, ← heard.hears.parts) heard.hears.read;
-        told = rw (greeting_shown now.used now.events) (lines_written runs out_before out_before out_after [] (written_nothing out_before) heard.hears.bytes);
-        received = greeting_heard now.used now.events true one;
+        read_so_far = rw (append-nil now.used, ← arrived.arrives.parts) arrived.arrives.read;
+        announced = rw (greeting_shown now.used now.events)
+            (lines_written runs out_before out_before out_after [] (written_nothing out_before) arrived.arrives.bytes);
+        received = greeting_received now.used now.events true one;
         greeted = one;
         ended = All-nil (λ turn. HasEnded t turn.question turn.bytes turn.received turn.events);
         nothing_begun = refl;
@@ -342,12 +343,12 @@ module _ {A : Type 0} {t : Terms} {limit : ℕ} where
           events = now.events;
           caps = caps_of new;
           cut = sym (append-nil now.used);
-          whole = is_whole t now new stands heard.can_ask_on;
+          whole = is_whole t now new stands arrived.can_ask_on;
           noted = has_noted t now new stands;
           offers = offers;
           lines = lines;
         };
-        ready = heard.can_ask_on;
+        ready = arrived.can_ask_on;
       }
 
   module _ {client : Client A} {stream : JudgedRequests A} {count : ℕ} {held waiting : List ℕ} {requests responses out : Flow}
@@ -396,23 +397,23 @@ module _ {A : Type 0} {t : Terms} {limit : ℕ} where
     turn_of b r e = record { question = question_of judged; bytes = b; received = r; events = e }
 
     -- the form in which it comes
-    abbrev pub form_due : Option Form
-    form_due = form_asked t.format (noted_in judged.others).asks
+    abbrev pub form_expected : Option Form
+    form_expected = form_asked t.format (noted_in judged.others).asks
 
-    pub heard_of : (b r : List ℕ) (e : List EventValue) (all : Bool) → Receives form_due b r → IsOneTurn e all
-        → AreHeard t (c.h.asked ++ asked_of judged.request ∷ []) (c.h.used ++ r) (c.h.events ++ e) (with_turn c.r (turn_of b r e))
-    heard_of b r e all receives one = heard_with c.r (turn_of b r e) c.received (may_come c (turn_of b r e) (receives, (all, one)))
+    pub received_of : (b r : List ℕ) (e : List EventValue) (all : Bool) → Receives form_expected b r → IsOneTurn e all
+        → AreReceived t (c.h.asked ++ asked_of judged.request ∷ []) (c.h.used ++ r) (c.h.events ++ e) (with_turn c.r (turn_of b r e))
+    received_of b r e all receives one = received_with c.r (turn_of b r e) c.received (may_come c (turn_of b r e) (receives, (all, one)))
 
     pub shown_of : (b r : List ℕ) (e : List EventValue)
-        → heard_shown (with_turn c.r (turn_of b r e)) ≡ (heard_shown c.r ++ question_shown (question_of judged)) ++ events_shown e
+        → received_shown (with_turn c.r (turn_of b r e)) ≡ (received_shown c.r ++ question_shown (question_of judged)) ++ events_shown e
     shown_of b r e =
         shown_with c.r (turn_of b r e) c.nothing_begun
-        ∙ sym (append_assoc (heard_shown c.r) (question_shown (question_of judged)) (events_shown e))
+        ∙ sym (append_assoc (received_shown c.r) (question_shown (question_of judged)) (events_shown e))
 
     -- and asked, or a write failed while it was
-    abbrev pub response_due : {broken : Bool} {new : Client A} {out_after : Option (List ℕ)} → AsksShown broken old new judged (flow out_held out_after)
-        → Awaiting t limit broken form_due (c.front ++ judged.request ∷ []) new waiting (flow before after) responses (flow out_before out_after)
-    response_due {broken} {new} {out_after} asks =
+    abbrev pub response_expected : {broken : Bool} {new : Client A} {out_after : Option (List ℕ)} → AsksShown broken old new judged (flow out_held out_after)
+        → Awaiting t limit broken form_expected (c.front ++ judged.request ∷ []) new waiting (flow before after) responses (flow out_before out_after)
+    response_expected {broken} {new} {out_after} asks =
         let question = question_of judged in
         let asked = questions_in c.r.turns ++ question ∷ [] in
         let reading = reads_on c.reading step.whole.reads in
@@ -429,9 +430,9 @@ module _ {A : Type 0} {t : Terms} {limit : ℕ} where
           offered = inl (still_offered t step.whole.reads.advertised refl c.offered);
           whole = whole_of c.r;
           passed = passed_in c.r.turns;
-          lines = heard_shown c.r ++ question_shown question;
+          lines = received_shown c.r ++ question_shown question;
           read_so_far = c.read_so_far;
-          told = written_then broken out_before out_held out_after (heard_shown c.r) (question_shown question) c.told asks.shown;
+          announced = written_then broken out_before out_held out_after (received_shown c.r) (question_shown question) c.announced asks.shown;
           grown = λ b r e. with_turn c.r (turn_of b r e);
           asked = λ b r e. sym (questions_snoc c.r.turns (turn_of b r e));
           nothing_begun = λ b r e. refl;
@@ -439,20 +440,20 @@ module _ {A : Type 0} {t : Terms} {limit : ℕ} where
           passed_is = λ b r e receives. passed_snoc c.r.turns (turn_of b r e);
           whole_is = λ b r e. whole_with c.r (turn_of b r e);
           shown_is = λ b r e. shown_of b r e;
-          received = λ b r e all receives one. heard_of b r e all receives one;
+          received = λ b r e all receives one. received_of b r e all receives one;
         }
 
   -- a request was read and asked, and the response to it was received whole
   module _ {old middle new : Client A} {stream next : JudgedRequests A} {count counted : ℕ} {judged : Judged A} {ended : Bool}
-      {held later waiting : List ℕ} {before left after heard_before heard heard_after out_before out_held out_asked out_after : Option (List ℕ)}
-      (c : Checking t limit old stream count held waiting (flow before left) (flow heard_before heard) (flow out_before out_held))
+      {held later waiting : List ℕ} {before left after arrived_before arrived arrived_after out_before out_held out_asked out_after : Option (List ℕ)}
+      (c : Checking t limit old stream count held waiting (flow before left) (flow arrived_before arrived) (flow out_before out_held))
       (step : ReadsRequest ended stream next judged held later (flow left after)) (asks : AsksShown false old middle judged (flow out_held out_asked))
-      (due : wants_input middle ≡ true) where
-    whole_heard : {counts : Counts} {bytes received : List ℕ} (unused : List ℕ) → Uses bytes waiting unused (flow heard heard_after)
-        → HearsBytes false middle new no_counts counts received (flow out_asked out_after) silent silent → can_ask new ≡ true
-        → ReceivesAll (form_due c step) bytes received → counted ≡ min (count + (length bytes - length received)) 18446744073709551615
-        → Checking t limit new next counted later unused (flow before after) (flow heard_before heard_after) (flow out_before out_after)
-    whole_heard {bytes = bytes} {received} unused uses b ready all is =
+      (expected : wants_input middle ≡ true) where
+    whole_received : {counts : Counts} {bytes received : List ℕ} (unused : List ℕ) → Uses bytes waiting unused (flow arrived arrived_after)
+        → ReceivesBytes false middle new no_counts counts received (flow out_asked out_after) silent silent → can_ask new ≡ true
+        → ReceivesAll (form_expected c step) bytes received → counted ≡ min (count + (length bytes - length received)) 18446744073709551615
+        → Checking t limit new next counted later unused (flow before after) (flow arrived_before arrived_after) (flow out_before out_after)
+    whole_received {bytes = bytes} {received} unused uses b ready all is =
         let turn = turn_of c step bytes received b.events in
         let runs = asks_on t false c.front old middle judged.request no_counts [] c.runs c.ready asks.asks in
         let one : IsOneTurn b.events true = rw ready at b.one_turn in
@@ -460,14 +461,14 @@ module _ {A : Type 0} {t : Terms} {limit : ℕ} where
           front = c.front ++ judged.request ∷ [];
           h = _;
           r = with_turn c.r turn;
-          runs = anew t ready (bytes_heard runs due b);
+          runs = anew t ready (bytes_received runs expected b);
           reading = rw (questions_snoc c.r.turns turn) (reads_on c.reading step.whole.reads);
           read_so_far = rw (whole_with c.r turn)
-              (read_on heard_before heard heard_after (whole_of c.r) waiting uses.came bytes unused c.read_so_far uses.read uses.parts);
-          told = rw (shown_of c step bytes received b.events)
-              (lines_written runs out_before out_asked out_after (heard_shown c.r ++ question_shown (question_of judged))
-              (written_then false out_before out_held out_asked (heard_shown c.r) (question_shown (question_of judged)) c.told asks.shown) b);
-          received = heard_of c step bytes received b.events true (comes_all (form_due c step) bytes received all) one;
+              (read_on arrived_before arrived arrived_after (whole_of c.r) waiting uses.came bytes unused c.read_so_far uses.read uses.parts);
+          announced = rw (shown_of c step bytes received b.events)
+              (lines_written runs out_before out_asked out_after (received_shown c.r ++ question_shown (question_of judged))
+              (written_then false out_before out_held out_asked (received_shown c.r) (question_shown (question_of judged)) c.announced asks.shown) b);
+          received = received_of c step bytes received b.events true (comes_all (form_expected c step) bytes received all) one;
           greeted = c.greeted;
           ended = ended_with c turn (all, one);
           nothing_begun = refl;
@@ -478,22 +479,23 @@ module _ {A : Type 0} {t : Terms} {limit : ℕ} where
         }
 
   -- as it came, or by a sieve
-  pub response_heard : {old middle new : Client A} {stream next : JudgedRequests A} {judged : Judged A} {ended : Bool}
-      {held later waiting : List ℕ} (piece : List ℕ) (now then : Remaining)
-      {before left after heard_before heard heard_after out_before out_held out_asked out_after : Option (List ℕ)}
-      → (c : Checking t limit old stream now.passed held waiting (flow before left) (flow heard_before heard) (flow out_before out_held))
+  pub response_received : {old middle new : Client A} {stream next : JudgedRequests A} {judged : Judged A} {ended : Bool}
+      {held later waiting : List ℕ} (chunk : List ℕ) (now then : Remaining)
+      {before left after arrived_before arrived arrived_after out_before out_held out_asked out_after : Option (List ℕ)}
+      → (c : Checking t limit old stream now.passed held waiting (flow before left) (flow arrived_before arrived) (flow out_before out_held))
       → (step : ReadsRequest ended stream next judged held later (flow left after)) → AsksShown false old middle judged (flow out_held out_asked)
-      → wants_input middle ≡ true → (form : Option Form) → form_due c step ≡ form
-      → ReceivesWhole form middle new now then waiting piece (flow heard heard_after) (flow out_asked out_after)
-      → Checking t limit new next then.passed later (window_of then.left piece) (flow before after) (flow heard_before heard_after) (flow out_before out_after)
-  response_heard piece now then c step asks due None is (heard, same) =
-      let used = heard.hears.used in
-      whole_heard c step asks due _ (uses_of heard.hears) heard.hears.bytes heard.can_ask_on
+      → wants_input middle ≡ true → (form : Option Form) → form_expected c step ≡ form
+      → ReceivesWhole form middle new now then waiting chunk (flow arrived arrived_after) (flow out_asked out_after)
+      → Checking t limit new next then.passed later (window_of then.left chunk) (flow before after) (flow arrived_before arrived_after)
+      (flow out_before out_after)
+  response_received chunk now then c step asks expected None is (arrived, same) =
+      let used = arrived.arrives.used in
+      whole_received c step asks expected _ (uses_of arrived.arrives) arrived.arrives.bytes arrived.can_ask_on
       (subst (λ (f : Option Form). ReceivesAll f used used) (sym is) refl) (same ∙ count_stays now.passed (length used) (passed_in c.r.turns) c.counts)
     where
       count_stays : (count n before : ℕ) → count ≡ min before 18446744073709551615 → count ≡ min (count + (n - n)) 18446744073709551615
       count_stays count n before is = grind arith
-  response_heard {middle = middle} {new} piece now then c step asks due (Some form) is s =
+  response_received {middle = middle} {new} chunk now then c step asks expected (Some form) is s =
       let w = s.sieves in
       let bytes = w.sieves.bytes in
       let runs = asks_on t false c.front _ middle _ no_counts [] c.runs c.ready asks.asks in
@@ -509,27 +511,27 @@ module _ {A : Type 0} {t : Terms} {limit : ℕ} where
       omega (
         arith,
         position_is t _ middle runs.along.stands,
-        position_is t _ new (bytes_heard runs due bytes).along.stands,
+        position_is t _ new (bytes_received runs expected bytes).along.stands,
         length-append c.h.used w.sieves.received,
       ) in
-      rw s.left (whole_heard c step asks due (window_of s.passed.left piece) w.uses bytes w.can_ask_on
+      rw s.left (whole_received c step asks expected (window_of s.passed.left chunk) w.uses bytes w.can_ask_on
       (subst (λ (f : Option Form). ReceivesAll f w.used w.sieves.received) (sym is) (w.sieves.given, splits, w.sieves.passed, cut))
       (s.count ∙ ap (λ (n : ℕ). min (now.passed + (s.passed.count - n)) 18446744073709551615) received
       ∙ ap (λ (n : ℕ). min (now.passed + (n - length w.sieves.received)) 18446744073709551615) w.count))
 
   -- a request for another command was read, its line was written, and the answer to it passed whole
   pub answer_passed : {client : Client A} {stream next : JudgedRequests A} {count counted : ℕ} {lines : List ℕ} {ended : Bool}
-      {held later waiting : List ℕ} {passed : Passed} {piece : List ℕ}
-      {before left after heard_before heard heard_after out_before out_held out_after : Option (List ℕ)}
-      → Checking t limit client stream count held waiting (flow before left) (flow heard_before heard) (flow out_before out_held)
+      {held later waiting : List ℕ} {passed : Passed} {chunk : List ℕ}
+      {before left after arrived_before arrived arrived_after out_before out_held out_after : Option (List ℕ)}
+      → Checking t limit client stream count held waiting (flow before left) (flow arrived_before arrived) (flow out_before out_held)
       → ReadsWhole ended stream next (other lines) held later (flow left after) → WrittenAs false (flow out_held out_after) lines
-      → PassesWhole t.ending passed waiting piece (flow heard heard_after) → counted ≡ min (count + passed.count) 18446744073709551615
-      → Checking t limit client next counted later (window_of passed.left piece) (flow before after) (flow heard_before heard_after)
+      → PassesWhole t.ending passed waiting chunk (flow arrived arrived_after) → counted ≡ min (count + passed.count) 18446744073709551615
+      → Checking t limit client next counted later (window_of passed.left chunk) (flow before after) (flow arrived_before arrived_after)
       (flow out_before out_after)
-  answer_passed {client} {stream} {next} {count} {counted} {lines} {waiting = waiting} {passed} {piece} {heard_before = r0} {heard = r1}
-      {heard_after = r2} {out_before = o0} {out_held = o1} {out_after = o2} c step shown p is =
+  answer_passed {client} {stream} {next} {count} {counted} {lines} {waiting = waiting} {passed} {chunk} {arrived_before = r0} {arrived = r1}
+      {arrived_after = r2} {out_before = o0} {out_held = o1} {out_after = o2} c step shown p is =
       let turn : Turn = record { question = other lines; bytes = p.used; received = []; events = [] } in
-      let received = heard_with c.r turn c.received (may_come c turn (p.answer, refl, refl)) in
+      let received = received_with c.r turn c.received (may_come c turn (p.answer, refl, refl)) in
       record {
         front = c.front;
         h = c.h;
@@ -537,12 +539,12 @@ module _ {A : Type 0} {t : Terms} {limit : ℕ} where
         runs = c.runs;
         reading = rw (questions_snoc c.r.turns turn) (reads_on c.reading step.reads);
         read_so_far = rw (whole_with c.r turn)
-            (read_on r0 r1 r2 (whole_of c.r) waiting p.uses.came p.used (window_of passed.left piece) c.read_so_far p.uses.read p.uses.parts);
-        told = rw (shown_with c.r turn c.nothing_begun, append-nil lines)
-            (written_then false o0 o1 o2 (heard_shown c.r) lines c.told shown);
-        received = subst (λ (asked : List Asked). AreHeard t asked c.h.used c.h.events (with_turn c.r turn)) (append-nil c.h.asked)
-            (subst (λ (used : List ℕ). AreHeard t (c.h.asked ++ []) used c.h.events (with_turn c.r turn)) (append-nil c.h.used)
-            (subst (λ (events : List EventValue). AreHeard t (c.h.asked ++ []) (c.h.used ++ []) events (with_turn c.r turn)) (append-nil c.h.events)
+            (read_on r0 r1 r2 (whole_of c.r) waiting p.uses.came p.used (window_of passed.left chunk) c.read_so_far p.uses.read p.uses.parts);
+        announced = rw (shown_with c.r turn c.nothing_begun, append-nil lines)
+            (written_then false o0 o1 o2 (received_shown c.r) lines c.announced shown);
+        received = subst (λ (asked : List Asked). AreReceived t asked c.h.used c.h.events (with_turn c.r turn)) (append-nil c.h.asked)
+            (subst (λ (used : List ℕ). AreReceived t (c.h.asked ++ []) used c.h.events (with_turn c.r turn)) (append-nil c.h.used)
+            (subst (λ (events : List EventValue). AreReceived t (c.h.asked ++ []) (c.h.used ++ []) events (with_turn c.r turn)) (append-nil c.h.events)
             received));
         greeted = c.greeted;
         ended = ended_with c turn tt;
@@ -556,14 +558,14 @@ module _ {A : Type 0} {t : Terms} {limit : ℕ} where
 
 module _ {A : Type 0} where
   -- what waits after a response lies in the chunk
-  receives_within : (old new : Client A) (now then : Remaining) (waiting piece : List ℕ) (reader out : Flow) (form : Option Form)
-      → ReceivesWhole form old new now then waiting piece reader out → (then.left.start ≤ then.left.end) × (then.left.end ≤ length piece)
-  receives_within old new now then waiting piece reader out None (heard, same) = (heard.ordered, heard.within)
-  receives_within old new now then waiting piece reader out (Some form) s = rw s.left (s.sieves.ordered, s.sieves.within)
+  receives_within : (old new : Client A) (now then : Remaining) (waiting chunk : List ℕ) (reader out : Flow) (form : Option Form)
+      → ReceivesWhole form old new now then waiting chunk reader out → (then.left.start ≤ then.left.end) × (then.left.end ≤ length chunk)
+  receives_within old new now then waiting chunk reader out None (arrived, same) = (arrived.ordered, arrived.within)
+  receives_within old new now then waiting chunk reader out (Some form) s = rw s.left (s.sieves.ordered, s.sieves.within)
 
-  pub still_within : {old new : Client A} {now then : Remaining} {judged : Judged A} {form : Option Form} {ended : Bool} {waiting piece : List ℕ}
-      {reader out : Flow} → AnswersBy form (Ok then) ended old new judged now waiting piece reader out
-      → (then.left.start ≤ then.left.end) × (then.left.end ≤ length piece)
+  pub still_within : {old new : Client A} {now then : Remaining} {judged : Judged A} {form : Option Form} {ended : Bool} {waiting chunk : List ℕ}
+      {reader out : Flow} → AnswersBy form (Ok then) ended old new judged now waiting chunk reader out
+      → (then.left.start ≤ then.left.end) × (then.left.end ≤ length chunk)
   still_within {form = form} answered = receives_within _ _ _ _ _ _ _ _ form answered.receives
 
   -- what was noted is what the bytes have

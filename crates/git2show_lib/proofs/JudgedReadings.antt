@@ -38,11 +38,11 @@ module _ (by : Advertised) (limit : ℕ) (left : List Given) (rest : List ℕ) (
 
   -- a stage with a fault: what is left is refused by it
   left_refused_as : (fault : Fault) (stage : Stage) → fault_in stage ≡ Some fault → IsLeft stage by limit left rest end → IsRefused by limit left rest end fault
-  left_refused_as fault Between told h = absurd (cc)
-  left_refused_as fault Within told h = absurd (cc)
-  left_refused_as fault Passing told h = absurd (cc)
-  left_refused_as fault Stopped told h = absurd (cc)
-  left_refused_as fault (Failed other) told h = subst (λ (f : Fault). IsRefused by limit left rest end f) (cc) h
+  left_refused_as fault Between announced h = absurd (cc)
+  left_refused_as fault Within announced h = absurd (cc)
+  left_refused_as fault Passing announced h = absurd (cc)
+  left_refused_as fault Stopped announced h = absurd (cc)
+  left_refused_as fault (Failed other) announced h = subst (λ (f : Fault). IsRefused by limit left rest end f) (cc) h
 
 module _ {A : Type 0} {used : List ℕ} {asked : List Question} {s : JudgedRequests A} (h : HasRead used asked s) where
   -- what was used is whole requests, and what is left
@@ -78,7 +78,7 @@ module _ {A : Type 0} {used : List ℕ} {asked : List Question} {s : JudgedReque
 
   -- after a fault, what is left is refused by it
   pub refused_as : {fault : Fault} → fault_of s ≡ Some fault → IsRefused (advertised_by s) (limit_of s) h.left h.rest (length used) fault
-  refused_as {fault = fault} told = left_refused_as (advertised_by s) (limit_of s) h.left h.rest (length used) fault s.judge.stage told h.left_is
+  refused_as {fault = fault} announced = left_refused_as (advertised_by s) (limit_of s) h.left h.rest (length used) fault s.judge.stage announced h.left_is
 
 -- the input ends inside a request
 module _ {A : Type 0} (old new : JudgedRequests A) (fault : Fault) (ready : IsReady old)

@@ -86,7 +86,8 @@ module _ (by : Advertised) (limit : ℕ) (left : List Given) where
   begun_refused rest end fault unnamed begun no_packet =
       inl (unnamed, inr (inl (record { begun = begun; stops = no_packet.stops; not_the_end = no_packet.not_the_end })))
 
-  pub left_refused : (rest before : List ℕ) (end earlier : ℕ) (fault : Fault) (stage : Stage) → takes_bytes stage ≡ true → IsLeft stage by limit left before earlier
+  pub left_refused : (rest before : List ℕ) (end earlier : ℕ) (fault : Fault) (stage : Stage) → takes_bytes stage ≡ true
+      → IsLeft stage by limit left before earlier
       → AreNoPacket rest end fault → IsRefused by limit left rest end fault
   left_refused rest before end earlier fault Between on h no_packet =
       begun_refused rest end fault (left_unnamed before earlier Between on (λ e. cc) h)

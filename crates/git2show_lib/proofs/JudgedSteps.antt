@@ -9,7 +9,7 @@ use Rattle.git_pkt.specs.declared.fault.Fault.{Fault}
 use Rattle.git_pkt.specs.declared.fault.Kind.{Kind}
 use Rattle.git_pkt.specs.declared.fault.Kind.TheVariants.{OutOfMemory, StreamTooLong, Truncated}
 use Rattle.git_pkt.proofs.KnownRest.{sound_rest}
-use Rattle.git_pkt.proofs.Pieces.{joined, left_of}
+use Rattle.git_pkt.proofs.Chunks.{joined, left_of}
 use Rattle.git_pkt.proofs.Streams.{one_split}
 use Rattle.git_msg.specs.Admission.{nothing_barred}
 use Rattle.git_msg.specs.Machine.HeldRequest.{asked_of, kept_of}
@@ -19,8 +19,8 @@ use Rattle.git_msg.specs.declared.offers.Offer.{Offer}
 use Rattle.git_msg.specs.declared.reader.RequestReader.{RequestReader}
 use Rattle.git_msg.specs.declared.streams.ReadGot.{ReadGot}
 use Rattle.git_msg.specs.declared.streams.ReadGot.TheVariants.{More, Request, Stop, Failed}
-use Rattle.git_msg.proofs.Admission.{told_by_none}
-use Rattle.git_msg.proofs.PacketFaults.{told_of_packets}
+use Rattle.git_msg.proofs.Admission.{announced_by_none}
+use Rattle.git_msg.proofs.PacketFaults.{announced_of_packets}
 use Rattle.git_msg.proofs.StreamSteps.{rest_behind, stopped_by}
 use Rattle.git2show_lib.specs.Others.{Advertised, AreCutOff, AreNoPacket, BeginWithOther, IsOtherBegun, NoneNames, first_place, given_as}
 use Rattle.git2show_lib.specs.Others.{judged_of}
@@ -125,7 +125,8 @@ module _ {A : Type 0} (old new : JudgedRequests A) (u : List ℕ) (wants : wants
       takes)
 
   -- the bytes end no packet
-  pub open_read : new.judge.requests ≡ old.judge.requests → new.judge.stage ≡ old.judge.stage → new.judge.place ≡ old.judge.place → new.judge.kept ≡ old.judge.kept
+  pub open_read : new.judge.requests ≡ old.judge.requests → new.judge.stage ≡ old.judge.stage → new.judge.place ≡ old.judge.place
+      → new.judge.kept ≡ old.judge.kept
       → noted_in new.judge.others ≡ noted_in old.judge.others → ReadsOn old.packets u [] new.packets → HasRead (used ++ u) (asked ++ []) new
   open_read same is place kept noted reads =
       let (rest, stream) = reads 0 used h.packets h.rest h.reads in
@@ -135,10 +136,10 @@ module _ {A : Type 0} (old new : JudgedRequests A) (u : List ℕ) (wants : wants
   -- they are refused
   pub refused_read : (fault : Fault) → new.judge.stage ≡ FailedStage fault → packet_fault new.packets ≡ Some fault → fault.kind ≢ Truncated
       → ReadsOn old.packets u [] new.packets → HasRead (used ++ u) (asked ++ []) new
-  refused_read fault is told other reads =
+  refused_read fault is announced other reads =
       let (rest, stream) = reads 0 used h.packets h.rest h.reads in
       let no_packet : AreNoPacket rest (length (used ++ u)) fault =
-      record { stops = stopped_by new.packets (used ++ u) (h.packets ++ []) rest fault told stream; not_the_end = other } in
+      record { stops = stopped_by new.packets (used ++ u) (h.packets ++ []) rest fault announced stream; not_the_end = other } in
       bytes_read rest (FailedStage fault) is stream
       (left_refused (advertised_by new) (limit_of new) h.left rest h.rest (length (used ++ u)) (length used) fault old.judge.stage wants left_before no_packet)
       (λ on. absurd (cc)) (λ on. absurd (cc)) (λ on. absurd (cc)) (λ on. absurd (cc))
@@ -213,7 +214,8 @@ module _ {A : Type 0} (old new : JudgedRequests A) (u : List ℕ) (wants : wants
 
   -- they end a packet of a request that passes
   pub passing_read : (p : Pkt) (offset : ℕ) → ReadsOn old.packets u (record { packet = p; offset = offset } ∷ []) new.packets → old.judge.stage ≡ Passing
-      → new.judge.stage ≡ stage_passed p → new.judge.place ≡ old.judge.place → new.judge.kept ≡ old.judge.kept → noted_in new.judge.others ≡ noted_passed p (noted_in old.judge.others)
+      → new.judge.stage ≡ stage_passed p → new.judge.place ≡ old.judge.place → new.judge.kept ≡ old.judge.kept
+      → noted_in new.judge.others ≡ noted_passed p (noted_in old.judge.others)
       → new.judge.requests ≡ old.judge.requests → HasRead (used ++ u) (asked ++ asked_by (got_passed {A = A} p old.judge.others)) new
   passing_read flush offset reads was is place kept noted same =
       ended_read (record { packet = flush; offset = offset }) reads was refl is place kept noted same
@@ -359,14 +361,17 @@ module _ {A : Type 0} (old new : JudgedRequests A) (u : List ℕ) (wants : wants
         })))) (λ on. absurd (cc)) (λ on. absurd (cc)) (λ on. absurd (cc)) (λ on. absurd (cc)))
 
     -- it is passed over
-    pub passed_read : names_other (text_of new) old.judge.place g.packet ≡ false → judged_packet (text_of new) old.judge.place g.packet ≡ None → new.judge.place ≡ place_next old.judge.place g.packet → new.judge.kept ≡ counts
-        → noted_in new.judge.others ≡ notes → new.judge.requests ≡ old.judge.requests → new.judge.stage ≡ old.judge.stage → HasRead (used ++ u) (asked ++ []) new
+    pub passed_read : names_other (text_of new) old.judge.place g.packet ≡ false → judged_packet (text_of new) old.judge.place g.packet ≡ None
+        → new.judge.place ≡ place_next old.judge.place g.packet → new.judge.kept ≡ counts
+        → noted_in new.judge.others ≡ notes → new.judge.requests ≡ old.judge.requests → new.judge.stage ≡ old.judge.stage
+        → HasRead (used ++ u) (asked ++ []) new
     passed_read unnamed none place kept noted same is =
         let (rest, stream) = reads 0 used h.packets h.rest h.reads in
         let judged = judged_with None none ∙ append-nil (judged_of (text_of new) h.left) in
         let here = ap (λ (p : Place). judged_packet (text_of new) p g.packet) (sym (h.place_is wants ∙ place_other old.judge.stage h.left other)) ∙ none in
         none_more asked (has_read (h.packets ++ g ∷ []) (h.left ++ g ∷ []) rest asked old.judge.stage is stream (requests_with g reads)
-        (left_passed (advertised_by new) (limit_of new) h.left g h.rest rest (length used) (length (used ++ u)) old.judge.stage wants other left_before (unnamed_here unnamed)
+        (left_passed (advertised_by new) (limit_of new) h.left g h.rest rest (length used) (length (used ++ u)) old.judge.stage wants other left_before
+        (unnamed_here unnamed)
         here judged)
         (λ on. placed place ∙ sym (place_other old.judge.stage (h.left ++ g ∷ []) other))
         (λ on. kept ∙ sym counted_now ∙ sym (counted_other old.judge.stage (text_of new) (h.left ++ g ∷ []) other))
@@ -388,7 +393,8 @@ module _ {A : Type 0} (old new : JudgedRequests A) (u : List ℕ) (wants : wants
       parts : all_judged ≡ judged_of (text_of new) h.left ++ read_as ∷ []
       parts = judged_with (Some j) judged
 
-      brought : (got : ReadGot A) → Brings nothing_barred old.judge.requests read_as got new.judge.requests → IsBrought nothing_barred all_judged got new.judge.requests
+      brought : (got : ReadGot A) → Brings nothing_barred old.judge.requests read_as got new.judge.requests
+          → IsBrought nothing_barred all_judged got new.judge.requests
       brought got brings =
           subst (λ (gs : List Given). IsBrought nothing_barred gs got new.judge.requests) (sym parts) (brings.brings (judged_of (text_of new) h.left) taken_now)
 
@@ -401,7 +407,7 @@ module _ {A : Type 0} (old new : JudgedRequests A) (u : List ℕ) (wants : wants
       refused : (rest : List ℕ) → Reads new.packets 0 (used ++ u) (h.packets ++ g ∷ []) rest → rest ≡ [] → (fault : Fault)
           → IsBrought nothing_barred all_judged (Failed fault) new.judge.requests → new.judge.stage ≡ FailedStage fault → HasRead (used ++ u) (asked ++ []) new
       refused rest stream none fault brings is =
-          let told = told_by_none (advertised_by new).offer (limit_of new) all_judged fault brings in
+          let announced = announced_by_none (advertised_by new).offer (limit_of new) all_judged fault brings in
           none_more asked (has_read (h.packets ++ g ∷ []) (h.left ++ g ∷ []) rest asked (FailedStage fault) is stream (requests_with g reads)
           (inl (
             unnamed_now unnamed,
@@ -410,7 +416,7 @@ module _ {A : Type 0} (old new : JudgedRequests A) (u : List ℕ) (wants : wants
               last = read_as;
               whole = parts;
               begun = begun_now;
-              told = told;
+              announced = announced;
               no_rest = none;
             }),
           )) (λ on. absurd (cc)) (λ on. absurd (cc)) (λ on. absurd (cc)) (λ on. absurd (cc)))
@@ -434,7 +440,8 @@ module _ {A : Type 0} (old new : JudgedRequests A) (u : List ℕ) (wants : wants
       brought_read rest stream none (Failed fault) brings others within notes kept same is place counted noted =
           refused rest stream none fault brings is
 
-      pub packet_read : (got : ReadGot A) (refused : Option Kind) → Brings nothing_barred old.judge.requests read_as got new.judge.requests → old.judge.kept ≤ limit_of new
+      pub packet_read : (got : ReadGot A) (refused : Option Kind) → Brings nothing_barred old.judge.requests read_as got new.judge.requests
+          → old.judge.kept ≤ limit_of new
           → (others : OtherLines A)
           → KeepsWithin refused (text_of new) old.judge.place g.packet counts (limit_of new) (noted_in old.judge.others) (noted_in others) → (kept : ℕ)
           → (refused ≡ None → kept ≡ counts) → new.judge.stage ≡ stage_brought (limited_got refused g.offset got)
@@ -544,14 +551,17 @@ module _ {A : Type 0} (old new : JudgedRequests A) (used : ℕ) (ready : IsJudgi
     ready_with (ap takes_bytes is) open_ended waits ([], takes) (offer ∙ ready.same_offer) (limit ∙ ready.same_limit) (omega (arith, kept)),
   )
 
-  pub goes_leaves : new.judge.requests ≡ old.judge.requests → new.judge.kept ≤ old.judge.limits.args → takes_bytes new.judge.stage ≡ true → StepLeaves {A = A} Got.More used new
+  pub goes_leaves : new.judge.requests ≡ old.judge.requests → new.judge.kept ≤ old.judge.limits.args → takes_bytes new.judge.stage ≡ true
+      → StepLeaves {A = A} Got.More used new
   goes_leaves same kept wants = (some, ready_still same kept wants)
 
-  pub passed_leaves : new.judge.requests ≡ old.judge.requests → new.judge.kept ≤ old.judge.limits.args → new.judge.stage ≡ old.judge.stage → StepLeaves {A = A} Got.More used new
+  pub passed_leaves : new.judge.requests ≡ old.judge.requests → new.judge.kept ≤ old.judge.limits.args → new.judge.stage ≡ old.judge.stage
+      → StepLeaves {A = A} Got.More used new
   passed_leaves same kept is = goes_leaves same kept (ap takes_bytes is ∙ ready.wants)
 
   module _ (shut : is_open new.packets ≡ false) where
-    pub passing_leaves : (p : Pkt) (others : OtherLines A) → new.judge.requests ≡ old.judge.requests → new.judge.kept ≤ old.judge.limits.args → new.judge.stage ≡ stage_passed p
+    pub passing_leaves : (p : Pkt) (others : OtherLines A) → new.judge.requests ≡ old.judge.requests → new.judge.kept ≤ old.judge.limits.args
+        → new.judge.stage ≡ stage_passed p
         → StepLeaves (got_passed {A = A} p others) used new
     passing_leaves flush others same kept is =
         record { some = some; onward = ready_still same kept (ap takes_bytes is); between = ap stage_is_between is; shut = shut }
@@ -560,7 +570,8 @@ module _ {A : Type 0} (old new : JudgedRequests A) (used : ℕ) (ready : IsJudgi
     passing_leaves (payload bytes) others same kept is = goes_leaves same kept (ap takes_bytes is)
 
     module _ (g : Given) where
-      ready_behind : (got : ReadGot A) → goes_on got ≡ true → Brings nothing_barred old.judge.requests g got new.judge.requests → new.judge.kept ≤ old.judge.limits.args
+      ready_behind : (got : ReadGot A) → goes_on got ≡ true → Brings nothing_barred old.judge.requests g got new.judge.requests
+          → new.judge.kept ≤ old.judge.limits.args
           → new.judge.stage ≡ stage_brought got → IsReady new
       ready_behind got on brings kept is =
           ready_with (ap takes_bytes is ∙ reads_behind got on) (brings.sound on) (brings.ready on)
@@ -590,91 +601,92 @@ module _ {A : Type 0} (old new : JudgedRequests A) (used : ℕ) (ready : IsJudgi
       packet_leaves (Failed fault) (Some kind) offset kept others brings within is counted = ap fault_in is
 
 -- a packet that passes brings no fault
-pub no_news : {A : Type 0} (p : Pkt) (others : OtherLines A) (fault : Fault) (used : ℕ) (piece : List ℕ)
-    → got_passed {A = A} p others ≡ Got.Failed fault → ShownByFeed fault used piece
-no_news flush others fault used piece is = absurd (cc)
-no_news delim others fault used piece is = absurd (cc)
-no_news resp_end others fault used piece is = absurd (cc)
-no_news (payload bytes) others fault used piece is = absurd (cc)
+pub no_news : {A : Type 0} (p : Pkt) (others : OtherLines A) (fault : Fault) (used : ℕ) (chunk : List ℕ)
+    → got_passed {A = A} p others ≡ Got.Failed fault → ShownByFeed fault used chunk
+no_news flush others fault used chunk is = absurd (cc)
+no_news delim others fault used chunk is = absurd (cc)
+no_news resp_end others fault used chunk is = absurd (cc)
+no_news (payload bytes) others fault used chunk is = absurd (cc)
 
 -- a fault of a packet is none that the bytes show
-fault_news : {A : Type 0} (old : JudgedRequests A) (new : RequestReader A) (g : Given) → IsJudging old.judge → (told : Fault)
-    → Brings nothing_barred old.judge.requests g (Failed told) new → (fault : Fault) (used : ℕ) (piece : List ℕ) → told ≡ fault → ShownByFeed fault used piece
-fault_news old new g ready told brings fault used piece same =
+fault_news : {A : Type 0} (old : JudgedRequests A) (new : RequestReader A) (g : Given) → IsJudging old.judge → (announced : Fault)
+    → Brings nothing_barred old.judge.requests g (Failed announced) new → (fault : Fault) (used : ℕ) (chunk : List ℕ) → announced ≡ fault
+    → ShownByFeed fault used chunk
+fault_news old new g ready announced brings fault used chunk same =
     let (left, takes) = ready.taken in
-    let t = told_by_none _ _ (left ++ g ∷ []) told (brings.brings left takes) in
-    subst (λ (f : Fault). ShownByFeed f used piece) same (record {
-      not_the_end = told_of_packets Truncated tt _ _ (left ++ g ∷ []) told t;
-      one_more = λ too_long. absurd (told_of_packets StreamTooLong tt _ _ (left ++ g ∷ []) told t too_long);
+    let t = announced_by_none _ _ (left ++ g ∷ []) announced (brings.brings left takes) in
+    subst (λ (f : Fault). ShownByFeed f used chunk) same (record {
+      not_the_end = announced_of_packets Truncated tt _ _ (left ++ g ∷ []) announced t;
+      one_more = λ too_long. absurd (announced_of_packets StreamTooLong tt _ _ (left ++ g ∷ []) announced t too_long);
     })
 
 -- nor is that of a packet that is not kept
-pub unkept_news : (kind : Kind) (offset kept limit : ℕ) (shown : List ℕ) → IsNotKept kind kept limit shown → (fault : Fault) (used : ℕ) (piece : List ℕ)
-    → record { kind = kind; offset = offset } ≡ fault → ShownByFeed fault used piece
-unkept_news kind offset kept limit shown (inl (named, over)) fault used piece same =
-    subst (λ (f : Fault). ShownByFeed f used piece) same (record { not_the_end = λ e. cc; one_more = λ e. absurd (cc) })
-unkept_news kind offset kept limit shown (inr (named, within, some)) fault used piece same =
-    subst (λ (f : Fault). ShownByFeed f used piece) same (record { not_the_end = λ e. cc; one_more = λ e. absurd (cc) })
+pub unkept_news : (kind : Kind) (offset kept limit : ℕ) (shown : List ℕ) → IsNotKept kind kept limit shown → (fault : Fault) (used : ℕ) (chunk : List ℕ)
+    → record { kind = kind; offset = offset } ≡ fault → ShownByFeed fault used chunk
+unkept_news kind offset kept limit shown (inl (named, over)) fault used chunk same =
+    subst (λ (f : Fault). ShownByFeed f used chunk) same (record { not_the_end = λ e. cc; one_more = λ e. absurd (cc) })
+unkept_news kind offset kept limit shown (inr (named, within, some)) fault used chunk same =
+    subst (λ (f : Fault). ShownByFeed f used chunk) same (record { not_the_end = λ e. cc; one_more = λ e. absurd (cc) })
 
-pub unnamed_news : (offset : ℕ) (fault : Fault) (used : ℕ) (piece : List ℕ) → record { kind = OutOfMemory; offset = offset } ≡ fault
-    → ShownByFeed fault used piece
-unnamed_news offset fault used piece same =
-    subst (λ (f : Fault). ShownByFeed f used piece) same (record { not_the_end = λ e. cc; one_more = λ e. absurd (cc) })
+pub unnamed_news : (offset : ℕ) (fault : Fault) (used : ℕ) (chunk : List ℕ) → record { kind = OutOfMemory; offset = offset } ≡ fault
+    → ShownByFeed fault used chunk
+unnamed_news offset fault used chunk same =
+    subst (λ (f : Fault). ShownByFeed f used chunk) same (record { not_the_end = λ e. cc; one_more = λ e. absurd (cc) })
 
 pub packet_news : {A : Type 0} (old : JudgedRequests A) (new : RequestReader A) (g : Given) (got : ReadGot A) (refused : Option Kind)
     (text : List ℕ) (place : Place) (packet : Pkt) (kept limit : ℕ) (before after : Noted) (offset : ℕ) (others : OtherLines A)
     → KeepsWithin refused text place packet kept limit before after → IsJudging old.judge → Brings nothing_barred old.judge.requests g got new
-    → (fault : Fault) (used : ℕ) (piece : List ℕ) → got_as (limited_got refused offset got) others ≡ Got.Failed fault → ShownByFeed fault used piece
-packet_news old new g More None text place packet kept limit before after offset others keeps ready brings fault used piece is = absurd (cc)
-packet_news old new g (Request request) None text place packet kept limit before after offset others keeps ready brings fault used piece is = absurd (cc)
-packet_news old new g Stop None text place packet kept limit before after offset others keeps ready brings fault used piece is = absurd (cc)
-packet_news old new g (Failed told) None text place packet kept limit before after offset others keeps ready brings fault used piece is =
-    fault_news old new g ready told brings fault used piece (cc)
-packet_news old new g More (Some kind) text place packet kept limit before after offset others keeps ready brings fault used piece is =
-    unkept_news kind offset kept limit (shown_at text place packet) keeps fault used piece (cc)
-packet_news old new g (Request request) (Some kind) text place packet kept limit before after offset others keeps ready brings fault used piece is =
-    unkept_news kind offset kept limit (shown_at text place packet) keeps fault used piece (cc)
-packet_news old new g Stop (Some kind) text place packet kept limit before after offset others keeps ready brings fault used piece is = absurd (cc)
-packet_news old new g (Failed told) (Some kind) text place packet kept limit before after offset others keeps ready brings fault used piece is =
-    fault_news old new g ready told brings fault used piece (cc)
+    → (fault : Fault) (used : ℕ) (chunk : List ℕ) → got_as (limited_got refused offset got) others ≡ Got.Failed fault → ShownByFeed fault used chunk
+packet_news old new g More None text place packet kept limit before after offset others keeps ready brings fault used chunk is = absurd (cc)
+packet_news old new g (Request request) None text place packet kept limit before after offset others keeps ready brings fault used chunk is = absurd (cc)
+packet_news old new g Stop None text place packet kept limit before after offset others keeps ready brings fault used chunk is = absurd (cc)
+packet_news old new g (Failed announced) None text place packet kept limit before after offset others keeps ready brings fault used chunk is =
+    fault_news old new g ready announced brings fault used chunk (cc)
+packet_news old new g More (Some kind) text place packet kept limit before after offset others keeps ready brings fault used chunk is =
+    unkept_news kind offset kept limit (shown_at text place packet) keeps fault used chunk (cc)
+packet_news old new g (Request request) (Some kind) text place packet kept limit before after offset others keeps ready brings fault used chunk is =
+    unkept_news kind offset kept limit (shown_at text place packet) keeps fault used chunk (cc)
+packet_news old new g Stop (Some kind) text place packet kept limit before after offset others keeps ready brings fault used chunk is = absurd (cc)
+packet_news old new g (Failed announced) (Some kind) text place packet kept limit before after offset others keeps ready brings fault used chunk is =
+    fault_news old new g ready announced brings fault used chunk (cc)
 
 -- ---- a step over what is left of a chunk
 
-module _ {A : Type 0} (old mid new : JudgedRequests A) (piece : List ℕ) (done : ℕ) (within : done ≤ length piece)
+module _ {A : Type 0} (old mid new : JudgedRequests A) (chunk : List ℕ) (done : ℕ) (within : done ≤ length chunk)
     (more : ℕ) (got : JudgedGot A) where
   abbrev Stepping : Type 0
-  Stepping = ReadsBy StepLeaves mid (take (length piece - done) (drop done piece)) (record { used = more; got = got }) new
+  Stepping = ReadsBy StepLeaves mid (take (length chunk - done) (drop done chunk)) (record { used = more; got = got }) new
 
   pub reads_further : Stepping
-      → ((used : List ℕ) (asked : List Question) → HasRead used asked old → HasRead (used ++ take done piece) asked mid)
-      → (used : List ℕ) (asked : List Question) → HasRead used asked old → HasRead (used ++ take (done + more) piece) (asked ++ asked_by got) new
+      → ((used : List ℕ) (asked : List Question) → HasRead used asked old → HasRead (used ++ take done chunk) asked mid)
+      → (used : List ℕ) (asked : List Question) → HasRead used asked old → HasRead (used ++ take (done + more) chunk) (asked ++ asked_by got) new
   reads_further steps before used asked h =
-      subst (λ (bytes : List ℕ). HasRead bytes (asked ++ asked_by got) new) (joined used piece done more within)
-      (steps.reads (used ++ take done piece) asked (before used asked h))
+      subst (λ (bytes : List ℕ). HasRead bytes (asked ++ asked_by got) new) (joined used chunk done more within)
+      (steps.reads (used ++ take done chunk) asked (before used asked h))
 
   -- a fault that what is left of the chunk shows, the chunk shows
-  pub shows_further : Stepping → (fault : Fault) → got ≡ Got.Failed fault → ShownByFeed fault (done + more) piece
+  pub shows_further : Stepping → (fault : Fault) → got ≡ Got.Failed fault → ShownByFeed fault (done + more) chunk
   shows_further steps fault is =
       let shown = steps.news fault is in
       record {
         not_the_end = shown.not_the_end;
-        one_more = λ long. omega (arith, shown.one_more long, ap length (left_of piece done within), length-drop done piece);
+        one_more = λ long. omega (arith, shown.one_more long, ap length (left_of chunk done within), length-drop done chunk);
       }
 
 -- what a step did, by its answer
-pub steps_with : {A : Type 0} (old new : JudgedRequests A) (piece : List ℕ) (read : JudgedRead A) (got : JudgedGot A) → read.got ≡ got
-    → ReadsBy StepLeaves old piece read new → ReadsBy StepLeaves old piece (record { used = read.used; got = got }) new
-steps_with {A = A} old new piece read got is steps =
-    subst (λ (o : JudgedGot A). ReadsBy StepLeaves old piece (record { used = read.used; got = o }) new) is steps
+pub steps_with : {A : Type 0} (old new : JudgedRequests A) (chunk : List ℕ) (read : JudgedRead A) (got : JudgedGot A) → read.got ≡ got
+    → ReadsBy StepLeaves old chunk read new → ReadsBy StepLeaves old chunk (record { used = read.used; got = got }) new
+steps_with {A = A} old new chunk read got is steps =
+    subst (λ (o : JudgedGot A). ReadsBy StepLeaves old chunk (record { used = read.used; got = o }) new) is steps
 
 -- how a reader is left after a step that is the last of a call
 onward_further : {A : Type 0} (new : JudgedRequests A) (done more : ℕ) → IsOnward more new → IsOnward (done + more) new
 onward_further new done more o = record { some = omega (arith, o.some); onward = o.onward; between = o.between; shut = o.shut }
 
-pub leaves_further : {A : Type 0} (new : JudgedRequests A) (piece : List ℕ) (done more : ℕ) (got : JudgedGot A) → got ≢ Got.More → StepLeaves got more new
-    → Leaves got (done + more) piece new
-leaves_further new piece done more Got.More other leaves = absurd (other refl)
-leaves_further new piece done more (Got.Request request) other (on, format) = (onward_further new done more on, format)
-leaves_further new piece done more (Got.Other others) other on = onward_further new done more on
-leaves_further new piece done more Got.Stop other (some, quiet, none) = (omega (arith, some), quiet, none)
-leaves_further new piece done more (Got.Failed fault) other leaves = leaves
+pub leaves_further : {A : Type 0} (new : JudgedRequests A) (chunk : List ℕ) (done more : ℕ) (got : JudgedGot A) → got ≢ Got.More → StepLeaves got more new
+    → Leaves got (done + more) chunk new
+leaves_further new chunk done more Got.More other leaves = absurd (other refl)
+leaves_further new chunk done more (Got.Request request) other (on, format) = (onward_further new done more on, format)
+leaves_further new chunk done more (Got.Other others) other on = onward_further new done more on
+leaves_further new chunk done more Got.Stop other (some, quiet, none) = (omega (arith, some), quiet, none)
+leaves_further new chunk done more (Got.Failed fault) other leaves = leaves

@@ -5,14 +5,14 @@ use Rattle.git_client.specs.Parts.{Terms}
 use Rattle.git2show_lib.specs.Others.{Advertised}
 use Rattle.git2show_lib.specs.Machine.CheckFaults.{Standing}
 use Rattle.git2show_lib.specs.OtherLines.{Question, known, other}
-use Rattle.git2show_lib.specs.Machine.CheckedStreams.{Begun, Checked, EndsAs, Found, Heard, IsBad, bytes_begun, events_in, events_shown, heard_shown}
+use Rattle.git2show_lib.specs.Machine.CheckedStreams.{Begun, Checked, EndsAs, Found, Received, IsBad, bytes_begun, events_in, events_shown, received_shown}
 use Rattle.git2show_lib.specs.Machine.CheckedStreams.{lines_begun, questions_in, turns_shown, whole_of}
 use Rattle.git2show_lib.specs.declared.checking.CheckFault.{CheckFault}
 use Rattle.git2show_lib.specs.declared.checking.CheckFault.TheVariants.{Requests, Responses, ReadFault, WriteFault, ReadLimit}
 use Rattle.git_client.specs.Machine.Client.{History}
 use Rattle.git_client.specs.Transcript.{transcript_of}
 use Rattle.git2show_lib.proofs.KnownLines.{all_asked, plain}
-use Rattle.git2show_lib.proofs.KnownTurns.{all_received, all_told}
+use Rattle.git2show_lib.proofs.KnownTurns.{all_received, all_announced}
 
 -- all but the last of such requests, and the last
 last_known : (xs : List Question) (x : Question) (qs : List Asked) → xs ++ x ∷ [] ≡ map plain qs
@@ -26,7 +26,7 @@ last_known (y ∷ xs) x (q ∷ qs) same =
     let ((earlier, are), last) = last_known xs x qs later in
     ((q ∷ earlier, ap (λ (o : Question). o ∷ xs) first ∙ ap (λ (l : List Question). plain q ∷ l) are), last)
 
-module _ (A : Type 0) (t : Terms) (by : Advertised) (limit : ℕ) (requests responses : Standing) (unused : List ℕ) (h : History) (r : Heard) (found : Found)
+module _ (A : Type 0) (t : Terms) (by : Advertised) (limit : ℕ) (requests responses : Standing) (unused : List ℕ) (h : History) (r : Received) (found : Found)
     (qs : List Asked) (are : found.asked ≡ map plain qs) where
   -- all turns are by such requests, and no answer passes
   abbrev AllKnown : Type 0
@@ -57,16 +57,16 @@ module _ (A : Type 0) (t : Terms) (by : Advertised) (limit : ℕ) (requests resp
     bad (inr (inl b)) = just_these b.answered.asked b.answered.nothing_begun
     bad (inr (inr (inl b))) = one_more _ b.asked b.nothing_begun
     bad (inr (inr (inr b))) = just_these b.answered.asked b.answered.nothing_begun
-  known_all (Err (Responses fault)) (inr (inl e)) = absurd (no_other e.is.begun.lines e.is.due.asked)
+  known_all (Err (Responses fault)) (inr (inl e)) = absurd (no_other e.is.begun.lines e.is.expected.asked)
   known_all (Err (Responses fault)) (inr (inr (earlier, e))) = just_these e.is.all_asked.asked e.is.all_asked.nothing_begun
   known_all (Err ReadFault) (inl (inl w, why)) = just_these w.all_asked.asked w.all_asked.nothing_begun
-  known_all (Err ReadFault) (inl (inr w, why)) = absurd (no_other w.begun.lines w.due.asked)
+  known_all (Err ReadFault) (inl (inr w, why)) = absurd (no_other w.begun.lines w.expected.asked)
   known_all (Err ReadFault) (inr (inl (w, why))) = just_these w.answered.asked w.answered.nothing_begun
   known_all (Err ReadFault) (inr (inr (w, why))) = just_these w.answered.asked w.answered.nothing_begun
   known_all (Err WriteFault) (inl e) = just_these e.asked e.nothing_begun
-  known_all (Err WriteFault) (inr e) = absurd (no_other e.begun.lines e.due.asked)
+  known_all (Err WriteFault) (inr e) = absurd (no_other e.begun.lines e.expected.asked)
   known_all (Err ReadLimit) (inl (inl w, why)) = just_these w.all_asked.asked w.all_asked.nothing_begun
-  known_all (Err ReadLimit) (inl (inr w, why)) = absurd (no_other w.begun.lines w.due.asked)
+  known_all (Err ReadLimit) (inl (inr w, why)) = absurd (no_other w.begun.lines w.expected.asked)
   known_all (Err ReadLimit) (inr (inl (w, why))) = just_these w.answered.asked w.answered.nothing_begun
   known_all (Err ReadLimit) (inr (inr (w, why))) = just_these w.answered.asked w.answered.nothing_begun
 
@@ -82,12 +82,12 @@ all_as_known {A} t limit result requests responses read given c none =
     ap (λ (b : Option Begun). whole_of c.r ++ bytes_begun b) nothing ∙ append-nil (whole_of c.r)
     ∙ ap (λ (l : List ℕ). c.r.opening ++ l) (all_received t c.r.opening c.r.greeting [] c.r.turns asked c.received.in_turn same)
     ∙ sym c.received.used_is in
-    let lines : heard_shown c.r ≡ transcript_of c.h.asked c.h.events =
+    let lines : received_shown c.r ≡ transcript_of c.h.asked c.h.events =
     ap (λ (b : Option Begun). (events_shown c.r.greeting ++ turns_shown c.r.turns) ++ lines_begun b) nothing
     ∙ append-nil (events_shown c.r.greeting ++ turns_shown c.r.turns)
-    ∙ sym (all_told t c.r.opening c.r.greeting c.r.turns asked c.received.in_turn same)
+    ∙ sym (all_announced t c.r.opening c.r.greeting c.r.turns asked c.received.in_turn same)
     ∙ ap (λ (qs : List Asked). transcript_of qs (c.r.greeting ++ events_in c.r.turns)) (sym c.received.asked_is)
     ∙ ap (transcript_of c.h.asked) (sym c.received.events_are) in (
       c.were_read ∙ ap (λ (l : List ℕ). (c.found.used ++ c.found.unused) ∷ (l ++ c.unused) ∷ []) bytes,
-      c.told ∙ ap (λ (l : List ℕ). l ∷ []) lines,
+      c.announced ∙ ap (λ (l : List ℕ). l ∷ []) lines,
     )

@@ -98,9 +98,9 @@ last_plain (x ∷ turns) turn (q ∷ qs) same =
 
 module _ (t : Terms) (opening : List ℕ) (greeting : List EventValue) where
   -- the lines of the advertisement and of some turns are a client's transcript
-  turns_told : (turns : List Turn) (e : EndsIn t opening greeting turns) (qs : List Asked) → questions_in turns ≡ map plain qs
+  turns_announced : (turns : List Turn) (e : EndsIn t opening greeting turns) (qs : List Asked) → questions_in turns ≡ map plain qs
       → transcript_of (asked_in turns) (greeting ++ events_in turns) ≡ events_shown greeting ++ turns_shown turns
-  turns_told turns e qs same =
+  turns_announced turns e qs same =
       let ((earlier, before), (q, is)) = last_plain e.before e.last qs (subst (λ (l : List Turn). questions_in l ≡ map plain qs) e.parts same) in
       let asked : asked_in turns ≡ asked_in e.before ++ q ∷ [] =
       ap asked_in e.parts ∙ asked_snoc e.before e.last ∙ ap (λ (question : Question). asked_in e.before ++ known_of question) is in
@@ -117,7 +117,7 @@ module _ (t : Terms) (opening : List ℕ) (greeting : List EventValue) where
       ∙ ap turns_shown (sym e.parts)
       )
 
-  pub all_told : (turns : List Turn) (qs : List Asked) → ComeInTurn t opening greeting [] turns → questions_in turns ≡ map plain qs
+  pub all_announced : (turns : List Turn) (qs : List Asked) → ComeInTurn t opening greeting [] turns → questions_in turns ≡ map plain qs
       → transcript_of (asked_in turns) (greeting ++ events_in turns) ≡ events_shown greeting ++ turns_shown turns
-  all_told [] qs come same = ap (transcript_of []) (append-nil greeting) ∙ sym (append-nil (events_shown greeting))
-  all_told (turn ∷ turns) qs come same = turns_told (turn ∷ turns) (ends_in t opening greeting [] turn turns come) qs same
+  all_announced [] qs come same = ap (transcript_of []) (append-nil greeting) ∙ sym (append-nil (events_shown greeting))
+  all_announced (turn ∷ turns) qs come same = turns_announced (turn ∷ turns) (ends_in t opening greeting [] turn turns come) qs same

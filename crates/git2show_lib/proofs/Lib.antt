@@ -31,8 +31,8 @@ pub mod PlayTalks
 pub mod PlayRuns
 pub mod PlayMany
 pub mod PlayOne
-pub mod PlayTelling
-pub mod PlayHearing
+pub mod PlayAnnouncing
+pub mod PlayReceiving
 pub mod PlayAsking
 pub mod PlayMeeting
 pub mod PlayServers
@@ -41,5 +41,5 @@ pub mod ScriptValues
 pub mod SievedLengths
 pub mod SievedLists
 pub mod SievedPackets
-pub mod SievedPieces
+pub mod SievedChunks
 pub mod SievedResponses

@@ -15,13 +15,13 @@ use Rattle.git_pkt.specs.declared.fault.RunFault.TheVariants.{ReadFault}
 use Rattle.git_pkt.specs.declared.reader.PacketReader.{PacketReader}
 use Rattle.git_pkt.proofs.EngineLemmas.{at_fault, timely}
 use Rattle.git_pkt.proofs.KnownRest.{rest_length, sound_rest}
-use Rattle.git_pkt.proofs.Pieces.{joined, left_of}
+use Rattle.git_pkt.proofs.Chunks.{joined, left_of}
 use Rattle.git_msg.proofs.StreamSteps.{rest_behind, stopped_by}
 use Rattle.git_client.specs.Machine.RunSteps.{window_of}
 use Rattle.git_client.specs.declared.events.Ending.{Ending}
 use Rattle.git_client.specs.declared.events.Ending.TheVariants.{FlushOnly, ResponseEnd}
 use Rattle.git2show_lib.specs.Others.{AreCutOff, is_last, last_of}
-use Rattle.git2show_lib.specs.Machine.OtherAnswers.{BreaksIn, BreaksOff, ClosesAnswer, HasPassed, Passes, PassesAll, PassesNot, PassesOn, PassesPiece, PassesTo}
+use Rattle.git2show_lib.specs.Machine.OtherAnswers.{BreaksIn, BreaksOff, ClosesAnswer, HasPassed, Passes, PassesAll, PassesNot, PassesOn, PassesChunk, PassesTo}
 use Rattle.git2show_lib.specs.Machine.OtherAnswers.{PassesUpTo, PassesWhole, Uses}
 use Rattle.git2show_lib.specs.declared.other_answers.Passed.{Passed}
 use Rattle.git2show_lib.proofs.OtherLines.{none_snoc}
@@ -93,14 +93,14 @@ module _ (ending : Ending) (old new : PacketReader) (used u : List ℕ) (h : Pas
 
   -- or what is no packet
   pub breaks_there : (fault : Fault) → ReadsOn old u [] new → fault_of new ≡ Some fault → fault.kind ≢ Truncated → BreaksOff ending (used ++ u) fault
-  breaks_there fault reads told other =
+  breaks_there fault reads announced other =
       let (rest, stream) = reads 0 used h.given h.rest h.reads in
       let all : Reads new 0 (used ++ u) h.given rest =
       subst (λ (gs : List Given). Reads new 0 (used ++ u) gs rest) (append-nil h.given) stream in
       record {
         rest = rest;
         begun = record { given = h.given; splits = all.splits; goes_on = h.goes_on };
-        breaks = inl (record { stops = stopped_by new (used ++ u) h.given rest fault told all; not_the_end = other });
+        breaks = inl (record { stops = stopped_by new (used ++ u) h.given rest fault announced all; not_the_end = other });
       }
 
 -- the input ends there
@@ -123,48 +123,48 @@ cut_between old used given rest fault reads sound kind shut at =
 
 -- ---- a chunk that is used in part
 
-module _ (ending : Ending) (first mid : PacketReader) (piece : List ℕ) (done : ℕ) (within : done ≤ length piece)
-    (so_far : (bytes : List ℕ) → Passes ending bytes first → Passes ending (bytes ++ take done piece) mid) where
+module _ (ending : Ending) (first mid : PacketReader) (chunk : List ℕ) (done : ℕ) (within : done ≤ length chunk)
+    (so_far : (bytes : List ℕ) → Passes ending bytes first → Passes ending (bytes ++ take done chunk) mid) where
   abbrev left_bytes : List ℕ
-  left_bytes = take (length piece - done) (drop done piece)
+  left_bytes = take (length chunk - done) (drop done chunk)
 
   -- some more of it
   pub passes_further : (new : PacketReader) (more : ℕ)
       → ((bytes : List ℕ) → Passes ending bytes mid → Passes ending (bytes ++ take more left_bytes) new)
-      → (bytes : List ℕ) → Passes ending bytes first → Passes ending (bytes ++ take (done + more) piece) new
+      → (bytes : List ℕ) → Passes ending bytes first → Passes ending (bytes ++ take (done + more) chunk) new
   passes_further new more on bytes h =
-      subst (λ (l : List ℕ). Passes ending l new) (joined bytes piece done more within) (on (bytes ++ take done piece) (so_far bytes h))
+      subst (λ (l : List ℕ). Passes ending l new) (joined bytes chunk done more within) (on (bytes ++ take done chunk) (so_far bytes h))
 
   pub passed_further : (new : PacketReader) (more : ℕ)
       → ((bytes : List ℕ) → Passes ending bytes mid → HasPassed ending (bytes ++ take more left_bytes) new)
-      → (bytes : List ℕ) → Passes ending bytes first → HasPassed ending (bytes ++ take (done + more) piece) new
+      → (bytes : List ℕ) → Passes ending bytes first → HasPassed ending (bytes ++ take (done + more) chunk) new
   passed_further new more on bytes h =
-      subst (λ (l : List ℕ). HasPassed ending l new) (joined bytes piece done more within) (on (bytes ++ take done piece) (so_far bytes h))
+      subst (λ (l : List ℕ). HasPassed ending l new) (joined bytes chunk done more within) (on (bytes ++ take done chunk) (so_far bytes h))
 
   pub breaks_further : (fault : Fault) (more : ℕ) → ((bytes : List ℕ) → Passes ending bytes mid → BreaksOff ending (bytes ++ take more left_bytes) fault)
-      → (bytes : List ℕ) → Passes ending bytes first → BreaksOff ending (bytes ++ take (done + more) piece) fault
+      → (bytes : List ℕ) → Passes ending bytes first → BreaksOff ending (bytes ++ take (done + more) chunk) fault
   breaks_further fault more on bytes h =
-      subst (λ (l : List ℕ). BreaksOff ending l fault) (joined bytes piece done more within) (on (bytes ++ take done piece) (so_far bytes h))
+      subst (λ (l : List ℕ). BreaksOff ending l fault) (joined bytes chunk done more within) (on (bytes ++ take done chunk) (so_far bytes h))
 
   -- what is left of the chunk shows a fault, and so the chunk does
-  pub shown_further : (fault : Fault) (more : ℕ) → ShownByFeed fault more left_bytes → ShownByFeed fault (done + more) piece
+  pub shown_further : (fault : Fault) (more : ℕ) → ShownByFeed fault more left_bytes → ShownByFeed fault (done + more) chunk
   shown_further fault more shown = record {
     not_the_end = shown.not_the_end;
-    one_more = λ long. omega (arith, shown.one_more long, ap length (left_of piece done within), length-drop done piece);
+    one_more = λ long. omega (arith, shown.one_more long, ap length (left_of chunk done within), length-drop done chunk);
   }
 
   -- nothing is left of it
   pub passes_to_the_end : (new : PacketReader) (more : ℕ) → more ≡ length left_bytes
       → ((bytes : List ℕ) → Passes ending bytes mid → Passes ending (bytes ++ take more left_bytes) new)
-      → (bytes : List ℕ) → Passes ending bytes first → Passes ending (bytes ++ piece) new
+      → (bytes : List ℕ) → Passes ending bytes first → Passes ending (bytes ++ chunk) new
   passes_to_the_end new more all on bytes h =
-      let end : done + more ≡ length piece = omega (arith, all, within, ap length (left_of piece done within), length-drop done piece) in
-      subst (λ (l : List ℕ). Passes ending (bytes ++ l) new) (take_all (done + more) piece (omega (arith, end))) (passes_further new more on bytes h)
+      let end : done + more ≡ length chunk = omega (arith, all, within, ap length (left_of chunk done within), length-drop done chunk) in
+      subst (λ (l : List ℕ). Passes ending (bytes ++ l) new) (take_all (done + more) chunk (omega (arith, end))) (passes_further new more on bytes h)
 
 -- a chunk passed with this answer
-pub piece_passed : (ending : Ending) (old new : PacketReader) (piece : List ℕ) (end other : Option ℕ) → end ≡ other
-    → PassesPiece ending (Ok end) old new piece → PassesPiece ending (Ok other) old new piece
-piece_passed ending old new piece end other same passes = subst (λ (o : Option ℕ). PassesPiece ending (Ok o) old new piece) same passes
+pub chunk_passed : (ending : Ending) (old new : PacketReader) (chunk : List ℕ) (end other : Option ℕ) → end ≡ other
+    → PassesChunk ending (Ok end) old new chunk → PassesChunk ending (Ok other) old new chunk
+chunk_passed ending old new chunk end other same passes = subst (λ (o : Option ℕ). PassesChunk ending (Ok o) old new chunk) same passes
 
 -- ---- the bytes so far
 
@@ -217,9 +217,9 @@ module _ {ending : Ending} {old : PacketReader} {waiting unused : List ℕ} {rea
   }
 
   -- it ends in what was left
-  pub passed_up_to : {new : PacketReader} {piece : List ℕ} {end : ℕ} (passed : Passed) → PassesUpTo ending end old new unused
-      → drop end unused ≡ window_of passed.left piece → passed.count ≡ position_of new → passed.left.start ≤ passed.left.end
-      → passed.left.end ≤ length piece → PassesWhole ending passed waiting piece reader
+  pub passed_up_to : {new : PacketReader} {chunk : List ℕ} {end : ℕ} (passed : Passed) → PassesUpTo ending end old new unused
+      → drop end unused ≡ window_of passed.left chunk → passed.count ≡ position_of new → passed.left.start ≤ passed.left.end
+      → passed.left.end ≤ length chunk → PassesWhole ending passed waiting chunk reader
   passed_up_to {end = end} passed p rest count ordered within =
       let has = p.passes s.used s.passes in
       record {
@@ -251,9 +251,9 @@ module _ {ending : Ending} {r : PacketReader} {waiting : List ℕ} {before left 
     passes = s.passes;
   }
 
-  pub came_in_front : (end : ℕ) (piece : List ℕ) → Consumes left after (take end piece)
-      → PassingSoFar ending r waiting (window_of (record { start = 0; end = end }) piece) (flow before after)
-  came_in_front end piece read = rw (front_window end piece) at (came_more (take end piece) read)
+  pub came_in_front : (end : ℕ) (chunk : List ℕ) → Consumes left after (take end chunk)
+      → PassingSoFar ending r waiting (window_of (record { start = 0; end = end }) chunk) (flow before after)
+  came_in_front end chunk read = rw (front_window end chunk) at (came_more (take end chunk) read)
 
   -- a read failed
   came_not : Keeps left after → PassingSoFar ending r waiting [] (flow before after)
@@ -276,18 +276,18 @@ goes_on {ending} {r} s sound = record {
 
 -- a read failed, and a `?` answers the fault that it met
 pub read_failed : {ending : Ending} {r : PacketReader} {waiting : List ℕ} {before left : Option (List ℕ)} (after : Option (List ℕ))
-    (result : Result Passed RunFault) (fault : RunFault) (ended : Bool) (piece : List ℕ) → IsErrAnd result (λ e. e ≡ fault) → fault ≡ ReadFault
+    (result : Result Passed RunFault) (fault : RunFault) (ended : Bool) (chunk : List ℕ) → IsErrAnd result (λ e. e ≡ fault) → fault ≡ ReadFault
     → Keeps left after
-    → PassingSoFar ending r waiting [] (flow before left) → fault_of r ≡ None → PassesTo ending result ended waiting piece (flow before after)
-read_failed {ending} {waiting = waiting} {before} after result fault ended piece answered named kept s sound =
-    at_fault result fault ReadFault (λ (x : Result Passed RunFault). PassesTo ending x ended waiting piece (flow before after)) named answered
+    → PassingSoFar ending r waiting [] (flow before left) → fault_of r ≡ None → PassesTo ending result ended waiting chunk (flow before after)
+read_failed {ending} {waiting = waiting} {before} after result fault ended chunk answered named kept s sound =
+    at_fault result fault ReadFault (λ (x : Result Passed RunFault). PassesTo ending x ended waiting chunk (flow before after)) named answered
     (goes_on (came_not s kept) sound)
 
 -- the input ended
 pub ended_within : {ending : Ending} {r : PacketReader} {waiting : List ℕ} {before left after : Option (List ℕ)} {ended : Bool} {fault : Fault} (end : ℕ)
-    (piece : List ℕ) → end ≡ 0 → Consumes left after (take end piece) → ended ≡ true → PassingSoFar ending r waiting [] (flow before left)
+    (chunk : List ℕ) → end ≡ 0 → Consumes left after (take end chunk) → ended ≡ true → PassingSoFar ending r waiting [] (flow before left)
     → ClosesAnswer fault r → PassesNot ending fault ended waiting (flow before after)
-ended_within {ending} {ended = ended} {fault} end piece none read at_end s (kind, breaks) =
+ended_within {ending} {ended = ended} {fault} end chunk none read at_end s (kind, breaks) =
     let now = came_more s [] (rw none at read) in
     record {
       used = now.used;

@@ -18,8 +18,8 @@ use Rattle.git_msg.specs.Asked.{FetchAsked}
 use Rattle.git_server.specs.Sessions.{Setting, AreAnswers, advertised}
 use Rattle.git_server.proofs.AtRest.{EndsWithFlush, packets_of}
 use Rattle.git_server.proofs.Flushes.{flushes-append}
-use Rattle.git_server.proofs.OneSession.{line_owes}
-use Rattle.git_both_ends.proofs.RequestsHeard.{lines_clear, lines_end, lines_of}
+use Rattle.git_server.proofs.OneSession.{line_is_unsent}
+use Rattle.git_both_ends.proofs.RequestsReceived.{lines_clear, lines_end, lines_of}
 use Rattle.git_server.specs.declared.advertisement.AdvertisementLine.TheVariants.{Version}
 
 -- ---- lists whose last packet is a flush
@@ -143,7 +143,7 @@ given_close s asked answers h = closes_both (advertised s) answers (advertised_c
 
 -- an advertisement has one flush
 pub advertises_once : (s : Setting) → s.advertise ≡ true → flushes (advertised s) ≡ 1
-advertises_once s is = rw is (line_owes s.offer Version)
+advertises_once s is = rw is (line_is_unsent s.offer Version)
 
 -- ---- packets, the nearest first
 

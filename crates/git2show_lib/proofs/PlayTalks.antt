@@ -6,7 +6,7 @@ use Rattle.std.proofs.lemmas.Grind.{flat_map-append}
 use Rattle.git_pkt.specs.Packets.{Pkt, flush, resp_end, flushes, spelling_of}
 use Rattle.git_pkt.specs.Splits.{Given, SpellsAll}
 use Rattle.git_client.specs.Machine.Client.{spelled}
-use Rattle.git_client.specs.Parts.{nearest, is_end_due, is_zero}
+use Rattle.git_client.specs.Parts.{nearest, is_end_expected, is_zero}
 use Rattle.git_client.specs.declared.events.Ending.TheVariants.{ResponseEnd}
 use Rattle.git_server.specs.Answers.{AllFit}
 use Rattle.git_server.specs.Repository.{RepoState}
@@ -16,8 +16,8 @@ use Rattle.git_server.specs.declared.outcome.Outcome.{Outcome}
 use Rattle.git_server.specs.declared.server.Server.{Server}
 use Rattle.git_server.proofs.AtRest.{at_rest, all_used, few_asked, front_of, packets_of}
 use Rattle.git_server.proofs.Flushes.{flushes-append}
-use Rattle.git_server.proofs.Going.{no_outcome, owes_some}
-use Rattle.git_server.proofs.OneSession.{answers_end, owes_flush}
+use Rattle.git_server.proofs.Going.{no_outcome, some_unsent}
+use Rattle.git_server.proofs.OneSession.{answers_end, flush_unsent}
 use Rattle.git_server.proofs.Sent.{is_whole}
 use Rattle.git_server.proofs.SessionLaws.{all_answered, going, going_on}
 use Rattle.git2show_lib.specs.Machine.PlaySteps.{IsSpent, Settled, Stands}
@@ -28,17 +28,17 @@ pub spelled-append : (ps qs : List Pkt) → spelled (ps ++ qs) ≡ spelled ps ++
 spelled-append ps qs = flat_map-append spelling_of ps qs
 
 abbrev pub talk_of : List ℕ → List ℕ → Talk
-talk_of said given = record { said = said; given = given }
+talk_of content given = record { content = content; given = given }
 
 -- how many reads of a server's repository have failed
 abbrev pub failed_in : {R A : Type 0} → (R → RepoState) → Server R A → ℕ
 failed_in state server = (state (repo_of server)).failures
 
 -- all that is expected for what was sent has come
-pub record Rests (s : Setting) (count : ℕ) (said given : List ℕ) : Type 0 where
-  pub talk : (failed : ℕ) → IsTalk failed s (talk_of said given)
-  pub gave_all : (failed : ℕ) → IsDone failed s (talk_of said given)
-  pub done : IsAnswered s said given
+pub record Rests (s : Setting) (count : ℕ) (content given : List ℕ) : Type 0 where
+  pub talk : (failed : ℕ) → IsTalk failed s (talk_of content given)
+  pub gave_all : (failed : ℕ) → IsDone failed s (talk_of content given)
+  pub done : IsAnswered s content given
   pub packets : List Pkt
   pub given_is : given ≡ spelled packets
   pub closed : Closes packets
@@ -52,25 +52,25 @@ Enough s qs given = (ps : List Pkt) → AllFit ps → given ≡ spelled ps → f
 abbrev pub Quota : Setting → List Pkt → List ℕ → Type 0
 Quota s qs given = (ps : List Pkt) → AllFit ps → given ≡ spelled ps → flushes qs + flushes (advertised s) ≤ flushes ps + 1
 
-module _ {R A : Type 0} {state : R → RepoState} {s : Setting} {qs : List Pkt} {said given : List ℕ} {server : Server R A} (closes : Closes qs)
-    (st : Stands state s said given server) (is : said ≡ spelled qs) (quota : Quota s qs given) where
+module _ {R A : Type 0} {state : R → RepoState} {s : Setting} {qs : List Pkt} {content given : List ℕ} {server : Server R A} (closes : Closes qs)
+    (st : Stands state s content given server) (is : content ≡ spelled qs) (quota : Quota s qs given) where
   quiet_by : (o : Option Outcome) → outcome_of server ≡ o → StandsBy o s st.used false given server → o ≡ None → st.unused ≡ []
   quiet_by None none (_, h) same =
-      let (owed, owes) = owes_some server.offer s.repo server.phase in
-      let whole = is_whole s h.asked h.sent owed (h.is_sent owed owes) in
+      let (unsent, has_unsent) = some_unsent server.offer s.repo server.phase in
+      let whole = is_whole s h.asked h.sent unsent (h.is_sent unsent has_unsent) in
       let stream : Stream s st.used h.asked h.left h.rest = record { packets = h.packets; splits = h.reads.splits; requests = h.requests } in
-      let parts = sym (flushes-append h.sent owed) ∙ ap flushes whole.parts ∙ flushes-append (advertised s) whole.answers in
+      let parts = sym (flushes-append h.sent unsent) ∙ ap flushes whole.parts ∙ flushes-append (advertised s) whole.answers in
       let count = answers_end s.repo h.asked whole.answers whole.answered in
       let many = quota h.sent h.fit h.given_is in
-      elim (cases_lt (flushes owed) 1) [
-        | inl few ↦ st.keeps (owes_flush server.offer s.repo server.phase owed none owes (omega (arith, few)))
+      elim (cases_lt (flushes unsent) 1) [
+        | inl few ↦ st.keeps (flush_unsent server.offer s.repo server.phase unsent none has_unsent (omega (arith, few)))
         | inr some ↦ (all_used s qs st.used st.unused (sym is ∙ st.parts) (ends_closed qs closes) h.asked h.left h.rest stream
             (omega (arith, some, parts, count, many))).none_unused
       ]
   quiet_by (Some outcome) some h same = absurd (cc)
 
   -- a server that goes on has thrown nothing away: so it is settled
-  pub settle : Settled state s said given server
+  pub settle : Settled state s content given server
   settle = record {
     used = st.used;
     unused = st.unused;
@@ -80,26 +80,26 @@ module _ {R A : Type 0} {state : R → RepoState} {s : Setting} {qs : List Pkt} 
     in_time = st.in_time;
   }
 
-module _ {R A : Type 0} {state : R → RepoState} {s : Setting} {qs : List Pkt} {said given : List ℕ} {server : Server R A} (closes : Closes qs)
-    (st : Settled state s said given server) (is : said ≡ spelled qs) where
+module _ {R A : Type 0} {state : R → RepoState} {s : Setting} {qs : List Pkt} {content given : List ℕ} {server : Server R A} (closes : Closes qs)
+    (st : Settled state s content given server) (is : content ≡ spelled qs) where
   -- a pack was lost after a read that failed
   lost_for : (outcome : Outcome) → outcome_of server ≡ Some outcome → IsLostFor s.failures (failed_in state server) outcome
   lost_for outcome some lost = st.runs.failures.risen (subst IsPackLost (sym some) lost)
 
   talk_by : (o : Option Outcome) → outcome_of server ≡ o → StandsBy o s st.used false given server
-      → IsTalk (failed_in state server) s (talk_of said given)
+      → IsTalk (failed_in state server) s (talk_of content given)
   talk_by None none h =
       let goes = going state server s st.used false given st.runs h in
       record { used = st.used; unused = st.unused; parts = st.parts; runs = inl (st.settled none, goes.1) }
   talk_by (Some outcome) some h =
-      let (owed, owes) = owes_some server.offer s.repo server.phase in
-      record { used = st.used; unused = st.unused; parts = st.parts; runs = inr (outcome, owed, h owed owes, lost_for outcome some) }
+      let (unsent, has_unsent) = some_unsent server.offer s.repo server.phase in
+      record { used = st.used; unused = st.unused; parts = st.parts; runs = inr (outcome, unsent, h unsent has_unsent, lost_for outcome some) }
 
-  pub talk : IsTalk (failed_in state server) s (talk_of said given)
+  pub talk : IsTalk (failed_in state server) s (talk_of content given)
   talk = talk_by (outcome_of server) refl st.runs.stands
 
   -- a server that gives nothing more
-  pub done : IsSpent state server → IsDone (failed_in state server) s (talk_of said given)
+  pub done : IsSpent state server → IsDone (failed_in state server) s (talk_of content given)
   done (inl waits) = record {
     used = st.used;
     unused = st.unused;
@@ -118,12 +118,12 @@ module _ {R A : Type 0} {state : R → RepoState} {s : Setting} {qs : List Pkt} 
   waits_on enough =
       (at_rest state server s qs st.used st.unused given st.runs (sym is ∙ st.parts) (ends_closed qs closes) enough st.in_time).waits
 
-  pub rests : Enough s qs given → Rests s (flushes qs + flushes (advertised s)) said given
+  pub rests : Enough s qs given → Rests s (flushes qs + flushes (advertised s)) content given
   rests enough =
       let rest = at_rest state server s qs st.used st.unused given st.runs (sym is ∙ st.parts) (ends_closed qs closes) enough st.in_time in
-      let used_all : said ≡ st.used = rw (rest.all, append-nil st.used) at st.parts in
-      let all : IsAnswered s said given = rw used_all (all_answered state server s st.used false given st.runs rest.waits) in
-      let few = few_asked s qs said [] (sym is ∙ sym (append-nil said)) (ends_closed qs closes) all.asked all.left all.rest all.stream in
+      let used_all : content ≡ st.used = rw (rest.all, append-nil st.used) at st.parts in
+      let all : IsAnswered s content given = rw used_all (all_answered state server s st.used false given st.runs rest.waits) in
+      let few = few_asked s qs content [] (sym is ∙ sym (append-nil content)) (ends_closed qs closes) all.asked all.left all.rest all.stream in
       let many = enough (advertised s ++ all.answers) all.fit all.given_is in
       record {
         talk = λ failed. record {
@@ -132,7 +132,7 @@ module _ {R A : Type 0} {state : R → RepoState} {s : Setting} {qs : List Pkt} 
           parts = st.parts;
           runs = inl (rest.all, (going_on state server s st.used false given st.runs (no_outcome server.phase rest.waits)).1);
         };
-        gave_all = λ failed. record { used = said; unused = []; parts = sym (append-nil said); done = inl (refl, all) };
+        gave_all = λ failed. record { used = content; unused = []; parts = sym (append-nil content); done = inl (refl, all) };
         done = all;
         packets = advertised s ++ all.answers;
         given_is = all.given_is;
@@ -142,10 +142,10 @@ module _ {R A : Type 0} {state : R → RepoState} {s : Setting} {qs : List Pkt} 
 
   -- ---- as far as a client received it: after whole messages, with a packet after them
 
-  module _ (heard unheard : List ℕ) (gs : List Given) (before tail : List Pkt) (spells : SpellsAll 0 heard gs []) (no_flush : flushes tail ≡ 0)
-      (parts : heard ++ unheard ≡ spelled before ++ (given ++ spelled tail))
+  module _ (arrived unheard : List ℕ) (gs : List Given) (before tail : List Pkt) (spells : SpellsAll 0 arrived gs []) (no_flush : flushes tail ≡ 0)
+      (parts : arrived ++ unheard ≡ spelled before ++ (given ++ spelled tail))
       (counted : flushes (packets_of gs) ≡ flushes before + (flushes qs + flushes (advertised s))) where
-    in_all : (ps : List Pkt) → given ≡ spelled ps → heard ++ unheard ≡ spelled (before ++ (ps ++ tail))
+    in_all : (ps : List Pkt) → given ≡ spelled ps → arrived ++ unheard ≡ spelled (before ++ (ps ++ tail))
     in_all ps given_is = parts ∙ simp (spelled-append, given_is)
 
     -- what was not received is packets, with as many flushes as were sent too many
@@ -153,7 +153,7 @@ module _ {R A : Type 0} {state : R → RepoState} {s : Setting} {qs : List Pkt} 
         → (more : List Pkt) × (before ++ (ps ++ tail) ≡ packets_of gs ++ more) × (unheard ≡ spelled more)
         × (flushes ps ≡ flushes qs + flushes (advertised s) + flushes more)
     unheard_packets ps given_is =
-        let front = front_of 0 heard unheard [] gs (before ++ (ps ++ tail)) spells (in_all ps given_is) in (
+        let front = front_of 0 arrived unheard [] gs (before ++ (ps ++ tail)) spells (in_all ps given_is) in (
           front.more,
           front.parts,
           front.left_is,
@@ -168,8 +168,8 @@ module _ {R A : Type 0} {state : R → RepoState} {s : Setting} {qs : List Pkt} 
           ),
         )
 
-    pub enough_heard : Enough s qs given
-    enough_heard ps fit given_is = omega (arith, (unheard_packets ps given_is).3)
+    pub enough_received : Enough s qs given
+    enough_received ps fit given_is = omega (arith, (unheard_packets ps given_is).3)
 
 -- where all messages end with a flush, nothing is unheard
 pub nothing_unheard : (before ps front more : List Pkt) (unheard : List ℕ) → Closes before → Closes ps → before ++ (ps ++ []) ≡ front ++ more
@@ -207,21 +207,22 @@ not_zero : (n : ℕ) → 0 < n → not (is_zero n) ≡ true
 not_zero zero some = absurd (omega (arith, some))
 not_zero (suc n) some = refl
 
-ends_due : (gs : List Given) (f : List Pkt) → packets_of gs ≡ f ++ flush ∷ [] → 1 < flushes (packets_of gs) → is_end_due ResponseEnd (nearest gs []) ≡ true
-ends_due gs f e many =
+ends_expected : (gs : List Given) (f : List Pkt) → packets_of gs ≡ f ++ flush ∷ [] → 1 < flushes (packets_of gs)
+    → is_end_expected ResponseEnd (nearest gs []) ≡ true
+ends_expected gs f e many =
     let (r, is) = nearest_last gs [] f flush e in
-    ap (is_end_due ResponseEnd) is ∙ not_zero (flushes r) (omega (arith, many, flushes_nearest gs [], ap flushes is))
+    ap (is_end_expected ResponseEnd) is ∙ not_zero (flushes r) (omega (arith, many, flushes_nearest gs [], ap flushes is))
 
 -- where a message ends with a flush, and a response end comes after it, a client that waits for no response end has received it
 pub no_end_unheard : (before ps : List Pkt) (gs : List Given) (more : List Pkt) (unheard : List ℕ) → LastFlush ps
     → before ++ (ps ++ resp_end ∷ []) ≡ packets_of gs ++ more → unheard ≡ spelled more → flushes more ≡ 0 → 1 < flushes (packets_of gs)
-    → is_end_due ResponseEnd (nearest gs []) ≡ false → unheard ≡ []
-no_end_unheard before ps gs more unheard last all is none many not_due =
+    → is_end_expected ResponseEnd (nearest gs []) ≡ false → unheard ≡ []
+no_end_unheard before ps gs more unheard last all is none many not_expected =
     let joined : ((before ++ last.front) ++ flush ∷ []) ++ resp_end ∷ [] ≡ packets_of gs ++ more =
     simp append_assoc (rw (last.is, append_assoc last.front (flush ∷ []) (resp_end ∷ [])) at all) in
     elim (end_or_nothing (before ++ last.front) (packets_of gs) more joined none) [
       | inl nothing ↦ is ∙ ap spelled nothing
-      | inr same ↦ absurd (let due = ends_due gs (before ++ last.front) same many in let no : true ≡ false = sym due ∙ not_due in cc)
+      | inr same ↦ absurd (let expected = ends_expected gs (before ++ last.front) same many in let no : true ≡ false = sym expected ∙ not_expected in cc)
     ]
 
 -- a closed list with a flush ends with one

@@ -136,16 +136,16 @@ length_printable delim short = All-nil IsPrintable
 length_printable resp_end short = All-nil IsPrintable
 length_printable (payload bytes) short = number_printable (length bytes) short
 
-cut_printable : (room : ℕ) (t : List ℕ) → All IsPrintable t → All IsPrintable (cut room t)
-cut_printable room t all = at (nat_le (length t) room) refl where
-  at : (c : Bool) → nat_le (length t) room ≡ c → All IsPrintable (cut room t)
+cut_printable : (space : ℕ) (t : List ℕ) → All IsPrintable t → All IsPrintable (cut space t)
+cut_printable space t all = at (nat_le (length t) space) refl where
+  at : (c : Bool) → nat_le (length t) space ≡ c → All IsPrintable (cut space t)
   at true e = rw e all
-  at false e = rw e (both (take (room - 2) t) (codes "..") (All-take IsPrintable (room - 2) t all) (all_pass (codes "..") refl))
+  at false e = rw e (both (take (space - 2) t) (codes "..") (All-take IsPrintable (space - 2) t all) (all_pass (codes "..") refl))
 
-column_printable : (label : Label) (room : ℕ) (t : List ℕ) → All IsPrintable t → All IsPrintable (in_column label room t)
-column_printable label room [] all = All-nil IsPrintable
-column_printable label room (b ∷ t) all =
-    both (spaces (10 - length (name_of label))) (cut room (b ∷ t)) (spaces_printable (10 - length (name_of label))) (cut_printable room (b ∷ t) all)
+column_printable : (label : Label) (space : ℕ) (t : List ℕ) → All IsPrintable t → All IsPrintable (in_column label space t)
+column_printable label space [] all = All-nil IsPrintable
+column_printable label space (b ∷ t) all =
+    both (spaces (10 - length (name_of label))) (cut space (b ∷ t)) (spaces_printable (10 - length (name_of label))) (cut_printable space (b ∷ t) all)
 
 line_printable : (width : ℕ) (label : Label) (g : Given) → g.offset < 2 ^ 64 → length (body_of g.packet) < 2 ^ 64 → All IsByte (body_of g.packet)
     → All IsPrintable (columns false label g ++ text_column width label g)

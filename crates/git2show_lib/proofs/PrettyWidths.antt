@@ -33,12 +33,12 @@ length_short delim short = omega arith
 length_short resp_end short = omega arith
 length_short (payload bytes) short = length-decimal-le 5 (length bytes) (omega arith) short (omega (arith, short))
 
-cut_short : (room : ℕ) (t : List ℕ) → 2 ≤ room → length (cut room t) ≤ room
-cut_short room t some = at (nat_le (length t) room) refl where
-  at : (b : Bool) → nat_le (length t) room ≡ b → length (cut room t) ≤ room
-  at true e = rw e (leb-true (length t) room e)
+cut_short : (space : ℕ) (t : List ℕ) → 2 ≤ space → length (cut space t) ≤ space
+cut_short space t some = at (nat_le (length t) space) refl where
+  at : (b : Bool) → nat_le (length t) space ≡ b → length (cut space t) ≤ space
+  at true e = rw e (leb-true (length t) space e)
   at false e =
-      let longer = leb-false (length t) room e in
+      let longer = leb-false (length t) space e in
       rw e (grind (arith, common_steps, longer, some))
 
 module _ (label : Label) (g : Given) (offset : g.offset < 2 ^ 64) (short : length (body_of g.packet) < 10 ^ 5) where
@@ -52,11 +52,11 @@ module _ (label : Label) (g : Given) (offset : g.offset < 2 ^ 64) (short : lengt
       let few = length_short g.packet short in
       grind (arith, common_steps, of_offset, of_length, few)
 
-  text_length : (room : ℕ) (t : List ℕ) → 2 ≤ room → length (name_of label) + length (in_column label room t) ≤ 10 + room
-  text_length room [] some = let few = name_short label in grind (arith, common_steps, few)
-  text_length room (b ∷ t) some =
+  text_length : (space : ℕ) (t : List ℕ) → 2 ≤ space → length (name_of label) + length (in_column label space t) ≤ 10 + space
+  text_length space [] some = let few = name_short label in grind (arith, common_steps, few)
+  text_length space (b ∷ t) some =
       let few = name_short label in
-      let narrow = cut_short room (b ∷ t) some in
+      let narrow = cut_short space (b ∷ t) some in
       grind (arith, common_steps, few, narrow)
 
 -- without colours: the columns and the text, and an LF
@@ -67,10 +67,10 @@ line_fits width in_pack g wide offset within =
     let short : length (body_of g.packet) < 10 ^ 5 = omega (arith, within) in
     let few = digits label g offset short in
     let before = columns_length label g offset short in
-    let room : 2 ≤ min width widest - columns_before g.offset = omega (arith, wide, few) in
+    let space : 2 ≤ min width widest - columns_before g.offset = omega (arith, wide, few) in
     let after =
     text_length label g offset short (min width widest - columns_before g.offset)
-    (escaped_of (shortened (take longest_front (text_shown label (body_of g.packet))))) room in
+    (escaped_of (shortened (take longest_front (text_shown label (body_of g.packet))))) space in
     let both = length-append (columns false label g) (text_column width label g) in (
       columns false label g ++ text_column width label g,
       refl,

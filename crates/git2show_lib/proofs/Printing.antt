@@ -6,14 +6,14 @@ use Rattle.std.proofs.Math.Seq.{take-length}
 use Rattle.std.specs.Io.KnownBytes.{Consumes, Keeps}
 use Rattle.git_pkt.specs.Splits.{Given}
 use Rattle.git_pkt.specs.Packets.{seen}
-use Rattle.git_pkt.specs.Machine.PacketReader.{Reads, ReadsOn, StandsAt, Feeds, Tells, fault_of, given_by, is_open, open_length, position_of}
+use Rattle.git_pkt.specs.Machine.PacketReader.{Reads, ReadsOn, StandsAt, Feeds, Announces, fault_of, given_by, is_open, open_length, position_of}
 use Rattle.git_pkt.proofs.KnownRest.{none_between}
 use Rattle.std.proofs.lemmas.Result.{err_from_is_err_and}
 use Rattle.git_pkt.specs.declared.packet.Packet.{Packet}
 use Rattle.git_pkt.specs.declared.reader.Fed.{Fed}
 use Rattle.git_pkt.specs.declared.reader.Got.{Got}
 use Rattle.git_pkt.specs.declared.reader.Got.TheVariants.{More, Failed, Packet as GotPacket}
-use Rattle.git_pkt.proofs.Pieces.{take_joined, left_of}
+use Rattle.git_pkt.proofs.Chunks.{take_joined, left_of}
 use Rattle.git_pkt.specs.Streams.{AppendsFront, Flow, flow, WrittenAs, Moves, is_broken}
 use Rattle.git_pkt.specs.declared.fault.Kind.TheVariants.{Truncated}
 use Rattle.git_pkt.specs.declared.fault.Fault.{Fault}
@@ -25,7 +25,7 @@ use Rattle.git2show_lib.specs.PacketLines.{line_of, lines_of}
 use Rattle.git2show_lib.specs.PacketViews.{after, shown, tally_of, viewed}
 use Rattle.git2show_lib.specs.declared.views.Tally.{Tally}
 use Rattle.git2show_lib.specs.declared.views.View.{View}
-use Rattle.git2show_lib.specs.Machine.ShownStream.{EndsAs, Prints, PrintsPiece, Shows, ShowsPiece, ShowsView, Writes, WritesFront}
+use Rattle.git2show_lib.specs.Machine.ShownStream.{EndsAs, Prints, PrintsChunk, Shows, ShowsChunk, ShowsView, Writes, WritesFront}
 use Rattle.git_client.specs.Machine.LineParts.{PutAs}
 use Rattle.git_client.proofs.WaitingLines.{put_front, put_out, put_then}
 
@@ -118,27 +118,27 @@ module _ {view : Option View} {start middle : Tally} {a b : PacketReader} {u w :
 
 -- what is left of a chunk after `done` bytes, as a slice shows it
 abbrev pub left : List ℕ → ℕ → List ℕ
-left piece done = take (length piece - done) (drop done piece)
+left chunk done = take (length chunk - done) (drop done chunk)
 
-module _ {view : Option View} {start middle : Tally} {old b c : PacketReader} (piece : List ℕ) (done : ℕ) {before held : Option (List ℕ)} {w : List ℕ}
-    {fed : Fed} (within : done ≤ length piece)
-    (so_far : Prints view start middle old b (take done piece) w (flow before held)) (feeds : Feeds b (left piece done) fed c) where
-  reads_by : (got : Got) → fed.got ≡ got → ReadsOn b (take fed.used (left piece done)) (given_by got) c
+module _ {view : Option View} {start middle : Tally} {old b c : PacketReader} (chunk : List ℕ) (done : ℕ) {before held : Option (List ℕ)} {w : List ℕ}
+    {fed : Fed} (within : done ≤ length chunk)
+    (so_far : Prints view start middle old b (take done chunk) w (flow before held)) (feeds : Feeds b (left chunk done) fed c) where
+  reads_by : (got : Got) → fed.got ≡ got → ReadsOn b (take fed.used (left chunk done)) (given_by got) c
   reads_by got is = rw is at feeds.reads
 
-  pub tells_by : (got : Got) → fed.got ≡ got → Tells got fed.used (left piece done) c
-  tells_by got is = rw is at feeds.tells
+  pub announces_by : (got : Got) → fed.got ≡ got → Announces got fed.used (left chunk done) c
+  announces_by got is = rw is at feeds.announces
 
-  pub left_length : length (left piece done) ≡ length piece - done
-  left_length = ap length (left_of piece done within) ∙ length-drop done piece
+  pub left_length : length (left chunk done) ≡ length chunk - done
+  left_length = ap length (left_of chunk done within) ∙ length-drop done chunk
 
-  pub fed_failed : (f : Fault) → fault_of b ≡ None → fed.got ≡ Failed f → PrintsPiece view start middle (Some f) old c piece w (flow before held)
+  pub fed_failed : (f : Fault) → fault_of b ≡ None → fed.got ≡ Failed f → PrintsChunk view start middle (Some f) old c chunk w (flow before held)
   fed_failed f sound is =
       let shown = feeds.news f sound is in (
         done + fed.used,
-        rw (take_joined piece done fed.used within) at (prints_quiet so_far c (take fed.used (left piece done)) (reads_by (Failed f) is)),
+        rw (take_joined chunk done fed.used within) at (prints_quiet so_far c (take fed.used (left chunk done)) (reads_by (Failed f) is)),
         record {
-          told = tells_by (Failed f) is;
+          announced = announces_by (Failed f) is;
           shown = record {
             not_the_end = shown.not_the_end;
             one_more = λ e. omega (arith, shown.one_more e, left_length);
@@ -146,37 +146,37 @@ module _ {view : Option View} {start middle : Tally} {old b c : PacketReader} (p
         },
       )
 
-  pub fed_more : fed.got ≡ More → Prints view start middle old c piece w (flow before held)
+  pub fed_more : fed.got ≡ More → Prints view start middle old c chunk w (flow before held)
   fed_more is =
-      let tells = tells_by More is in
-      let all : take (done + fed.used) piece ≡ piece =
-      ap (λ (n : ℕ). take n piece) (omega (arith, tells.0, left_length, within)) ∙ take-length piece in
-      rw (take_joined piece done fed.used within, all) at (prints_quiet so_far c (take fed.used (left piece done)) (reads_by More is))
+      let announces = announces_by More is in
+      let all : take (done + fed.used) chunk ≡ chunk =
+      ap (λ (n : ℕ). take n chunk) (omega (arith, announces.0, left_length, within)) ∙ take-length chunk in
+      rw (take_joined chunk done fed.used within, all) at (prints_quiet so_far c (take fed.used (left chunk done)) (reads_by More is))
 
   pub fed_packet : (p : Packet) (offset : ℕ) {final : Tally} {after_it : Option (List ℕ)} {x : List ℕ} → fed.got ≡ GotPacket p offset
       → PutAs false (flow held after_it) w (viewed view middle (record { packet = seen p; offset = offset })) x
       → final ≡ after view middle (record { packet = seen p; offset = offset })
-      → Prints view start final old c (take (done + fed.used) piece) x (flow before after_it)
+      → Prints view start final old c (take (done + fed.used) chunk) x (flow before after_it)
   fed_packet p offset is line counts =
-      rw (take_joined piece done fed.used within) at
-      (prints_packet so_far c (take fed.used (left piece done)) (record { packet = seen p; offset = offset }) (reads_by (GotPacket p offset) is) line counts)
+      rw (take_joined chunk done fed.used within) at
+      (prints_packet so_far c (take fed.used (left chunk done)) (record { packet = seen p; offset = offset }) (reads_by (GotPacket p offset) is) line counts)
 
   pub fed_packet_front : (p : Packet) (offset : ℕ) {final : Tally} {after_it : Option (List ℕ)} {x : List ℕ} → fed.got ≡ GotPacket p offset
       → PutAs true (flow held after_it) w (viewed view middle (record { packet = seen p; offset = offset })) x
       → final ≡ after view middle (record { packet = seen p; offset = offset })
-      → WritesFront view start final old c piece (flow before after_it)
+      → WritesFront view start final old c chunk (flow before after_it)
   fed_packet_front p offset is line counts = (
     done + fed.used,
-    rw (take_joined piece done fed.used within) at (prints_packet_front so_far c (take fed.used (left piece done))
+    rw (take_joined chunk done fed.used within) at (prints_packet_front so_far c (take fed.used (left chunk done))
         (record { packet = seen p; offset = offset }) (reads_by (GotPacket p offset) is) line counts),
   )
 
 -- the write of what waited failed, whether or not the chunk had a fault
-pub sent_in_part : {view : Option View} {start final : Tally} (old new : PacketReader) (piece w : List ℕ) (before held later : Option (List ℕ))
-    (stopped : Option Fault) → PrintsPiece view start final stopped old new piece w (flow before held) → AppendsFront held later w
-    → WritesFront view start final old new piece (flow before later)
-sent_in_part old new piece w before held later None prints front = (length piece, rw (take-length piece) (sent_on prints.0 true later front))
-sent_in_part old new piece w before held later (Some f) (used, prints, meets) front = (used, sent_on prints true later front)
+pub sent_in_part : {view : Option View} {start final : Tally} (old new : PacketReader) (chunk w : List ℕ) (before held later : Option (List ℕ))
+    (stopped : Option Fault) → PrintsChunk view start final stopped old new chunk w (flow before held) → AppendsFront held later w
+    → WritesFront view start final old new chunk (flow before later)
+sent_in_part old new chunk w before held later None prints front = (length chunk, rw (take-length chunk) (sent_on prints.0 true later front))
+sent_in_part old new chunk w before held later (Some f) (used, prints, meets) front = (used, sent_on prints true later front)
 
 -- ---- the run
 
@@ -196,17 +196,17 @@ RunEnds view start final result ended turns reader writer = Moves (is_broken res
 -- the state of a reader with this fault, or with none
 state_of : (reader : PacketReader) (fault : Option Fault) (bytes : List ℕ) (packets : List Given) (rest : List ℕ) → fault_of reader ≡ fault
     → Reads reader 0 bytes packets rest → StandsAt fault (length bytes - length rest) (length bytes) rest reader
-state_of reader fault bytes packets rest told reads =
-    rw (zero-add (length bytes), told) at reads.state
+state_of reader fault bytes packets rest announced reads =
+    rw (zero-add (length bytes), announced) at reads.state
 
 module _ {view : Option View} {start middle final : Tally} where
   -- the lines of a chunk were written, and reading goes on
-  pub shows_more : (old new : PacketReader) (count n : ℕ) (piece : List ℕ) {left_before left left_after held_before held held_after : Option (List ℕ)}
-      → Moved false (ShowsSoFar view start middle old count) (flow left_before left) (flow held_before held) → Consumes left left_after (take n piece)
-      → Writes view middle final false old new (take n piece) (flow held held_after) → n ≤ length piece → 0 < n
+  pub shows_more : (old new : PacketReader) (count n : ℕ) (chunk : List ℕ) {left_before left left_after held_before held held_after : Option (List ℕ)}
+      → Moved false (ShowsSoFar view start middle old count) (flow left_before left) (flow held_before held) → Consumes left left_after (take n chunk)
+      → Writes view middle final false old new (take n chunk) (flow held held_after) → n ≤ length chunk → 0 < n
       → Moved false (ShowsSoFar view start final new (count + 1)) (flow left_before left_after) (flow held_before held_after)
-  shows_more old new count n piece so_far read writes within some =
-      moved_on false (ShowsSoFar view start final new (count + 1)) (take n piece) (shown view middle writes.packets) (λ came given shows.
+  shows_more old new count n chunk so_far read writes within some =
+      moved_on false (ShowsSoFar view start final new (count + 1)) (take n chunk) (shown view middle writes.packets) (λ came given shows.
       let (rest, reads) = writes.reads 0 came shows.packets shows.rest shows.reads in
       record {
         packets = shows.packets ++ writes.packets;
@@ -214,7 +214,7 @@ module _ {view : Option View} {start middle final : Tally} where
         reads = reads;
         lines = rw (shows.lines, shown-then view start shows.packets writes.packets shows.tally) refl;
         tally = tally-then view start shows.packets writes.packets shows.tally writes.tally;
-        brought = brings_more count n came piece shows.brought within some;
+        brought = brings_more count n came chunk shows.brought within some;
       }) so_far read writes.written
 
 module _ {view : Option View} {start middle final : Tally} (ended : Bool) (turns count : ℕ) (old new : PacketReader) (bytes : List ℕ)
@@ -246,14 +246,14 @@ module _ {view : Option View} {start middle final : Tally} (ended : Bool) (turns
 
   -- a chunk ended the run
   pub stops_by : (fault : RunFault) → Moved false (ShowsSoFar view start middle old count) (flow left_before left) (flow held_before held)
-      → Consumes left left_after bytes → ShowsPiece view middle final (Err fault) old new bytes (flow held held_after)
+      → Consumes left left_after bytes → ShowsChunk view middle final (Err fault) old new bytes (flow held held_after)
       → RunEnds view start final (Err fault) ended turns (flow left_before left_after) (flow held_before held_after)
   stops_by ReadFault so_far read shown = absurd shown
   stops_by WriteFault so_far read (used, writes) = stops_in (Err WriteFault) used so_far read writes (λ came packets rest reads. tt)
   stops_by ReadLimit so_far read shown = absurd shown
   stops_by (Refused f) so_far read (used, writes, meets) =
       stops_in (Err (Refused f)) used so_far read writes (λ came packets rest reads. (
-        (state_of new (Some f) (came ++ take used bytes) packets rest meets.told reads).1,
+        (state_of new (Some f) (came ++ take used bytes) packets rest meets.announced reads).1,
         timely f.kind ended (drop used bytes) meets.shown.not_the_end (λ e. omega (arith, meets.shown.one_more e, length-drop used bytes)),
       ))
 
@@ -299,7 +299,7 @@ all_read old new held carries = record { packets = []; reads = carries; written 
 module _ {view : Option View} {start final : Tally} (ended : Bool) (turns count : ℕ) (old new : PacketReader)
     {left_before left left_after held_before held : Option (List ℕ)}
     (so_far : Moved false (ShowsSoFar view start final old count) (flow left_before left) (flow held_before held)) (read : Consumes left left_after [])
-    (carries : ReadsOn old [] [] new) (told : ended ≡ true) where
+    (carries : ReadsOn old [] [] new) (announced : ended ≡ true) where
   -- the input ended, between two packets or inside one
   pub ends_closed : (closed : Result (Unit {0}) Fault) (result : Result (Unit {0}) RunFault)
       → MatchResult closed (λ done. result ≡ Ok done) (λ f. IsErrAnd result (λ fault. fault ≡ Refused f))
@@ -310,13 +310,13 @@ module _ {view : Option View} {start final : Tally} (ended : Bool) (turns count 
       rw is (stops_in ended turns count old new [] (Ok done) 0 so_far read (all_read old new held carries) (λ came packets rest reads. (
         none_between new rest (state_of new None (came ++ []) packets rest (ap fault_of between.0 ∙ between.1) reads).0 (ap is_open between.0 ∙ between.2),
         refl,
-        told,
+        announced,
       )))
   ends_closed (Err f) result is between fails cut =
       let (fault, was, named) = err_from_is_err_and result is in
       rw (was, named) (stops_in ended turns count old new [] (Err (Refused f)) 0 so_far read (all_read old new held carries) (λ came packets rest reads. (
         (state_of new (Some f) (came ++ []) packets rest fails reads).1,
-        rw cut.1 (refl, told),
+        rw cut.1 (refl, announced),
       )))
 
 -- without a view the run is that of `show`

@@ -11,7 +11,7 @@ use Rattle.git_pkt.specs.Streams.{Flow, flow}
 use Rattle.git_pkt.proofs.EngineLemmas.{timely}
 use Rattle.git2show_lib.specs.OtherLines.{Question, other as another}
 use Rattle.git_client.specs.Machine.RunSteps.{window_of}
-use Rattle.git_client.specs.declared.hearing.Window.{Window}
+use Rattle.git_client.specs.declared.receiving.Window.{Window}
 use Rattle.git2show_lib.specs.declared.checking.CheckFault.{CheckFault}
 use Rattle.git2show_lib.specs.declared.checking.CheckFault.TheVariants.{ReadFault}
 use Rattle.git2show_lib.specs.Machine.JudgedRequests.{Closes, Feeds, HasRead, IsOnward, IsReady, asked_by}
@@ -27,14 +27,14 @@ use Rattle.git2show_lib.proofs.JudgedReadings.{asked_so_far, begun_so_far, nothi
 use Rattle.git2show_lib.specs.Machine.CheckSteps.{ReadsAll, ReadsFault, ReadsNoMore, ReadsOn, ReadsRequest, ReadsTo, ReadsWhole}
 
 -- the bytes at the front of a chunk are a window of it
-pub front_window : (end : ℕ) (piece : List ℕ) → take end piece ≡ window_of (record { start = 0; end = end }) piece
-front_window end piece = let same : end ≡ end - 0 = omega arith in ap (λ (n : ℕ). take n piece) same
+pub front_window : (end : ℕ) (chunk : List ℕ) → take end chunk ≡ window_of (record { start = 0; end = end }) chunk
+front_window end chunk = let same : end ≡ end - 0 = omega arith in ap (λ (n : ℕ). take n chunk) same
 
 module _ {A : Type 0} where
   -- what a call of `feed` did, by its answer
-  feeds_with : {old new : JudgedRequests A} {piece : List ℕ} (read : JudgedRead A) {got : JudgedGot A} → read.got ≡ got → Feeds old piece read new
-      → Feeds old piece (record { used = read.used; got = got }) new
-  feeds_with {old = old} {new = new} {piece = piece} read is feeds =
+  feeds_with : {old new : JudgedRequests A} {chunk : List ℕ} (read : JudgedRead A) {got : JudgedGot A} → read.got ≡ got → Feeds old chunk read new
+      → Feeds old chunk (record { used = read.used; got = got }) new
+  feeds_with {old = old} {new = new} {chunk = chunk} read is feeds =
       rw is at feeds
 
   -- before the first byte all that waits is left
@@ -165,13 +165,13 @@ module _ {A : Type 0} where
     }
 
     -- bytes came, at the front of a chunk
-    pub came_in_front : {after : Option (List ℕ)} (end : ℕ) (piece : List ℕ) → Consumes left after (take end piece)
-        → ReadsOn old middle [] waiting (window_of (record { start = 0; end = end }) piece) (flow before after)
-    came_in_front {after = after} end piece read =
-        rw (front_window end piece) at (came_more so_far (take end piece) read)
+    pub came_in_front : {after : Option (List ℕ)} (end : ℕ) (chunk : List ℕ) → Consumes left after (take end chunk)
+        → ReadsOn old middle [] waiting (window_of (record { start = 0; end = end }) chunk) (flow before after)
+    came_in_front {after = after} end chunk read =
+        rw (front_window end chunk) at (came_more so_far (take end chunk) read)
 
     -- a read gave no bytes
-    module _ {after : Option (List ℕ)} (end : ℕ) (piece : List ℕ) (none : end ≡ 0) (read : Consumes left after (take end piece)) where
+    module _ {after : Option (List ℕ)} (end : ℕ) (chunk : List ℕ) (none : end ≡ 0) (read : Consumes left after (take end chunk)) where
       read_nothing : ReadsOn old middle [] waiting [] (flow before after)
       read_nothing = came_more so_far [] (rw none at read)
 
@@ -189,7 +189,7 @@ module _ {A : Type 0} where
       pub ended_inside : {ended : Bool} {new : JudgedRequests A} {fault : Fault} → ended ≡ true → Closes (Err fault) middle new
           → ReadsFault fault ended old new waiting (flow before after)
       unfolding read_nothing came_more
-      ended_inside {ended = ended} at_end (kind, told, advertised, limit, carries) =
+      ended_inside {ended = ended} at_end (kind, announced, advertised, limit, carries) =
           record {
             unused = [];
             reads = record {
@@ -201,13 +201,13 @@ module _ {A : Type 0} where
               advertised = advertised ∙ so_far.advertised;
               limit = limit ∙ so_far.limit;
             };
-            refused = λ bytes known h. (h.left, h.rest, asked_so_far h, refused_as h told);
+            refused = λ bytes known h. (h.left, h.rest, asked_so_far h, refused_as h announced);
             timely = rw kind (refl, at_end);
           }
 
   -- a read failed, and a `?` answers the fault that it met
   pub read_fault : (result : Result (Next A) CheckFault) (fault : CheckFault) (ended : Bool) (old new : JudgedRequests A)
-      (waiting : List ℕ) (window : Window) (piece : List ℕ) (reader : Flow) → IsErrAnd result (λ e. e ≡ fault) → fault ≡ ReadFault
-      → ReadsAll ended old new waiting reader → ReadsTo result ended old new waiting window piece reader
-  read_fault result fault ended old new waiting window piece reader answered named all =
+      (waiting : List ℕ) (window : Window) (chunk : List ℕ) (reader : Flow) → IsErrAnd result (λ e. e ≡ fault) → fault ≡ ReadFault
+      → ReadsAll ended old new waiting reader → ReadsTo result ended old new waiting window chunk reader
+  read_fault result fault ended old new waiting window chunk reader answered named all =
       let (e, is, same) = err_from_is_err_and result answered in rw (is, same, named) all

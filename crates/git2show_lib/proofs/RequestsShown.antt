@@ -24,8 +24,8 @@ module _ {A : Type 0} {old new : Client A} where
   asked_quietly a = record {
     passes = a.passes;
     given = a.given;
-    said = tt;
-    told = tt;
+    content = tt;
+    announced = tt;
     last = λ e. absurd (cc);
     sound = a.sound;
     not_ready = a.not_ready;
@@ -40,7 +40,7 @@ module _ {A : Type 0} (old new : Client A) (judged : Judged A) where
   asks_stopped before after ReadLimit asks = asks
   asks_stopped before after WriteFault asks = record {
     asks = asked_quietly asks;
-    shown = AppendsFront-longer before after (asked_line (command_asked (asked_of judged.request))) (noted_in judged.others).lines asks.told;
+    shown = AppendsFront-longer before after (asked_line (command_asked (asked_of judged.request))) (noted_in judged.others).lines asks.announced;
   }
   asks_stopped before after (Refused fault) asks = asks
 
@@ -49,15 +49,15 @@ module _ {A : Type 0} (old new : Client A) (judged : Judged A) where
       → (result : Result (Unit {0}) RunFault) → OnOk result (Appends held after (noted_in judged.others).lines)
       → OnErr result (AppendsFront held after (noted_in judged.others).lines) → IfErr result (λ fault. fault ≡ WriteFault)
       → AsksJudged result old new judged (flow before after)
-  asks_shown before held after asks due (Ok done) ok err named = (
+  asks_shown before held after asks expected (Ok done) ok err named = (
     record {
       asks = asked_quietly asks;
-      shown = written_then false before held after (asked_line (command_asked (asked_of judged.request))) (noted_in judged.others).lines asks.told ok;
+      shown = written_then false before held after (asked_line (command_asked (asked_of judged.request))) (noted_in judged.others).lines asks.announced ok;
     },
-    due,
+    expected,
   )
-  asks_shown before held after asks due (Err fault) ok err named =
+  asks_shown before held after asks expected (Err fault) ok err named =
       subst (λ (f : RunFault). AsksJudged (Err f) old new judged (flow before after)) (sym named) (record {
         asks = asked_quietly asks;
-        shown = written_then true before held after (asked_line (command_asked (asked_of judged.request))) (noted_in judged.others).lines asks.told err;
+        shown = written_then true before held after (asked_line (command_asked (asked_of judged.request))) (noted_in judged.others).lines asks.announced err;
       })

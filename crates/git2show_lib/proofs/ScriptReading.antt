@@ -28,10 +28,10 @@ pub room_at_all : (text cut : List ℕ) → cut ≡ text_of text → 0 + bytes_l
 room_at_all text cut is = omega (arith, cut_shorter text, ap length is)
 
 -- and so do those after it
-pub room_behind : (most line : ℕ) (left : List ℕ) (rest : Option (Bor (List ℕ))) → line + (length left + 1) ≤ most + 1
+pub buffer_behind : (most line : ℕ) (left : List ℕ) (rest : Option (Bor (List ℕ))) → line + (length left + 1) ≤ most + 1
     → MatchOption rest (Unit {0}) (λ r. length r.now < length left) → line + 1 + bytes_left (option_copied rest) ≤ most + 1
-room_behind most line left None room h = omega (arith, room)
-room_behind most line left (Some r) room h = omega (arith, room, h)
+buffer_behind most line left None space h = omega (arith, space)
+buffer_behind most line left (Some r) space h = omega (arith, space, h)
 
 module _ {A : Type 0} where
   -- some lines were read, after which this is held, and this is left

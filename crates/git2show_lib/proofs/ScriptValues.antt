@@ -6,7 +6,7 @@ use Rattle.git_msg.specs.declared.arguments.Command.{Command}
 use Rattle.git_msg.specs.Arguments.{IsValue}
 use Rattle.git_msg.specs.Asked.{Asked, HasValues}
 use Rattle.git_msg.specs.Kept.{Kept}
-use Rattle.git_msg.proofs.AskedValues.{asked_has_values, says_value}
+use Rattle.git_msg.proofs.AskedValues.{asked_has_values, conveys_value}
 use Rattle.git_repository.specs.RepositoryLines.{lines_of}
 use Rattle.git2show_lib.specs.Scripts.{ScriptLine, blank, command, argument, FollowAll, IsArgumentAfter, IsScript, arguments_upto, open_after, requests_in}
 
@@ -26,7 +26,7 @@ module _ (offer : Offer) (limit : ℕ) where
       let after : IsArgumentAfter offer limit before text arg = h.0 in
       let is_open = after.is_open in
       let same : after.of ≡ c = cc in
-      All-cons (IsValue c offer.format) arg (arguments_upto lines) (rw same at (says_value after.of offer.format text arg after.reads.is_argument))
+      All-cons (IsValue c offer.format) arg (arguments_upto lines) (rw same at (conveys_value after.of offer.format text arg after.reads.is_argument))
       (values_upto c (argument arg ∷ before) texts lines h.1 is)
 
   requests_have : (before : List ScriptLine) (texts : List (List ℕ)) (lines : List ScriptLine) → FollowAll offer limit before texts lines

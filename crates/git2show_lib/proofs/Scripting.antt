@@ -22,7 +22,7 @@ use Rattle.git_msg.specs.Machine.HeldRequest.{IsEmpty, Keeps, add_checks, comman
 use Rattle.git_msg.specs.Memory.{HasRefused}
 use Rattle.git_msg.specs.Kept.{IsNew, Kept, KeepsArgument}
 use Rattle.git_msg.proofs.ArgumentsInOrder.{asked_snoc}
-use Rattle.git_msg.proofs.AskedValues.{says_in_range}
+use Rattle.git_msg.proofs.AskedValues.{conveys_in_range}
 use Rattle.git_msg.proofs.Rows.{argument_or_fault, one_argument}
 use Rattle.git_msg.proofs.Values.{added_or_refused}
 use Rattle.git_server.proofs.Refusals.{refused_within}
@@ -85,7 +85,7 @@ module _ {A : Type 0} where
   fits_passes : (offer : Offer) (last : Request A) (text : List ℕ) (arg : Arg) → format_of last ≡ offer.format → FitsIn offer last text arg
       → Passes (add_checks last arg)
   fits_passes offer last text arg format h =
-      let range = says_in_range offer.format text arg h.reads.is_argument.1 in
+      let range = conveys_in_range offer.format text arg h.reads.is_argument.1 in
       ((h.reads.is_argument.0, subst (λ (f : Format). IsInRange f arg) (sym format) range), (h.fits, tt))
 
   -- where the checks refuse the argument that a text is, no argument that fits is this text
@@ -166,13 +166,13 @@ module _ {A : Type 0} where
       omega (arith, few, ap length h.requests_are, length-map held.requests (holding_of {A = A}))
 
   -- the answer on a command, as one on a line
-  pub said_command : (refuses : ℕ → Type 0) (each : ℕ) (old new : Held A) (text : List ℕ) (result : Result (Unit {0}) LineFault) → old.is_open ≡ false
+  pub stated_command : (refuses : ℕ → Type 0) (each : ℕ) (old new : Held A) (text : List ℕ) (result : Result (Unit {0}) LineFault) → old.is_open ≡ false
       → (text ≡ [] → ⊥)
       → MatchResult result (λ _. Begins old text new) (IsBeginFault refuses each old text)
       → MatchResult result (λ _. TakesLine old text new) (IsLineFault refuses each old text)
-  said_command refuses each old new text (Ok u) shut some b = rw b.new_is (begun old text b.of b.request shut b.spelled b.is_empty)
-  said_command refuses each old new text (Err Refused) shut some none = command_refused refuses each old text shut some none
-  said_command refuses each old new text (Err OutOfMemory) shut some is = λ lines h.
+  stated_command refuses each old new text (Ok u) shut some b = rw b.new_is (begun old text b.of b.request shut b.spelled b.is_empty)
+  stated_command refuses each old new text (Err Refused) shut some none = command_refused refuses each old text shut some none
+  stated_command refuses each old new text (Err OutOfMemory) shut some is = λ lines h.
       (command is.0, (none_open lines old shut h, is.1), tt, refused_within refuses _ _ (mul-le-mul_right each (one_more lines old h)) is.2)
 
   -- the last request has the format and the limit of them all
@@ -269,15 +269,15 @@ module _ {A : Type 0} where
       adds o.others o.last o.requests_are (last_format lines old h o) opened arg (fits_of_may_follow lines old text arg h o may)
 
   -- the answer on an argument, as one on a line
-  pub said_argument : (refuses : ℕ → Type 0) (each : ℕ) (old new : Held A) (text : List ℕ) (result : Result (Unit {0}) LineFault) → old.is_open ≡ true
+  pub stated_argument : (refuses : ℕ → Type 0) (each : ℕ) (old new : Held A) (text : List ℕ) (result : Result (Unit {0}) LineFault) → old.is_open ≡ true
       → (text ≡ [] → ⊥)
       → AddsArgument refuses old text new result → MatchResult result (λ _. TakesLine old text new) (IsLineFault refuses each old text)
-  said_argument refuses each old new text (Ok u) opened some adds = λ lines h.
+  stated_argument refuses each old new text (Ok u) opened some adds = λ lines h.
       let o = the_open lines old opened h in
       let a = adds o.others o.last o.requests_are (last_format lines old h o) opened in
       rw a.new_is (added lines old text h o a.arg a.request a.fits_in a.keeps)
-  said_argument refuses each old new text (Err Refused) opened some adds = argument_refused refuses each old new text opened some adds
-  said_argument refuses each old new text (Err OutOfMemory) opened some adds = λ lines h.
+  stated_argument refuses each old new text (Err Refused) opened some adds = argument_refused refuses each old new text opened some adds
+  stated_argument refuses each old new text (Err OutOfMemory) opened some adds = λ lines h.
       let o = the_open lines old opened h in
       let a = adds o.others o.last o.requests_are (last_format lines old h o) opened in
       (argument a.0, may_follow lines old text a.0 h o a.1, a.2, subst (HasRefused refuses) (last_limit lines old h o) a.3)

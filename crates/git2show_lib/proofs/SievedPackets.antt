@@ -13,11 +13,11 @@ use Rattle.git_pkt.proofs.Written.{spells_written}
 use Rattle.git_msg.proofs.StreamSteps.{rest_behind}
 use Rattle.git_client.specs.Parts.{Terms}
 use Rattle.git_client.specs.Machine.Client.{Converses, History, fault_of, phase_of, reader_of, spelled, wants_input}
-use Rattle.git_client.specs.Machine.RunSteps.{HearsInPiece}
+use Rattle.git_client.specs.Machine.RunSteps.{ReceivesInChunk}
 use Rattle.git_client.specs.declared.client.Client.{Client}
-use Rattle.git_client.specs.declared.hearing.Counts.{Counts}
-use Rattle.git_client.proofs.HeardBytes.{heard_then, nothing_heard}
-use Rattle.git_client.proofs.Phases.{not_ready_where_due}
+use Rattle.git_client.specs.declared.receiving.Counts.{Counts}
+use Rattle.git_client.proofs.ReceivedBytes.{received_then, nothing_received}
+use Rattle.git_client.proofs.Phases.{not_ready_where_expected}
 use Rattle.git2show_lib.specs.Machine.CheckSteps.{nowhere}
 use Rattle.git2show_lib.specs.Sieve.{ArePassed, received_as, sieved_from, sieved_packet, spot_after, spot_next}
 use Rattle.git2show_lib.specs.Machine.Sieving.{AreFitting, ArePackets, IsAllReceived, Receives, ReceivesPacket, SievesOn, Stage}
@@ -87,8 +87,8 @@ module _ {A : Type 0} where
 
   -- the client received all of a packet, if none was begun before it
   pub packet_received : {old new : Client A} {counts after : Counts} {out : Flow} (p : Pkt) (used : ℕ) → length (body_of p) ≤ longest_payload
-      → HearsInPiece old new counts after (spelling_of p) used out nowhere nowhere → IsAllReceived old (drop used (spelling_of p))
-  packet_received {old} {new} p used fits hears t h stands before = at (wants_input new) refl where
+      → ReceivesInChunk old new counts after (spelling_of p) used out nowhere nowhere → IsAllReceived old (drop used (spelling_of p))
+  packet_received {old} {new} p used fits arrives t h stands before = at (wants_input new) refl where
     bytes : List ℕ
     bytes = spelling_of p
 
@@ -98,14 +98,14 @@ module _ {A : Type 0} where
     left : (rest : List ℕ) → wants_input new ≡ false → drop used bytes ≡ rest → rest ≡ []
     left [] ready is = refl
     left (byte ∷ rest) ready is =
-        let now = hears.hears.hears t h stands in
-        let (given, splits) = ready_splits t _ new now hears.sound ready in
+        let now = arrives.arrives.arrives t h stands in
+        let (given, splits) = ready_splits t _ new now arrives.sound ready in
         let none = rest_of_front h.used (take used bytes) (drop used bytes) p given fits (sym (take-append-drop used bytes))
         (omega (arith, ap length is)) before splits in
-        absurd (omega (arith, hears.moves some, hears.within, ap length none, length-take used bytes))
+        absurd (omega (arith, arrives.moves some, arrives.within, ap length none, length-take used bytes))
 
     at : (b : Bool) → wants_input new ≡ b → drop used bytes ≡ []
-    at true waits = no_bytes (drop used bytes) (omega (arith, hears.all waits, length-drop used bytes))
+    at true waits = no_bytes (drop used bytes) (omega (arith, arrives.all waits, length-drop used bytes))
     at false ready = left (drop used bytes) ready refl
 
   -- ---- from one stage to the next
@@ -127,7 +127,7 @@ module _ {A : Type 0} where
     cut = refl;
     waits = λ waits. refl;
     whole = λ t h stands before. refl;
-    bytes = nothing_heard s.client s.counts out None None waits;
+    bytes = nothing_received s.client s.counts out None None waits;
   }
 
   -- bytes were read that end no packet
@@ -144,7 +144,7 @@ module _ {A : Type 0} where
     cut = refl;
     waits = λ waits. refl;
     whole = λ t h stands before. refl;
-    bytes = nothing_heard s.client s.counts out None None waits;
+    bytes = nothing_received s.client s.counts out None None waits;
   }
 
   -- a packet was read and passed on
@@ -174,7 +174,7 @@ module _ {A : Type 0} where
       whole = λ t h stands before. refl;
       bytes = stays;
     }
-    at (Some p) is fits (count, hears) = record {
+    at (Some p) is fits (count, arrives) = record {
       more = g ∷ [];
       reads = reads;
       passed = (record { passed_as = Some p; is = is }, tt);
@@ -183,9 +183,9 @@ module _ {A : Type 0} where
       received = take count (spelling_of p);
       beyond = drop count (spelling_of p);
       cut = ap spelled (sieved_as (Some p) is) ∙ append-nil (spelling_of p) ∙ sym (take-append-drop count (spelling_of p));
-      waits = λ waits. no_bytes (drop count (spelling_of p)) (omega (arith, hears.all waits, length-drop count (spelling_of p)));
-      whole = packet_received p count fits.0 hears;
-      bytes = hears.hears;
+      waits = λ waits. no_bytes (drop count (spelling_of p)) (omega (arith, arrives.all waits, length-drop count (spelling_of p)));
+      whole = packet_received p count fits.0 arrives;
+      bytes = arrives.arrives;
     }
 
   module _ {form : Form} {old middle : Stage A} {u : List ℕ} {before held : Option (List ℕ)}
@@ -224,6 +224,6 @@ module _ {A : Type 0} where
       cut = spelled_then middle.spot second.more refl ∙ ap (λ (l : List ℕ). first.received ++ l) second.cut
           ∙ sym (append_assoc first.received second.received second.beyond);
       waits = second.waits;
-      whole = λ t h stands before. second.whole t _ (first.bytes.hears t h stands) (packets_then h.used before);
-      bytes = heard_then (not_ready_where_due (phase_of middle.client) waits) first.bytes second.bytes;
+      whole = λ t h stands before. second.whole t _ (first.bytes.arrives t h stands) (packets_then h.used before);
+      bytes = received_then (not_ready_where_expected (phase_of middle.client) waits) first.bytes second.bytes;
     }

@@ -17,17 +17,17 @@ use Rattle.git_pkt.proofs.EngineLemmas.{timely, written_nothing}
 use Rattle.git_pkt.proofs.KnownRest.{sound_rest}
 use Rattle.git_msg.proofs.StreamSteps.{rest_behind, stopped_by}
 use Rattle.git_client.specs.Machine.Client.{can_ask, fault_of, phase_of, spelled, wants_input}
-use Rattle.git_client.specs.Machine.RunSteps.{HearsBytes, no_counts, window_of}
+use Rattle.git_client.specs.Machine.RunSteps.{ReceivesBytes, no_counts, window_of}
 use Rattle.git_client.specs.declared.client.Client.{Client}
-use Rattle.git_client.specs.declared.hearing.Counts.{Counts}
-use Rattle.git_client.proofs.HeardBytes.{heard_flushed, heard_then}
-use Rattle.git_client.proofs.Phases.{not_ready_where_due}
+use Rattle.git_client.specs.declared.receiving.Counts.{Counts}
+use Rattle.git_client.proofs.ReceivedBytes.{received_flushed, received_then}
+use Rattle.git_client.proofs.Phases.{not_ready_where_expected}
 use Rattle.git2show_lib.specs.Sieve.{received_as, sieved_from, sieved_packet, spot_after}
 use Rattle.git2show_lib.specs.Machine.CheckSteps.{nowhere}
 use Rattle.git2show_lib.specs.Machine.OtherAnswers.{ClosesAnswer, Uses}
-use Rattle.git2show_lib.specs.Machine.Sieving.{BreaksInPiece, EndsInPiece, IsRefusedBy, ReceivesBroken, ReceivesFault}
-use Rattle.git2show_lib.specs.Machine.Sieving.{ReceivesTo, RefusesPacket, Sieves, SievesBroken, SievesFault, SievesInPiece, SievesMore, SievesOn}
-use Rattle.git2show_lib.specs.Machine.Sieving.{SievesPieceTo, SievesTo, SievesWhole, Stage}
+use Rattle.git2show_lib.specs.Machine.Sieving.{BreaksInChunk, EndsInChunk, IsRefusedBy, ReceivesBroken, ReceivesFault}
+use Rattle.git2show_lib.specs.Machine.Sieving.{ReceivesTo, RefusesPacket, Sieves, SievesBroken, SievesFault, SievesInChunk, SievesMore, SievesOn}
+use Rattle.git2show_lib.specs.Machine.Sieving.{SievesChunkTo, SievesTo, SievesWhole, Stage}
 use Rattle.git2show_lib.specs.declared.other_answers.Passed.{Passed}
 use Rattle.git2show_lib.specs.declared.sieve.Form.{Form}
 use Rattle.git2show_lib.specs.declared.sieve.Spot.{Spot}
@@ -43,31 +43,31 @@ module _ {A : Type 0} where
 
   -- a writer that was flushed has what it had
   flushed : {old new : Client A} {counts counts_after : Counts} {used : List ℕ} {before held after : Option (List ℕ)}
-      → HearsBytes false old new counts counts_after used (flow before held) nowhere nowhere → Keeps held after
-      → HearsBytes false old new counts counts_after used (flow before after) nowhere nowhere
-  flushed {held = held} {after} received kept = heard_flushed {broken = false} received (flushed_only held after kept) tt tt
+      → ReceivesBytes false old new counts counts_after used (flow before held) nowhere nowhere → Keeps held after
+      → ReceivesBytes false old new counts counts_after used (flow before after) nowhere nowhere
+  flushed {held = held} {after} received kept = received_flushed {broken = false} received (flushed_only held after kept) tt tt
 
   -- also after a failed write
   flushed_broken : {old new : Client A} {counts counts_after : Counts} {used : List ℕ} {before held after : Option (List ℕ)}
-      → HearsBytes true old new counts counts_after used (flow before held) nowhere nowhere → Keeps held after
-      → HearsBytes true old new counts counts_after used (flow before after) nowhere nowhere
+      → ReceivesBytes true old new counts counts_after used (flow before held) nowhere nowhere → Keeps held after
+      → ReceivesBytes true old new counts counts_after used (flow before after) nowhere nowhere
   flushed_broken {before = before} {held} {after} received kept = record {
     events = received.events;
-    hears = received.hears;
+    arrives = received.arrives;
     one_turn = received.one_turn;
-    owes = received.owes;
+    has_unsent = received.has_unsent;
     counted = received.counted;
-    told = λ can.
-        let (front, rest, parts, written) = received.told can in (front, rest, parts, Appends-kept before held after front written kept);
+    announced = λ can.
+        let (front, rest, parts, written) = received.announced can in (front, rest, parts, Appends-kept before held after front written kept);
     sent = received.sent;
     reported = received.reported;
   }
 
   -- what was written whole is what was written as far as that went
   as_broken : {old new : Client A} {counts counts_after : Counts} {used : List ℕ} {before held : Option (List ℕ)}
-      → HearsBytes false old new counts counts_after used (flow before held) nowhere nowhere
-      → HearsBytes true old new counts counts_after used (flow before held) nowhere nowhere
-  as_broken {held = held} received = heard_flushed {broken = true} received (written_nothing held) tt tt
+      → ReceivesBytes false old new counts counts_after used (flow before held) nowhere nowhere
+      → ReceivesBytes true old new counts counts_after used (flow before held) nowhere nowhere
+  as_broken {held = held} received = received_flushed {broken = true} received (written_nothing held) tt tt
 
   sieves_broken : {form : Form} {old new : Client A} {used : List ℕ} {before held : Option (List ℕ)}
       → Sieves false form old new used (flow before held) → Sieves true form old new used (flow before held)
@@ -108,7 +108,7 @@ module _ {A : Type 0} where
   packet_flushed WriteFault form spot g old new counts counts_after before held after step kept = record {
     passed_as = step.passed_as;
     is = step.is;
-    hears = record { used = step.hears.used; hears = flushed_broken step.hears.hears kept; shown = step.hears.shown };
+    arrives = record { used = step.arrives.used; arrives = flushed_broken step.arrives.arrives kept; shown = step.arrives.shown };
   }
   packet_flushed (Refused fault) form spot g old new counts counts_after before held after (at, inl step) kept =
       (at, inl (record { refused = step.refused; stays = flushed step.stays kept; waits = step.waits }))
@@ -119,13 +119,19 @@ module _ {A : Type 0} where
       is = step.is;
       own = step.own;
       kind_is = step.kind_is;
-      hears = record { used = step.hears.used; hears = flushed step.hears.hears kept; told = step.hears.told; shown = step.hears.shown };
+      arrives = record {
+        used = step.arrives.used;
+        arrives = flushed step.arrives.arrives kept;
+        announced = step.arrives.announced;
+        shown =
+            step.arrives.shown;
+      };
     }),
   )
 
-  ends_flushed : (fault : RunFault) (form : Form) (old new : Stage A) (piece : List ℕ) (before held after : Option (List ℕ))
-      → EndsInPiece (Err fault) form old new piece (flow before held) → Keeps held after → EndsInPiece (Err fault) form old new piece (flow before after)
-  ends_flushed fault form old new piece before held after e kept = record {
+  ends_flushed : (fault : RunFault) (form : Form) (old new : Stage A) (chunk : List ℕ) (before held after : Option (List ℕ))
+      → EndsInChunk (Err fault) form old new chunk (flow before held) → Keeps held after → EndsInChunk (Err fault) form old new chunk (flow before after)
+  ends_flushed fault form old new chunk before held after e kept = record {
     middle = e.middle;
     held = e.held;
     first = e.first;
@@ -141,9 +147,9 @@ module _ {A : Type 0} where
     ends = packet_flushed fault form e.middle.spot e.packet e.middle.client new.client e.middle.counts new.counts e.held held after e.ends kept;
   }
 
-  pub piece_flushed : (result : Result ℕ RunFault) (form : Form) (old new : Stage A) (piece : List ℕ) (before held after : Option (List ℕ))
-      → SievesPieceTo result form old new piece (flow before held) → Keeps held after → SievesPieceTo result form old new piece (flow before after)
-  piece_flushed (Ok used) form old new piece before held after s kept = record {
+  pub chunk_flushed : (result : Result ℕ RunFault) (form : Form) (old new : Stage A) (chunk : List ℕ) (before held after : Option (List ℕ))
+      → SievesChunkTo result form old new chunk (flow before held) → Keeps held after → SievesChunkTo result form old new chunk (flow before after)
+  chunk_flushed (Ok used) form old new chunk before held after s kept = record {
     sieves = sieves_flushed s.sieves kept;
     within = s.within;
     all = s.all;
@@ -151,18 +157,18 @@ module _ {A : Type 0} where
     gathers = s.gathers;
     ends = s.ends;
   }
-  piece_flushed (Err (Refused fault)) form old new piece before held after (inl b) kept = inl (record {
+  chunk_flushed (Err (Refused fault)) form old new chunk before held after (inl b) kept = inl (record {
     used = b.used;
     sieves = sieves_flushed b.sieves kept;
     waits = b.waits;
     failed = b.failed;
     shown = b.shown;
   })
-  piece_flushed (Err (Refused fault)) form old new piece before held after (inr e) kept =
-      inr (ends_flushed (Refused fault) form old new piece before held after e kept)
-  piece_flushed (Err ReadFault) form old new piece before held after e kept = ends_flushed ReadFault form old new piece before held after e kept
-  piece_flushed (Err WriteFault) form old new piece before held after e kept = ends_flushed WriteFault form old new piece before held after e kept
-  piece_flushed (Err ReadLimit) form old new piece before held after e kept = ends_flushed ReadLimit form old new piece before held after e kept
+  chunk_flushed (Err (Refused fault)) form old new chunk before held after (inr e) kept =
+      inr (ends_flushed (Refused fault) form old new chunk before held after e kept)
+  chunk_flushed (Err ReadFault) form old new chunk before held after e kept = ends_flushed ReadFault form old new chunk before held after e kept
+  chunk_flushed (Err WriteFault) form old new chunk before held after e kept = ends_flushed WriteFault form old new chunk before held after e kept
+  chunk_flushed (Err ReadLimit) form old new chunk before held after e kept = ends_flushed ReadLimit form old new chunk before held after e kept
 
   -- ---- all packets so far
 
@@ -202,7 +208,7 @@ module _ {A : Type 0} where
 
       -- which was refused before the client received it
       pub with_bad : {new : Client A} {counts : Counts} {after : Option (List ℕ)}
-          → HearsBytes false middle.client new middle.counts counts [] (flow held after) nowhere nowhere
+          → ReceivesBytes false middle.client new middle.counts counts [] (flow held after) nowhere nowhere
           → Sieves false form old new (first ++ last) (flow before after)
       with_bad {counts = counts} stays = record {
         given = front.more;
@@ -214,7 +220,7 @@ module _ {A : Type 0} where
         beyond = [];
         cut = all_received front waits ∙ sym (append-nil front.received) ∙ sym (append-nil (front.received ++ []));
         counts = counts;
-        bytes = heard_then (not_ready_where_due (phase_of middle.client) waits) front.bytes stays;
+        bytes = received_then (not_ready_where_expected (phase_of middle.client) waits) front.bytes stays;
       }
 
       -- or the client received this of it
@@ -226,7 +232,7 @@ module _ {A : Type 0} where
         spelled_more = ap (λ (r : Result (Option Pkt) Kind). spelled (received_as r ++ [])) is ∙ append-nil (spelling_of passed_as)
 
         pub with_last : {broken : Bool} {new : Client A} {counts : Counts} {after : Option (List ℕ)}
-            → HearsBytes broken middle.client new middle.counts counts (take count (spelling_of passed_as)) (flow held after) nowhere nowhere
+            → ReceivesBytes broken middle.client new middle.counts counts (take count (spelling_of passed_as)) (flow held after) nowhere nowhere
             → Sieves broken form old new (first ++ last) (flow before after)
         with_last {counts = counts} bytes = record {
           given = front.more ++ g ∷ [];
@@ -240,11 +246,11 @@ module _ {A : Type 0} where
               ∙ ap (λ (l : List ℕ). front.received ++ l) (spelled_more ∙ sym (take-append-drop count (spelling_of passed_as)))
               ∙ sym (append_assoc front.received (take count (spelling_of passed_as)) (drop count (spelling_of passed_as)));
           counts = counts;
-          bytes = heard_then (not_ready_where_due (phase_of middle.client) waits) front.bytes bytes;
+          bytes = received_then (not_ready_where_expected (phase_of middle.client) waits) front.bytes bytes;
         }
 
         pub refused_last : {new : Client A} {counts : Counts} {after : Option (List ℕ)} (fault own : Fault)
-            (bytes : HearsBytes false middle.client new middle.counts counts (take count (spelling_of passed_as)) (flow held after) nowhere nowhere)
+            (bytes : ReceivesBytes false middle.client new middle.counts counts (take count (spelling_of passed_as)) (flow held after) nowhere nowhere)
             → fault_of new ≡ Some own → own.kind ≡ fault.kind → own.kind ≢ Truncated → fault.offset ≡ g.offset → IsRefusedBy fault (with_last bytes)
         unfolding with_last
         refused_last fault own bytes failed kind other at = record {
@@ -304,12 +310,12 @@ module _ {A : Type 0} where
         })
 
     -- the client can ask
-    pub whole_response : (passed : Passed) (piece : List ℕ) → reader_fault_of middle.packets ≡ None → is_open middle.packets ≡ false
-        → unused ≡ window_of passed.left piece → passed.count ≡ position_of middle.packets → passed.left.start ≤ passed.left.end
-        → passed.left.end ≤ length piece → can_ask middle.client ≡ true
-        → SievesWhole form passed old middle.client waiting piece reader (flow before held)
+    pub whole_response : (passed : Passed) (chunk : List ℕ) → reader_fault_of middle.packets ≡ None → is_open middle.packets ≡ false
+        → unused ≡ window_of passed.left chunk → passed.count ≡ position_of middle.packets → passed.left.start ≤ passed.left.end
+        → passed.left.end ≤ length chunk → can_ask middle.client ≡ true
+        → SievesWhole form passed old middle.client waiting chunk reader (flow before held)
     unfolding all_sieved
-    whole_response passed piece sound shut is count ordered within ready =
+    whole_response passed chunk sound shut is count ordered within ready =
         let (rest, all) = read_all so_far.begins so_far.sieves in
         record {
           used = so_far.used;
@@ -336,9 +342,9 @@ module _ {A : Type 0} where
       sieves = so_far.sieves;
     }
 
-    pub came_in_front : (end : ℕ) (piece : List ℕ) → Consumes left after (take end piece)
-        → SievedSoFar form old middle waiting (window_of (record { start = 0; end = end }) piece) (flow left_before after) (flow before held)
-    came_in_front end piece read = rw (front_window end piece) at (came_more (take end piece) read)
+    pub came_in_front : (end : ℕ) (chunk : List ℕ) → Consumes left after (take end chunk)
+        → SievedSoFar form old middle waiting (window_of (record { start = 0; end = end }) chunk) (flow left_before after) (flow before held)
+    came_in_front end chunk read = rw (front_window end chunk) at (came_more (take end chunk) read)
 
     -- a read failed
     pub came_not : Keeps left after → SievedSoFar form old middle waiting [] (flow left_before after) (flow before held)
@@ -369,11 +375,11 @@ module _ {A : Type 0} where
 
   -- the input ended
   pub closed_response : {form : Form} {old : Client A} {middle : Stage A} {waiting : List ℕ} {left_before left after before held : Option (List ℕ)}
-      {fault : Fault} {ended : Bool} (end : ℕ) (piece : List ℕ) → end ≡ 0 → Consumes left after (take end piece) → ended ≡ true
+      {fault : Fault} {ended : Bool} (end : ℕ) (chunk : List ℕ) → end ≡ 0 → Consumes left after (take end chunk) → ended ≡ true
       → SievedSoFar form old middle waiting [] (flow left_before left) (flow before held) → wants_input middle.client ≡ true
       → ClosesAnswer fault middle.packets → SievesFault fault form ended old middle.client waiting (flow left_before after) (flow before held)
   unfolding all_sieved
-  closed_response {fault = fault} {ended} end piece none read at_end before waits (kind, cut) =
+  closed_response {fault = fault} {ended} end chunk none read at_end before waits (kind, cut) =
       let so_far = came_more before [] (rw none at read) in
       let (rest, all) = read_all so_far.begins so_far.sieves in
       record {
@@ -394,7 +400,7 @@ module _ {A : Type 0} where
       (so_far : SievedSoFar form old middle waiting unused reader (flow before held)) (waits : wants_input middle.client ≡ true)
       (new : Stage A) (after : Option (List ℕ)) where
     -- what was left has bytes that are no packet
-    broken_off : (fault : Fault) (ended : Bool) → BreaksInPiece fault form middle new unused (flow held after)
+    broken_off : (fault : Fault) (ended : Bool) → BreaksInChunk fault form middle new unused (flow held after)
         → SievesFault fault form ended old new.client waiting reader (flow before after)
     unfolding all_sieved
     broken_off fault ended b =
@@ -415,7 +421,7 @@ module _ {A : Type 0} where
           });
         }
 
-    module _ {result : Result (Unit {0}) RunFault} (e : EndsInPiece result form middle new unused (flow held after)) where
+    module _ {result : Result (Unit {0}) RunFault} (e : EndsInChunk result form middle new unused (flow held after)) where
       -- the packets before the last
       front : SievesOn form (before_all old so_far.fresh) e.middle (so_far.used ++ e.first) (flow before e.held)
       front = sieves_then so_far.sieves waits e.sieves
@@ -454,10 +460,10 @@ module _ {A : Type 0} where
         used = (so_far.used ++ e.first) ++ e.last;
         unused = drop e.used unused;
         uses = uses_all;
-        sieves = with_last so_far.begins front e.waits e.reads e.sound e.shut r.passed_as r.is r.hears.used r.hears.hears;
-        why = inr (inr (refused_last so_far.begins front e.waits e.reads e.sound e.shut r.passed_as r.is r.hears.used fault r.own
-            r.hears.hears r.hears.told r.kind_is
-            r.hears.shown.not_the_end at));
+        sieves = with_last so_far.begins front e.waits e.reads e.sound e.shut r.passed_as r.is r.arrives.used r.arrives.arrives;
+        why = inr (inr (refused_last so_far.begins front e.waits e.reads e.sound e.shut r.passed_as r.is r.arrives.used fault r.own
+            r.arrives.arrives r.arrives.announced r.kind_is
+            r.arrives.shown.not_the_end at));
       }
 
       -- or a write failed
@@ -467,39 +473,39 @@ module _ {A : Type 0} where
         used = (so_far.used ++ e.first) ++ e.last;
         unused = drop e.used unused;
         uses = uses_all;
-        sieves = with_last so_far.begins front e.waits e.reads e.sound e.shut r.passed_as r.is r.hears.used r.hears.hears;
+        sieves = with_last so_far.begins front e.waits e.reads e.sound e.shut r.passed_as r.is r.arrives.used r.arrives.arrives;
       }
 
     -- what a chunk failed with
-    pub piece_failed : (fault : RunFault) (ended : Bool) (piece : List ℕ) → SievesPieceTo (Err fault) form middle new unused (flow held after)
-        → SievesTo form (Err fault) ended old new.client waiting piece reader (flow before after)
-    piece_failed (Refused fault) ended piece (inl b) = broken_off fault ended b
-    piece_failed (Refused fault) ended piece (inr e) = by e.ends where
+    pub chunk_failed : (fault : RunFault) (ended : Bool) (chunk : List ℕ) → SievesChunkTo (Err fault) form middle new unused (flow held after)
+        → SievesTo form (Err fault) ended old new.client waiting chunk reader (flow before after)
+    chunk_failed (Refused fault) ended chunk (inl b) = broken_off fault ended b
+    chunk_failed (Refused fault) ended chunk (inr e) = by e.ends where
       by : ReceivesTo (Err (Refused fault)) form e.middle.spot e.packet e.middle.client new.client e.middle.counts new.counts (flow e.held after)
           → SievesFault fault form ended old new.client waiting reader (flow before after)
       by (at, inl r) = refused_before e fault ended at r
       by (at, inr r) = refused_by e fault ended at r
-    piece_failed WriteFault ended piece e = broken_by e e.ends
-    piece_failed ReadFault ended piece e = absurd e.ends
-    piece_failed ReadLimit ended piece e = absurd e.ends
+    chunk_failed WriteFault ended chunk e = broken_by e e.ends
+    chunk_failed ReadFault ended chunk e = absurd e.ends
+    chunk_failed ReadLimit ended chunk e = absurd e.ends
 
   -- a flush failed, whatever came of the chunk
   fault_broken : {fault : Fault} {form : Form} {ended : Bool} {old new : Client A} {waiting : List ℕ} {reader : Flow} {before after : Option (List ℕ)}
       → SievesFault fault form ended old new waiting reader (flow before after) → SievesBroken form old new waiting reader (flow before after)
   fault_broken f = record { used = f.used; unused = f.unused; uses = f.uses; sieves = sieves_broken f.sieves }
 
-  pub piece_broken : (result : Result ℕ RunFault) {form : Form} {old : Client A} {middle : Stage A} (new : Stage A)
+  pub chunk_broken : (result : Result ℕ RunFault) {form : Form} {old : Client A} {middle : Stage A} (new : Stage A)
       {waiting unused : List ℕ} {reader : Flow} {before held : Option (List ℕ)} (after : Option (List ℕ))
       → SievedSoFar form old middle waiting unused reader (flow before held)
-      → wants_input middle.client ≡ true → SievesPieceTo result form middle new unused (flow held after)
+      → wants_input middle.client ≡ true → SievesChunkTo result form middle new unused (flow held after)
       → SievesBroken form old new.client waiting reader (flow before after)
-  piece_broken (Ok used) new after so_far waits s =
+  chunk_broken (Ok used) new after so_far waits s =
       let on = sieved_on so_far used _ waits refl s.sieves in
       record { used = on.used; unused = _; uses = on.uses; sieves = sieves_broken (all_sieved on.begins on.sieves) }
-  piece_broken (Err (Refused fault)) new after so_far waits s = fault_broken (piece_failed so_far waits new after (Refused fault) false [] s)
-  piece_broken (Err WriteFault) new after so_far waits s = piece_failed so_far waits new after WriteFault false [] s
-  piece_broken (Err ReadFault) new after so_far waits s = absurd s.ends
-  piece_broken (Err ReadLimit) new after so_far waits s = absurd s.ends
+  chunk_broken (Err (Refused fault)) new after so_far waits s = fault_broken (chunk_failed so_far waits new after (Refused fault) false [] s)
+  chunk_broken (Err WriteFault) new after so_far waits s = chunk_failed so_far waits new after WriteFault false [] s
+  chunk_broken (Err ReadFault) new after so_far waits s = absurd s.ends
+  chunk_broken (Err ReadLimit) new after so_far waits s = absurd s.ends
 
   -- ---- a chunk, and a flush after it
 
@@ -507,24 +513,24 @@ module _ {A : Type 0} where
       (so_far : SievedSoFar form old middle waiting unused reader (flow before held)) (waits : wants_input middle.client ≡ true)
       (other : Form) (same : other ≡ form) (new : Stage A) (written after : Option (List ℕ)) (kept : Keeps written after) where
     -- the chunk was passed on
-    pub piece_passed : (used : ℕ) (rest : List ℕ) → drop used unused ≡ rest → SievesInPiece other middle new unused used (flow held written)
+    pub chunk_passed : (used : ℕ) (rest : List ℕ) → drop used unused ≡ rest → SievesInChunk other middle new unused used (flow held written)
         → SievedSoFar form old new waiting rest reader (flow before after)
-    piece_passed used rest is step =
+    chunk_passed used rest is step =
         sieved_on so_far used rest waits is
         (sieves_flushed (subst (λ (f : Form). SievesOn f middle new (take used unused) (flow held written)) same step.sieves) kept)
 
-    in_form : (result : Result ℕ RunFault) → SievesPieceTo result other middle new unused (flow held written)
-        → SievesPieceTo result form middle new unused (flow held after)
+    in_form : (result : Result ℕ RunFault) → SievesChunkTo result other middle new unused (flow held written)
+        → SievesChunkTo result form middle new unused (flow held after)
     in_form result step =
-        piece_flushed result form middle new unused held written after
-        (subst (λ (f : Form). SievesPieceTo result f middle new unused (flow held written)) same step) kept
+        chunk_flushed result form middle new unused held written after
+        (subst (λ (f : Form). SievesChunkTo result f middle new unused (flow held written)) same step) kept
 
     -- it ended with a fault
-    pub fault_met : (fault : RunFault) (ended : Bool) (piece : List ℕ) → SievesPieceTo (Err fault) other middle new unused (flow held written)
-        → SievesTo form (Err fault) ended old new.client waiting piece reader (flow before after)
-    fault_met fault ended piece step = piece_failed so_far waits new after fault ended piece (in_form (Err fault) step)
+    pub fault_met : (fault : RunFault) (ended : Bool) (chunk : List ℕ) → SievesChunkTo (Err fault) other middle new unused (flow held written)
+        → SievesTo form (Err fault) ended old new.client waiting chunk reader (flow before after)
+    fault_met fault ended chunk step = chunk_failed so_far waits new after fault ended chunk (in_form (Err fault) step)
 
     -- the flush failed
-    pub flush_failed : (result : Result ℕ RunFault) → SievesPieceTo result other middle new unused (flow held written)
+    pub flush_failed : (result : Result ℕ RunFault) → SievesChunkTo result other middle new unused (flow held written)
         → SievesBroken form old new.client waiting reader (flow before after)
-    flush_failed result step = piece_broken result new after so_far waits (in_form result step)
+    flush_failed result step = chunk_broken result new after so_far waits (in_form result step)

@@ -8,8 +8,8 @@ use Rattle.git_msg.specs.Asked.{Asked}
 use Rattle.git_client.specs.Events.{EventValue}
 use Rattle.git_client.specs.Parts.{Terms}
 use Rattle.git2show_lib.specs.OtherLines.{Question}
-use Rattle.git2show_lib.specs.Machine.CheckedStreams.{AreHeard, ComeInTurn, Heard, MayCome, Turn, asked_in, bytes_in, events_in, known_of, moved}
-use Rattle.git2show_lib.specs.Machine.CheckedStreams.{Begun, events_shown, heard_shown, lines_begun, passed_in, questions_in, received_in, turn_shown}
+use Rattle.git2show_lib.specs.Machine.CheckedStreams.{AreReceived, ComeInTurn, Received, MayCome, Turn, asked_in, bytes_in, events_in, known_of, moved}
+use Rattle.git2show_lib.specs.Machine.CheckedStreams.{Begun, events_shown, received_shown, lines_begun, passed_in, questions_in, received_in, turn_shown}
 use Rattle.git2show_lib.specs.Machine.CheckedStreams.{form_of, last_form, place_after, turns_shown, whole_of}
 
 -- ---- one more turn
@@ -65,8 +65,8 @@ in_turn_snoc t opening greeting earlier (x ∷ turns) turn (first, come) may = (
       (subst (λ (before : List Turn). MayCome t opening greeting before turn) (sym (append_assoc earlier (x ∷ []) turns)) may),
 )
 
-module _ (r : Heard) (turn : Turn) where
-  abbrev pub with_turn : Heard
+module _ (r : Received) (turn : Turn) where
+  abbrev pub with_turn : Received
   with_turn = record { opening = r.opening; greeting = r.greeting; turns = r.turns ++ turn ∷ []; begun = None }
 
   -- all bytes with one turn more
@@ -75,7 +75,7 @@ module _ (r : Heard) (turn : Turn) where
       ap (λ (l : List ℕ). r.opening ++ l) (bytes_snoc r.turns turn) ∙ sym (append_assoc r.opening (bytes_in r.turns) turn.bytes)
 
   -- all lines with one turn more
-  pub shown_with : r.begun ≡ None → heard_shown with_turn ≡ heard_shown r ++ turn_shown turn
+  pub shown_with : r.begun ≡ None → received_shown with_turn ≡ received_shown r ++ turn_shown turn
   shown_with none =
       append-nil (events_shown r.greeting ++ turns_shown (r.turns ++ turn ∷ []))
       ∙ ap (λ (l : List ℕ). events_shown r.greeting ++ l) (shown_snoc r.turns turn)
@@ -84,10 +84,10 @@ module _ (r : Heard) (turn : Turn) where
       ∙ ap (λ (b : Option Begun). ((events_shown r.greeting ++ turns_shown r.turns) ++ lines_begun b) ++ turn_shown turn) (sym none)
 
   -- what a client was asked and received, with one turn more
-  pub heard_with : {t : Terms} {asked : List Asked} {used : List ℕ} {events : List EventValue} → AreHeard t asked used events r
+  pub received_with : {t : Terms} {asked : List Asked} {used : List ℕ} {events : List EventValue} → AreReceived t asked used events r
       → MayCome t r.opening r.greeting r.turns turn
-      → AreHeard t (asked ++ known_of turn.question) (used ++ turn.received) (events ++ turn.events) with_turn
-  heard_with {t} {asked} {used} h may = record {
+      → AreReceived t (asked ++ known_of turn.question) (used ++ turn.received) (events ++ turn.events) with_turn
+  received_with {t} {asked} {used} h may = record {
     asked_is = ap (λ (l : List Asked). l ++ known_of turn.question) h.asked_is ∙ sym (asked_snoc r.turns turn);
     used_is = ap (λ (l : List ℕ). l ++ turn.received) h.used_is ∙ append_assoc r.opening (received_in r.turns) turn.received
         ∙ ap (λ (l : List ℕ). r.opening ++ l) (sym (received_snoc r.turns turn));

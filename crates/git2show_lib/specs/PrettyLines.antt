@@ -99,7 +99,7 @@ shortened = shortened_after 0
 
 -- a text that is longer than its width is cut, and ends with two dots
 abbrev pub cut : ℕ → List ℕ → List ℕ
-cut room text = if nat_le (length text) room then text else take (room - 2) text ++ codes ".."
+cut space text = if nat_le (length text) space then text else take (space - 2) text ++ codes ".."
 
 -- the length of a payload
 abbrev pub length_shown : Pkt → List ℕ
@@ -119,8 +119,8 @@ columns colours label g = right 8 (decimal g.offset) ++ codes " " ++ right 5 (le
 
 -- the text in its column
 abbrev pub in_column : Label → ℕ → List ℕ → List ℕ
-in_column label room [] = []
-in_column label room (b ∷ text) = spaces (10 - length (name_of label)) ++ cut room (b ∷ text)
+in_column label space [] = []
+in_column label space (b ∷ text) = spaces (10 - length (name_of label)) ++ cut space (b ∷ text)
 
 -- how many bytes at the front of a text are shown, at most
 abbrev pub longest_front : ℕ

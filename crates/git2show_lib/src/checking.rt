@@ -1,14 +1,14 @@
 //! A recorded conversation, both of its streams checked against each other.
 
 ghost use Rattle.std.specs.Prelude.{[], ◌∷◌, ◌≡◌, ◌+◌, ◌≤◌, ◌<◌, ◌||◌, length, false, IsTrue, IfErr};
-ghost use Rattle.git_pkt.specs.Machine.Told.{inner_of, reads_of, has_failed, has_wasted, IsNew};
+ghost use Rattle.git_pkt.specs.Machine.Recorded.{inner_of, reads_of, has_failed, has_wasted, IsNew};
 ghost use Rattle.git_pkt.specs.Machine.Engine.{FailsAs, IsShownBy};
 ghost use Rattle.git_pkt.specs.Streams.{flow, is_broken, Moves};
 ghost use Rattle.git_client.specs.Parts.{terms_of};
 ghost use Rattle.git2show_lib.specs.Machine.CheckFaults.{run_fault, run_result, standing_of, AreSpent};
 ghost use Rattle.git2show_lib.specs.Machine.CheckedStreams.{of_responses, placed_result, Checked};
 
-use crate::advertisement::hear_advertisement;
+use crate::advertisement::receive_advertisement;
 use crate::asking::{Remaining, answer, pass_other};
 use crate::judged_requests::JudgedRequests;
 use crate::left_over::see_the_end;
@@ -17,7 +17,7 @@ use crate::requests_read::{Next, next_request};
 use git_client::{Client, Ending, Window};
 use git_msg::Limits;
 use git_names::Format;
-use git_pkt::{Fault, RunFault, Told};
+use git_pkt::{Fault, Recorded, RunFault};
 use std::alloc::Allocator;
 use std::io::{Read, Write};
 use thiserror::Error;
@@ -44,7 +44,7 @@ pub enum CheckFault {
 
 /// What ended the receiving of a response, or the asking of a request.
 impl From<RunFault> for CheckFault {
-    ghost from_gives = { λ fault told. told ≡ of_responses fault };
+    ghost from_gives = { λ fault announced. announced ≡ of_responses fault };
 
     fn from(fault: RunFault) -> CheckFault {
         match fault {
@@ -77,17 +77,17 @@ impl From<RunFault> for CheckFault {
 /// `turns` that are allowed to both would be needed.
 pub fn check<Q: Read, R: Read, O: Write, A: Allocator + Copy>(
     alloc: A,
-    requests: &mut Told<Q>,
-    responses: &mut Told<R>,
+    requests: &mut Recorded<Q>,
+    responses: &mut Recorded<R>,
     format: Format,
     ending: Ending,
-    piece: &mut [u8],
-    other_piece: &mut [u8],
-    out: &mut Told<O>,
+    chunk: &mut [u8],
+    other_chunk: &mut [u8],
+    out: &mut Recorded<O>,
     turns: u64,
 ) -> Result<(), CheckFault>
-    requires room { 0 < length piece.old }
-    requires other_room { 0 < length other_piece.old }
+    requires space { 0 < length chunk.old }
+    requires other_buffer { 0 < length other_chunk.old }
     requires new_requests { IsNew requests.old }
     requires new_responses { IsNew responses.old }
     requires sound_out { has_failed out.old ≡ false }
@@ -102,12 +102,19 @@ pub fn check<Q: Read, R: Read, O: Write, A: Allocator + Copy>(
         (flow (O.contents (inner_of out.old)) (O.contents (inner_of out.new)) ∷ []) }
     ensures fault { IfErr result (λ fault. IsShownBy (IsTrue (has_failed requests.new || has_failed responses.new)) (IsTrue (has_failed out.new))
         (AreSpent requests.new responses.new turns) (run_fault fault)) }
-    ensures told { FailsAs (run_result result) (has_failed requests.new || has_failed responses.new) (has_failed out.new) }
+    ensures announced { FailsAs (run_result result) (has_failed requests.new || has_failed responses.new) (has_failed out.new) }
 {
     let mut client = Client::new(format, ending);
     let mut noting = Noting::new(alloc);
-    let heard = hear_advertisement(&mut client, &mut noting, responses, other_piece, out, turns);
-    let left = at_place(heard, 0)?;
+    let arrived = receive_advertisement(
+        &mut client,
+        &mut noting,
+        responses,
+        other_chunk,
+        out,
+        turns,
+    );
+    let left = at_place(arrived, 0)?;
     let advertised = match noting.into_text() {
         Ok(text) => text,
         Err(kind) => {
@@ -123,7 +130,7 @@ pub fn check<Q: Read, R: Read, O: Write, A: Allocator + Copy>(
         match next_request(
             &mut asking,
             requests,
-            piece,
+            chunk,
             &mut waiting,
             turns - responses.reads(),
         )? {
@@ -133,7 +140,7 @@ pub fn check<Q: Read, R: Read, O: Write, A: Allocator + Copy>(
                     judged,
                     format,
                     responses,
-                    other_piece,
+                    other_chunk,
                     over,
                     out,
                     turns - requests.reads(),
@@ -146,7 +153,7 @@ pub fn check<Q: Read, R: Read, O: Write, A: Allocator + Copy>(
                     ending,
                     place,
                     responses,
-                    other_piece,
+                    other_chunk,
                     over,
                     out,
                     turns - requests.reads(),
@@ -155,7 +162,7 @@ pub fn check<Q: Read, R: Read, O: Write, A: Allocator + Copy>(
             Next::Nothing => {
                 return see_the_end(
                     responses,
-                    other_piece,
+                    other_chunk,
                     over.left,
                     client.position().saturating_add(over.passed),
                     turns - requests.reads(),

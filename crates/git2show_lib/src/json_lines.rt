@@ -62,7 +62,7 @@ impl Coding {
     /// What one byte becomes.
     fn code(self, byte: u8) -> Coded
         ensures within { result.length ≤ LONGEST }
-        ensures room { length result.bytes ≡ LONGEST }
+        ensures space { length result.bytes ≡ LONGEST }
         ensures coded { take result.length result.bytes ≡ coded self byte }
     {
         match self {
@@ -93,7 +93,7 @@ impl Coding {
 #[tactic(auto, unfolding(json::specs::Print::escape_byte))]
 fn escape(byte: u8) -> Coded
     ensures within { result.length ≤ LONGEST }
-    ensures room { length result.bytes ≡ LONGEST }
+    ensures space { length result.bytes ≡ LONGEST }
     ensures escaped { take result.length result.bytes ≡ coded Coding.Text byte }
 {
     let letter = letter(byte);

@@ -113,14 +113,14 @@ impl<A: Allocator + Copy> JudgedRequests<A> {
 
     /// Reads on. It returns after a whole request, at a flush instead of one, with the whole chunk used, or at the first
     /// fault. Call it again with the bytes that it did not use.
-    pub(crate) fn feed(&mut self, piece: &[u8]) -> JudgedRead<A>
+    pub(crate) fn feed(&mut self, chunk: &[u8]) -> JudgedRead<A>
         requires { IsReady self.old }
-        ensures used { result.used ≤ length piece.now }
-        ensures feeds { Feeds self.old piece.now result self.new }
+        ensures used { result.used ≤ length chunk.now }
+        ensures feeds { Feeds self.old chunk.now result self.new }
     {
         let mut used = 0;
-        while used < piece.len() {
-            let step = self.step(&piece[used..]);
+        while used < chunk.len() {
+            let step = self.step(&chunk[used..]);
             used += step.used;
             match step.got {
                 JudgedGot::More => {}
@@ -152,13 +152,13 @@ impl<A: Allocator + Copy> JudgedRequests<A> {
     }
 
     /// Uses bytes up to the end of a packet, or all of them.
-    fn step(&mut self, piece: &[u8]) -> JudgedRead<A>
+    fn step(&mut self, chunk: &[u8]) -> JudgedRead<A>
         requires ready { IsReady self.old }
-        requires some { 0 < length piece.now }
-        ensures used { result.used ≤ length piece.now }
-        ensures steps { StepsTo self.old piece.now result self.new }
+        requires some { 0 < length chunk.now }
+        ensures used { result.used ≤ length chunk.now }
+        ensures steps { StepsTo self.old chunk.now result self.new }
     {
-        let fed = self.packets.feed(piece, &mut Steps::new());
+        let fed = self.packets.feed(chunk, &mut Steps::new());
         let used = fed.used;
         match fed.got {
             Got::More => JudgedRead::more(used),

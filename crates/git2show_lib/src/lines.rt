@@ -12,7 +12,7 @@ ghost use Rattle.git2show_lib.specs.JsonLines.{coded, json_line, json_start};
 use crate::json_lines::{Coding, json_end, write_json_start};
 use crate::pretty::{LINE, Look, body, write_pretty};
 use crate::views::{Form, Tally, View};
-use git_pkt::{Packet, RunFault, Told, escape_into, flush, is_plain, put_at, send};
+use git_pkt::{Packet, Recorded, RunFault, escape_into, flush, is_plain, put_at, send};
 use itoa::Buffer;
 use std::io::Write;
 use std::marker::Model;
@@ -58,7 +58,7 @@ impl Lines {
     }
 
     /// Sends all that waits.
-    fn drain<W: Write>(&mut self, writer: &mut Told<W>) -> Result<(), RunFault>
+    fn drain<W: Write>(&mut self, writer: &mut Recorded<W>) -> Result<(), RunFault>
         ensures sends { Sends W.contents writer.old self.old result writer.new }
         ensures empty { OnOk result (self.new ≡ []) }
     {
@@ -68,7 +68,7 @@ impl Lines {
     }
 
     /// Sends all that waits, and has the writer pass it on.
-    pub(crate) fn send_all<W: Write>(&mut self, writer: &mut Told<W>) -> Result<(), RunFault>
+    pub(crate) fn send_all<W: Write>(&mut self, writer: &mut Recorded<W>) -> Result<(), RunFault>
         ensures sends { Sends W.contents writer.old self.old result writer.new }
         ensures empty { OnOk result (self.new ≡ []) }
     {
@@ -81,7 +81,7 @@ impl Lines {
     #[inline(always)]
     pub(crate) fn put<W: Write>(
         &mut self,
-        writer: &mut Told<W>,
+        writer: &mut Recorded<W>,
         packet: Packet<'_>,
         offset: u64,
     ) -> Result<(), RunFault>
@@ -95,7 +95,7 @@ impl Lines {
     /// Puts what a view shows of a packet, after those that were counted, behind the others.
     pub(crate) fn put_viewed<W: Write>(
         &mut self,
-        writer: &mut Told<W>,
+        writer: &mut Recorded<W>,
         view: View<'_>,
         before: Tally,
         packet: Packet<'_>,
@@ -117,7 +117,7 @@ impl Lines {
     /// Puts the line of columns of a packet after the others.
     fn put_pretty<W: Write>(
         &mut self,
-        writer: &mut Told<W>,
+        writer: &mut Recorded<W>,
         look: Look,
         in_pack: bool,
         packet: Packet<'_>,
@@ -134,7 +134,7 @@ impl Lines {
     /// Puts the JSON object of a packet after the others.
     fn put_json<W: Write>(
         &mut self,
-        writer: &mut Told<W>,
+        writer: &mut Recorded<W>,
         packet: Packet<'_>,
         offset: u64,
     ) -> Result<(), RunFault>
@@ -148,7 +148,7 @@ impl Lines {
     /// Puts what a JSON object has before the payload after the others.
     fn emit_json_start<W: Write>(
         &mut self,
-        writer: &mut Told<W>,
+        writer: &mut Recorded<W>,
         packet: Packet<'_>,
         offset: u64,
     ) -> Result<(), RunFault>
@@ -162,7 +162,7 @@ impl Lines {
     /// Puts what bytes become in a JSON string after the others, a block at a time.
     fn emit_coded<W: Write>(
         &mut self,
-        writer: &mut Told<W>,
+        writer: &mut Recorded<W>,
         coding: Coding,
         bytes: &[u8],
     ) -> Result<(), RunFault>
@@ -177,7 +177,7 @@ impl Lines {
     /// Puts what one block becomes in a JSON string after the others.
     fn emit_coded_block<W: Write>(
         &mut self,
-        writer: &mut Told<W>,
+        writer: &mut Recorded<W>,
         coding: Coding,
         block: &[u8],
     ) -> Result<(), RunFault>
@@ -193,7 +193,7 @@ impl Lines {
     #[inline(always)]
     fn emit_head<W: Write>(
         &mut self,
-        writer: &mut Told<W>,
+        writer: &mut Recorded<W>,
         packet: Packet<'_>,
         offset: u64,
     ) -> Result<(), RunFault>
@@ -205,7 +205,7 @@ impl Lines {
     }
 
     /// Puts a few bytes after the others.
-    fn emit<W: Write>(&mut self, writer: &mut Told<W>, bytes: &[u8]) -> Result<(), RunFault>
+    fn emit<W: Write>(&mut self, writer: &mut Recorded<W>, bytes: &[u8]) -> Result<(), RunFault>
         requires { length bytes.now ≤ RUN }
         ensures { Puts W.contents writer.old self.old bytes.now result writer.new self.new }
     {
@@ -216,7 +216,11 @@ impl Lines {
 
     /// Puts the escapes of bytes after the others, a run at a time.
     #[inline(always)]
-    fn emit_escaped<W: Write>(&mut self, writer: &mut Told<W>, bytes: &[u8]) -> Result<(), RunFault>
+    fn emit_escaped<W: Write>(
+        &mut self,
+        writer: &mut Recorded<W>,
+        bytes: &[u8],
+    ) -> Result<(), RunFault>
         ensures { Puts W.contents writer.old self.old (escaped_of bytes.now) result writer.new self.new }
     {
         for run in bytes.chunks(RUN) {
@@ -227,7 +231,7 @@ impl Lines {
 
     /// Puts the escapes of a run after the others: at once where each byte is its own escape.
     #[inline(always)]
-    fn emit_run<W: Write>(&mut self, writer: &mut Told<W>, bytes: &[u8]) -> Result<(), RunFault>
+    fn emit_run<W: Write>(&mut self, writer: &mut Recorded<W>, bytes: &[u8]) -> Result<(), RunFault>
         requires { length bytes.now ≤ RUN }
         ensures { Puts W.contents writer.old self.old (escaped_of bytes.now) result writer.new self.new }
     {
@@ -238,7 +242,11 @@ impl Lines {
     }
 
     /// Puts the escapes of a run after the others, a block at a time.
-    fn emit_blocks<W: Write>(&mut self, writer: &mut Told<W>, bytes: &[u8]) -> Result<(), RunFault>
+    fn emit_blocks<W: Write>(
+        &mut self,
+        writer: &mut Recorded<W>,
+        bytes: &[u8],
+    ) -> Result<(), RunFault>
         ensures { Puts W.contents writer.old self.old (escaped_of bytes.now) result writer.new self.new }
     {
         for block in bytes.chunks(BLOCK) {
@@ -248,7 +256,11 @@ impl Lines {
     }
 
     /// Puts the escapes of one block after the others: at once if it is a whole one and each of its bytes is its own escape.
-    fn emit_block<W: Write>(&mut self, writer: &mut Told<W>, block: &[u8]) -> Result<(), RunFault>
+    fn emit_block<W: Write>(
+        &mut self,
+        writer: &mut Recorded<W>,
+        block: &[u8],
+    ) -> Result<(), RunFault>
         requires { length block.now ≤ BLOCK }
         ensures { Puts W.contents writer.old self.old (escaped_of block.now) result writer.new self.new }
     {
@@ -262,9 +274,9 @@ impl Lines {
     }
 
     /// Makes space for a run.
-    fn make_room<W: Write>(&mut self, writer: &mut Told<W>) -> Result<(), RunFault>
+    fn make_room<W: Write>(&mut self, writer: &mut Recorded<W>) -> Result<(), RunFault>
         ensures puts { Puts W.contents writer.old self.old [] result writer.new self.new }
-        ensures room { OnOk result (length self.new + RUN ≤ CAPACITY) }
+        ensures space { OnOk result (length self.new + RUN ≤ CAPACITY) }
     {
         if self.count <= CAPACITY - RUN {
             return Ok(());

@@ -1,18 +1,18 @@
 //! Answers to commands that are not known, which pass as packets.
 
 ghost use Rattle.std.specs.Prelude.{◌≡◌, ◌≤◌, ◌<◌, length, false, IsTrue, IfErr, OnOk, None};
-ghost use Rattle.git_pkt.specs.Machine.Told.{inner_of, reads_of, has_failed, has_ended, has_wasted};
+ghost use Rattle.git_pkt.specs.Machine.Recorded.{inner_of, reads_of, has_failed, has_ended, has_wasted};
 ghost use Rattle.git_pkt.specs.Machine.Engine.{FailsAs, IsShownBy, IsSpent};
 ghost use Rattle.git_pkt.specs.Machine.PacketReader.{fault_of, passes_of};
 ghost use Rattle.git_pkt.specs.Packets.{seen};
 ghost use Rattle.git_pkt.specs.Streams.{flow};
 ghost use Rattle.git_client.specs.Machine.RunSteps.{window_of};
 ghost use Rattle.git2show_lib.specs.Others.{is_last};
-ghost use Rattle.git2show_lib.specs.Machine.OtherAnswers.{ClosesAnswer, PassesPiece, PassesTo};
+ghost use Rattle.git2show_lib.specs.Machine.OtherAnswers.{ClosesAnswer, PassesChunk, PassesTo};
 
 use git_client::{Ending, Window};
 use git_names::Steps;
-use git_pkt::{Fault, Got, Kind, Packet, PacketReader, RunFault, Told, receive};
+use git_pkt::{Fault, Got, Kind, Packet, PacketReader, Recorded, RunFault, receive};
 use std::io::Read;
 
 /// What an answer that passed has left.
@@ -31,31 +31,31 @@ pub(crate) struct Passed {
 /// as many reads as `turns` and needs one more.
 pub(crate) fn pass_answer<R: Read>(
     ending: Ending,
-    reader: &mut Told<R>,
-    piece: &mut [u8],
+    reader: &mut Recorded<R>,
+    chunk: &mut [u8],
     waiting: Window,
     turns: u64,
 ) -> Result<Passed, RunFault>
-    requires room { 0 < length piece.old }
+    requires space { 0 < length chunk.old }
     requires ordered { waiting.start ≤ waiting.end }
-    requires within { waiting.end ≤ length piece.old }
+    requires within { waiting.end ≤ length chunk.old }
     requires sound_reader { has_failed reader.old ≡ false }
     requires open_ended { has_ended reader.old ≡ false }
     requires turns { reads_of reader.old ≤ turns }
 
     ensures reads { reads_of reader.new ≤ turns }
     ensures useful { has_wasted reader.new ≡ has_wasted reader.old }
-    ensures passed { PassesTo ending result (has_ended reader.new) (window_of waiting piece.old) piece.new
+    ensures passed { PassesTo ending result (has_ended reader.new) (window_of waiting chunk.old) chunk.new
         (flow (R.remaining (inner_of reader.old)) (R.remaining (inner_of reader.new))) }
-    ensures room { length piece.new ≡ length piece.old }
+    ensures space { length chunk.new ≡ length chunk.old }
     ensures goes_on { OnOk result (has_ended reader.new ≡ false) }
     ensures fault { IfErr result (IsShownBy (IsTrue (has_failed reader.new)) ⊥ (IsSpent reader.new turns)) }
-    ensures told { FailsAs result (has_failed reader.new) false }
+    ensures announced { FailsAs result (has_failed reader.new) false }
 {
     let mut packets = PacketReader::new();
     let mut left = waiting;
     'answer: loop {
-        match pass_piece(&mut packets, ending, &piece[left.start..left.end]) {
+        match pass_chunk(&mut packets, ending, &chunk[left.start..left.end]) {
             Ok(Some(used)) => {
                 left.start += used;
                 let count = packets.position();
@@ -67,7 +67,7 @@ pub(crate) fn pass_answer<R: Read>(
         if reader.reads() == turns {
             return Err(RunFault::ReadLimit);
         }
-        let end = receive(reader, piece)?;
+        let end = receive(reader, chunk)?;
         if end == 0 {
             return Err(RunFault::Refused(close(&mut packets)));
         }
@@ -76,18 +76,18 @@ pub(crate) fn pass_answer<R: Read>(
 }
 
 /// Passes over what the chunk has of an answer. Answers where its last packet ends in the chunk, if it does.
-fn pass_piece(
+fn pass_chunk(
     packets: &mut PacketReader,
     ending: Ending,
-    piece: &[u8],
+    chunk: &[u8],
 ) -> Result<Option<usize>, Fault>
     requires sound { fault_of packets.old ≡ None }
     requires gathers { passes_of packets.old ≡ false }
-    ensures { PassesPiece ending result packets.old packets.new piece.now }
+    ensures { PassesChunk ending result packets.old packets.new chunk.now }
 {
     let mut used = 0;
-    while used < piece.len() {
-        let fed = packets.feed(&piece[used..], &mut Steps::new());
+    while used < chunk.len() {
+        let fed = packets.feed(&chunk[used..], &mut Steps::new());
         used += fed.used;
         match fed.got {
             Got::More => return Ok(None),

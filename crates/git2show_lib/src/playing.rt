@@ -2,77 +2,77 @@
 
 ghost use Rattle.std.specs.Prelude.{◌≡◌, ◌<◌, ◌||◌, ◌∷◌, [], true, false, None, IsTrue, IfErr};
 ghost use Rattle.std.specs.Io.KnownBytes.{Keeps};
-ghost use Rattle.git_pkt.specs.Machine.Told.{inner_of, has_failed};
+ghost use Rattle.git_pkt.specs.Machine.Recorded.{inner_of, has_failed};
 ghost use Rattle.git_pkt.specs.Machine.Engine.{FailsAs, IsShownBy};
 ghost use Rattle.git_pkt.specs.Streams.{flow, is_broken, Moves};
 ghost use Rattle.git_client.specs.Machine.Client.{can_ask, fault_of, wants_input};
 ghost use Rattle.git_client.specs.Parts.{terms_of};
-ghost use Rattle.git_client.specs.Machine.RunSteps.{HearsPieceTo};
+ghost use Rattle.git_client.specs.Machine.RunSteps.{ReceivesChunkTo};
 ghost use Rattle.git_server.specs.Machine.Server.{outcome_of};
 ghost use Rattle.git_both_ends.specs.Plays.{Played, setting_of};
-ghost use Rattle.git2show_lib.specs.Machine.PlaySteps.{AnswersTo, AsksServerTo, EndsMessageTo, HearsMessageTo, HearsServerTo};
-ghost use Rattle.git2show_lib.specs.Machine.PlaySteps.{Stands, StandsOn, TellsAll, silent};
+ghost use Rattle.git2show_lib.specs.Machine.PlaySteps.{AnswersTo, AsksServerTo, EndsMessageTo, ReceivesMessageTo, ReceivesServerTo};
+ghost use Rattle.git2show_lib.specs.Machine.PlaySteps.{Stands, StandsOn, AnnouncesAll, silent};
 
-use git_client::{Client, Counts, Ending, Sent, hear_piece, write_asked};
+use git_client::{Client, Counts, Ending, Sent, receive_chunk, write_asked};
 use git_msg::{Limits, Offer, Request};
 use git_names::Steps;
-use git_pkt::{Discard, Output, RunFault, Told, flush};
+use git_pkt::{Discard, Output, Recorded, RunFault, flush};
 use git_server::{Pulled, Repo, Server};
 use std::alloc::Allocator;
 use std::io::Write;
 
 /// Receives one whole packet, or nothing, in chunks of at most `cut` bytes, up to where the client can ask. The progress is dropped. Answers
 /// how many bytes were used.
-fn hear_packet<O: Write, P: Output, A: Allocator + Copy>(
+fn receive_next_packet<O: Write, P: Output, A: Allocator + Copy>(
     client: &mut Client<A>,
     counts: &mut Counts,
     packet: &[u8],
     cut: usize,
-    out: &mut Told<O>,
+    out: &mut Recorded<O>,
     pack: &mut P,
 ) -> Result<usize, RunFault>
     requires waits { wants_input client.old ≡ true }
     requires cut { 0 < cut }
     requires sound_out { has_failed out.old ≡ false }
     requires sound_pack { P.failed pack.old ≡ false }
-    ensures heard { HearsPieceTo result client.old client.new counts.old counts.new packet.now
+    ensures arrived { ReceivesChunkTo result client.old client.new counts.old counts.new packet.now
         (flow (O.contents (inner_of out.old)) (O.contents (inner_of out.new)))
         (flow (P.contents pack.old) (P.contents pack.new)) silent }
     ensures fault { IfErr result (IsShownBy ⊥ (IsTrue (has_failed out.new || P.failed pack.new)) ⊥) }
-    ensures told { FailsAs result false (has_failed out.new || P.failed pack.new) }
+    ensures announced { FailsAs result false (has_failed out.new || P.failed pack.new) }
 {
     let mut used = 0;
     while used < packet.len() && client.wants_input() {
         let left = &packet[used..];
-        let piece = &left[..cut.min(left.len())];
-        used += hear_piece(client, counts, piece, out, pack, &mut Discard)?;
+        let chunk = &left[..cut.min(left.len())];
+        used += receive_chunk(client, counts, chunk, out, pack, &mut Discard)?;
     }
     Ok(used)
 }
 
 /// Receives what a server gives, up to where the client can ask or the server gives nothing more.
-fn hear_server<R: Repo, O: Write, P: Output, A: Allocator + Copy>(
+fn receive_server<R: Repo, O: Write, P: Output, A: Allocator + Copy>(
     client: &mut Client<A>,
     counts: &mut Counts,
     server: &mut Server<R, A>,
     cut: usize,
-    out: &mut Told<O>,
+    out: &mut Recorded<O>,
     pack: &mut P,
 ) -> Result<(), RunFault>
     requires waits { wants_input client.old ≡ true }
     requires cut { 0 < cut }
     requires sound_out { has_failed out.old ≡ false }
     requires sound_pack { P.failed pack.old ≡ false }
-    ensures heard { HearsServerTo R.state result client.old client.new counts.old counts.new server.old server.new
+    ensures arrived { ReceivesServerTo R.state result client.old client.new counts.old counts.new server.old server.new
         (flow (O.contents (inner_of out.old)) (O.contents (inner_of out.new)))
         (flow (P.contents pack.old) (P.contents pack.new)) }
     ensures fault { IfErr result (IsShownBy ⊥ (IsTrue (has_failed out.new || P.failed pack.new)) ⊥) }
-    ensures told { FailsAs result false (has_failed out.new || P.failed pack.new) }
+    ensures announced { FailsAs result false (has_failed out.new || P.failed pack.new) }
 {
     while client.wants_input() {
         match server.pull() {
             Pulled::Packet(packet) => {
-                hear_packet(client, counts, packet, cut, out, pack)?;
+                receive_next_packet(client, counts, packet, cut, out, pack)?;
             }
             Pulled::NeedInput => return Ok(()),
             Pulled::Finished(_) => return Ok(()),
@@ -86,31 +86,31 @@ fn hear_server<R: Repo, O: Write, P: Output, A: Allocator + Copy>(
 ///
 /// `Refused` with the first fault of what was received, truncated if the server sends nothing more and more is expected; `WriteFault` where a
 /// write or a flush fails.
-fn hear_message<R: Repo, O: Write, P: Output, A: Allocator + Copy>(
+fn receive_message<R: Repo, O: Write, P: Output, A: Allocator + Copy>(
     client: &mut Client<A>,
     server: &mut Server<R, A>,
     end: &[u8],
     cut: usize,
-    out: &mut Told<O>,
+    out: &mut Recorded<O>,
     pack: &mut P,
 ) -> Result<(), RunFault>
     requires waits { wants_input client.old ≡ true }
     requires cut { 0 < cut }
     requires sound_out { has_failed out.old ≡ false }
     requires sound_pack { P.failed pack.old ≡ false }
-    ensures heard { HearsMessageTo R.state result end.now client.old client.new server.old server.new
+    ensures arrived { ReceivesMessageTo R.state result end.now client.old client.new server.old server.new
         (flow (O.contents (inner_of out.old)) (O.contents (inner_of out.new)))
         (flow (P.contents pack.old) (P.contents pack.new)) }
     ensures fault { IfErr result (IsShownBy ⊥ (IsTrue (has_failed out.new || P.failed pack.new)) ⊥) }
-    ensures told { FailsAs result false (has_failed out.new || P.failed pack.new) }
+    ensures announced { FailsAs result false (has_failed out.new || P.failed pack.new) }
 {
     let mut counts = Counts {
         pack: 0,
         progress: 0,
     };
-    hear_server(client, &mut counts, server, cut, out, pack)?;
+    receive_server(client, &mut counts, server, cut, out, pack)?;
     if client.wants_input() {
-        hear_packet(client, &mut counts, end, cut, out, pack)?;
+        receive_next_packet(client, &mut counts, end, cut, out, pack)?;
     }
     end_message(client, out, pack)
 }
@@ -120,7 +120,7 @@ fn hear_message<R: Repo, O: Write, P: Output, A: Allocator + Copy>(
 /// `Refused`, truncated, if more of it is expected; `WriteFault` if a flush fails.
 fn end_message<O: Write, P: Output, A: Allocator + Copy>(
     client: &mut Client<A>,
-    out: &mut Told<O>,
+    out: &mut Recorded<O>,
     pack: &mut P,
 ) -> Result<(), RunFault>
     requires sound_out { has_failed out.old ≡ false }
@@ -129,7 +129,7 @@ fn end_message<O: Write, P: Output, A: Allocator + Copy>(
     ensures out_kept { Keeps (O.contents (inner_of out.old)) (O.contents (inner_of out.new)) }
     ensures pack_kept { Keeps (P.contents pack.old) (P.contents pack.new) }
     ensures fault { IfErr result (IsShownBy ⊥ (IsTrue (has_failed out.new || P.failed pack.new)) ⊥) }
-    ensures told { FailsAs result false (has_failed out.new || P.failed pack.new) }
+    ensures announced { FailsAs result false (has_failed out.new || P.failed pack.new) }
 {
     flush(out)?;
     pack.flush()?;
@@ -140,20 +140,24 @@ fn end_message<O: Write, P: Output, A: Allocator + Copy>(
 }
 
 /// Sends one packet to a server, in chunks of at most `cut` bytes. Bytes for which the server does not wait any more are dropped.
-fn tell_packet<R: Repo, A: Allocator + Copy>(server: &mut Server<R, A>, packet: &[u8], cut: usize)
+fn announce_packet<R: Repo, A: Allocator + Copy>(
+    server: &mut Server<R, A>,
+    packet: &[u8],
+    cut: usize,
+)
     requires cut { 0 < cut }
-    ensures told { StandsOn R.state server.old packet.now [] server.new }
+    ensures announced { StandsOn R.state server.old packet.now [] server.new }
 {
     let mut used = 0;
     while used < packet.len() && server.wants_input() {
         let left = &packet[used..];
-        let piece = &left[..cut.min(left.len())];
-        used += server.feed(piece, &mut Steps::new());
+        let chunk = &left[..cut.min(left.len())];
+        used += server.feed(chunk, &mut Steps::new());
     }
 }
 
 /// Sends all that the client has for a server.
-fn tell_all<R: Repo, A: Allocator + Copy>(
+fn announce_all<R: Repo, A: Allocator + Copy>(
     client: &mut Client<A>,
     server: &mut Server<R, A>,
     cut: usize,
@@ -161,10 +165,10 @@ fn tell_all<R: Repo, A: Allocator + Copy>(
     requires cut { 0 < cut }
     requires speaks { can_ask client.old ≡ false }
     requires sound { fault_of client.old ≡ None }
-    ensures told { TellsAll R.state client.old client.new server.old server.new }
+    ensures announced { AnnouncesAll R.state client.old client.new server.old server.new }
 {
     while let Sent::Packet(packet) = client.pull() {
-        tell_packet(server, packet, cut);
+        announce_packet(server, packet, cut);
     }
 }
 
@@ -174,7 +178,7 @@ fn ask_server<R: Repo, O: Write, A: Allocator + Copy>(
     request: Request<A>,
     server: &mut Server<R, A>,
     cut: usize,
-    out: &mut Told<O>,
+    out: &mut Recorded<O>,
 ) -> Result<(), RunFault>
     requires ready { can_ask client.old ≡ true }
     requires cut { 0 < cut }
@@ -182,14 +186,14 @@ fn ask_server<R: Repo, O: Write, A: Allocator + Copy>(
     ensures asked { AsksServerTo R.state result client.old client.new request server.old server.new
         (flow (O.contents (inner_of out.old)) (O.contents (inner_of out.new))) }
     ensures fault { IfErr result (IsShownBy ⊥ (IsTrue (has_failed out.new)) ⊥) }
-    ensures told { FailsAs result false (has_failed out.new) }
+    ensures announced { FailsAs result false (has_failed out.new) }
 {
     let command = request.command();
     if let Err((_, fault)) = client.ask(request) {
         return Err(RunFault::Refused(fault));
     }
     write_asked(out, command)?;
-    tell_all(client, server, cut);
+    announce_all(client, server, cut);
     Ok(())
 }
 
@@ -200,7 +204,7 @@ fn answer_request<R: Repo, O: Write, P: Output, A: Allocator + Copy>(
     server: &mut Server<R, A>,
     end: &[u8],
     cut: usize,
-    out: &mut Told<O>,
+    out: &mut Recorded<O>,
     pack: &mut P,
 ) -> Result<(), RunFault>
     requires ready { can_ask client.old ≡ true }
@@ -211,10 +215,10 @@ fn answer_request<R: Repo, O: Write, P: Output, A: Allocator + Copy>(
         (flow (O.contents (inner_of out.old)) (O.contents (inner_of out.new)))
         (flow (P.contents pack.old) (P.contents pack.new)) }
     ensures fault { IfErr result (IsShownBy ⊥ (IsTrue (has_failed out.new || P.failed pack.new)) ⊥) }
-    ensures told { FailsAs result false (has_failed out.new || P.failed pack.new) }
+    ensures announced { FailsAs result false (has_failed out.new || P.failed pack.new) }
 {
     ask_server(client, request, server, cut, out)?;
-    hear_message(client, server, end, cut, out, pack)
+    receive_message(client, server, end, cut, out, pack)
 }
 
 /// Plays both ends against each other in memory: a client of the repository's format asks the requests in their order of a server of the
@@ -234,7 +238,7 @@ pub fn play<R: Repo + Drop, O: Write, P: Output, A: Allocator + Copy>(
     requests: Vec<Request<A>, A>,
     cut: usize,
     ending: Ending,
-    out: &mut Told<O>,
+    out: &mut Recorded<O>,
     pack: &mut P,
 ) -> (R, Result<(), RunFault>)
     requires cut { 0 < cut }
@@ -245,7 +249,7 @@ pub fn play<R: Repo + Drop, O: Write, P: Output, A: Allocator + Copy>(
         requests.items result.1) []
         (flow (O.contents (inner_of out.old)) (O.contents (inner_of out.new)) ∷ flow (P.contents pack.old) (P.contents pack.new) ∷ []) }
     ensures fault { IfErr result.1 (IsShownBy ⊥ (IsTrue (has_failed out.new || P.failed pack.new)) ⊥) }
-    ensures told { FailsAs result.1 false (has_failed out.new || P.failed pack.new) }
+    ensures announced { FailsAs result.1 false (has_failed out.new || P.failed pack.new) }
 {
     match ending {
         Ending::FlushOnly => play_one(alloc, repo, requests, cut, out, pack),
@@ -259,7 +263,7 @@ fn play_one<R: Repo + Drop, O: Write, P: Output, A: Allocator + Copy>(
     repo: R,
     requests: Vec<Request<A>, A>,
     cut: usize,
-    out: &mut Told<O>,
+    out: &mut Recorded<O>,
     pack: &mut P,
 ) -> (R, Result<(), RunFault>)
     requires cut { 0 < cut }
@@ -270,11 +274,11 @@ fn play_one<R: Repo + Drop, O: Write, P: Output, A: Allocator + Copy>(
         (R.state repo) requests.items result.1) []
         (flow (O.contents (inner_of out.old)) (O.contents (inner_of out.new)) ∷ flow (P.contents pack.old) (P.contents pack.new) ∷ []) }
     ensures fault { IfErr result.1 (IsShownBy ⊥ (IsTrue (has_failed out.new || P.failed pack.new)) ⊥) }
-    ensures told { FailsAs result.1 false (has_failed out.new || P.failed pack.new) }
+    ensures announced { FailsAs result.1 false (has_failed out.new || P.failed pack.new) }
 {
     let mut client = Client::new(repo.format(), Ending::FlushOnly);
     let mut server = new_server(alloc, repo, true);
-    if let Err(fault) = hear_message(&mut client, &mut server, b"", cut, out, pack) {
+    if let Err(fault) = receive_message(&mut client, &mut server, b"", cut, out, pack) {
         return (server.into_repo(), Err(fault));
     }
     for request in requests {
@@ -283,7 +287,7 @@ fn play_one<R: Repo + Drop, O: Write, P: Output, A: Allocator + Copy>(
         }
     }
     client.leave();
-    tell_all(&mut client, &mut server, cut);
+    announce_all(&mut client, &mut server, cut);
     (server.into_repo(), Ok(()))
 }
 
@@ -293,7 +297,7 @@ fn play_each<R: Repo + Drop, O: Write, P: Output, A: Allocator + Copy>(
     repo: R,
     requests: Vec<Request<A>, A>,
     cut: usize,
-    out: &mut Told<O>,
+    out: &mut Recorded<O>,
     pack: &mut P,
 ) -> (R, Result<(), RunFault>)
     requires cut { 0 < cut }
@@ -304,11 +308,11 @@ fn play_each<R: Repo + Drop, O: Write, P: Output, A: Allocator + Copy>(
         (R.state repo) requests.items result.1) []
         (flow (O.contents (inner_of out.old)) (O.contents (inner_of out.new)) ∷ flow (P.contents pack.old) (P.contents pack.new) ∷ []) }
     ensures fault { IfErr result.1 (IsShownBy ⊥ (IsTrue (has_failed out.new || P.failed pack.new)) ⊥) }
-    ensures told { FailsAs result.1 false (has_failed out.new || P.failed pack.new) }
+    ensures announced { FailsAs result.1 false (has_failed out.new || P.failed pack.new) }
 {
     let mut client = Client::new(repo.format(), Ending::ResponseEnd);
     let mut server = new_server(alloc, repo, true);
-    if let Err(fault) = hear_message(&mut client, &mut server, b"", cut, out, pack) {
+    if let Err(fault) = receive_message(&mut client, &mut server, b"", cut, out, pack) {
         return (server.into_repo(), Err(fault));
     }
     for request in requests {

@@ -227,7 +227,7 @@ fn shorten(text: &[u8], out: &mut [u8]) -> usize
 fn put_right(out: &mut [u8], at: usize, width: usize, text: &[u8]) -> usize
     requires column { width ≤ 10 }
     requires short { length text.now ≤ 20 }
-    requires room { at + 20 ≤ length out.old }
+    requires space { at + 20 ≤ length out.old }
     ensures within { result ≤ at + 20 }
     ensures put { take result out.new ≡ take at out.old ++ right width text.now }
 {
@@ -237,7 +237,7 @@ fn put_right(out: &mut [u8], at: usize, width: usize, text: &[u8]) -> usize
 
 fn put_spaces(out: &mut [u8], at: usize, count: usize) -> usize
     requires column { count ≤ 10 }
-    requires room { at + count ≤ length out.old }
+    requires space { at + count ≤ length out.old }
     ensures end { result ≡ at + count }
     ensures put { take result out.new ≡ take at out.old ++ spaces count }
 {
@@ -245,7 +245,7 @@ fn put_spaces(out: &mut [u8], at: usize, count: usize) -> usize
 }
 
 fn put_name(colours: bool, label: Label, out: &mut [u8], at: usize) -> usize
-    requires room { at + 20 ≤ length out.old }
+    requires space { at + 20 ≤ length out.old }
     ensures within { result ≤ at + 20 }
     ensures put { take result out.new ≡ take at out.old ++ named colours label }
 {
@@ -265,7 +265,7 @@ fn put_columns(
     offset: u64,
     out: &mut [u8],
 ) -> usize
-    requires room { COLUMNS ≤ length out.old }
+    requires space { COLUMNS ≤ length out.old }
     ensures within { result ≤ COLUMNS }
     ensures put { take result out.new ≡ columns colours label (record { packet = seen packet.entry; offset = offset }) }
 {
@@ -279,7 +279,7 @@ fn put_columns(
 
 /// Writes the length of a payload in its column.
 fn put_length(packet: Packet<'_>, out: &mut [u8], at: usize) -> usize
-    requires room { at + 20 ≤ length out.old }
+    requires space { at + 20 ≤ length out.old }
     ensures within { result ≤ at + 20 }
     ensures put { take result out.new ≡ take at out.old ++ right 5 (length_shown (seen packet.entry)) }
 {
@@ -291,30 +291,30 @@ fn put_length(packet: Packet<'_>, out: &mut [u8], at: usize) -> usize
 }
 
 /// Writes a text in its column, cut to its width.
-fn put_in_column(label: Label, room: usize, text: &[u8], out: &mut [u8], at: usize) -> usize
-    requires short { room ≤ WIDEST }
-    requires room { at + WIDEST + 20 ≤ length out.old }
+fn put_in_column(label: Label, space: usize, text: &[u8], out: &mut [u8], at: usize) -> usize
+    requires short { space ≤ WIDEST }
+    requires space { at + WIDEST + 20 ≤ length out.old }
     ensures within { result ≤ at + WIDEST + 19 }
-    ensures put { take result out.new ≡ take at out.old ++ in_column label room text.now }
+    ensures put { take result out.new ≡ take at out.old ++ in_column label space text.now }
 {
     if text.is_empty() {
         return at;
     }
     let at = put_spaces(out, at, 10 - label.name().len());
-    put_cut(room, text, out, at)
+    put_cut(space, text, out, at)
 }
 
 /// Writes a text, cut to its width.
-fn put_cut(room: usize, text: &[u8], out: &mut [u8], at: usize) -> usize
-    requires short { room ≤ WIDEST }
-    requires room { at + WIDEST + 2 ≤ length out.old }
+fn put_cut(space: usize, text: &[u8], out: &mut [u8], at: usize) -> usize
+    requires short { space ≤ WIDEST }
+    requires space { at + WIDEST + 2 ≤ length out.old }
     ensures within { result ≤ at + WIDEST + 2 }
-    ensures put { take result out.new ≡ take at out.old ++ cut room text.now }
+    ensures put { take result out.new ≡ take at out.old ++ cut space text.now }
 {
-    if text.len() <= room {
+    if text.len() <= space {
         return put_at(out, at, text);
     }
-    let at = put_at(out, at, &text[..room.saturating_sub(2)]);
+    let at = put_at(out, at, &text[..space.saturating_sub(2)]);
     put_at(out, at, b"..")
 }
 
@@ -326,15 +326,15 @@ pub(crate) fn write_pretty(
     offset: u64,
     out: &mut [u8],
 ) -> usize
-    requires room { LINE ≤ length out.old }
+    requires space { LINE ≤ length out.old }
     ensures within { result ≤ LINE }
     ensures line { take result out.new ≡ pretty_line look.colours look.width in_pack (record { packet = seen packet.entry; offset = offset }) }
 {
     let label = Label::of(in_pack, packet);
     let width = (look.width as usize).min(WIDEST);
-    let room = width.saturating_sub(columns_before(offset));
+    let space = width.saturating_sub(columns_before(offset));
     let at = put_columns(look.colours, label, packet, offset, out);
-    let at = put_text(label, room, body(packet), out, at);
+    let at = put_text(label, space, body(packet), out, at);
     put_at(out, at, b"\n")
 }
 
@@ -346,19 +346,19 @@ fn columns_before(offset: u64) -> usize
 }
 
 /// Writes the text of a payload in its column.
-fn put_text(label: Label, room: usize, payload: &[u8], out: &mut [u8], at: usize) -> usize
-    requires short { room ≤ WIDEST }
-    requires room { at + WIDEST + 20 ≤ length out.old }
+fn put_text(label: Label, space: usize, payload: &[u8], out: &mut [u8], at: usize) -> usize
+    requires short { space ≤ WIDEST }
+    requires space { at + WIDEST + 20 ≤ length out.old }
     ensures within { result ≤ at + WIDEST + 19 }
     ensures put { take result out.new ≡ take at out.old
-        ++ in_column label room (escaped_of (shortened (take longest_front (text_shown label payload.now)))) }
+        ++ in_column label space (escaped_of (shortened (take longest_front (text_shown label payload.now)))) }
 {
     let mut names = [0; FRONT];
     let mut escapes = [0; 4 * FRONT];
     let text = label.text(payload);
     let length = shorten(&text[..text.len().min(FRONT)], &mut names);
     let end = escape_into(&names[..length], &mut escapes, 0);
-    put_in_column(label, room, &escapes[..end], out, at)
+    put_in_column(label, space, &escapes[..end], out, at)
 }
 
 /// The bytes after a packet's four digits.

@@ -8,7 +8,7 @@ ghost use Rattle.git2show_lib.specs.declared.views.View.{View};
 
 use crate::lines::Lines;
 use crate::views::{Tally, View};
-use git_pkt::{Packet, RunFault, Told};
+use git_pkt::{Packet, Recorded, RunFault};
 use std::io::Write;
 
 /// A way to show packets.
@@ -20,7 +20,7 @@ pub(crate) trait Renderer: Copy {
     fn put<W: Write>(
         self,
         lines: &mut Lines,
-        writer: &mut Told<W>,
+        writer: &mut Recorded<W>,
         tally: &mut Tally,
         packet: Packet<'_>,
         offset: u64,
@@ -41,7 +41,7 @@ impl Renderer for Plain {
     fn put<W: Write>(
         self,
         lines: &mut Lines,
-        writer: &mut Told<W>,
+        writer: &mut Recorded<W>,
         _tally: &mut Tally,
         packet: Packet<'_>,
         offset: u64,
@@ -56,7 +56,7 @@ impl Renderer for View<'_> {
     fn put<W: Write>(
         self,
         lines: &mut Lines,
-        writer: &mut Told<W>,
+        writer: &mut Recorded<W>,
         tally: &mut Tally,
         packet: Packet<'_>,
         offset: u64,

@@ -2,13 +2,13 @@
 
 ghost use Rattle.std.specs.Prelude.{◌≡◌, ◌≤◌, ◌++◌, ◌+◌, false, length, take, decimal};
 ghost use Rattle.std.specs.Io.KnownBytes.{Appends};
-ghost use Rattle.git_pkt.specs.Machine.Told.{inner_of, has_failed};
+ghost use Rattle.git_pkt.specs.Machine.Recorded.{inner_of, has_failed};
 ghost use Rattle.git_pkt.specs.Streams.{AppendsFront};
 ghost use Rattle.git_pkt.specs.FaultNames.{fault_text};
 ghost use Rattle.git2show_lib.specs.Machine.Reports.{check_fault_text, fault_line};
 
 use crate::checking::CheckFault;
-use git_pkt::{Fault, RunFault, Told, put_at, send};
+use git_pkt::{Fault, Recorded, RunFault, put_at, send};
 use itoa::Buffer;
 use std::io::Write;
 use thiserror::Error;
@@ -44,7 +44,7 @@ pub enum ProgramFault {
 
 /// Writes the line `git2show: <Name>`, with ` at <offset>` where the fault has one, and answers the program's
 /// status, which is 1. A write that fails is passed over.
-pub fn report<W: Write>(fault: &ProgramFault, error: &mut Told<W>) -> u8
+pub fn report<W: Write>(fault: &ProgramFault, error: &mut Recorded<W>) -> u8
     requires { has_failed error.old ≡ false }
     ensures status { result ≡ 1 }
     ensures front { AppendsFront (W.contents (inner_of error.old)) (W.contents (inner_of error.new)) (fault_line fault.now) }
@@ -82,7 +82,7 @@ fn write_line(fault: &ProgramFault, out: &mut [u8]) -> usize
 /// Puts at a place which line of a text is bad, after the words for it, and answers where that ends.
 fn put_bad_line(out: &mut [u8], at: usize, words: &[u8], line: u64) -> usize
     requires words { length words.now ≤ 13 }
-    requires room { at + 33 ≤ length out.old }
+    requires space { at + 33 ≤ length out.old }
     ensures within { result ≤ at + 33 }
     ensures put { take result out.new ≡ take at out.old ++ words.now ++ decimal line }
 {

@@ -1,7 +1,7 @@
 //! The requests of a recorded conversation, one after another.
 
 ghost use Rattle.std.specs.Prelude.{◌≡◌, ◌≤◌, ◌<◌, length, false, IsTrue, IfErr};
-ghost use Rattle.git_pkt.specs.Machine.Told.{inner_of, reads_of, has_failed, has_ended, has_wasted};
+ghost use Rattle.git_pkt.specs.Machine.Recorded.{inner_of, reads_of, has_failed, has_ended, has_wasted};
 ghost use Rattle.git_pkt.specs.Machine.Engine.{FailsAs, IsShownBy, IsSpent};
 ghost use Rattle.git_pkt.specs.Streams.{flow};
 ghost use Rattle.git_client.specs.Machine.RunSteps.{window_of};
@@ -13,7 +13,7 @@ use crate::checking::CheckFault;
 use crate::judged_requests::{Judged, JudgedGot, JudgedRequests};
 use crate::other_lines::OtherLines;
 use git_client::Window;
-use git_pkt::{Told, receive};
+use git_pkt::{Recorded, receive};
 use std::alloc::Allocator;
 use std::io::Read;
 
@@ -35,31 +35,31 @@ pub(crate) enum Next<A: Allocator + Copy> {
 /// reads as `turns` and needs one more.
 pub(crate) fn next_request<R: Read, A: Allocator + Copy>(
     stream: &mut JudgedRequests<A>,
-    reader: &mut Told<R>,
-    piece: &mut [u8],
+    reader: &mut Recorded<R>,
+    chunk: &mut [u8],
     waiting: &mut Window,
     turns: u64,
 ) -> Result<Next<A>, CheckFault>
     requires ready { IsReady stream.old }
-    requires room { 0 < length piece.old }
+    requires space { 0 < length chunk.old }
     requires ordered { waiting.old.start ≤ waiting.old.end }
-    requires within { waiting.old.end ≤ length piece.old }
+    requires within { waiting.old.end ≤ length chunk.old }
     requires sound_reader { has_failed reader.old ≡ false }
     requires open_ended { has_ended reader.old ≡ false }
     requires turns { reads_of reader.old ≤ turns }
 
     ensures reads { reads_of reader.new ≤ turns }
     ensures useful { has_wasted reader.new ≡ has_wasted reader.old }
-    ensures asked { ReadsTo result (has_ended reader.new) stream.old stream.new (window_of waiting.old piece.old) waiting.new piece.new
+    ensures asked { ReadsTo result (has_ended reader.new) stream.old stream.new (window_of waiting.old chunk.old) waiting.new chunk.new
         (flow (R.remaining (inner_of reader.old)) (R.remaining (inner_of reader.new))) }
-    ensures room { length piece.new ≡ length piece.old }
+    ensures space { length chunk.new ≡ length chunk.old }
     ensures ordered { waiting.new.start ≤ waiting.new.end }
-    ensures within { waiting.new.end ≤ length piece.new }
+    ensures within { waiting.new.end ≤ length chunk.new }
     ensures fault { IfErr result (λ fault. IsShownBy (IsTrue (has_failed reader.new)) ⊥ (IsSpent reader.new turns) (run_fault fault)) }
-    ensures told { FailsAs (run_result result) (has_failed reader.new) false }
+    ensures announced { FailsAs (run_result result) (has_failed reader.new) false }
 {
     loop {
-        let read = stream.feed(&piece[waiting.start..waiting.end]);
+        let read = stream.feed(&chunk[waiting.start..waiting.end]);
         waiting.start += read.used;
         match read.got {
             JudgedGot::Request(judged) => return Ok(Next::Request(judged)),
@@ -71,7 +71,7 @@ pub(crate) fn next_request<R: Read, A: Allocator + Copy>(
         if reader.reads() == turns {
             return Err(CheckFault::ReadLimit);
         }
-        let end = receive(reader, piece).map_err(|_| CheckFault::ReadFault)?;
+        let end = receive(reader, chunk).map_err(|_| CheckFault::ReadFault)?;
         *waiting = Window { start: 0, end };
         if end == 0 {
             return match stream.close() {

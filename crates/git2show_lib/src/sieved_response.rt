@@ -1,22 +1,22 @@
 //! A response that a client receives by a sieve, over a reader.
 
 ghost use Rattle.std.specs.Prelude.{◌≡◌, ◌≤◌, ◌<◌, length, true, false, IsTrue, OnOk, IfErr, None};
-ghost use Rattle.git_pkt.specs.Machine.Told.{inner_of, reads_of, has_failed, has_ended, has_wasted};
+ghost use Rattle.git_pkt.specs.Machine.Recorded.{inner_of, reads_of, has_failed, has_ended, has_wasted};
 ghost use Rattle.git_pkt.specs.Machine.Engine.{FailsAs, IsShownBy, IsSpent};
 ghost use Rattle.git_pkt.specs.Machine.PacketReader.{fault_of, passes_of};
 ghost use Rattle.git_pkt.specs.Packets.{body_of, longest_payload, seen};
 ghost use Rattle.git_pkt.specs.Streams.{flow};
 ghost use Rattle.git_client.specs.Machine.Client.{wants_input};
 ghost use Rattle.git_client.specs.Machine.RunSteps.{window_of};
-ghost use Rattle.git2show_lib.specs.Machine.Sieving.{ReceivesTo, SievesPieceTo, SievesTo, stage};
+ghost use Rattle.git2show_lib.specs.Machine.Sieving.{ReceivesTo, SievesChunkTo, SievesTo, stage};
 ghost use Rattle.git2show_lib.specs.Sieve.{spot_next};
 
 use crate::other_answers::{Passed, close};
 use crate::sieve::{Form, Sieve};
-use git_client::{Client, Counts, Window, hear_piece};
+use git_client::{Client, Counts, Window, receive_chunk};
 use git_names::Steps;
 use git_pkt::{
-    Discard, Fault, Got, Hold, Packet, PacketReader, RunFault, Told, flush, put, receive,
+    Discard, Fault, Got, Hold, Packet, PacketReader, Recorded, RunFault, flush, put, receive,
 };
 use std::alloc::Allocator;
 use std::io::{Read, Write};
@@ -30,16 +30,16 @@ use std::io::{Read, Write};
 pub(crate) fn receive_sieved<R: Read, O: Write, A: Allocator + Copy>(
     client: &mut Client<A>,
     form: Form,
-    reader: &mut Told<R>,
-    piece: &mut [u8],
+    reader: &mut Recorded<R>,
+    chunk: &mut [u8],
     waiting: Window,
-    out: &mut Told<O>,
+    out: &mut Recorded<O>,
     turns: u64,
 ) -> Result<Passed, RunFault>
     requires waits { wants_input client.old ≡ true }
-    requires room { 0 < length piece.old }
+    requires space { 0 < length chunk.old }
     requires ordered { waiting.start ≤ waiting.end }
-    requires within { waiting.end ≤ length piece.old }
+    requires within { waiting.end ≤ length chunk.old }
     requires sound_reader { has_failed reader.old ≡ false }
     requires open_ended { has_ended reader.old ≡ false }
     requires turns { reads_of reader.old ≤ turns }
@@ -47,10 +47,10 @@ pub(crate) fn receive_sieved<R: Read, O: Write, A: Allocator + Copy>(
 
     ensures reads { reads_of reader.new ≤ turns }
     ensures useful { has_wasted reader.new ≡ has_wasted reader.old }
-    ensures received { SievesTo form result (has_ended reader.new) client.old client.new (window_of waiting piece.old) piece.new
+    ensures received { SievesTo form result (has_ended reader.new) client.old client.new (window_of waiting chunk.old) chunk.new
         (flow (R.remaining (inner_of reader.old)) (R.remaining (inner_of reader.new)))
         (flow (O.contents (inner_of out.old)) (O.contents (inner_of out.new))) }
-    ensures room { length piece.new ≡ length piece.old }
+    ensures space { length chunk.new ≡ length chunk.old }
     ensures goes_on { OnOk result (has_ended reader.new ≡ false) }
     ensures fault { IfErr result (IsShownBy (IsTrue (has_failed reader.new)) (IsTrue (has_failed out.new)) (IsSpent reader.new turns)) }
     ensures failed { FailsAs result (has_failed reader.new) (has_failed out.new) }
@@ -68,7 +68,7 @@ pub(crate) fn receive_sieved<R: Read, O: Write, A: Allocator + Copy>(
             &mut counts,
             &mut sieve,
             &mut packets,
-            &piece[left.start..left.end],
+            &chunk[left.start..left.end],
             out,
         );
         flush(out)?;
@@ -80,7 +80,7 @@ pub(crate) fn receive_sieved<R: Read, O: Write, A: Allocator + Copy>(
         if reader.reads() == turns {
             return Err(RunFault::ReadLimit);
         }
-        let end = receive(reader, piece)?;
+        let end = receive(reader, chunk)?;
         if end == 0 {
             return Err(RunFault::Refused(close(&mut packets)));
         }
@@ -94,24 +94,24 @@ fn receive_packets<O: Write, A: Allocator + Copy>(
     counts: &mut Counts,
     sieve: &mut Sieve,
     packets: &mut PacketReader,
-    piece: &[u8],
-    out: &mut Told<O>,
+    chunk: &[u8],
+    out: &mut Recorded<O>,
 ) -> Result<usize, RunFault>
     requires waits { wants_input client.old ≡ true }
     requires sound { fault_of packets.old ≡ None }
     requires gathers { passes_of packets.old ≡ false }
     requires sound_out { has_failed out.old ≡ false }
     ensures form { sieve.new.form ≡ sieve.old.form }
-    ensures received { SievesPieceTo result sieve.old.form (stage client.old counts.old sieve.old packets.old)
-        (stage client.new counts.new sieve.new packets.new) piece.now
+    ensures received { SievesChunkTo result sieve.old.form (stage client.old counts.old sieve.old packets.old)
+        (stage client.new counts.new sieve.new packets.new) chunk.now
         (flow (O.contents (inner_of out.old)) (O.contents (inner_of out.new))) }
     ensures fault { IfErr result (IsShownBy ⊥ (IsTrue (has_failed out.new)) ⊥) }
     ensures failed { FailsAs result false (has_failed out.new) }
 {
     let mut hold = Hold::new();
     let mut used = 0;
-    while used < piece.len() && client.wants_input() {
-        let fed = packets.feed(&piece[used..], &mut Steps::new());
+    while used < chunk.len() && client.wants_input() {
+        let fed = packets.feed(&chunk[used..], &mut Steps::new());
         used += fed.used;
         match fed.got {
             Got::More => return Ok(used),
@@ -132,7 +132,7 @@ fn receive_packet<O: Write, A: Allocator + Copy>(
     hold: &mut Hold,
     packet: Packet<'_>,
     offset: u64,
-    out: &mut Told<O>,
+    out: &mut Recorded<O>,
 ) -> Result<(), RunFault>
     requires waits { wants_input client.old ≡ true }
     requires fits { length (body_of (seen packet)) ≤ longest_payload }
@@ -148,7 +148,7 @@ fn receive_packet<O: Write, A: Allocator + Copy>(
         Ok(None) => Ok(()),
         Ok(Some(packet)) => {
             put(hold, packet);
-            match hear_piece(
+            match receive_chunk(
                 client,
                 counts,
                 hold.as_slice(),

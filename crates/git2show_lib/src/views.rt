@@ -7,7 +7,7 @@ ghost use Rattle.git2show_lib.specs.PacketViews.{begins_request, counted, goes_o
 ghost use Rattle.git2show_lib.specs.PacketViews.{request_after, request_at, stray_after, summary_of};
 
 use crate::pretty::{Label, Look, body};
-use git_pkt::{Packet, RunFault, Told, put_at, send, text};
+use git_pkt::{Packet, Recorded, RunFault, put_at, send, text};
 use itoa::Buffer;
 use std::io::Write;
 
@@ -214,7 +214,7 @@ impl View<'_> {
 }
 
 /// Writes a line with what was counted.
-pub fn summarize<W: Write>(tally: Tally, writer: &mut Told<W>) -> Result<(), RunFault>
+pub fn summarize<W: Write>(tally: Tally, writer: &mut Recorded<W>) -> Result<(), RunFault>
     ensures { Sends W.contents writer.old (summary_of tally) result writer.new }
 {
     let mut line = [0; SUMMARY];
@@ -236,7 +236,7 @@ fn write_summary(tally: Tally, out: &mut [u8]) -> usize
 /// Writes a number and what it counts.
 fn put_count(count: u64, what: &[u8], out: &mut [u8], at: usize) -> usize
     requires short { length what.now ≤ 20 }
-    requires room { at + 40 ≤ length out.old }
+    requires space { at + 40 ≤ length out.old }
     ensures within { result ≤ at + 40 }
     ensures put { take result out.new ≡ take at out.old ++ decimal count ++ what.now }
 {

@@ -2,9 +2,9 @@
 
 ghost use Rattle.git_pkt.specs.Machine.BandReader.{MayPass};
 
-use crate::clients::{ask_all, new_client, say};
+use crate::clients::{ask_all, new_client, send_all};
 use crate::expecting::{expect, expect_bytes};
-use git_client::{Client, Event, HeardGot};
+use git_client::{Client, Event, ReceivedGot};
 use git_names::Steps;
 use git_pkt::{BandGot, Kind, Packet, PacketReader};
 use std::alloc::{AllocError, Global};
@@ -39,16 +39,16 @@ fn note(
 }
 
 /// Feeds a chunk until it is used up.
-fn feed_piece(
+fn feed_chunk(
     reader: &mut PacketReader,
     alloc: Global,
-    piece: &[u8],
+    chunk: &[u8],
     lines: &mut Vec<u8>,
 ) -> Result<(), AllocError>
     requires { MayPass reader.old }
     ensures { MayPass reader.new }
 {
-    let mut rest = piece;
+    let mut rest = chunk;
     for _ in 0..MANY {
         if rest.is_empty() {
             return Ok(());
@@ -61,11 +61,11 @@ fn feed_piece(
 }
 
 /// What the reader returns for these chunks, and how the stream ends after them.
-fn told(alloc: Global, pieces: &[&[u8]]) -> Result<Vec<u8>, AllocError> {
+fn announced(alloc: Global, chunks: &[&[u8]]) -> Result<Vec<u8>, AllocError> {
     let mut lines = Vec::new(alloc);
     let mut reader = PacketReader::new();
-    for piece in pieces {
-        feed_piece(&mut reader, alloc, piece, &mut lines)?;
+    for chunk in chunks {
+        feed_chunk(&mut reader, alloc, chunk, &mut lines)?;
     }
     if let Err(fault) = reader.close() {
         lines.extend_from_slice(format!(in alloc; "{fault}\n")?.as_bytes())?;
@@ -75,48 +75,48 @@ fn told(alloc: Global, pieces: &[&[u8]]) -> Result<Vec<u8>, AllocError> {
 
 #[test]
 fn a_reader_passes_the_bytes_of_both_bands(rt: HostRuntime) -> Result<(), Fail> {
-    let lines = told(rt.alloc(), &[b"0007\x01AB0005\x010006\x03x0000"])?;
+    let lines = announced(rt.alloc(), &[b"0007\x01AB0005\x010006\x03x0000"])?;
     let wanted = b"7 band 1 AB\n11 packet at 12 \x03x\n4 mark at 18 \n".as_slice();
     expect_bytes(&rt, &lines, wanted);
     Ok(())
 }
 
 #[test]
-fn a_part_is_all_that_the_piece_has(rt: HostRuntime) -> Result<(), Fail> {
-    let lines = told(rt.alloc(), &[b"0007\x01A", b"B0006\x02x"])?;
+fn a_part_is_all_that_the_chunk_has(rt: HostRuntime) -> Result<(), Fail> {
+    let lines = announced(rt.alloc(), &[b"0007\x01A", b"B0006\x02x"])?;
     let wanted = b"6 band 1 A\n1 band 1 B\n6 band 2 x\n".as_slice();
     expect_bytes(&rt, &lines, wanted);
-    let lines = told(rt.alloc(), &[b"0007\x01A"])?;
+    let lines = announced(rt.alloc(), &[b"0007\x01A"])?;
     expect_bytes(&rt, &lines, b"6 band 1 A\nTruncated at 0\n");
     Ok(())
 }
 
 /// Appends the bytes of an event of side bands, and a bar; the name of any other event.
-fn hear(heard: &mut Vec<u8>, event: &Event<'_>) -> Result<(), AllocError> {
+fn receive_response(arrived: &mut Vec<u8>, event: &Event<'_>) -> Result<(), AllocError> {
     match event {
-        Event::Pack(bytes) => heard.extend_from_slice(bytes)?,
-        Event::Progress(bytes) => heard.extend_from_slice(bytes)?,
-        Event::Ended => heard.extend_from_slice(b"ended")?,
+        Event::Pack(bytes) => arrived.extend_from_slice(bytes)?,
+        Event::Progress(bytes) => arrived.extend_from_slice(bytes)?,
+        Event::Ended => arrived.extend_from_slice(b"ended")?,
         _ => {}
     }
-    heard.extend_from_slice(b"|")
+    arrived.extend_from_slice(b"|")
 }
 
 /// Feeds a client, and appends what it hands out.
-fn hear_piece(
+fn receive_chunk(
     client: &mut Client<Global>,
-    piece: &[u8],
-    heard: &mut Vec<u8>,
+    chunk: &[u8],
+    arrived: &mut Vec<u8>,
 ) -> Result<(), AllocError> {
-    match client.feed(piece, &mut Steps::new()).got {
-        HeardGot::Event(event) => hear(heard, &event),
+    match client.feed(chunk, &mut Steps::new()).got {
+        ReceivedGot::Event(event) => receive_response(arrived, &event),
         _ => Ok(()),
     }
 }
 
 /// Feeds a client until the chunk is used up.
-fn feed_client(client: &mut Client<Global>, piece: &[u8]) {
-    let mut rest = piece;
+fn feed_client(client: &mut Client<Global>, chunk: &[u8]) {
+    let mut rest = chunk;
     for _ in 0..MANY {
         let used = client.feed(rest, &mut Steps::new()).used;
         rest = &rest[used..];
@@ -129,18 +129,18 @@ fn asking(rt: &(impl Abort + AllocGlobal)) -> Result<Client<Global>, Fail> {
     feed_client(&mut client, b"000eversion 2\n000afetch\n0000");
     let script = b"fetch\nwant aaaaaaaaaaaaaaaaaaaaaaaaaaaaaaaaaaaaaaaa\ndone\n";
     ask_all(rt, &mut client, script)?;
-    say(&mut client, MANY);
+    send_all(&mut client, MANY);
     Ok(client)
 }
 
 #[test]
 fn a_client_hands_out_each_byte_of_a_pack_as_it_comes(rt: HostRuntime) -> Result<(), Fail> {
     let mut client = asking(&rt)?;
-    let mut heard = Vec::new(rt.alloc());
+    let mut arrived = Vec::new(rt.alloc());
     for byte in b"000dpackfile\n0008\x01ABC0006\x02x0005\x010000".chunks(1) {
-        hear_piece(&mut client, byte, &mut heard)?;
+        receive_chunk(&mut client, byte, &mut arrived)?;
     }
-    expect_bytes(&rt, &heard, b"A|B|C|x|ended|");
+    expect_bytes(&rt, &arrived, b"A|B|C|x|ended|");
     assert!(rt; client.can_ask());
     Ok(())
 }
@@ -148,11 +148,11 @@ fn a_client_hands_out_each_byte_of_a_pack_as_it_comes(rt: HostRuntime) -> Result
 #[test]
 fn what_came_of_an_open_packet_was_handed_out(rt: HostRuntime) -> Result<(), Fail> {
     let mut client = asking(&rt)?;
-    let mut heard = Vec::new(rt.alloc());
-    for piece in [b"000dpackfile\n".as_slice(), b"0009\x01AB"] {
-        hear_piece(&mut client, piece, &mut heard)?;
+    let mut arrived = Vec::new(rt.alloc());
+    for chunk in [b"000dpackfile\n".as_slice(), b"0009\x01AB"] {
+        receive_chunk(&mut client, chunk, &mut arrived)?;
     }
-    expect_bytes(&rt, &heard, b"AB|");
+    expect_bytes(&rt, &arrived, b"AB|");
     assert!(rt; client.wants_input());
     let fault = client.close();
     assert!(rt; fault.kind == Kind::Truncated);

@@ -1,17 +1,17 @@
 //! Recorded streams that are checked against each other: what is reported if one stops, or if memory or the reads run out, and how far each
 //! is read.
 use crate::expecting::{expect, expect_bytes};
-use crate::stopping::{ALL, MANY, TURNS, expect_due, expect_front};
+use crate::stopping::{ALL, MANY, TURNS, expect_front, expect_sent_bytes};
 use git_client::Ending;
 use git_names::Format;
-use git_pkt::{Fault, Kind, Stops, Told};
+use git_pkt::{Fault, Kind, Recorded, Stops};
 use git2show_lib::{CheckFault, ProgramFault, check, report};
 use linked_list_allocator::LocalHeap;
 use std::alloc::Global;
 use std::io::Read;
 use std::process::Abort;
 use std::test::Fail;
-use test_streams::{Endless, Pieces, Sink, Stream};
+use test_streams::{Chunks, Endless, Sink, Stream};
 
 /// No call with this number fails.
 const NEVER: u32 = u32::MAX;
@@ -55,7 +55,7 @@ fn faults_are_reported_with_their_stream(rt: HostRuntime) -> Result<(), Fail> {
         let mut sink = Sink::new(Vec::new(rt.alloc()), 7, NEVER);
         expect(
             &rt,
-            &report(&ProgramFault::Check(fault), &mut Told::new(&mut sink)),
+            &report(&ProgramFault::Check(fault), &mut Recorded::new(&mut sink)),
             &1,
         );
         expect_bytes(&rt, &sink.taken, line);
@@ -63,7 +63,7 @@ fn faults_are_reported_with_their_stream(rt: HostRuntime) -> Result<(), Fail> {
     let mut sink = Sink::new(Vec::new(rt.alloc()), 7, NEVER);
     expect(
         &rt,
-        &report(&ProgramFault::File, &mut Told::new(&mut sink)),
+        &report(&ProgramFault::File, &mut Recorded::new(&mut sink)),
         &1,
     );
     expect_bytes(&rt, &sink.taken, b"git2show: File\n");
@@ -105,8 +105,8 @@ fn check_stopping(
     stopping: Stopping,
 ) -> Checked {
     let mut out = Sink::new(Vec::new(alloc), usize::MAX, NEVER);
-    let mut requests = Told::new(Stops::new(requests, stopping.requests));
-    let mut responses = Told::new(Stops::new(responses, stopping.responses));
+    let mut requests = Recorded::new(Stops::new(requests, stopping.requests));
+    let mut responses = Recorded::new(Stops::new(responses, stopping.responses));
     let answer = check(
         alloc,
         &mut requests,
@@ -115,7 +115,7 @@ fn check_stopping(
         Ending::FlushOnly,
         &mut [0; 256],
         &mut [0; 256],
-        &mut Told::new(Stops::new(&mut out, stopping.writes)),
+        &mut Recorded::new(Stops::new(&mut out, stopping.writes)),
         stopping.turns,
     );
     Checked {
@@ -127,7 +127,7 @@ fn check_stopping(
 }
 
 /// The responses, one chunk for each read.
-const HEARD: [&[u8]; 11] = [
+const RECEIVED: [&[u8]; 11] = [
     b"000eversion 2\n",
     b"0011agent=git2/1\n000cls-refs\n00",
     b"12fetch=shallow\n",
@@ -142,7 +142,7 @@ const HEARD: [&[u8]; 11] = [
 ];
 
 /// The lines expected after each read of them; none before the first.
-const LINES_OF_HEARD: [&[u8]; 12] = [
+const LINES_OF_RECEIVED: [&[u8]; 12] = [
     b"",
     b"",
     b"capability agent=git2/1\ncapability ls-refs\n",
@@ -158,7 +158,7 @@ const LINES_OF_HEARD: [&[u8]; 12] = [
 ];
 
 /// The requests, one chunk for each read.
-const SAID: [&[u8]; 5] = [
+const SENT: [&[u8]; 5] = [
     b"0014command=ls-refs\n",
     b"0000",
     b"0012command=fetch\n00010032want aaaaaaaaaaaaaaaaaaaaaaaaaaaaaaaaaaaaaaaa\n0009",
@@ -167,7 +167,7 @@ const SAID: [&[u8]; 5] = [
 ];
 
 /// The lines expected before the first read of them, and after each one but the last.
-const LINES_OF_SAID: [&[u8]; 5] = [
+const LINES_OF_SENT: [&[u8]; 5] = [
     b"capability agent=git2/1\ncapability ls-refs\ncapability fetch=shallow\ncapability object-format=sha1\ncapability x-later\noffered\n",
     b"",
     b"request ls-refs\nref aaaaaaaaaaaaaaaaaaaaaaaaaaaaaaaaaaaaaaaa HEAD\nend 0 0\n",
@@ -177,7 +177,7 @@ const LINES_OF_SAID: [&[u8]; 5] = [
 
 /// The whole conversation, over streams that stop as stated.
 fn conversation(alloc: Global, stopping: Stopping) -> Checked {
-    check_stopping(alloc, Pieces::new(&SAID), Pieces::new(&HEARD), stopping)
+    check_stopping(alloc, Chunks::new(&SENT), Chunks::new(&RECEIVED), stopping)
 }
 
 /// The whole conversation, with this many bytes for each read, and this many reads.
@@ -195,20 +195,20 @@ fn slow_conversation(alloc: Global, step: usize, turns: u64) -> Checked {
 fn each_read_of_the_responses_fails_in_turn_while_they_are_checked(
     rt: HostRuntime,
 ) -> Result<(), Fail> {
-    let mut due = Vec::new(rt.alloc());
+    let mut expected = Vec::new(rt.alloc());
     let mut responses = 0u32;
-    for lines in LINES_OF_HEARD {
-        due.extend_from_slice(lines)?;
+    for lines in LINES_OF_RECEIVED {
+        expected.extend_from_slice(lines)?;
         let checked = conversation(rt.alloc(), Stopping { responses, ..SOUND });
         expect(&rt, &checked.answer, &Err(CheckFault::ReadFault));
         responses = responses.saturating_add(1);
         expect(&rt, &checked.responses, &u64::from(responses));
-        expect_due(&rt, &checked.out, &due);
+        expect_sent_bytes(&rt, &checked.out, &expected);
     }
     // The last read shows their end.
     let checked = conversation(rt.alloc(), Stopping { responses, ..SOUND });
     expect(&rt, &checked.answer, &Ok(()));
-    expect_due(&rt, &checked.out, TRANSCRIPT);
+    expect_sent_bytes(&rt, &checked.out, TRANSCRIPT);
     Ok(())
 }
 
@@ -217,20 +217,20 @@ fn each_read_of_the_responses_fails_in_turn_while_they_are_checked(
 fn each_read_of_the_requests_fails_in_turn_while_they_are_checked(
     rt: HostRuntime,
 ) -> Result<(), Fail> {
-    let mut due = Vec::new(rt.alloc());
+    let mut expected = Vec::new(rt.alloc());
     let mut requests = 0u32;
-    for lines in LINES_OF_SAID {
-        due.extend_from_slice(lines)?;
+    for lines in LINES_OF_SENT {
+        expected.extend_from_slice(lines)?;
         let checked = conversation(rt.alloc(), Stopping { requests, ..SOUND });
         expect(&rt, &checked.answer, &Err(CheckFault::ReadFault));
         requests = requests.saturating_add(1);
         expect(&rt, &checked.requests, &u64::from(requests));
-        expect_due(&rt, &checked.out, &due);
+        expect_sent_bytes(&rt, &checked.out, &expected);
     }
     let checked = conversation(rt.alloc(), Stopping { requests, ..SOUND });
     expect(&rt, &checked.answer, &Ok(()));
     expect(&rt, &checked.requests, &u64::from(requests));
-    expect_due(&rt, &checked.out, TRANSCRIPT);
+    expect_sent_bytes(&rt, &checked.out, TRANSCRIPT);
     Ok(())
 }
 
@@ -256,12 +256,12 @@ fn each_write_and_flush_fails_in_turn_while_streams_are_checked(
 #[test]
 fn a_conversation_without_an_end_ends_at_the_limit_of_reads(rt: HostRuntime) -> Result<(), Fail> {
     let asked = Endless::new(b"", b"0014command=ls-refs\n0000");
-    let heard = Endless::new(&RESPONSES[..100], b"0000");
+    let arrived = Endless::new(&RESPONSES[..100], b"0000");
     let endless = Stopping {
         turns: 1_000,
         ..SOUND
     };
-    let checked = check_stopping(rt.alloc(), asked, heard, endless);
+    let checked = check_stopping(rt.alloc(), asked, arrived, endless);
     expect(&rt, &checked.answer, &Err(CheckFault::ReadLimit));
     expect(
         &rt,
@@ -274,7 +274,7 @@ fn a_conversation_without_an_end_ends_at_the_limit_of_reads(rt: HostRuntime) -> 
 
 /// As many reads as are made are enough, and one fewer is not, however small they are.
 #[test]
-fn reads_that_are_spent_are_told(rt: HostRuntime) -> Result<(), Fail> {
+fn reads_that_are_spent_are_reported(rt: HostRuntime) -> Result<(), Fail> {
     for step in [1, 7, 256] {
         let whole = slow_conversation(rt.alloc(), step, TURNS);
         if step == 256 {
@@ -301,10 +301,10 @@ fn reads_that_are_spent_are_told(rt: HostRuntime) -> Result<(), Fail> {
 
 /// No byte of a stream is read before it is expected: each read returns one byte.
 #[test]
-fn nothing_is_read_before_it_is_due(rt: HostRuntime) -> Result<(), Fail> {
+fn nothing_is_read_before_it_is_expected(rt: HostRuntime) -> Result<(), Fail> {
     let unknown = Stream::new(b"0017command=bundle-uri\n0000", 1, NEVER);
-    let heard = Stream::new(RESPONSES, 1, NEVER);
-    let checked = check_stopping(rt.alloc(), unknown, heard, SOUND);
+    let arrived = Stream::new(RESPONSES, 1, NEVER);
+    let checked = check_stopping(rt.alloc(), unknown, arrived, SOUND);
     let refused = Fault {
         kind: Kind::UnknownCommand,
         offset: 0,
@@ -331,13 +331,13 @@ fn check_with(rt: &(impl Abort + AllocGlobal), size: usize) -> Result<bool, Fail
     let heap = LocalHeap::new(rt.alloc(), size)?;
     let answer = check(
         &heap,
-        &mut Told::new(REQUESTS),
-        &mut Told::new(RESPONSES),
+        &mut Recorded::new(REQUESTS),
+        &mut Recorded::new(RESPONSES),
         Format::Sha1,
         Ending::FlushOnly,
         &mut [0; 256],
         &mut [0; 256],
-        &mut Told::new(&mut Vec::new(rt.alloc())),
+        &mut Recorded::new(&mut Vec::new(rt.alloc())),
         TURNS,
     );
     let refused = Fault {
@@ -349,7 +349,7 @@ fn check_with(rt: &(impl Abort + AllocGlobal), size: usize) -> Result<bool, Fail
 }
 
 #[test]
-fn memory_that_runs_out_is_told_of_the_requests(rt: HostRuntime) -> Result<(), Fail> {
+fn memory_that_runs_out_is_reported_of_the_requests(rt: HostRuntime) -> Result<(), Fail> {
     let mut was_enough = false;
     assert!(rt; !check_with(&rt, 32)?);
     for size in (32..1024).step_by(8) {

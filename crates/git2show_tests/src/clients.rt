@@ -25,7 +25,7 @@ pub fn ask_all(
 }
 
 /// Takes the packets that the client has to send, at most this many.
-pub fn say<A: Allocator + Copy>(client: &mut Client<A>, packets: usize) {
+pub fn send_all<A: Allocator + Copy>(client: &mut Client<A>, packets: usize) {
     for _ in 0..packets {
         if !matches!(client.pull(), Sent::Packet(_)) {
             return;

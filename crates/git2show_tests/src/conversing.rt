@@ -1,21 +1,21 @@
 //! A client over readers and writers: what it sends and receives, when it flushes, and what is reported if streams stop.
 ghost use Rattle.std.specs.Prelude.{◌≡◌, ◌<◌, false, length};
-ghost use Rattle.git_pkt.specs.Machine.Told.{IsNew, has_failed};
+ghost use Rattle.git_pkt.specs.Machine.Recorded.{IsNew, has_failed};
 
 use crate::expecting::{expect, expect_bytes};
 use crate::serving::{Asking, Counted};
-use crate::stopping::{ALL, MANY, TURNS, expect_due, expect_front};
+use crate::stopping::{ALL, MANY, TURNS, expect_front, expect_sent_bytes};
 use git_client::{Client, Ending, converse};
 use git_msg::{Limits, Request};
 use git_names::Format;
-use git_pkt::{Discard, Fault, Kind, Output, RunFault, Stops, Told};
+use git_pkt::{Discard, Fault, Kind, Output, Recorded, RunFault, Stops};
 use git2show_lib::read_script;
 use std::alloc::Global;
 use std::cell::Cell;
 use std::io::{Read, Write};
 use std::process::Abort;
 use std::test::Fail;
-use test_streams::{Endless, Pieces, Sink, Stream};
+use test_streams::{Chunks, Endless, Sink, Stream};
 
 /// No call with this number fails.
 const NEVER: u32 = u32::MAX;
@@ -38,7 +38,7 @@ const FETCHES: &[u8] =
     b"0012command=fetch\n0017object-format=sha1\n00010032want aaaaaaaaaaaaaaaaaaaaaaaaaaaaaaaaaaaaaaaa\n0009done\n0000";
 
 /// Everything that it sends, up to its leaving.
-const SAID: [&[u8]; 3] = [LISTS, FETCHES, b"0000"];
+const SENT: [&[u8]; 3] = [LISTS, FETCHES, b"0000"];
 
 /// The transcript of it.
 const TRANSCRIPT: &[u8] =
@@ -65,17 +65,17 @@ fn run_client<R: Read, W: Write, O: Write, P: Write, E: Output>(
     rt: &(impl Abort + AllocGlobal),
     script: &[u8],
     ending: Ending,
-    answers: &mut Told<R>,
-    said: &mut Told<W>,
-    piece: &mut [u8],
-    out: &mut Told<O>,
-    pack: &mut Told<P>,
+    answers: &mut Recorded<R>,
+    content: &mut Recorded<W>,
+    chunk: &mut [u8],
+    out: &mut Recorded<O>,
+    pack: &mut Recorded<P>,
     progress: &mut E,
     turns: u64,
 ) -> Result<Result<(), RunFault>, Fail>
-    requires room { 0 < length piece.old }
+    requires space { 0 < length chunk.old }
     requires new_reader { IsNew answers.old }
-    requires sound_writer { has_failed said.old ≡ false }
+    requires sound_writer { has_failed content.old ≡ false }
     requires sound_out { has_failed out.old ≡ false }
     requires sound_pack { has_failed pack.old ≡ false }
     requires sound_progress { E.failed progress.old ≡ false }
@@ -84,8 +84,8 @@ fn run_client<R: Read, W: Write, O: Write, P: Write, E: Output>(
     let mut client = Client::new(Format::Sha1, ending);
     Ok(converse(
         answers,
-        said,
-        piece,
+        content,
+        chunk,
         &mut client,
         requests,
         out,
@@ -108,7 +108,7 @@ fn joined(rt: &(impl Abort + AllocGlobal), texts: &[&[u8]]) -> Result<Vec<u8>, F
 #[derive(Drop)]
 struct Given {
     got: Result<(), RunFault>,
-    said: Sink,
+    content: Sink,
     out: Sink,
     pack: Sink,
     progress: Sink,
@@ -118,7 +118,7 @@ struct Given {
 #[derive(Clone, Copy)]
 struct Stopping {
     reads: u32,
-    says: u32,
+    conveys: u32,
     writes: u32,
     packs: u32,
     reports: u32,
@@ -128,7 +128,7 @@ struct Stopping {
 /// No stream stops.
 const SOUND: Stopping = Stopping {
     reads: ALL,
-    says: ALL,
+    conveys: ALL,
     writes: ALL,
     packs: ALL,
     reports: ALL,
@@ -142,7 +142,7 @@ fn run<R: Read + Drop>(
     ending: Ending,
     stopping: Stopping,
 ) -> Result<Given, Fail> {
-    let mut said = Sink::new(Vec::new(rt.alloc()), 40, NEVER);
+    let mut content = Sink::new(Vec::new(rt.alloc()), 40, NEVER);
     let mut out = Sink::new(Vec::new(rt.alloc()), usize::MAX, NEVER);
     let mut pack = Sink::new(Vec::new(rt.alloc()), usize::MAX, NEVER);
     let mut progress = Sink::new(Vec::new(rt.alloc()), usize::MAX, NEVER);
@@ -150,17 +150,17 @@ fn run<R: Read + Drop>(
         rt,
         SCRIPT,
         ending,
-        &mut Told::new(Stops::new(answers, stopping.reads)),
-        &mut Told::new(Stops::new(&mut said, stopping.says)),
+        &mut Recorded::new(Stops::new(answers, stopping.reads)),
+        &mut Recorded::new(Stops::new(&mut content, stopping.conveys)),
         &mut [0; 128],
-        &mut Told::new(Stops::new(&mut out, stopping.writes)),
-        &mut Told::new(Stops::new(&mut pack, stopping.packs)),
-        &mut Told::new(Stops::new(&mut progress, stopping.reports)),
+        &mut Recorded::new(Stops::new(&mut out, stopping.writes)),
+        &mut Recorded::new(Stops::new(&mut pack, stopping.packs)),
+        &mut Recorded::new(Stops::new(&mut progress, stopping.reports)),
         stopping.turns,
     )?;
     Ok(Given {
         got,
-        said,
+        content,
         out,
         pack,
         progress,
@@ -172,11 +172,11 @@ fn expect_whole(
     rt: &(impl Abort + AllocGlobal),
     answers: &[u8],
     ending: Ending,
-    said: &[u8],
+    content: &[u8],
 ) -> Result<(), Fail> {
     let given = run(rt, Stream::new(answers, 5, NEVER), ending, SOUND)?;
     expect(rt, &given.got, &Ok(()));
-    expect_bytes(rt, &given.said.taken, said);
+    expect_bytes(rt, &given.content.taken, content);
     expect_bytes(rt, &given.out.taken, TRANSCRIPT);
     expect_bytes(rt, &given.pack.taken, PACK);
     expect_bytes(rt, &given.progress.taken, PROGRESS);
@@ -184,21 +184,21 @@ fn expect_whole(
 }
 
 #[test]
-fn a_client_asks_and_hears_and_leaves(rt: HostRuntime) -> Result<(), Fail> {
+fn a_client_asks_and_receives_and_leaves(rt: HostRuntime) -> Result<(), Fail> {
     let answers = joined(&rt, &ANSWERS)?;
-    expect_whole(&rt, &answers, Ending::FlushOnly, &joined(&rt, &SAID)?)
+    expect_whole(&rt, &answers, Ending::FlushOnly, &joined(&rt, &SENT)?)
 }
 
 #[test]
 fn a_client_with_response_ends_asks_and_does_not_leave(rt: HostRuntime) -> Result<(), Fail> {
     let [advertisement, references, pack] = ANSWERS;
     let answers = joined(&rt, &[advertisement, references, b"0002", pack, b"0002"])?;
-    let said = joined(&rt, &SAID[..2])?;
-    expect_whole(&rt, &answers, Ending::ResponseEnd, &said)
+    let content = joined(&rt, &SENT[..2])?;
+    expect_whole(&rt, &answers, Ending::ResponseEnd, &content)
 }
 
 /// The input, one chunk for each read.
-const PIECES: [&[u8]; 11] = [
+const CHUNKS: [&[u8]; 11] = [
     b"000eversion 2\n",
     b"000cls-refs\n",
     b"0012fetch=shallow\n",
@@ -214,7 +214,7 @@ const PIECES: [&[u8]; 11] = [
 
 /// What is expected after this many reads: sent to the server, in the transcript, of the pack, and of the progress. Nothing more is
 /// expected before the next row.
-const DUE: [(u32, &[u8], &[u8], &[u8], &[u8]); 8] = [
+const EXPECTED: [(u32, &[u8], &[u8], &[u8], &[u8]); 8] = [
     (2, b"", b"capability ls-refs\n", b"", b""),
     (3, b"", b"capability fetch=shallow\n", b"", b""),
     (
@@ -238,17 +238,17 @@ const DUE: [(u32, &[u8], &[u8], &[u8], &[u8]); 8] = [
 ];
 
 /// How many bytes sent, of the transcript, of the pack and of the progress are expected after this many reads.
-fn due_after(reads: u32) -> (usize, usize, usize, usize) {
-    let mut due = (0usize, 0usize, 0usize, 0usize);
-    for (number, said, out, pack, progress) in DUE {
+fn expected_after(reads: u32) -> (usize, usize, usize, usize) {
+    let mut expected = (0usize, 0usize, 0usize, 0usize);
+    for (number, content, out, pack, progress) in EXPECTED {
         if number <= reads {
-            due.0 = due.0.saturating_add(said.len());
-            due.1 = due.1.saturating_add(out.len());
-            due.2 = due.2.saturating_add(pack.len());
-            due.3 = due.3.saturating_add(progress.len());
+            expected.0 = expected.0.saturating_add(content.len());
+            expected.1 = expected.1.saturating_add(out.len());
+            expected.2 = expected.2.saturating_add(pack.len());
+            expected.3 = expected.3.saturating_add(progress.len());
         }
     }
-    due
+    expected
 }
 
 /// Expects that the run ended like this, and that exactly what is expected after this many reads was written and flushed.
@@ -258,13 +258,13 @@ fn expect_interrupted(
     reads: u32,
     fault: RunFault,
 ) -> Result<(), Fail> {
-    let (said, out, pack, progress) = due_after(reads);
+    let (content, out, pack, progress) = expected_after(reads);
     expect(rt, &given.got, &Err(fault));
-    let all_said = joined(rt, &SAID)?;
-    expect_due(rt, &given.said, all_said.get(..said).unwrap_or(&[]));
-    expect_due(rt, &given.out, TRANSCRIPT.get(..out).unwrap_or(&[]));
-    expect_due(rt, &given.pack, PACK.get(..pack).unwrap_or(&[]));
-    expect_due(rt, &given.progress, PROGRESS.get(..progress).unwrap_or(&[]));
+    let all_sent = joined(rt, &SENT)?;
+    expect_sent_bytes(rt, &given.content, all_sent.get(..content).unwrap_or(&[]));
+    expect_sent_bytes(rt, &given.out, TRANSCRIPT.get(..out).unwrap_or(&[]));
+    expect_sent_bytes(rt, &given.pack, PACK.get(..pack).unwrap_or(&[]));
+    expect_sent_bytes(rt, &given.progress, PROGRESS.get(..progress).unwrap_or(&[]));
     Ok(())
 }
 
@@ -273,13 +273,13 @@ fn expect_interrupted(
 fn each_read_fails_in_turn_while_a_client_converses(rt: HostRuntime) -> Result<(), Fail> {
     for reads in 0..11u32 {
         let failing = Stopping { reads, ..SOUND };
-        let given = run(&rt, Pieces::new(&PIECES), Ending::FlushOnly, failing)?;
+        let given = run(&rt, Chunks::new(&CHUNKS), Ending::FlushOnly, failing)?;
         expect_interrupted(&rt, &given, reads, RunFault::ReadFault)?;
         let spent = Stopping {
             turns: u64::from(reads),
             ..SOUND
         };
-        let given = run(&rt, Pieces::new(&PIECES), Ending::FlushOnly, spent)?;
+        let given = run(&rt, Chunks::new(&CHUNKS), Ending::FlushOnly, spent)?;
         expect_interrupted(&rt, &given, reads, RunFault::ReadLimit)?;
     }
     let whole = Stopping {
@@ -287,7 +287,7 @@ fn each_read_fails_in_turn_while_a_client_converses(rt: HostRuntime) -> Result<(
         turns: 11,
         ..SOUND
     };
-    let given = run(&rt, Pieces::new(&PIECES), Ending::FlushOnly, whole)?;
+    let given = run(&rt, Chunks::new(&CHUNKS), Ending::FlushOnly, whole)?;
     expect(&rt, &given.got, &Ok(()));
     Ok(())
 }
@@ -295,7 +295,7 @@ fn each_read_fails_in_turn_while_a_client_converses(rt: HostRuntime) -> Result<(
 /// How much the runs before wrote to each writer.
 #[derive(Default, Drop)]
 struct Longest {
-    said: usize,
+    content: usize,
     out: usize,
     pack: usize,
     progress: usize,
@@ -307,8 +307,8 @@ fn expect_fronts(
     given: &Given,
     longest: &mut Longest,
 ) -> Result<bool, Fail> {
-    let said = joined(rt, &SAID)?;
-    expect_front(rt, &given.said, &said, &mut longest.said);
+    let content = joined(rt, &SENT)?;
+    expect_front(rt, &given.content, &content, &mut longest.content);
     expect_front(rt, &given.out, TRANSCRIPT, &mut longest.out);
     expect_front(rt, &given.pack, PACK, &mut longest.pack);
     expect_front(rt, &given.progress, PROGRESS, &mut longest.progress);
@@ -316,7 +316,7 @@ fn expect_fronts(
         expect(rt, &given.got, &Err(RunFault::WriteFault));
         return Ok(false);
     }
-    expect(rt, &longest.said, &said.len());
+    expect(rt, &longest.content, &content.len());
     expect(rt, &longest.out, &TRANSCRIPT.len());
     expect(rt, &longest.pack, &PACK.len());
     expect(rt, &longest.progress, &PROGRESS.len());
@@ -333,12 +333,12 @@ fn each_write_and_flush_fails_in_turn_while_a_client_converses(
         for calls in 0..MANY {
             let mut stopping = SOUND;
             match writer {
-                0 => stopping.says = calls,
+                0 => stopping.conveys = calls,
                 1 => stopping.writes = calls,
                 2 => stopping.packs = calls,
                 _ => stopping.reports = calls,
             }
-            let given = run(&rt, Pieces::new(&PIECES), Ending::FlushOnly, stopping)?;
+            let given = run(&rt, Chunks::new(&CHUNKS), Ending::FlushOnly, stopping)?;
             is_whole = expect_fronts(&rt, &given, &mut longest)?;
             if is_whole {
                 break;
@@ -363,7 +363,7 @@ fn run_fetch<R: Read + Drop>(
     answers: R,
     turns: u64,
 ) -> Result<(Result<(), RunFault>, Vec<u8>), Fail> {
-    let mut said = Sink::new(Vec::new(rt.alloc()), usize::MAX, NEVER);
+    let mut content = Sink::new(Vec::new(rt.alloc()), usize::MAX, NEVER);
     let mut out = Sink::new(Vec::new(rt.alloc()), usize::MAX, NEVER);
     let mut pack = Sink::new(Vec::new(rt.alloc()), usize::MAX, NEVER);
     let mut progress = Sink::new(Vec::new(rt.alloc()), usize::MAX, NEVER);
@@ -372,15 +372,15 @@ fn run_fetch<R: Read + Drop>(
         rt,
         script,
         Ending::FlushOnly,
-        &mut Told::new(answers),
-        &mut Told::new(&mut said),
+        &mut Recorded::new(answers),
+        &mut Recorded::new(&mut content),
         &mut [0; 256],
-        &mut Told::new(&mut out),
-        &mut Told::new(&mut pack),
-        &mut Told::new(&mut progress),
+        &mut Recorded::new(&mut out),
+        &mut Recorded::new(&mut pack),
+        &mut Recorded::new(&mut progress),
         turns,
     )?;
-    expect_due(rt, &said, FETCHES_FROM_AN_AGENT);
+    expect_sent_bytes(rt, &content, FETCHES_FROM_AN_AGENT);
     assert!(rt;
         out.taken
             .ends_with(b"capability x-later\noffered\nrequest fetch\n")
@@ -408,7 +408,7 @@ fn what_came_before_a_fault_is_flushed(rt: HostRuntime) -> Result<(), Fail> {
 
 /// The advertisement and a part of the response come in one chunk.
 #[test]
-fn a_piece_is_heard_whole_before_the_read_that_fails(rt: HostRuntime) -> Result<(), Fail> {
+fn a_chunk_is_received_whole_before_the_read_that_fails(rt: HostRuntime) -> Result<(), Fail> {
     let answers = joined(&rt, &[ADVERTISEMENT, b"000dpackfile\n0007\x01AB"])?;
     let (got, pack) = run_fetch(&rt, Stops::new(answers.as_slice(), 1), TURNS)?;
     expect(&rt, &got, &Err(RunFault::ReadFault));
@@ -420,7 +420,7 @@ fn a_piece_is_heard_whole_before_the_read_that_fails(rt: HostRuntime) -> Result<
 #[test]
 fn a_response_without_an_end_ends_at_the_limit_of_reads(rt: HostRuntime) -> Result<(), Fail> {
     let first = joined(&rt, &[ADVERTISEMENT, b"000dpackfile\n0007\x01AB"])?;
-    let mut reader = Told::new(Endless::new(&first, b"0006\x02x"));
+    let mut reader = Recorded::new(Endless::new(&first, b"0006\x02x"));
     let (got, pack) = run_fetch(&rt, &mut reader, 1_000)?;
     expect(&rt, &got, &Err(RunFault::ReadLimit));
     expect(&rt, &reader.reads(), &1_000);
@@ -432,7 +432,7 @@ fn a_response_without_an_end_ends_at_the_limit_of_reads(rt: HostRuntime) -> Resu
 fn each_request_is_flushed_before_its_response_is_read(rt: HostRuntime) -> Result<(), Fail> {
     let flushed = Cell::new(0);
     let mut asking = Asking {
-        pieces: &ANSWERS,
+        chunks: &ANSWERS,
         next: 0,
         flushed: &flushed,
         seen: Vec::new(rt.alloc()),
@@ -441,14 +441,14 @@ fn each_request_is_flushed_before_its_response_is_read(rt: HostRuntime) -> Resul
         &rt,
         SCRIPT,
         Ending::FlushOnly,
-        &mut Told::new(&mut asking),
-        &mut Told::new(Counted {
+        &mut Recorded::new(&mut asking),
+        &mut Recorded::new(Counted {
             waiting: 0,
             flushed: &flushed,
         }),
         &mut [0; 256],
-        &mut Told::new(Vec::new(rt.alloc())),
-        &mut Told::new(Vec::new(rt.alloc())),
+        &mut Recorded::new(Vec::new(rt.alloc())),
+        &mut Recorded::new(Vec::new(rt.alloc())),
         &mut Discard,
         TURNS,
     )?;
@@ -460,20 +460,20 @@ fn each_request_is_flushed_before_its_response_is_read(rt: HostRuntime) -> Resul
 
 /// The server does not advertise references by name.
 #[test]
-fn a_request_that_is_not_offered_is_not_said(rt: HostRuntime) -> Result<(), Fail> {
+fn a_request_that_is_not_offered_is_not_sent(rt: HostRuntime) -> Result<(), Fail> {
     let [advertisement, _, _] = ANSWERS;
-    let mut said = Vec::new(rt.alloc());
+    let mut content = Vec::new(rt.alloc());
     let mut out = Vec::new(rt.alloc());
     let script = b"fetch\nwant-ref refs/heads/main\ndone\n";
     let got = run_client(
         &rt,
         script,
         Ending::FlushOnly,
-        &mut Told::new(advertisement),
-        &mut Told::new(&mut said),
+        &mut Recorded::new(advertisement),
+        &mut Recorded::new(&mut content),
         &mut [0; 256],
-        &mut Told::new(&mut out),
-        &mut Told::new(Vec::new(rt.alloc())),
+        &mut Recorded::new(&mut out),
+        &mut Recorded::new(Vec::new(rt.alloc())),
         &mut Discard,
         TURNS,
     )?;
@@ -482,7 +482,7 @@ fn a_request_that_is_not_offered_is_not_said(rt: HostRuntime) -> Result<(), Fail
         offset: 71,
     };
     expect(&rt, &got, &Err(RunFault::Refused(fault)));
-    assert!(rt; said.is_empty());
+    assert!(rt; content.is_empty());
     assert!(rt; out.ends_with(b"offered\n"));
     Ok(())
 }

@@ -3,11 +3,11 @@ use std::fmt::Debug;
 use std::process::Abort;
 
 /// Expects that the value is the expected one.
-pub fn expect<T: PartialEq + Debug>(rt: &impl Abort, came: &T, due: &T) {
-    assert_eq!(rt; came, due);
+pub fn expect<T: PartialEq + Debug>(rt: &impl Abort, came: &T, expected: &T) {
+    assert_eq!(rt; came, expected);
 }
 
 /// Expects that the bytes are the expected ones.
-pub fn expect_bytes(rt: &impl Abort, came: &[u8], due: &[u8]) {
-    assert_eq!(rt; came, due);
+pub fn expect_bytes(rt: &impl Abort, came: &[u8], expected: &[u8]) {
+    assert_eq!(rt; came, expected);
 }

@@ -1,9 +1,9 @@
 //! Memory is given back: everything that a side or a reader took, wherever its input ends and whichever allocation fails.
 use crate::adding::{add_filter, add_have, add_revision, add_want, new_request};
-use crate::clients::{new_client, say};
+use crate::clients::{new_client, send_all};
 use crate::expecting::expect;
 use crate::servers::{new_server, object, usual};
-use git_client::{Client, HeardGot};
+use git_client::{Client, ReceivedGot};
 use git_msg::{Caps, Command, Limits, Offer, ReadGot, Request, RequestStream, RequestWriter};
 use git_names::{Format, Steps};
 use git_pkt::{Hold, Kind};
@@ -61,9 +61,9 @@ fn drain(server: &mut Server<ListRepo, &LocalHeap>) {
 }
 
 /// Feeds a server. Returns the bytes that it did not use.
-fn feed<'a>(server: &mut Server<ListRepo, &LocalHeap>, piece: &'a [u8]) -> &'a [u8] {
-    let used = server.feed(piece, &mut Steps::new());
-    &piece[used..]
+fn feed<'a>(server: &mut Server<ListRepo, &LocalHeap>, chunk: &'a [u8]) -> &'a [u8] {
+    let used = server.feed(chunk, &mut Steps::new());
+    &chunk[used..]
 }
 
 /// Feeds a server, and drops it. Returns the maximum of the memory that it had.
@@ -98,17 +98,17 @@ fn request<'h>(rt: &impl Abort, heap: &'h LocalHeap) -> Option<Request<&'h Local
 }
 
 /// Feeds a client. Returns the bytes that it did not use, unless it fails.
-fn hear<'a>(client: &mut Client<&LocalHeap>, piece: &'a [u8]) -> Option<&'a [u8]> {
-    let heard = client.feed(piece, &mut Steps::new());
-    match heard.got {
-        HeardGot::Failed(_) => None,
-        _ => piece.get(heard.used..),
+fn receive_response<'a>(client: &mut Client<&LocalHeap>, chunk: &'a [u8]) -> Option<&'a [u8]> {
+    let arrived = client.feed(chunk, &mut Steps::new());
+    match arrived.got {
+        ReceivedGot::Failed(_) => None,
+        _ => chunk.get(arrived.used..),
     }
 }
 
 /// Asks for a pack if the client can ask, and sends this many packets of the request. Returns how much memory the request took, if there
 /// was memory for it.
-fn ask_where_due<'h>(
+fn ask_where_expected<'h>(
     rt: &impl Abort,
     heap: &'h LocalHeap,
     client: &mut Client<&'h LocalHeap>,
@@ -120,7 +120,7 @@ fn ask_where_due<'h>(
     let request = request(rt, heap)?;
     assert!(rt; client.ask(request).is_ok());
     let taken = heap.used();
-    say(client, packets);
+    send_all(client, packets);
     Some(taken)
 }
 
@@ -130,11 +130,11 @@ fn ask(rt: &impl Abort, heap: &LocalHeap, input: &[u8], packets: usize) -> usize
     let mut rest = input;
     let mut most = 0;
     for _ in 0..PACKETS {
-        let Some(unused) = hear(&mut client, rest) else {
+        let Some(unused) = receive_response(&mut client, rest) else {
             break;
         };
         rest = unused;
-        let Some(taken) = ask_where_due(rt, heap, &mut client, packets) else {
+        let Some(taken) = ask_where_expected(rt, heap, &mut client, packets) else {
             break;
         };
         most = most.max(taken);
@@ -149,10 +149,10 @@ fn read(heap: &LocalHeap, input: &[u8]) -> usize {
     let mut rest = input;
     let mut most = 0;
     for _ in 0..PACKETS {
-        let heard = reader.feed(rest, &mut Steps::new());
-        rest = &rest[heard.used.min(rest.len())..];
+        let arrived = reader.feed(rest, &mut Steps::new());
+        rest = &rest[arrived.used.min(rest.len())..];
         most = most.max(heap.used());
-        if matches!(heard.got, ReadGot::Failed(_)) {
+        if matches!(arrived.got, ReadGot::Failed(_)) {
             break;
         }
     }

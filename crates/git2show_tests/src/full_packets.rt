@@ -6,7 +6,7 @@ use crate::expecting::expect;
 use crate::servers::{converse, object, usual};
 use git_msg::Offer;
 use git_names::Format;
-use git_pkt::{Fault, Kind, RunFault, Told};
+use git_pkt::{Fault, Kind, Recorded, RunFault};
 use git_server::{Faulty, ListRepo, Outcome, Repo, Server, serve};
 use std::process::Abort;
 use std::test::Fail;
@@ -89,8 +89,8 @@ fn serve_failing(
     let mut server = Server::new(rt.alloc(), repo, offer, usual().limits, false);
     let mut given = Vec::new(rt.alloc());
     let run = serve(
-        &mut Told::new(REQUEST),
-        &mut Told::new(&mut given),
+        &mut Recorded::new(REQUEST),
+        &mut Recorded::new(&mut given),
         &mut [0; 256],
         &mut server,
         100,

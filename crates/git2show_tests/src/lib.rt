@@ -42,6 +42,8 @@ mod playing_memory;
 #[cfg(test)]
 mod readiness;
 #[cfg(test)]
+mod recorded;
+#[cfg(test)]
 mod repository_memory;
 #[cfg(test)]
 mod repository_text;
@@ -61,7 +63,5 @@ mod short_texts;
 mod showing;
 #[cfg(test)]
 mod stopping;
-#[cfg(test)]
-mod told;
 #[cfg(test)]
 mod transcripts;

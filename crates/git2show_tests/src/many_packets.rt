@@ -7,12 +7,12 @@ use std::test::Fail;
 const PACKETS: u64 = 1_000_000;
 
 #[test]
-fn a_million_packets_in_one_piece_are_read_one_by_one(rt: HostRuntime) -> Result<(), Fail> {
-    let mut piece = Vec::new(rt.alloc());
+fn a_million_packets_in_one_chunk_are_read_one_by_one(rt: HostRuntime) -> Result<(), Fail> {
+    let mut chunk = Vec::new(rt.alloc());
     for _ in 0..PACKETS {
-        piece.extend_from_slice(b"0004")?;
+        chunk.extend_from_slice(b"0004")?;
     }
-    let mut rest = piece.as_slice();
+    let mut rest = chunk.as_slice();
     let mut reader = PacketReader::new();
     for number in 0..PACKETS {
         let fed = reader.feed(rest, &mut Steps::new());

@@ -66,17 +66,17 @@ fn request(alloc: Global, order: Order) -> Result<Vec<u8>, AllocError> {
 }
 
 // The expected packets: a branch is shown if its number is a multiple of three, or if its ten is requested.
-fn due(alloc: Global, tens: bool) -> Result<Vec<u8>, AllocError> {
-    let mut due = Vec::new(alloc);
+fn expected(alloc: Global, tens: bool) -> Result<Vec<u8>, AllocError> {
+    let mut expected = Vec::new(alloc);
     for number in (0..NUMBERS).step_by(20) {
         if number % 3 == 0 || (tens && number / 10 % 7 == 0) {
-            due.extend_from_slice(b"003eaaaaaaaaaaaaaaaaaaaaaaaaaaaaaaaaaaaaaaaa")?;
+            expected.extend_from_slice(b"003eaaaaaaaaaaaaaaaaaaaaaaaaaaaaaaaaaaaaaaaa")?;
             let name = format!(in alloc; " refs/heads/{number:05}\n")?;
-            due.extend_from_slice(name.as_bytes())?;
+            expected.extend_from_slice(name.as_bytes())?;
         }
     }
-    due.extend_from_slice(b"0000")?;
-    Ok(due)
+    expected.extend_from_slice(b"0000")?;
+    Ok(expected)
 }
 
 fn check_answer(rt: &(impl Abort + AllocGlobal), order: Order) -> Result<(), Fail> {
@@ -87,7 +87,7 @@ fn check_answer(rt: &(impl Abort + AllocGlobal), order: Order) -> Result<(), Fai
     let (given, ended) = converse(&mut server, rt.alloc(), &[request.as_slice()])?;
     assert_eq!(rt; ended, Some(Outcome::Closed), "{order:?}");
     assert!(rt;
-        given.as_slice() == due(rt.alloc(), order.tens)?.as_slice(),
+        given.as_slice() == expected(rt.alloc(), order.tens)?.as_slice(),
         "{order:?}"
     );
     Ok(())

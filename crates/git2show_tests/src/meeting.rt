@@ -2,7 +2,7 @@
 use crate::clients::{ask_all, new_client};
 use crate::expecting::{expect, expect_bytes};
 use crate::servers::{advertising, new_server, repository, server_of};
-use git_client::{Client, HeardGot, Sent};
+use git_client::{Client, ReceivedGot, Sent};
 use git_names::{Format, Steps};
 use git_pkt::{Fault, Kind};
 use git_server::{ListRepo, Pulled, Server};
@@ -15,7 +15,7 @@ use std::test::Fail;
 const PACKETS: usize = 100;
 
 /// Gives the client everything that the server has to send. Returns the error that ends the conversation, if one does.
-fn hear<A: Allocator + Copy>(
+fn receive_response<A: Allocator + Copy>(
     server: &mut Server<ListRepo, A>,
     client: &mut Client<Global>,
 ) -> Option<Fault> {
@@ -23,7 +23,7 @@ fn hear<A: Allocator + Copy>(
         let Pulled::Packet(bytes) = server.pull() else {
             return None;
         };
-        if let HeardGot::Failed(fault) = client.feed(bytes, &mut Steps::new()).got {
+        if let ReceivedGot::Failed(fault) = client.feed(bytes, &mut Steps::new()).got {
             return Some(fault);
         }
     }
@@ -31,7 +31,7 @@ fn hear<A: Allocator + Copy>(
 }
 
 /// Gives the server all that the client has to send.
-fn say<A: Allocator + Copy>(client: &mut Client<Global>, server: &mut Server<ListRepo, A>) {
+fn send_all<A: Allocator + Copy>(client: &mut Client<Global>, server: &mut Server<ListRepo, A>) {
     for _ in 0..PACKETS {
         let Sent::Packet(bytes) = client.pull() else {
             return;
@@ -46,7 +46,7 @@ struct Met {
     /// Why the server refused the request, if it did.
     refused: Option<Fault>,
     /// The error that the client received, if any.
-    heard: Option<Fault>,
+    arrived: Option<Fault>,
     /// The client's message of that error, or nothing.
     message: Vec<u8>,
     /// Whether the client can ask again.
@@ -72,13 +72,13 @@ fn meet<A: Allocator + Copy>(
     client: &mut Client<Global>,
     script: &[u8],
 ) -> Result<Met, Fail> {
-    expect(rt, &hear(server, client), &None);
+    expect(rt, &receive_response(server, client), &None);
     ask_all(rt, client, script)?;
-    say(client, server);
-    let heard = hear(server, client);
+    send_all(client, server);
+    let arrived = receive_response(server, client);
     Ok(Met {
         refused: server.fault(),
-        heard,
+        arrived,
         message: message_of(rt.alloc(), client)?,
         can_ask: is_ready(client),
     })
@@ -86,7 +86,7 @@ fn meet<A: Allocator + Copy>(
 
 /// The server refuses the third packet of a request, and the client receives its name and offset.
 #[test]
-fn a_client_hears_why_a_server_refuses(rt: HostRuntime) -> Result<(), Fail> {
+fn a_client_reads_why_a_server_refuses(rt: HostRuntime) -> Result<(), Fail> {
     let script = b"fetch\nwant dddddddddddddddddddddddddddddddddddddddd\ndone\n";
     let mut server = new_server(&rt, rt.alloc(), advertising(Format::Sha1))?;
     let met = meet(&rt, &mut server, &mut new_client(), script)?;
@@ -95,11 +95,11 @@ fn a_client_hears_why_a_server_refuses(rt: HostRuntime) -> Result<(), Fail> {
         offset: 62,
     };
     expect(&rt, &met.refused, &Some(refused));
-    let told = Fault {
+    let announced = Fault {
         kind: Kind::RemoteError,
         offset: 146,
     };
-    expect(&rt, &met.heard, &Some(told));
+    expect(&rt, &met.arrived, &Some(announced));
     expect_bytes(&rt, &met.message, b"NotOurs at 62");
     Ok(())
 }
@@ -117,16 +117,16 @@ fn meet_within(rt: &(impl Abort + AllocGlobal), size: usize) -> Result<Met, Fail
 fn refused_within(rt: &(impl Abort + AllocGlobal), size: usize) -> Result<Option<u64>, Fail> {
     let met = meet_within(rt, size)?;
     let Some(refused) = met.refused else {
-        expect(rt, &met.heard, &None);
+        expect(rt, &met.arrived, &None);
         assert!(rt; met.can_ask);
         return Ok(None);
     };
     expect(rt, &refused.kind, &Kind::OutOfMemory);
-    let told = Fault {
+    let announced = Fault {
         kind: Kind::RemoteError,
         offset: 146,
     };
-    expect(rt, &met.heard, &Some(told));
+    expect(rt, &met.arrived, &Some(announced));
     let message = format!(in rt.alloc(); "OutOfMemory at {}", refused.offset)?;
     expect_bytes(rt, &met.message, message.as_bytes());
     Ok(Some(refused.offset))
@@ -134,7 +134,7 @@ fn refused_within(rt: &(impl Abort + AllocGlobal), size: usize) -> Result<Option
 
 /// The revision comes before the object name. It takes two blocks of 16 bytes, and the space for four object names takes nine.
 #[test]
-fn a_client_hears_where_a_server_has_no_memory(rt: HostRuntime) -> Result<(), Fail> {
+fn a_client_reads_that_a_server_has_no_memory(rt: HostRuntime) -> Result<(), Fail> {
     for (size, refused) in [
         (0, Some(62)),
         (16, Some(62)),

@@ -4,7 +4,7 @@ use crate::servers::repository;
 use git_client::Ending;
 use git_msg::{Limits, Request};
 use git_names::Format;
-use git_pkt::{Fault, Kind, RunFault, Told};
+use git_pkt::{Fault, Kind, Recorded, RunFault};
 use git2show_lib::{play, read_script};
 use linked_list_allocator::LocalHeap;
 use std::process::Abort;
@@ -57,8 +57,8 @@ fn play_within<'h>(
         requests,
         7,
         ending,
-        &mut Told::new(&mut out),
-        &mut Told::new(&mut pack),
+        &mut Recorded::new(&mut out),
+        &mut Recorded::new(&mut pack),
     );
     Ok(Played { ended, out, pack })
 }
@@ -74,11 +74,11 @@ fn is_refused(rt: &impl Abort, played: &Played) -> bool {
             false
         }
         Err(fault) => {
-            let told = RunFault::Refused(Fault {
+            let announced = RunFault::Refused(Fault {
                 kind: Kind::RemoteError,
                 offset: OFFERED,
             });
-            expect(rt, &fault, &told);
+            expect(rt, &fault, &announced);
             expect(rt, &rest.len(), &0);
             expect(rt, &played.pack.len(), &0);
             true
@@ -87,7 +87,7 @@ fn is_refused(rt: &impl Abort, played: &Played) -> bool {
 }
 
 #[test]
-fn a_play_whose_server_has_no_memory_is_told_of_its_error(rt: HostRuntime) -> Result<(), Fail> {
+fn a_play_whose_server_has_no_memory_reports_its_error(rt: HostRuntime) -> Result<(), Fail> {
     for ending in [Ending::FlushOnly, Ending::ResponseEnd] {
         let mut refused = 0u32;
         let mut is_whole = false;

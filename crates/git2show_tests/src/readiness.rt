@@ -6,7 +6,7 @@ use crate::expecting::expect;
 use crate::servers::{repository, usual};
 use git_msg::{Boundary, Fetch, Offer};
 use git_names::{Format, Oid};
-use git_pkt::Told;
+use git_pkt::Recorded;
 use git_server::{ListRepo, Outcome, PackFault, RefEntry, Repo, Server, serve};
 use std::alloc::Allocator;
 use std::cell::Cell;
@@ -83,9 +83,9 @@ fn times_asked(rt: &(impl Abort + AllocGlobal), requests: &[u8]) -> Result<u32, 
     };
     let offer = Offer::everything(repo.format());
     let mut server = Server::new(rt.alloc(), repo, offer, usual().limits, false);
-    let mut reader = Told::new(requests);
+    let mut reader = Recorded::new(requests);
     let mut given = Vec::new(rt.alloc());
-    let mut writer = Told::new(&mut given);
+    let mut writer = Recorded::new(&mut given);
     let run = serve(&mut reader, &mut writer, &mut [0; 64], &mut server, 100);
     expect(rt, &run, &Ok(Outcome::Flush));
     Ok(times.get())

@@ -66,10 +66,10 @@ fn no_packs(alloc: Global) -> Packs {
 }
 
 /// What a reader makes of the text, that it is fed in chunks of so many bytes.
-fn read_in_pieces(memory: &Growths, size: usize) -> Result<ListRepo, TextFault> {
+fn read_in_chunks(memory: &Growths, size: usize) -> Result<ListRepo, TextFault> {
     let mut reader = RepositoryReader::new(memory);
-    for piece in TEXT.chunks(size.max(1)) {
-        if reader.feed(piece).is_err() {
+    for chunk in TEXT.chunks(size.max(1)) {
+        if reader.feed(chunk).is_err() {
             return Err(TextFault::OutOfMemory);
         }
     }
@@ -109,12 +109,12 @@ fn each_growth_of_a_text_is_refused_in_turn(rt: HostRuntime) {
 }
 
 #[test]
-fn each_growth_of_a_text_in_pieces_is_refused_in_turn(rt: HostRuntime) {
+fn each_growth_of_a_text_in_chunks_is_refused_in_turn(rt: HostRuntime) {
     for size in [1, 7, TEXT.len()] {
         let mut least = ENOUGH;
         for growths in 0..ENOUGH {
             let memory = Growths::new(rt.alloc(), growths);
-            let read = read_in_pieces(&memory, size);
+            let read = read_in_chunks(&memory, size);
             if is_read(&rt, &memory, read) {
                 least = least.min(growths);
             } else {

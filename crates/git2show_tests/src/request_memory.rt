@@ -46,7 +46,7 @@ fn kept_within(rt: &impl Abort, alloc: Global, size: usize) -> Result<u32, Alloc
 /// How many of the two prefixes a heap of this size can keep. It has blocks of 16 bytes and multiples of them. The first prefix takes two:
 /// one for the ends of four texts, of four bytes each, and one for its bytes, 13 with those of its length. The second has space for its end
 /// already, and moves the bytes to a block of 32, twice 13 rounded up, while the old block is still taken.
-fn due_within(size: usize) -> u32 {
+fn expected_within(size: usize) -> u32 {
     match size {
         0..=16 => 0,
         17..=48 => 1,
@@ -58,7 +58,7 @@ fn due_within(size: usize) -> u32 {
 fn each_growth_of_a_request_is_refused_in_turn(rt: HostRuntime) -> Result<(), AllocError> {
     for size in 0..256 {
         let kept = kept_within(&rt, rt.alloc(), size)?;
-        assert_eq!(&rt; kept, due_within(size), "with {size} bytes");
+        assert_eq!(&rt; kept, expected_within(size), "with {size} bytes");
     }
     Ok(())
 }
@@ -95,7 +95,7 @@ fn filters_within(rt: &impl Abort, alloc: Global, size: usize) -> Result<u32, Al
 fn each_growth_of_the_filters_is_refused_in_turn(rt: HostRuntime) -> Result<(), AllocError> {
     for size in 0..256 {
         let kept = filters_within(&rt, rt.alloc(), size)?;
-        assert_eq!(&rt; kept, due_within(size), "with {size} bytes");
+        assert_eq!(&rt; kept, expected_within(size), "with {size} bytes");
     }
     Ok(())
 }
@@ -170,7 +170,7 @@ fn new_reader<A: Allocator + Copy>(alloc: A) -> RequestReader<A>
 }
 
 /// Gives the reader a packet, and keeps its argument, if it is one.
-fn hear<A: Allocator + Copy>(
+fn receive_response<A: Allocator + Copy>(
     reader: &mut RequestReader<A>,
     packet: Packet<'_>,
     offset: u64,
@@ -198,7 +198,7 @@ fn expect_kept<A: Allocator + Copy>(
     requires { is_waiting reader.old ≡ false }
     ensures { is_waiting reader.new ≡ false }
 {
-    expect(rt, &hear(reader, packet, offset), &Ok(()));
+    expect(rt, &receive_response(reader, packet, offset), &Ok(()));
 }
 
 #[test]
@@ -215,10 +215,14 @@ fn a_reader_without_memory_refuses_the_first_prefix(rt: HostRuntime) -> Result<(
     expect_kept(&rt, &mut reader, Packet::Payload(b"peel\n"), 24);
     expect(
         &rt,
-        &hear(&mut reader, Packet::Payload(b"ref-prefix a\n"), 33),
+        &receive_response(&mut reader, Packet::Payload(b"ref-prefix a\n"), 33),
         &refused,
     );
-    expect(&rt, &hear(&mut reader, Packet::Flush, 50), &refused);
+    expect(
+        &rt,
+        &receive_response(&mut reader, Packet::Flush, 50),
+        &refused,
+    );
     Ok(())
 }
 
@@ -251,7 +255,7 @@ const KEPT: [&[u8]; 6] = [
 ];
 
 /// Reads the flags and numbers of a fetch, and then this line, with this much memory. Returns the result of the line.
-fn heard_within(
+fn arrived_within(
     rt: &impl Abort,
     alloc: Global,
     size: usize,
@@ -264,11 +268,15 @@ fn heard_within(
     expect_kept(rt, &mut reader, Packet::Payload(b"deepen 2147483647\n"), 22);
     expect_kept(rt, &mut reader, Packet::Payload(b"deepen-relative\n"), 44);
     expect_kept(rt, &mut reader, Packet::Payload(b"deepen-since 0\n"), 64);
-    let heard = hear(&mut reader, Packet::Payload(line), 100);
-    if heard.is_err() {
-        expect(rt, &hear(&mut reader, Packet::Flush, 150), &heard);
+    let arrived = receive_response(&mut reader, Packet::Payload(line), 100);
+    if arrived.is_err() {
+        expect(
+            rt,
+            &receive_response(&mut reader, Packet::Flush, 150),
+            &arrived,
+        );
     }
-    Ok(heard)
+    Ok(arrived)
 }
 
 #[test]
@@ -278,8 +286,8 @@ fn a_fetch_takes_memory_for_objects_and_texts_alone(rt: HostRuntime) -> Result<(
         offset: 100,
     });
     for line in KEPT {
-        expect(&rt, &heard_within(&rt, rt.alloc(), 16, line)?, &refused);
-        expect(&rt, &heard_within(&rt, rt.alloc(), 8192, line)?, &Ok(()));
+        expect(&rt, &arrived_within(&rt, rt.alloc(), 16, line)?, &refused);
+        expect(&rt, &arrived_within(&rt, rt.alloc(), 8192, line)?, &Ok(()));
     }
     Ok(())
 }

@@ -104,7 +104,7 @@ fn each_growth_of_a_script_is_refused_in_turn(rt: HostRuntime) -> Result<(), All
 }
 
 #[test]
-fn with_room_enough_a_script_gives_its_requests(rt: HostRuntime) -> Result<(), AllocError> {
+fn with_space_enough_a_script_gives_its_requests(rt: HostRuntime) -> Result<(), AllocError> {
     let mut script = Vec::new(rt.alloc());
     for (line, _) in LINES {
         script.extend_from_slice(line)?;

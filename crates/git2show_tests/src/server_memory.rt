@@ -2,7 +2,7 @@
 use crate::expecting::{expect, expect_bytes};
 use crate::servers::{converse, new_server, refusal, repository, server_of, usual};
 use git_names::Format;
-use git_pkt::{Kind, RunFault, Told};
+use git_pkt::{Kind, Recorded, RunFault};
 use git_server::{Outcome, serve};
 use linked_list_allocator::LocalHeap;
 use std::alloc::{AllocError, Global};
@@ -42,11 +42,11 @@ fn serve_with(
     let repo = repository(rt, Format::Sha1)?;
     let heap = LocalHeap::new(rt.alloc(), size)?;
     let mut written = Vec::new(rt.alloc());
-    let mut piece = [0; 7];
+    let mut chunk = [0; 7];
     let run = serve(
-        &mut Told::new(input),
-        &mut Told::new(&mut written),
-        &mut piece,
+        &mut Recorded::new(input),
+        &mut Recorded::new(&mut written),
+        &mut chunk,
         &mut server_of(repo, &heap, usual()),
         100,
     );
@@ -66,14 +66,18 @@ fn converse_with(
 
 // What it sends with a heap of this size, and how the session ends. The first text takes two blocks of 16 bytes, for the ends of four texts
 // and for its bytes; the second moves the bytes to a block of 32, while the old one is still taken.
-fn due_with(alloc: Global, kept: &Kept, size: usize) -> Result<(Vec<u8>, Outcome), AllocError> {
+fn expected_with(
+    alloc: Global,
+    kept: &Kept,
+    size: usize,
+) -> Result<(Vec<u8>, Outcome), AllocError> {
     let offset = match size {
         0..=16 => kept.places[0],
         17..=48 => kept.places[1],
         _ => return Ok((Vec::from_slice(alloc, kept.answer)?, Outcome::Closed)),
     };
-    let told = format!(in alloc; "001aERR OutOfMemory at {offset}\n")?;
-    Ok((told.into_bytes(), refusal(Kind::OutOfMemory, offset)))
+    let announced = format!(in alloc; "001aERR OutOfMemory at {offset}\n")?;
+    Ok((announced.into_bytes(), refusal(Kind::OutOfMemory, offset)))
 }
 
 // Expects that a server with each size of memory is refused the expected allocation.
@@ -81,10 +85,14 @@ fn expect_refusals(rt: &(impl Abort + AllocGlobal), kept: &Kept) -> Result<(), F
     for size in 0..256 {
         let (given, ended) = converse_with(rt, kept.request, size)?;
         let (written, run) = serve_with(rt, kept.request, size)?;
-        let (due, outcome) = due_with(rt.alloc(), kept, size)?;
-        assert_eq!(rt; given.as_slice(), due.as_slice(), "with {size} bytes");
+        let (expected, outcome) = expected_with(rt.alloc(), kept, size)?;
+        assert_eq!(rt; given.as_slice(), expected.as_slice(), "with {size} bytes");
         assert_eq!(rt; ended, Some(outcome), "with {size} bytes");
-        assert_eq!(rt; written.as_slice(), due.as_slice(), "with {size} bytes");
+        assert_eq!(rt;
+            written.as_slice(),
+            expected.as_slice(),
+            "with {size} bytes"
+        );
         assert_eq!(rt; run, Ok(outcome), "with {size} bytes");
     }
     Ok(())
@@ -120,8 +128,8 @@ fn each_growth_of_the_wants_is_refused_in_turn(rt: HostRuntime) -> Result<(), Fa
         match ended {
             Some(Outcome::Refused(fault)) => {
                 let line = format!(in rt.alloc(); "ERR OutOfMemory at {}\n", fault.offset)?;
-                let told = format!(in rt.alloc(); "{:04x}{line}", line.len() + 4)?;
-                expect_bytes(&rt, &given, told.as_bytes());
+                let announced = format!(in rt.alloc(); "{:04x}{line}", line.len() + 4)?;
+                expect_bytes(&rt, &given, announced.as_bytes());
                 expect(&rt, &fault.kind, &Kind::OutOfMemory);
             }
             _ => {
@@ -148,11 +156,11 @@ const LATE_TEXT: &[u8] = b"0014command=ls-refs\n0016object-format=sha10001\
 const LATE_TEXT_REFUSED: &[u8] = b"001aERR OutOfMemory at 67\n";
 
 /// Less than a text takes: the ends of four texts fit, and their bytes do not.
-const NO_ROOM: usize = 16;
+const NO_SPACE: usize = 16;
 
 #[test]
 fn without_memory_the_first_text_is_refused(rt: HostRuntime) -> Result<(), Fail> {
-    let (given, ended) = converse_with(&rt, LATE_TEXT, NO_ROOM)?;
+    let (given, ended) = converse_with(&rt, LATE_TEXT, NO_SPACE)?;
     expect_bytes(&rt, &given, LATE_TEXT_REFUSED);
     expect(&rt, &ended, &Some(refusal(Kind::OutOfMemory, 67)));
     Ok(())
@@ -160,7 +168,7 @@ fn without_memory_the_first_text_is_refused(rt: HostRuntime) -> Result<(), Fail>
 
 #[test]
 fn without_memory_a_run_ends_at_the_first_text(rt: HostRuntime) -> Result<(), Fail> {
-    let (written, run) = serve_with(&rt, LATE_TEXT, NO_ROOM)?;
+    let (written, run) = serve_with(&rt, LATE_TEXT, NO_SPACE)?;
     expect_bytes(&rt, &written, LATE_TEXT_REFUSED);
     expect(&rt, &run, &Ok(refusal(Kind::OutOfMemory, 67)));
     Ok(())
@@ -171,8 +179,8 @@ fn a_session_of_flags_takes_no_memory(rt: HostRuntime) -> Result<(), Fail> {
     let input = b"0014command=ls-refs\n00010009peel\n000csymrefs\n0000";
     let (given, ended) = converse_with(&rt, input, 0)?;
     let mut other = new_server(&rt, rt.alloc(), usual())?;
-    let (due, _) = converse(&mut other, rt.alloc(), &[input])?;
+    let (expected, _) = converse(&mut other, rt.alloc(), &[input])?;
     expect(&rt, &ended, &Some(Outcome::Closed));
-    expect_bytes(&rt, &given, &due);
+    expect_bytes(&rt, &given, &expected);
     Ok(())
 }

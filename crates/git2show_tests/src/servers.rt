@@ -1,10 +1,10 @@
 //! A repository of three references, and a server of it over a list of chunks, or over streams.
 ghost use Rattle.std.specs.Prelude.{◌≡◌, ◌<◌, false, length};
-ghost use Rattle.git_pkt.specs.Machine.Told.{IsNew, has_failed};
+ghost use Rattle.git_pkt.specs.Machine.Recorded.{IsNew, has_failed};
 
 use git_msg::{Limits, Offer};
 use git_names::{Format, Oid, Steps};
-use git_pkt::{Fault, Kind, RunFault, Told};
+use git_pkt::{Fault, Kind, Recorded, RunFault};
 use git_server::{ListRepo, Outcome, Pulled, RefEntry, Repo, Server, serve};
 use hex::FromHex;
 use std::alloc::{AllocError, Allocator, Global};
@@ -114,17 +114,17 @@ pub fn new_server<A: Allocator + Copy>(
 pub fn run_server<In: Read, W: Write>(
     rt: &(impl Abort + AllocGlobal),
     setup: Setup,
-    reader: &mut Told<In>,
-    writer: &mut Told<W>,
-    piece: &mut [u8],
+    reader: &mut Recorded<In>,
+    writer: &mut Recorded<W>,
+    chunk: &mut [u8],
     turns: u64,
 ) -> Result<Result<Outcome, RunFault>, Fail>
-    requires room { 0 < length piece.old }
+    requires space { 0 < length chunk.old }
     requires new_reader { IsNew reader.old }
     requires sound_writer { has_failed writer.old ≡ false }
 {
     let mut server = new_server(rt, rt.alloc(), setup)?;
-    Ok(serve(reader, writer, piece, &mut server, turns))
+    Ok(serve(reader, writer, chunk, &mut server, turns))
 }
 
 // Appends everything that the server has to send. Returns the outcome, if there is one.
@@ -143,12 +143,12 @@ fn drain<A: Allocator + Copy>(
 }
 
 // Feeds the chunk, and appends everything that the server sends for it. Returns the outcome, if there is one.
-fn feed_piece<A: Allocator + Copy>(
+fn feed_chunk<A: Allocator + Copy>(
     server: &mut Server<ListRepo, A>,
-    piece: &[u8],
+    chunk: &[u8],
     output: &mut Vec<u8>,
 ) -> Result<Option<Outcome>, AllocError> {
-    let mut rest = piece;
+    let mut rest = chunk;
     for _ in 0..100_000 {
         let used = server.feed(rest, &mut Steps::new());
         rest = &rest[used..];
@@ -164,12 +164,12 @@ fn feed_piece<A: Allocator + Copy>(
 pub fn converse<A: Allocator + Copy>(
     server: &mut Server<ListRepo, A>,
     alloc: Global,
-    pieces: &[&[u8]],
+    chunks: &[&[u8]],
 ) -> Result<(Vec<u8>, Option<Outcome>), AllocError> {
     let mut output = Vec::new(alloc);
     let mut outcome = drain(server, &mut output)?;
-    for piece in pieces {
-        outcome = feed_piece(server, piece, &mut output)?;
+    for chunk in chunks {
+        outcome = feed_chunk(server, chunk, &mut output)?;
     }
     if server.wants_input() {
         server.close();

@@ -1,16 +1,16 @@
 //! Servers over readers and writers: when they flush, what is reported if streams stop, and reads above the limit.
 use crate::expecting::{expect, expect_bytes};
 use crate::servers::{Setup, advertising, new_server, run_server, usual};
-use crate::stopping::{ALL, MANY, TURNS, expect_due, expect_front};
+use crate::stopping::{ALL, MANY, TURNS, expect_front, expect_sent_bytes};
 use git_names::Format;
-use git_pkt::{RunFault, Stops, Told};
+use git_pkt::{Recorded, RunFault, Stops};
 use git_server::{Outcome, Repo, serve};
 use std::cell::Cell;
 use std::io;
 use std::io::{Read, Write};
 use std::process::Abort;
 use std::test::Fail;
-use test_streams::{Endless, Pieces, Sink};
+use test_streams::{Chunks, Endless, Sink};
 
 // A writer that passes bytes on when it is flushed, and counts the flushes.
 #[derive(Drop)]
@@ -46,8 +46,8 @@ fn run_held(
         passed: Vec::new(rt.alloc()),
         flushes: 0,
     };
-    let mut reader = Told::new(input);
-    let mut writer = Told::new(&mut held);
+    let mut reader = Recorded::new(input);
+    let mut writer = Recorded::new(&mut held);
     let run = run_server(rt, setup, &mut reader, &mut writer, &mut [0; 5], turns)?;
     assert!(rt; held.waiting.is_empty());
     Ok((run, held))
@@ -85,7 +85,7 @@ fn all_is_flushed_where_the_reads_are_spent(rt: HostRuntime) -> Result<(), Fail>
 // Returns one chunk for each read, and notes how many bytes had been flushed by then.
 #[derive(Drop)]
 pub(crate) struct Asking<'a> {
-    pub(crate) pieces: &'a [&'a [u8]],
+    pub(crate) chunks: &'a [&'a [u8]],
     pub(crate) next: usize,
     pub(crate) flushed: &'a Cell<usize>,
     pub(crate) seen: Vec<usize>,
@@ -94,12 +94,12 @@ pub(crate) struct Asking<'a> {
 impl<'a> Read for Asking<'a> {
     fn read(&mut self, buf: &mut [u8]) -> io::Result<usize> {
         self.seen.push(self.flushed.get())?;
-        let Some(piece) = self.pieces.get(self.next) else {
+        let Some(chunk) = self.chunks.get(self.next) else {
             return Ok(0);
         };
         self.next = self.next.saturating_add(1);
-        let count = piece.len().min(buf.len());
-        buf[..count].copy_from_slice(&piece[..count]);
+        let count = chunk.len().min(buf.len());
+        buf[..count].copy_from_slice(&chunk[..count]);
         Ok(count)
     }
 }
@@ -128,16 +128,16 @@ impl<'a> Write for Counted<'a> {
 #[test]
 fn each_answer_is_flushed_before_the_next_read(rt: HostRuntime) -> Result<(), Fail> {
     let request = b"0014command=ls-refs\n0000".as_slice();
-    let pieces: [&[u8]; 3] = [request, request, b"0000"];
+    let chunks: [&[u8]; 3] = [request, request, b"0000"];
     let flushed = Cell::new(0);
     let mut asking = Asking {
-        pieces: &pieces,
+        chunks: &chunks,
         next: 0,
         flushed: &flushed,
         seen: Vec::new(rt.alloc()),
     };
-    let mut reader = Told::new(&mut asking);
-    let mut writer = Told::new(Counted {
+    let mut reader = Recorded::new(&mut asking);
+    let mut writer = Recorded::new(Counted {
         waiting: 0,
         flushed: &flushed,
     });
@@ -148,7 +148,7 @@ fn each_answer_is_flushed_before_the_next_read(rt: HostRuntime) -> Result<(), Fa
 }
 
 /// The input, one chunk for each read: two requests, and the flush of a client that leaves.
-const PIECES: [&[u8]; 6] = [
+const CHUNKS: [&[u8]; 6] = [
     b"0014command=ls",
     b"-refs\n0000",
     b"0012command=fetch\n0001",
@@ -179,8 +179,8 @@ fn serve_stopping(
 ) -> Result<(Result<Outcome, RunFault>, Sink), Fail> {
     let setup = advertising(Format::Sha1);
     let mut sink = Sink::new(Vec::new(rt.alloc()), 60, u32::MAX);
-    let mut reader = Told::new(Stops::new(Pieces::new(&PIECES), reads));
-    let mut writer = Told::new(Stops::new(&mut sink, writes));
+    let mut reader = Recorded::new(Stops::new(Chunks::new(&CHUNKS), reads));
+    let mut writer = Recorded::new(Stops::new(&mut sink, writes));
     let run = run_server(rt, setup, &mut reader, &mut writer, &mut [0; 64], turns)?;
     Ok((run, sink))
 }
@@ -188,21 +188,21 @@ fn serve_stopping(
 /// A failed read, and a read above the limit, are reported after the whole answers before them.
 #[test]
 fn each_read_fails_in_turn_while_a_session_is_served(rt: HostRuntime) -> Result<(), Fail> {
-    let mut due = Vec::new(rt.alloc());
+    let mut expected = Vec::new(rt.alloc());
     let mut reads = 0u32;
     for answer in ANSWERS {
-        due.extend_from_slice(answer)?;
+        expected.extend_from_slice(answer)?;
         let (run, sink) = serve_stopping(&rt, reads, ALL, TURNS)?;
         expect(&rt, &run, &Err(RunFault::ReadFault));
-        expect_due(&rt, &sink, &due);
+        expect_sent_bytes(&rt, &sink, &expected);
         let (run, sink) = serve_stopping(&rt, ALL, ALL, u64::from(reads))?;
         expect(&rt, &run, &Err(RunFault::ReadLimit));
-        expect_due(&rt, &sink, &due);
+        expect_sent_bytes(&rt, &sink, &expected);
         reads = reads.saturating_add(1);
     }
     let (run, sink) = serve_stopping(&rt, reads, ALL, u64::from(reads))?;
     expect(&rt, &run, &Ok(Outcome::Flush));
-    expect_due(&rt, &sink, &due);
+    expect_sent_bytes(&rt, &sink, &expected);
     Ok(())
 }
 
@@ -229,8 +229,8 @@ fn each_write_and_flush_fails_in_turn_while_a_session_is_served(
 #[test]
 fn a_session_without_an_end_ends_at_the_limit_of_reads(rt: HostRuntime) -> Result<(), Fail> {
     let mut sink = Sink::new(Vec::new(rt.alloc()), usize::MAX, u32::MAX);
-    let mut reader = Told::new(Endless::new(b"", b"0014command=ls-refs\n0000"));
-    let mut writer = Told::new(&mut sink);
+    let mut reader = Recorded::new(Endless::new(b"", b"0014command=ls-refs\n0000"));
+    let mut writer = Recorded::new(&mut sink);
     let run = run_server(&rt, usual(), &mut reader, &mut writer, &mut [0; 64], 100)?;
     expect(&rt, &run, &Err(RunFault::ReadLimit));
     expect(&rt, &reader.reads(), &100);
@@ -242,17 +242,17 @@ fn a_session_without_an_end_ends_at_the_limit_of_reads(rt: HostRuntime) -> Resul
 #[test]
 fn reads_that_are_spent(rt: HostRuntime) -> Result<(), Fail> {
     let mut server = new_server(&rt, rt.alloc(), usual())?;
-    let mut reader = Told::new(b"0014command=ls-refs\n0000".as_slice());
+    let mut reader = Recorded::new(b"0014command=ls-refs\n0000".as_slice());
     let mut given = Vec::new(rt.alloc());
-    let mut writer = Told::new(&mut given);
-    let mut piece = [0; 1];
-    let run = serve(&mut reader, &mut writer, &mut piece, &mut server, 24);
+    let mut writer = Recorded::new(&mut given);
+    let mut chunk = [0; 1];
+    let run = serve(&mut reader, &mut writer, &mut chunk, &mut server, 24);
     expect(&rt, &run, &Err(RunFault::ReadLimit));
     expect(&rt, &given.len(), &173);
     // The session continues over another reader.
-    let mut reader = Told::new(b"0014command=ls-refs\n00000000".as_slice());
-    let mut writer = Told::new(&mut given);
-    let run = serve(&mut reader, &mut writer, &mut piece, &mut server, 100);
+    let mut reader = Recorded::new(b"0014command=ls-refs\n00000000".as_slice());
+    let mut writer = Recorded::new(&mut given);
+    let run = serve(&mut reader, &mut writer, &mut chunk, &mut server, 100);
     expect(&rt, &run, &Ok(Outcome::Flush));
     expect(&rt, &given.len(), &346);
     Ok(())

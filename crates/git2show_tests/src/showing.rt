@@ -1,17 +1,17 @@
 //! Streams without an end, and streams that stop, while their packets are shown, and how errors are reported.
 use crate::expecting::{expect, expect_bytes};
-use crate::stopping::{ALL, MANY, TURNS, expect_due, expect_front};
-use git_pkt::{Fault, Kind, RunFault, Stops, Told};
+use crate::stopping::{ALL, MANY, TURNS, expect_front, expect_sent_bytes};
+use git_pkt::{Fault, Kind, Recorded, RunFault, Stops};
 use git2show_lib::{ProgramFault, report, show};
 use std::alloc::Global;
 use std::test::Fail;
-use test_streams::{Endless, Pieces, Sink, Stream};
+use test_streams::{Chunks, Endless, Sink, Stream};
 
 /// No call with this number fails.
 const NEVER: u32 = u32::MAX;
 
 /// The input, one chunk for each read.
-const PIECES: [&[u8]; 5] = [b"0000", b"0001000", b"8a\\", b"\nb0002", b"00040003"];
+const CHUNKS: [&[u8]; 5] = [b"0000", b"0001000", b"8a\\", b"\nb0002", b"00040003"];
 
 /// The lines expected after each read; none before the first.
 const LINES: [&[u8]; 6] = [
@@ -31,8 +31,8 @@ fn show_stopping(
     turns: u64,
 ) -> (Result<(), RunFault>, Sink) {
     let mut sink = Sink::new(Vec::new(alloc), 5, NEVER);
-    let mut reader = Told::new(Stops::new(Pieces::new(&PIECES), reads));
-    let mut writer = Told::new(Stops::new(&mut sink, writes));
+    let mut reader = Recorded::new(Stops::new(Chunks::new(&CHUNKS), reads));
+    let mut writer = Recorded::new(Stops::new(&mut sink, writes));
     let got = show(&mut reader, &mut writer, &mut [0; 64], turns);
     (got, sink)
 }
@@ -48,9 +48,9 @@ fn bad_length() -> Result<(), RunFault> {
 #[test]
 fn an_endless_stream_ends_at_the_limit_of_reads(rt: HostRuntime) -> Result<(), Fail> {
     let mut sink = Sink::new(Vec::new(rt.alloc()), usize::MAX, NEVER);
-    let mut reader = Told::new(Endless::new(b"", b"0004"));
-    let mut piece = [0; 4];
-    let got = show(&mut reader, &mut Told::new(&mut sink), &mut piece, 3);
+    let mut reader = Recorded::new(Endless::new(b"", b"0004"));
+    let mut chunk = [0; 4];
+    let got = show(&mut reader, &mut Recorded::new(&mut sink), &mut chunk, 3);
     expect(&rt, &got, &Err(RunFault::ReadLimit));
     expect(&rt, &reader.reads(), &3);
     expect_bytes(&rt, &sink.taken, b"0 data 0\n4 data 0\n8 data 0\n");
@@ -60,22 +60,22 @@ fn an_endless_stream_ends_at_the_limit_of_reads(rt: HostRuntime) -> Result<(), F
 /// A failed read, and a read above the limit, are reported after the lines before them.
 #[test]
 fn each_read_fails_in_turn_while_packets_are_shown(rt: HostRuntime) -> Result<(), Fail> {
-    let mut due = Vec::new(rt.alloc());
+    let mut expected = Vec::new(rt.alloc());
     let mut reads = 0u32;
     for lines in &LINES[..5] {
-        due.extend_from_slice(lines)?;
+        expected.extend_from_slice(lines)?;
         let (got, sink) = show_stopping(rt.alloc(), reads, ALL, TURNS);
         expect(&rt, &got, &Err(RunFault::ReadFault));
-        expect_due(&rt, &sink, &due);
+        expect_sent_bytes(&rt, &sink, &expected);
         let (got, sink) = show_stopping(rt.alloc(), ALL, ALL, u64::from(reads));
         expect(&rt, &got, &Err(RunFault::ReadLimit));
-        expect_due(&rt, &sink, &due);
+        expect_sent_bytes(&rt, &sink, &expected);
         reads = reads.saturating_add(1);
     }
-    due.extend_from_slice(LINES[5])?;
+    expected.extend_from_slice(LINES[5])?;
     let (got, sink) = show_stopping(rt.alloc(), reads, ALL, u64::from(reads));
     expect(&rt, &got, &bad_length());
-    expect_due(&rt, &sink, &due);
+    expect_sent_bytes(&rt, &sink, &expected);
     Ok(())
 }
 
@@ -99,9 +99,14 @@ fn each_write_and_flush_fails_in_turn_while_packets_are_shown(rt: HostRuntime) -
 #[test]
 fn lines_are_flushed_before_the_next_read(rt: HostRuntime) -> Result<(), Fail> {
     let mut sink = Sink::new(Vec::new(rt.alloc()), usize::MAX, NEVER);
-    let mut reader = Told::new(Stream::new(b"000000010002", 4, NEVER));
-    let mut piece = [0; 64];
-    let got = show(&mut reader, &mut Told::new(&mut sink), &mut piece, TURNS);
+    let mut reader = Recorded::new(Stream::new(b"000000010002", 4, NEVER));
+    let mut chunk = [0; 64];
+    let got = show(
+        &mut reader,
+        &mut Recorded::new(&mut sink),
+        &mut chunk,
+        TURNS,
+    );
     expect(&rt, &got, &Ok(()));
     expect(&rt, &sink.flushes, &3);
     expect(&rt, &sink.flushed, &sink.taken.len());
@@ -141,10 +146,10 @@ fn faults_are_reported_on_one_line(rt: HostRuntime) -> Result<(), Fail> {
         ),
     ] {
         let mut sink = Sink::new(Vec::new(rt.alloc()), 7, NEVER);
-        expect(&rt, &report(&fault, &mut Told::new(&mut sink)), &1);
+        expect(&rt, &report(&fault, &mut Recorded::new(&mut sink)), &1);
         expect_bytes(&rt, &sink.taken, line);
         let mut closed = Sink::new(Vec::new(rt.alloc()), 7, 0);
-        expect(&rt, &report(&fault, &mut Told::new(&mut closed)), &1);
+        expect(&rt, &report(&fault, &mut Recorded::new(&mut closed)), &1);
     }
     Ok(())
 }

@@ -13,9 +13,9 @@ pub const MANY: u32 = 1_000;
 pub const TURNS: u64 = 1_073_741_824;
 
 /// Expects that exactly this was written, and that all of it was flushed.
-pub fn expect_due(rt: &impl Abort, sink: &Sink, due: &[u8]) {
-    expect_bytes(rt, &sink.taken, due);
-    expect(rt, &sink.flushed, &due.len());
+pub fn expect_sent_bytes(rt: &impl Abort, sink: &Sink, expected: &[u8]) {
+    expect_bytes(rt, &sink.taken, expected);
+    expect(rt, &sink.flushed, &expected.len());
 }
 
 /// Expects that the written bytes are a prefix of what the whole run writes, and no shorter than those written with one call less.

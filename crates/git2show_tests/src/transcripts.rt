@@ -3,7 +3,7 @@
 use crate::expecting::{expect, expect_bytes};
 use git_client::{Event, write_asked, write_event};
 use git_msg::{Capability, Command};
-use git_pkt::{RunFault, Told};
+use git_pkt::{Recorded, RunFault};
 use std::process::Abort;
 use std::test::Fail;
 use test_streams::Sink;
@@ -21,7 +21,7 @@ fn expect_line(
     line: &[u8],
 ) -> Result<(), Fail> {
     let mut sink = Sink::new(Vec::new(rt.alloc()), usize::MAX, NEVER);
-    let mut out = Told::new(&mut sink);
+    let mut out = Recorded::new(&mut sink);
     expect(rt, &write_event(&mut out, event, 7, 8), &Ok(()));
     assert!(rt; !out.failed());
     expect_bytes(rt, &sink.taken, line);
@@ -59,7 +59,7 @@ fn each_question_is_a_line(rt: HostRuntime) -> Result<(), Fail> {
         (Command::ObjectInfo, b"request object-info\n".as_slice()),
     ] {
         let mut sink = Sink::new(Vec::new(rt.alloc()), usize::MAX, NEVER);
-        let mut out = Told::new(&mut sink);
+        let mut out = Recorded::new(&mut sink);
         expect(&rt, &write_asked(&mut out, command), &Ok(()));
         expect_bytes(&rt, &sink.taken, line);
     }
@@ -74,7 +74,7 @@ fn a_long_value_is_written_whole(rt: HostRuntime) -> Result<(), Fail> {
         value: Some(&value),
     };
     let mut sink = Sink::new(Vec::new(rt.alloc()), 7, NEVER);
-    let mut out = Told::new(&mut sink);
+    let mut out = Recorded::new(&mut sink);
     let event = Event::Capability(capability);
     expect(&rt, &write_event(&mut out, &event, 0, 0), &Ok(()));
     expect(&rt, &sink.taken.len(), &2_014);
@@ -89,7 +89,7 @@ fn a_writer_that_fails_is_a_write_fault(rt: HostRuntime) -> Result<(), Fail> {
     // The writer takes five bytes at a time, so that the line takes five writes.
     for failing in 0..5 {
         let mut sink = Sink::new(Vec::new(rt.alloc()), 5, failing);
-        let mut out = Told::new(&mut sink);
+        let mut out = Recorded::new(&mut sink);
         let event = event_of(Some(b"value"));
         assert_eq!(rt;
             write_event(&mut out, &event, 0, 0),

@@ -22,12 +22,12 @@ use Rattle.git_client.proofs.ConversationRules.{cut_at}
 use Rattle.git_client.proofs.Notes.{first_of_cut, first_of_split}
 use Rattle.git_client.proofs.Sequences.{nearest-append}
 use Rattle.git_client.proofs.Truncation.{asks_in}
-use Rattle.git_server.specs.Answers.{AllFit, advertisement_of as server_says, fetch_line, ls_refs_line, spelled}
+use Rattle.git_server.specs.Answers.{AllFit, advertisement_of as server_sends, fetch_line, ls_refs_line, spelled}
 use Rattle.git_server.proofs.Flushes.{flushes-append}
-use Rattle.git_both_ends.specs.ToldAnswers.{packets_of}
-use Rattle.git_both_ends.proofs.FrontsHeard.{IsReport, before_report, front_of}
-use Rattle.git_both_ends.proofs.HearingOffers.{format_meant, lines_said, nearest_offer, noted_after_all}
-use Rattle.git_both_ends.proofs.RequestsHeard.{join_packets}
+use Rattle.git_both_ends.specs.AnnouncedAnswers.{packets_of}
+use Rattle.git_both_ends.proofs.FrontsReceived.{IsReport, before_report, front_of}
+use Rattle.git_both_ends.proofs.ReceivingOffers.{format_meant, lines_stated, nearest_offer, noted_after_all}
+use Rattle.git_both_ends.proofs.RequestsReceived.{join_packets}
 
 -- ---- what comes before the first request
 
@@ -63,7 +63,7 @@ module _ {A : Type 0} where
       let d = asks.asks t h c in
       let (cut, behind) =
       asks_in t (h.asked ++ asked_of request ∷ []) d.clean d.given d.rest (length h.used) (question_in (request_of new)) (reader_of new) (phase_of new)
-      (request_of new) _ _ asks.owes d.stands in
+      (request_of new) _ _ asks.has_unsent d.stands in
       record {
         first = d.clean;
         rest = d.rest;
@@ -79,7 +79,7 @@ module _ {A : Type 0} where
   asks_after_offer t (ask_refused request handed_back fault) h before old after new made c o = o
   asks_after_offer t leave h before old after new made c o = o
   asks_after_offer t (pull sent) h before old after new made c o = o
-  asks_after_offer t (feed piece answer) h before old after new made c o = offer_stays t h.asked h.used (take answer.used piece) o
+  asks_after_offer t (feed chunk answer) h before old after new made c o = offer_stays t h.asked h.used (take answer.used chunk) o
   asks_after_offer t (close fault) h before old after new made c o = o
 
 -- ---- what the advertisement notes
@@ -108,7 +108,7 @@ lines_all format =
     text_line (codes "version 2") ∷ agent_line ∷ ls_refs_line (everything format) ∷ fetch_line (everything format)
     ∷ text_line (codes "server-option") ∷ format_line format ∷ text_line (codes "object-info") ∷ []
 
-all_lines : (format : Format) → server_says (everything format) ≡ lines_all format ++ flush ∷ []
+all_lines : (format : Format) → server_sends (everything format) ≡ lines_all format ++ flush ∷ []
 all_lines format = refl
 
 clear_lines : (format : Format) → flushes (lines_all format) ≡ 0
@@ -116,10 +116,10 @@ clear_lines format = refl
 
 -- requests of a client that has asked name the format
 module _ (t : Terms) (h : History) (caps : Caps) (noted : HasNoted t h.asked h.used caps) (o : HasOffer t h.asked h.used)
-    (good owed bad answers : List Pkt) (more : List ℕ) (report : IsReport bad) (fit : AllFit (good ++ bad))
-    (parts : good ++ owed ≡ server_says (everything t.format) ++ answers) (same : h.used ++ more ≡ spelled (good ++ bad)) where
+    (good unsent bad answers : List Pkt) (more : List ℕ) (report : IsReport bad) (fit : AllFit (good ++ bad))
+    (parts : good ++ unsent ≡ server_sends (everything t.format) ++ answers) (same : h.used ++ more ≡ spelled (good ++ bad)) where
   -- the packets up to the first refused one begin with the advertisement
-  offered_first : (gs : List Given) → gs ≡ noted.0 → (tail : List Pkt) × (packets_of gs ≡ server_says (everything t.format) ++ tail)
+  offered_first : (gs : List Given) → gs ≡ noted.0 → (tail : List Pkt) × (packets_of gs ≡ server_sends (everything t.format) ++ tail)
   offered_first gs is =
       let sounds = noted.2 in
       let (tail, split) = first_of_split 0 h.used o.first sounds.given o.rest sounds.rest o.spells sounds.splits.spelled sounds.splits.ends in
@@ -130,8 +130,8 @@ module _ (t : Terms) (h : History) (caps : Caps) (noted : HasNoted t h.asked h.u
       ∙ ap (λ (l : List Pkt). l ++ f.later) (sym (join_packets noted.0 sounds.more) ∙ ap packets_of (sym sounds.cut)) ∙ sym f.are in
       let (behind, first, after) =
       before_report t h.asked [] noted.0 noted.1 good bad (packets_of sounds.more ++ f.later) sounds.gives report all in
-      let onward : packets_of noted.0 ++ (behind ++ owed) ≡ (lines_all t.format ++ flush ∷ []) ++ answers =
-      sym (append_assoc (packets_of noted.0) behind owed) ∙ ap (λ (l : List Pkt). l ++ owed) (sym first) ∙ parts in
+      let onward : packets_of noted.0 ++ (behind ++ unsent) ≡ (lines_all t.format ++ flush ∷ []) ++ answers =
+      sym (append_assoc (packets_of noted.0) behind unsent) ∙ ap (λ (l : List Pkt). l ++ unsent) (sym first) ∙ parts in
       let some : 0 < flushes (packets_of noted.0) =
       omega (
         arith,
@@ -141,16 +141,16 @@ module _ (t : Terms) (h : History) (caps : Caps) (noted : HasNoted t h.asked h.u
         ap flushes (join_packets o.first others),
         flushes-append (packets_of o.first) (packets_of others),
       ) in
-      let (end, begins) = past_flush (packets_of noted.0) (lines_all t.format) (behind ++ owed) answers onward (clear_lines t.format) some in
+      let (end, begins) = past_flush (packets_of noted.0) (lines_all t.format) (behind ++ unsent) answers onward (clear_lines t.format) some in
       (end, ap packets_of is ∙ begins)
 
   pub noted_meant : IsFormatMeant t.format caps.object_format
   noted_meant =
       let offer = everything t.format in
       let (tail, are) = offered_first noted.0 refl in
-      let c = cut_at noted.0 (server_says offer) tail are in
-      let order : nearest noted.0 [] ≡ nearest c.second (flush ∷ lines_said offer) =
+      let c = cut_at noted.0 (server_sends offer) tail are in
+      let order : nearest noted.0 [] ≡ nearest c.second (flush ∷ lines_stated offer) =
       ap (λ (l : List Given). nearest l []) c.whole ∙ nearest-append c.first c.second [] ∙ ap (nearest c.second) (nearest_offer offer c.first c.first_are) in
-      let is : caps ≡ noted_of (flush ∷ lines_said offer) =
+      let is : caps ≡ noted_of (flush ∷ lines_stated offer) =
       noted.3 ∙ ap (λ (l : List Pkt). noted_of (advertisement_of l)) order ∙ noted_after_all offer c.second in
       format_meant offer t.format caps.object_format (ap (λ (k : Caps). k.object_format) is)

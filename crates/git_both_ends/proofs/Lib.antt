@@ -1,13 +1,13 @@
-mod Hearing
-mod HearingAnswers
-mod HearingSessions
-mod HearingOffers
+mod Receiving
+mod ReceivingAnswers
+mod ReceivingSessions
+mod ReceivingOffers
 mod ValuesRead
-pub mod RequestsHeard
+pub mod RequestsReceived
 mod SpelledPackets
-mod PacksTold
-mod PlaysTold
-mod FrontsHeard
+mod PacksAnnounced
+mod PlaysAnnounced
+mod FrontsReceived
 mod ServerGave
 mod AskedAfterOffer
 mod NeitherWaits

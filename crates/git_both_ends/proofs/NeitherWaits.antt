@@ -17,13 +17,13 @@ use Rattle.git_msg.specs.Advertisement.{everything}
 use Rattle.git_msg.specs.Asked.{Asked, HasValues}
 use Rattle.git_msg.specs.Lines.{IsFormatMeant}
 use Rattle.git_msg.specs.declared.requests.Request.{Request}
-use Rattle.git_msg.proofs.RoundTrip.{meant_when_said}
+use Rattle.git_msg.proofs.RoundTrip.{meant_when_stated}
 use Rattle.git_client.specs.Conversation.{GiveAll, RefusesAt}
 use Rattle.git_client.specs.Events.{EventValue, ended}
 use Rattle.git_client.specs.Machine.Calls.{Call as ClientCall, ask, ask_refused, leave, pull as pull_client, feed as feed_client, close as close_client}
 use Rattle.git_client.specs.Machine.Calls.{after_call, history_after}
-use Rattle.git_client.specs.Machine.Client.{AreWhole, Converses, History, StandsIn, can_ask, caps_of, fault_of, has_left, left_to_say, nothing_yet}
-use Rattle.git_client.specs.Machine.Client.{farewell, phase_of, questions_of, reader_of, request_of, said_of, wants_input as waits_for_input}
+use Rattle.git_client.specs.Machine.Client.{AreWhole, Converses, History, StandsIn, can_ask, caps_of, fault_of, has_left, left_to_send, nothing_yet}
+use Rattle.git_client.specs.Machine.Client.{farewell, phase_of, questions_of, reader_of, request_of, sent_of, wants_input as waits_for_input}
 use Rattle.git_client.specs.Machine.Client.{Pulls as PullsClient}
 use Rattle.git_client.specs.Machine.Turns.{fault_in, has_left_in, left_in, question_in, takes_packets}
 use Rattle.git_client.specs.Parts.{Terms, nearest}
@@ -32,13 +32,13 @@ use Rattle.git_client.specs.declared.events.Ending.TheVariants.{FlushOnly}
 use Rattle.git_client.specs.declared.events.Sent.{Sent}
 use Rattle.git_client.specs.declared.events.Sent.TheVariants.{Packet, NeedInput, CanAsk, Finished, Failed as FailedSent}
 use Rattle.git_client.specs.declared.phase.Phase.{Phase}
-use Rattle.git_client.specs.declared.phase.Phase.TheVariants.{Hearing, Failed}
+use Rattle.git_client.specs.declared.phase.Phase.TheVariants.{Receiving, Failed}
 use Rattle.git_client.proofs.Calls.{goes_on}
 use Rattle.git_client.proofs.Determined.{excluded}
-use Rattle.git_client.proofs.EventsHeard.{awaits_more, has_noted}
+use Rattle.git_client.proofs.EventsReceived.{awaits_more, has_noted}
 use Rattle.git_client.proofs.Sequences.{give_all_append, nearest-append}
-use Rattle.git_client.proofs.Truncation.{none_due}
-use Rattle.git_server.specs.Answers.{AllFit, advertisement_of as server_says, spelled}
+use Rattle.git_client.proofs.Truncation.{none_expected}
+use Rattle.git_server.specs.Answers.{AllFit, advertisement_of as server_sends, spelled}
 use Rattle.git_server.specs.Repository.{IsSound, RepoState}
 use Rattle.git_server.specs.Sessions.{IsAnswered, Setting}
 use Rattle.git_server.specs.Machine.ServerCalls.{Pulls}
@@ -51,13 +51,13 @@ use Rattle.git_server.proofs.SessionLaws.{all_answered}
 use Rattle.git_both_ends.specs.BothEnds.{BothEnds, CanGoOn, EitherCall, HasBytes, HasRefused, HaveMet, MoveAll, Moves, MovesClient, MovesServer}
 use Rattle.git_both_ends.specs.BothEnds.{IsPulledPacket, IsSentPacket, calls_of_client, history_of, of_client, of_server, sent_by, taken_by, terms_with}
 use Rattle.git_both_ends.specs.Plays.{setting_of}
-use Rattle.git_both_ends.specs.ToldAnswers.{AsksIn, CanBeWritten, packets_of, told_all, told_by, told_offer, told_play}
+use Rattle.git_both_ends.specs.AnnouncedAnswers.{AsksIn, CanBeWritten, packets_of, announced_all, announced_by, announced_offer, announced_play}
 use Rattle.git_both_ends.proofs.AskedAfterOffer.{AsksAfterOffer, HasOffer, asks_after_offer, noted_meant}
-use Rattle.git_both_ends.proofs.FrontsHeard.{before_report, first_events, front_of, given_at, spelled_open}
-use Rattle.git_both_ends.proofs.HearingOffers.{nearest_pushed, offer_heard, offer_whole, pushed}
-use Rattle.git_both_ends.proofs.HearingSessions.{all_heard, ended_by_flush}
-use Rattle.git_both_ends.proofs.PlaysTold.{asks_in, stream_asks}
-use Rattle.git_both_ends.proofs.RequestsHeard.{HaveValues, join_packets, wherever, wherever_are, written_all}
+use Rattle.git_both_ends.proofs.FrontsReceived.{before_report, first_events, front_of, given_at, spelled_open}
+use Rattle.git_both_ends.proofs.ReceivingOffers.{nearest_pushed, offer_received, offer_whole, pushed}
+use Rattle.git_both_ends.proofs.ReceivingSessions.{all_arrived, ended_by_flush}
+use Rattle.git_both_ends.proofs.PlaysAnnounced.{asks_in, stream_asks}
+use Rattle.git_both_ends.proofs.RequestsReceived.{HaveValues, join_packets, wherever, wherever_are, written_all}
 use Rattle.git_both_ends.proofs.ServerGave.{Gave, gave, gave_all, gave_clean, read_front}
 use Rattle.git_both_ends.proofs.SpelledPackets.{are_spelled}
 
@@ -85,17 +85,17 @@ stop_kind p rest end kind offset by = inr by.0
 -- while packets of the server are expected, none is left to be sent, and the client has not left
 nothing_left : {A : Type 0} (phase : Phase) (request : Option (Request A)) → takes_packets phase ≡ true
     → (left_in phase request ≡ []) × (has_left_in phase ≡ false)
-nothing_left (Hearing due) request waits = (refl, refl)
+nothing_left (Receiving expected) request waits = (refl, refl)
 nothing_left phase request waits = absurd (cc)
 
 -- a client that neither can ask nor waits has a packet to send, unless it has left or failed
 client_gives : {A : Type 0} (client : Client A) → can_ask client ≡ false → waits_for_input client ≡ false → fault_of client ≡ None → has_left client ≡ false
     → (sent : Sent) (new : Client A) → PullsClient client sent new → IsSentPacket sent
 client_gives client no_turn no_wait sound stays (Packet bytes) new pulls = tt
-client_gives client no_turn no_wait sound stays NeedInput new pulls = let waits = pulls.tells.0 in absurd (cc)
-client_gives client no_turn no_wait sound stays CanAsk new pulls = let ready = pulls.tells.0 in absurd (cc)
-client_gives client no_turn no_wait sound stays Finished new pulls = let left = pulls.tells.0 in absurd (cc)
-client_gives client no_turn no_wait sound stays (FailedSent fault) new pulls = let failed = pulls.tells.0 in absurd (cc)
+client_gives client no_turn no_wait sound stays NeedInput new pulls = let waits = pulls.announces.0 in absurd (cc)
+client_gives client no_turn no_wait sound stays CanAsk new pulls = let ready = pulls.announces.0 in absurd (cc)
+client_gives client no_turn no_wait sound stays Finished new pulls = let left = pulls.announces.0 in absurd (cc)
+client_gives client no_turn no_wait sound stays (FailedSent fault) new pulls = let failed = pulls.announces.0 in absurd (cc)
 
 -- what a call adds to the bytes that the client sent and used
 history_adds : {A : Type 0} (h : History) (call : ClientCall A)
@@ -104,7 +104,7 @@ history_adds h (ask request) = (sym (append-nil h.given), sym (append-nil h.used
 history_adds h (ask_refused request handed_back fault) = (sym (append-nil h.given), sym (append-nil h.used))
 history_adds h leave = (sym (append-nil h.given), sym (append-nil h.used))
 history_adds h (pull_client sent) = (refl, sym (append-nil h.used))
-history_adds h (feed_client piece answer) = (sym (append-nil h.given), refl)
+history_adds h (feed_client chunk answer) = (sym (append-nil h.given), refl)
 history_adds h (close_client fault) = (sym (append-nil h.given), sym (append-nil h.used))
 
 module _ {R A : Type 0} (state : R → RepoState) where
@@ -112,15 +112,15 @@ module _ {R A : Type 0} (state : R → RepoState) where
   server_gives : (server : Server R A) → wants_input server ≡ false → outcome_of server ≡ None → (pulled : Pulled) (new : Server R A)
       → Pulls state server pulled new → IsPulledPacket pulled
   server_gives server no_wait goes (PulledPacket bytes) new pulls = tt
-  server_gives server no_wait goes NeedMore new pulls = let waits = pulls.tells.0 in absurd (cc)
-  server_gives server no_wait goes (PulledEnd outcome) new pulls = let over = pulls.tells.0 in absurd (cc)
+  server_gives server no_wait goes NeedMore new pulls = let waits = pulls.announces.0 in absurd (cc)
+  server_gives server no_wait goes (PulledEnd outcome) new pulls = let over = pulls.announces.0 in absurd (cc)
 
   -- a call extends what held before it
   runs_on : (refuses : ℕ → Type 0) (call : ServerCall) (s : Setting) (used : List ℕ) (over : Bool) (given : List ℕ)
       (before : ℕ) (old : Server R A) (after : ℕ) (new : Server R A)
       → Makes state refuses call before old after new → Running state s used over given old
       → (ended : Bool) × Running state s (used ++ used_by call) ended (given ++ given_with call) new
-  runs_on refuses (feed piece count) s used over given before old after new made r = (over, made.goes s used over given r)
+  runs_on refuses (feed chunk count) s used over given before old after new made r = (over, made.goes s used over given r)
   runs_on refuses (pull answer) s used over given before old after new made r = (over, made.0.goes s used over given r)
   runs_on refuses close s used over given before old after new made r = (
     true,
@@ -148,29 +148,29 @@ module _ {R A : Type 0} (state : R → RepoState) (format : Format) (limit : ℕ
     have_values : HaveValues h.asked
     have_values = All-weaker (HasValues format) (λ (q : Asked). (f : Format) × HasValues f q) (λ q is. (format, is)) h.asked values
 
-    client_sends : agree.used ++ (now.to_server ++ spelled (left_to_say now.client)) ≡ spelled (said_of format (caps_of now.client) h.asked h.left)
+    client_sends : agree.used ++ (now.to_server ++ spelled (left_to_send now.client)) ≡ spelled (sent_of format (caps_of now.client) h.asked h.left)
     client_sends =
-        sym (append_assoc agree.used now.to_server (spelled (left_to_say now.client)))
-        ∙ ap (λ (l : List ℕ). l ++ spelled (left_to_say now.client)) (sym agree.sent) ∙ agree.converses.spoken
+        sym (append_assoc agree.used now.to_server (spelled (left_to_send now.client)))
+        ∙ ap (λ (l : List ℕ). l ++ spelled (left_to_send now.client)) (sym agree.sent) ∙ agree.converses.spoken
 
     module _ (g : Gave (setting_of (terms_with format) limit before true) agree.used agree.given) where
-      client_hears : h.used ++ now.to_client ≡ spelled (g.good ++ g.bad)
-      client_hears = sym agree.received ∙ g.given_is
+      client_receives : h.used ++ now.to_client ≡ spelled (g.good ++ g.bad)
+      client_receives = sym agree.received ∙ g.given_is
 
       meant : HasOffer (terms_with format) h.asked h.used → IsFormatMeant format (caps_of now.client).object_format
       meant o =
-          noted_meant (terms_with format) h (caps_of now.client) (has_noted (terms_with format) h now.client agree.converses) o g.good g.owed g.bad g.answers
-          now.to_client g.report g.fit g.parts client_hears
+          noted_meant (terms_with format) h (caps_of now.client) (has_noted (terms_with format) h now.client agree.converses) o g.good g.unsent g.bad g.answers
+          now.to_client g.report g.fit g.parts client_receives
 
       -- the bytes that it sent are the written form of the requests
-      wrote : (says_agent : Bool) × (says_format : Bool) × IsFormatMeant format says_format
-          × (agree.used ++ (now.to_server ++ spelled (left_to_say now.client))
-          ≡ spelled (written_all says_agent says_format format h.asked ++ farewell h.left))
+      wrote : (writes_agent : Bool) × (writes_format : Bool) × IsFormatMeant format writes_format
+          × (agree.used ++ (now.to_server ++ spelled (left_to_send now.client))
+          ≡ spelled (written_all writes_agent writes_format format h.asked ++ farewell h.left))
       wrote = elim agree.in_turn [
         | inl none ↦ (
           true,
           true,
-          meant_when_said format,
+          meant_when_stated format,
           client_sends ∙ ap (λ (l : List Asked). spelled (questions_of format (caps_of now.client) l ++ farewell h.left)) none
               ∙ ap (λ (l : List Asked). spelled (written_all true true format l ++ farewell h.left)) (sym none),
         )
@@ -180,74 +180,74 @@ module _ {R A : Type 0} (state : R → RepoState) (format : Format) (limit : ℕ
       -- the requests that the server read are the first ones that were asked
       read : (after : List Asked) × (h.asked ≡ g.asked ++ after) × All (HasValues format) g.asked
       read =
-          let (says_agent, says_format, is_meant, sends) = wrote in
-          read_front format limit before says_agent says_format h.asked g.asked h.left agree.used (now.to_server ++ spelled (left_to_say now.client))
+          let (writes_agent, writes_format, is_meant, sends) = wrote in
+          read_front format limit before writes_agent writes_format h.asked g.asked h.left agree.used (now.to_server ++ spelled (left_to_send now.client))
           g.left g.rest is_meant have_values sends g.stream
 
       -- the packets of the advertisement and of the answers, at any offsets
       abbrev first_packets : List Given
-      first_packets = wherever (server_says (everything format))
+      first_packets = wherever (server_sends (everything format))
 
       abbrev all_packets : List Given
       all_packets = first_packets ++ wherever g.answers
 
-      all_are : packets_of all_packets ≡ g.good ++ g.owed
+      all_are : packets_of all_packets ≡ g.good ++ g.unsent
       all_are =
           join_packets first_packets (wherever g.answers)
-          ∙ ap (λ (l : List Pkt). l ++ packets_of (wherever g.answers)) (wherever_are (server_says (everything format)))
-          ∙ ap (λ (l : List Pkt). server_says (everything format) ++ l) (wherever_are g.answers)
+          ∙ ap (λ (l : List Pkt). l ++ packets_of (wherever g.answers)) (wherever_are (server_sends (everything format)))
+          ∙ ap (λ (l : List Pkt). server_sends (everything format) ++ l) (wherever_are g.answers)
           ∙ sym g.parts
 
       -- the events that they give
       all_give : (after : List Asked) → h.asked ≡ g.asked ++ after → All (HasValues format) g.asked
-          → GiveAll (terms_with format) h.asked [] all_packets (told_offer (everything format) ++ told_all before.answers g.asked)
+          → GiveAll (terms_with format) h.asked [] all_packets (announced_offer (everything format) ++ announced_all before.answers g.asked)
           × AreWhole (terms_with format) g.asked (nearest all_packets [])
       all_give after is in_format =
           let t = terms_with format in
           let offer = everything format in
-          let are = wherever_are (server_says offer) in
+          let are = wherever_are (server_sends offer) in
           let asks : All (AsksIn format) g.asked = All-weaker (HasValues format) (AsksIn format) (asks_in format) g.asked in_format in
-          let (gives, whole) = all_heard t before.answers sound written same_format g.asked [] after (nearest first_packets []) g.answers
+          let (gives, whole) = all_arrived t before.answers sound written same_format g.asked [] after (nearest first_packets []) g.answers
           (wherever g.answers) asks (ended_by_flush before.answers g.asked g.answers g.answered)
           (offer_whole t offer first_packets refl are) (wherever_are g.answers) in
-          let heard = offer_heard t offer first_packets refl are h.asked in (
-            give_all_append t h.asked [] first_packets (wherever g.answers) (told_offer offer) (told_all before.answers g.asked) heard
-                (subst (λ (l : List Asked). GiveAll t l (nearest first_packets []) (wherever g.answers) (told_all before.answers g.asked)) (sym is) gives),
+          let arrived = offer_received t offer first_packets refl are h.asked in (
+            give_all_append t h.asked [] first_packets (wherever g.answers) (announced_offer offer) (announced_all before.answers g.asked) arrived
+                (subst (λ (l : List Asked). GiveAll t l (nearest first_packets []) (wherever g.answers) (announced_all before.answers g.asked)) (sym is) gives),
             subst (AreWhole t g.asked) (sym (nearest-append first_packets (wherever g.answers) [])) whole,
           )
 
       -- the events handed out, of packets that are not refused and of the open one, are the first events of the answers
       handed_out : (later : List Pkt) (more : List ℕ) → packets_of agree.converses.clean ++ later ≡ g.good ++ g.bad
           → agree.converses.rest ++ more ≡ spelled later
-          → (others : List EventValue) × (told_play format before.answers h.asked ≡ h.events ++ others)
+          → (others : List EventValue) × (announced_play format before.answers h.asked ≡ h.events ++ others)
       handed_out later more cut onward =
           let t = terms_with format in
           let c = agree.converses in
           let (after, is, in_format) = read in
-          let told = told_offer (everything format) ++ told_all before.answers g.asked in
+          let announced = announced_offer (everything format) ++ announced_all before.answers g.asked in
           let (behind, first, last) = before_report t h.asked [] c.clean c.whole g.good g.bad later c.gives g.report cut in
           let fit : AllFit (behind ++ g.bad) =
           fit_back (packets_of c.clean) (behind ++ g.bad)
           (subst AllFit (ap (λ (l : List Pkt). l ++ g.bad) first ∙ append_assoc (packets_of c.clean) behind g.bad) g.fit) in
-          let are : packets_of all_packets ≡ packets_of c.clean ++ (behind ++ g.owed) =
-          all_are ∙ ap (λ (l : List Pkt). l ++ g.owed) first ∙ append_assoc (packets_of c.clean) behind g.owed in
-          let (others, front) = first_events t h.asked [] c.clean all_packets c.whole told behind g.owed g.bad c.rest more c.gives
+          let are : packets_of all_packets ≡ packets_of c.clean ++ (behind ++ g.unsent) =
+          all_are ∙ ap (λ (l : List Pkt). l ++ g.unsent) first ∙ append_assoc (packets_of c.clean) behind g.unsent in
+          let (others, front) = first_events t h.asked [] c.clean all_packets c.whole announced behind g.unsent g.bad c.rest more c.gives
           (all_give after is in_format).0 are g.report (onward ∙ ap spelled last) fit c.reads.splits.ends in
-          let events : told ≡ h.events ++ others = front ∙ ap (λ (l : List EventValue). l ++ others) (sym c.events_are) in
-          let all : told_all before.answers h.asked ≡ told_all before.answers g.asked ++ told_all before.answers after =
-          ap (told_all before.answers) is ∙ flat_map-append (λ (q : Asked). told_by before.answers q ++ ended ∷ []) g.asked after in (
-            others ++ told_all before.answers after,
-            ap (λ (l : List EventValue). told_offer (everything format) ++ l) all
-                ∙ sym (append_assoc (told_offer (everything format)) (told_all before.answers g.asked) (told_all before.answers after))
-                ∙ ap (λ (l : List EventValue). l ++ told_all before.answers after) events
-                ∙ append_assoc h.events others (told_all before.answers after),
+          let events : announced ≡ h.events ++ others = front ∙ ap (λ (l : List EventValue). l ++ others) (sym c.events_are) in
+          let all : announced_all before.answers h.asked ≡ announced_all before.answers g.asked ++ announced_all before.answers after =
+          ap (announced_all before.answers) is ∙ flat_map-append (λ (q : Asked). announced_by before.answers q ++ ended ∷ []) g.asked after in (
+            others ++ announced_all before.answers after,
+            ap (λ (l : List EventValue). announced_offer (everything format) ++ l) all
+                ∙ sym (append_assoc (announced_offer (everything format)) (announced_all before.answers g.asked) (announced_all before.answers after))
+                ∙ ap (λ (l : List EventValue). l ++ announced_all before.answers after) events
+                ∙ append_assoc h.events others (announced_all before.answers after),
           )
 
-      front_by : (others : List EventValue) × (told_play format before.answers h.asked ≡ h.events ++ others)
+      front_by : (others : List EventValue) × (announced_play format before.answers h.asked ≡ h.events ++ others)
       front_by =
           let t = terms_with format in
           let c = agree.converses in
-          let f = front_of 0 h.used now.to_client c.given c.rest (g.good ++ g.bad) g.fit c.reads.splits.spelled client_hears in
+          let f = front_of 0 h.used now.to_client c.given c.rest (g.good ++ g.bad) g.fit c.reads.splits.spelled client_receives in
           elim (all_or_first t h.asked c.clean c.given c.rest (length h.used) (question_in (request_of now.client)) (reader_of now.client)
           (phase_of now.client) c.stands) [
             | inl all ↦ handed_out f.later now.to_client (ap (λ (gs : List Given). packets_of gs ++ f.later) (sym all) ∙ sym f.are) f.onward
@@ -258,7 +258,7 @@ module _ {R A : Type 0} (state : R → RepoState) (format : Format) (limit : ℕ
                 (ap (λ (l : List ℕ). l ++ spelled (packets_of others ++ f.later)) none)
           ]
 
-    front : (IsPackLost (outcome_of now.server) → ⊥) → (others : List EventValue) × (told_play format before.answers h.asked ≡ h.events ++ others)
+    front : (IsPackLost (outcome_of now.server) → ⊥) → (others : List EventValue) × (announced_play format before.answers h.asked ≡ h.events ++ others)
     front kept = front_by (gave state now.server (setting_of (terms_with format) limit before true) agree.used agree.over agree.given agree.runs kept)
 
     -- ---- what is refused
@@ -270,23 +270,24 @@ module _ {R A : Type 0} (state : R → RepoState) (format : Format) (limit : ℕ
     refused_none g none bad kind cut refused =
         let t = terms_with format in
         let c = agree.converses in
-        let f = front_of 0 h.used now.to_client c.given c.rest (g.good ++ g.bad) g.fit c.reads.splits.spelled (client_hears g) in
+        let f = front_of 0 h.used now.to_client c.given c.rest (g.good ++ g.bad) g.fit c.reads.splits.spelled (client_receives g) in
         let (after, is, in_format) = read g in
         let front : g.good ≡ (packets_of c.clean ++ bad.packet ∷ []) ++ f.later =
         sym (append-nil g.good) ∙ ap (λ (l : List Pkt). g.good ++ l) (sym none) ∙ f.are
         ∙ ap (λ (l : List Pkt). l ++ f.later) (ap packets_of cut ∙ join_packets c.clean (bad ∷ [])) in
-        let are : packets_of (all_packets g) ≡ packets_of c.clean ++ (bad.packet ∷ (f.later ++ g.owed)) =
-        all_are g ∙ ap (λ (l : List Pkt). l ++ g.owed) (front ∙ append_assoc (packets_of c.clean) (bad.packet ∷ []) f.later)
-        ∙ append_assoc (packets_of c.clean) (bad.packet ∷ f.later) g.owed in
-        let (events, at) = given_at t h.asked [] c.clean (all_packets g) bad.packet (told_offer (everything format) ++ told_all before.answers g.asked)
-        (f.later ++ g.owed) (all_give g after is in_format).0 are in
+        let are : packets_of (all_packets g) ≡ packets_of c.clean ++ (bad.packet ∷ (f.later ++ g.unsent)) =
+        all_are g ∙ ap (λ (l : List Pkt). l ++ g.unsent) (front ∙ append_assoc (packets_of c.clean) (bad.packet ∷ []) f.later)
+        ∙ append_assoc (packets_of c.clean) (bad.packet ∷ f.later) g.unsent in
+        let (events, at) = given_at t h.asked [] c.clean (all_packets g) bad.packet
+        (announced_offer (everything format) ++ announced_all before.answers g.asked)
+        (f.later ++ g.unsent) (all_give g after is in_format).0 are in
         excluded t h.asked (nearest c.clean []) bad.packet events kind at refused
 
     -- and the bytes after the packets can become one
     rest_open : (g : Gave (setting_of (terms_with format) limit before true) agree.used agree.given) → IsOpen (agree.converses.rest ++ now.to_client)
     rest_open g =
         let c = agree.converses in
-        let f = front_of 0 h.used now.to_client c.given c.rest (g.good ++ g.bad) g.fit c.reads.splits.spelled (client_hears g) in
+        let f = front_of 0 h.used now.to_client c.given c.rest (g.good ++ g.bad) g.fit c.reads.splits.spelled (client_receives g) in
         subst IsOpen (sym f.onward) (spelled_open f.later f.fit)
 
     fault_by : (g : Gave (setting_of (terms_with format) limit before true) agree.used agree.given) → g.bad ≡ [] → (phase : Phase) (fault : Fault)
@@ -315,26 +316,26 @@ module _ {R A : Type 0} (state : R → RepoState) (format : Format) (limit : ℕ
 
     -- if both wait for bytes, some are on their way
     some_on_the_way : wants_input now.server ≡ true → waits_for_input now.client ≡ true → now.to_server ≡ [] → now.to_client ≡ [] → ⊥
-    some_on_the_way waits due no_questions no_answers =
+    some_on_the_way waits expected no_questions no_answers =
         let t = terms_with format in
         let s = setting_of (terms_with format) limit before true in
         let c = agree.converses in
         let a : IsAnswered s agree.used agree.given = all_answered state now.server s agree.used agree.over agree.given agree.runs waits in
         let g = gave_all s agree.used agree.given a in
-        let good = server_says (everything format) ++ a.answers in
-        let (says_agent, says_format, is_meant, sends) = wrote g in
-        let silent = nothing_left (phase_of now.client) (request_of now.client) due in
+        let good = server_sends (everything format) ++ a.answers in
+        let (writes_agent, writes_format, is_meant, sends) = wrote g in
+        let silent = nothing_left (phase_of now.client) (request_of now.client) expected in
         let stays : h.left ≡ false = c.left ∙ silent.1 in
-        let all : agree.used ≡ spelled (written_all says_agent says_format format h.asked) =
+        let all : agree.used ≡ spelled (written_all writes_agent writes_format format h.asked) =
         sym (append-nil agree.used)
-        ∙ ap (λ (l : List ℕ). agree.used ++ l) (sym (ap (λ (l : List ℕ). l ++ spelled (left_to_say now.client)) no_questions ∙ ap spelled silent.0)) ∙ sends
-        ∙ ap (λ (left : Bool). spelled (written_all says_agent says_format format h.asked ++ farewell left)) stays
-        ∙ ap spelled (append-nil (written_all says_agent says_format format h.asked)) in
-        let (same, in_format) = stream_asks format FlushOnly limit before true says_agent says_format h.asked is_meant have_values all a in
+        ∙ ap (λ (l : List ℕ). agree.used ++ l) (sym (ap (λ (l : List ℕ). l ++ spelled (left_to_send now.client)) no_questions ∙ ap spelled silent.0)) ∙ sends
+        ∙ ap (λ (left : Bool). spelled (written_all writes_agent writes_format format h.asked ++ farewell left)) stays
+        ∙ ap spelled (append-nil (written_all writes_agent writes_format format h.asked)) in
+        let (same, in_format) = stream_asks format FlushOnly limit before true writes_agent writes_format h.asked is_meant have_values all a in
         let whole : AreWhole t h.asked (nearest (all_packets g) []) =
         subst (λ (l : List Asked). AreWhole t l (nearest (all_packets g) [])) same
         (all_give g [] (sym same ∙ sym (append-nil a.asked)) (subst (All (HasValues format)) (sym same) in_format)).1 in
-        let goes = awaits_more t h now.client c due in
+        let goes = awaits_more t h now.client c expected in
         let used : h.used ≡ spelled good = sym (append-nil h.used) ∙ ap (λ (l : List ℕ). h.used ++ l) (sym no_answers) ∙ sym agree.received ∙ a.given_is in
         let split = are_spelled h.used good a.fit used in
         let one = one_split 0 h.used goes.given split.given goes.rest [] goes.splits.spelled split.splits.spelled goes.splits.ends split.splits.ends in
@@ -342,23 +343,23 @@ module _ {R A : Type 0} (state : R → RepoState) (format : Format) (limit : ℕ
         all_are g ∙ append-nil good ∙ sym (ap packets_of one.packets ∙ split.are) in
         let order : nearest (all_packets g) [] ≡ nearest goes.given [] =
         nearest_pushed (all_packets g) [] ∙ ap (λ (ps : List Pkt). pushed ps []) packets ∙ sym (nearest_pushed goes.given []) in
-        let none = none_due t h.asked (nearest goes.given []) (subst (AreWhole t h.asked) order whole) in
-        let (place, some) = goes.due in
+        let none = none_expected t h.asked (nearest goes.given []) (subst (AreWhole t h.asked) order whole) in
+        let (place, some) = goes.expected in
         cc
 
     by_bytes : (questions answers : List ℕ) → now.to_server ≡ questions → now.to_client ≡ answers → wants_input now.server ≡ true
         → waits_for_input now.client ≡ true → HasBytes state now
-    by_bytes (byte ∷ questions) answers is are waits due = inl (waits, λ none. cc)
-    by_bytes [] (byte ∷ answers) is are waits due = inr (due, λ none. cc)
-    by_bytes [] [] is are waits due = absurd (some_on_the_way waits due is are)
+    by_bytes (byte ∷ questions) answers is are waits expected = inl (waits, λ none. cc)
+    by_bytes [] (byte ∷ answers) is are waits expected = inr (expected, λ none. cc)
+    by_bytes [] [] is are waits expected = absurd (some_on_the_way waits expected is are)
 
     by_server : (waits : Bool) → wants_input now.server ≡ waits → waits_for_input now.client ≡ true → outcome_of now.server ≡ None → CanGoOn state now
-    by_server false is due goes = inr (inr (inl (server_gives state now.server is goes)))
-    by_server true is due goes = inr (inr (inr (by_bytes now.to_server now.to_client refl refl is due)))
+    by_server false is expected goes = inr (inr (inl (server_gives state now.server is goes)))
+    by_server true is expected goes = inr (inr (inr (by_bytes now.to_server now.to_client refl refl is expected)))
 
-    by_client : (ready due : Bool) → can_ask now.client ≡ ready → waits_for_input now.client ≡ due → fault_of now.client ≡ None
+    by_client : (ready expected : Bool) → can_ask now.client ≡ ready → waits_for_input now.client ≡ expected → fault_of now.client ≡ None
         → has_left now.client ≡ false → outcome_of now.server ≡ None → CanGoOn state now
-    by_client true due is waits none stays goes = inl is
+    by_client true expected is waits none stays goes = inl is
     by_client false false is waits none stays goes = inr (inl (client_gives now.client is waits none stays))
     by_client false true is waits none stays goes = by_server (wants_input now.server) refl waits goes
 
@@ -449,9 +450,9 @@ module _ {R A : Type 0} (state : R → RepoState) (refuses : ℕ → Type 0) (fo
     received = sym met.none_to_client;
   })
 
-  pub front_heard : (IsPackLost (outcome_of now.server) → ⊥)
-      → (others : List EventValue) × (told_play format before.answers (history_of calls).asked ≡ (history_of calls).events ++ others)
-  front_heard = front state format limit before met.sound met.written met.same_format (history_of calls) now agrees met.values
+  pub front_received : (IsPackLost (outcome_of now.server) → ⊥)
+      → (others : List EventValue) × (announced_play format before.answers (history_of calls).asked ≡ (history_of calls).events ++ others)
+  front_received = front state format limit before met.sound met.written met.same_format (history_of calls) now agrees met.values
 
   pub nothing_refused : (HasRefused now.server → ⊥) → (fault : Fault) → fault_of now.client ≡ Some fault
       → (fault.kind ≡ Truncated) ⊎ (fault.kind ≡ StreamTooLong)

@@ -21,9 +21,9 @@ use Rattle.git_server.proofs.Sent.{is_whole}
 use Rattle.git_server.proofs.SessionLaws.{ending, going_on}
 use Rattle.git_both_ends.specs.BothEnds.{HasRefused, terms_with}
 use Rattle.git_both_ends.specs.Plays.{setting_of}
-use Rattle.git_both_ends.proofs.FrontsHeard.{IsReport, front_of}
-use Rattle.git_both_ends.proofs.PlaysTold.{offers_all, takes_all}
-use Rattle.git_both_ends.proofs.RequestsHeard.{HaveValues, requests_front, written_all}
+use Rattle.git_both_ends.proofs.FrontsReceived.{IsReport, front_of}
+use Rattle.git_both_ends.proofs.PlaysAnnounced.{offers_all, takes_all}
+use Rattle.git_both_ends.proofs.RequestsReceived.{HaveValues, requests_front, written_all}
 use Rattle.git_both_ends.proofs.SpelledPackets.{fit_both, requests_fit}
 
 -- ---- what it sent
@@ -37,9 +37,9 @@ pub record Gave (s : Setting) (used given : List ℕ) : Type 0 where
   pub answers : List Pkt
   pub answered : AreAnswers s.repo asked answers
   pub good : List Pkt
-  pub owed : List Pkt
+  pub unsent : List Pkt
   pub bad : List Pkt
-  pub parts : good ++ owed ≡ advertised s ++ answers
+  pub parts : good ++ unsent ≡ advertised s ++ answers
   pub report : IsReport bad
   pub given_is : given ≡ spelled (good ++ bad)
   pub fit : AllFit (good ++ bad)
@@ -47,7 +47,7 @@ pub record Gave (s : Setting) (used given : List ℕ) : Type 0 where
 module _ (s : Setting) (used given : List ℕ) where
   abbrev gave_on : GoesOn s used given → Gave s used given
   gave_on g =
-      let whole = is_whole s g.asked g.sent g.owed g.is_sent in
+      let whole = is_whole s g.asked g.sent g.unsent g.is_sent in
       record {
         asked = g.asked;
         left = g.left;
@@ -56,7 +56,7 @@ module _ (s : Setting) (used given : List ℕ) where
         answers = whole.answers;
         answered = whole.answered;
         good = g.sent;
-        owed = g.owed;
+        unsent = g.unsent;
         bad = [];
         parts = whole.parts;
         report = inl refl;
@@ -75,7 +75,7 @@ module _ (s : Setting) (used given : List ℕ) where
         answers = g.answers;
         answered = g.answered;
         good = good;
-        owed = [];
+        unsent = [];
         bad = [];
         parts = append-nil good;
         report = inl refl;
@@ -110,9 +110,10 @@ report_first Flush s left front back other h = inl (none_first front back h)
 report_first Closed s left front back other h = inl (none_first front back h)
 report_first (Refused fault) s left front back other h = tail_first fault.kind s left fault front back other h
 
-abbrev gave_end : (s : Setting) (used : List ℕ) (over : Bool) (given : List ℕ) (outcome : Outcome) (owed : List Pkt) → IsEnding s used over given outcome owed
+abbrev gave_end : (s : Setting) (used : List ℕ) (over : Bool) (given : List ℕ) (outcome : Outcome) (unsent : List Pkt)
+    → IsEnding s used over given outcome unsent
     → (WantsPack outcome → ⊥) → Gave s used given
-gave_end s used over given outcome owed g other =
+gave_end s used over given outcome unsent g other =
     let all = advertised s ++ g.answers in
     record {
       asked = g.asked;
@@ -122,10 +123,10 @@ gave_end s used over given outcome owed g other =
       answers = g.answers;
       answered = g.answered;
       good = all;
-      owed = [];
+      unsent = [];
       bad = g.sent;
       parts = append-nil all;
-      report = report_first outcome s g.left g.sent owed other g.parts;
+      report = report_first outcome s g.left g.sent unsent other g.parts;
       given_is = g.given_is;
       fit = g.fit;
     }
@@ -153,8 +154,8 @@ module _ {R A : Type 0} (state : R → RepoState) (server : Server R A) (s : Set
   gave_by : (o : Option Outcome) → outcome_of server ≡ o → (IsPackLost (outcome_of server) → ⊥) → Gave s used given
   gave_by None e kept = gave_on s used given (going_on state server s used over given r e).1
   gave_by (Some outcome) e kept =
-      let (owed, ends) = ending state server s used over given r outcome e in
-      gave_end s used over given outcome owed ends (λ wants. kept (lost_where (outcome_of server) outcome e wants))
+      let (unsent, ends) = ending state server s used over given r outcome e in
+      gave_end s used over given outcome unsent ends (λ wants. kept (lost_where (outcome_of server) outcome e wants))
 
   -- what a server that lost no pack sent
   pub gave : (IsPackLost (outcome_of server) → ⊥) → Gave s used given
@@ -163,9 +164,9 @@ module _ {R A : Type 0} (state : R → RepoState) (server : Server R A) (s : Set
   gave_clean_by : (o : Option Outcome) → outcome_of server ≡ o → (HasRefused server → ⊥) → (g : Gave s used given) × (g.bad ≡ [])
   gave_clean_by None e clean = (gave_on s used given (going_on state server s used over given r e).1, refl)
   gave_clean_by (Some outcome) e clean =
-      let (owed, ends) = ending state server s used over given r outcome e in
+      let (unsent, ends) = ending state server s used over given r outcome e in
       let reasons : (fault : Fault) → outcome ≡ Refused fault → ⊥ = λ fault is. clean (fault, e ∙ ap (λ (o : Outcome). Some o) is) in
-      (gave_end s used over given outcome owed ends (not_lost outcome reasons), unreported outcome s ends.left ends.sent owed reasons ends.parts)
+      (gave_end s used over given outcome unsent ends (not_lost outcome reasons), unreported outcome s ends.left ends.sent unsent reasons ends.parts)
 
   -- a server that refused nothing sent no error packet
   pub gave_clean : (HasRefused server → ⊥) → (g : Gave s used given) × (g.bad ≡ [])
@@ -178,14 +179,14 @@ farewell_fits true = (omega arith, tt)
 farewell_fits false = tt
 
 -- of the requests that a client wrote it read the first ones
-pub read_front : (format : Format) (limit : ℕ) (state : RepoState) (says_agent says_format : Bool) (asked others : List Asked) (leaves : Bool)
-    (used more : List ℕ) (left : List Given) (rest : List ℕ) → IsFormatMeant format says_format → HaveValues asked
-    → used ++ more ≡ spelled (written_all says_agent says_format format asked ++ farewell leaves)
+pub read_front : (format : Format) (limit : ℕ) (state : RepoState) (writes_agent writes_format : Bool) (asked others : List Asked) (leaves : Bool)
+    (used more : List ℕ) (left : List Given) (rest : List ℕ) → IsFormatMeant format writes_format → HaveValues asked
+    → used ++ more ≡ spelled (written_all writes_agent writes_format format asked ++ farewell leaves)
     → Stream (setting_of (terms_with format) limit state true) used others left rest
     → (after : List Asked) × (asked ≡ others ++ after) × All (HasValues format) others
-read_front format limit state says_agent says_format asked others leaves used more left rest meant values e stream =
-    let written = written_all says_agent says_format format asked in
-    let fit = fit_both written (farewell leaves) (requests_fit says_agent says_format format asked values) (farewell_fits leaves) in
+read_front format limit state writes_agent writes_format asked others leaves used more left rest meant values e stream =
+    let written = written_all writes_agent writes_format format asked in
+    let fit = fit_both written (farewell leaves) (requests_fit writes_agent writes_format format asked values) (farewell_fits leaves) in
     let f = front_of 0 used more stream.packets rest (written ++ farewell leaves) fit stream.splits.spelled e in
-    requests_front (setting_of (terms_with format) limit state true) says_agent says_format meant (takes_all format) (offers_all format)
+    requests_front (setting_of (terms_with format) limit state true) writes_agent writes_format meant (takes_all format) (offers_all format)
     asked others leaves stream.packets left f.later values (sym f.are) stream.requests

@@ -17,8 +17,8 @@ use Rattle.git_msg.specs.WrittenRequest.{agent_line, argument_lines, format_line
 use Rattle.git_msg.proofs.KeptBytes.{value_fits}
 use Rattle.git_client.specs.Machine.Client.{spelled}
 use Rattle.git_server.specs.Answers.{AllFit}
-use Rattle.git_both_ends.specs.ToldAnswers.{packets_of}
-use Rattle.git_both_ends.proofs.RequestsHeard.{HaveValues, written_all}
+use Rattle.git_both_ends.specs.AnnouncedAnswers.{packets_of}
+use Rattle.git_both_ends.proofs.RequestsReceived.{HaveValues, written_all}
 
 -- ---- packets as they are written
 
@@ -95,11 +95,11 @@ arguments_fit command format (arg ∷ args) values =
     text_fits (written_text arg) (argument_lines args) (omega (arith, short))
     (arguments_fit command format args (All-tail (IsValue command format) arg args values))
 
-agent_fits : (says : Bool) (others : List Pkt) → AllFit others → AllFit (where_set says agent_line others)
+agent_fits : (conveys : Bool) (others : List Pkt) → AllFit others → AllFit (where_set conveys agent_line others)
 agent_fits true others fit = text_fits (codes "agent=git2/1") others (omega arith) fit
 agent_fits false others fit = fit
 
-format_fits : (format : Format) (says : Bool) (others : List Pkt) → AllFit others → AllFit (where_set says (format_line format) others)
+format_fits : (format : Format) (conveys : Bool) (others : List Pkt) → AllFit others → AllFit (where_set conveys (format_line format) others)
 format_fits Sha1 true others fit = text_fits (codes "object-format=sha1") others (omega arith) fit
 format_fits Sha256 true others fit = text_fits (codes "object-format=sha256") others (omega arith) fit
 format_fits format false others fit = fit
@@ -109,16 +109,16 @@ command_fits LsRefs others fit = text_fits (codes "command=ls-refs") others (ome
 command_fits Fetch others fit = text_fits (codes "command=fetch") others (omega arith) fit
 command_fits ObjectInfo others fit = text_fits (codes "command=object-info") others (omega arith) fit
 
-request_fits : (says_agent says_format : Bool) (format written : Format) (q : Asked) → HasValues written q
-    → AllFit (lines_written says_agent says_format format q)
-request_fits says_agent says_format format written q values =
-    command_fits (command_asked q) _ (agent_fits says_agent _ (format_fits format says_format _
+request_fits : (writes_agent writes_format : Bool) (format written : Format) (q : Asked) → HasValues written q
+    → AllFit (lines_written writes_agent writes_format format q)
+request_fits writes_agent writes_format format written q values =
+    command_fits (command_asked q) _ (agent_fits writes_agent _ (format_fits format writes_format _
     (omega arith, arguments_fit (command_asked q) written (arguments_in q) values)))
 
-pub requests_fit : (says_agent says_format : Bool) (format : Format) (asked : List Asked) → HaveValues asked
-    → AllFit (written_all says_agent says_format format asked)
-requests_fit says_agent says_format format [] values = tt
-requests_fit says_agent says_format format (q ∷ asked) values =
+pub requests_fit : (writes_agent writes_format : Bool) (format : Format) (asked : List Asked) → HaveValues asked
+    → AllFit (written_all writes_agent writes_format format asked)
+requests_fit writes_agent writes_format format [] values = tt
+requests_fit writes_agent writes_format format (q ∷ asked) values =
     let (written, in_written) = All-head (λ (q : Asked). (format : Format) × HasValues format q) q asked values in
-    fit_both (lines_written says_agent says_format format q) _ (request_fits says_agent says_format format written q in_written)
-    (requests_fit says_agent says_format format asked (All-tail (λ (q : Asked). (format : Format) × HasValues format q) q asked values))
+    fit_both (lines_written writes_agent writes_format format q) _ (request_fits writes_agent writes_format format written q in_written)
+    (requests_fit writes_agent writes_format format asked (All-tail (λ (q : Asked). (format : Format) × HasValues format q) q asked values))

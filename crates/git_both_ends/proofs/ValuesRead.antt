@@ -10,17 +10,17 @@ use Rattle.git_pkt.specs.Splits.{Given}
 use Rattle.git_pkt.proofs.Texts.{text_of-line_end}
 use Rattle.git_msg.specs.declared.arguments.Command.{Command}
 use Rattle.git_msg.specs.declared.offers.Offer.{Offer}
-use Rattle.git_msg.specs.Arguments.{Arg, IsInRange, IsNameIn, IsValue, MayFollow, SaysArgument, SaysValue, Shape, Value, id_value, object_name}
+use Rattle.git_msg.specs.Arguments.{Arg, IsInRange, IsNameIn, IsValue, MayFollow, HasArgumentOf, HasValueOf, Shape, Value, id_value, object_name}
 use Rattle.git_msg.specs.Arguments.{row, written_text, written_value}
 use Rattle.git_msg.specs.Lines.{IsLineIn, Line, delimiter, has_delimiter, is_delimiter}
 use Rattle.git_msg.specs.Requests.{AreLines}
 use Rattle.git_msg.specs.WrittenRequest.{text_line}
 use Rattle.git_msg.proofs.LineLaws.{payload_argument}
 use Rattle.git_msg.proofs.LineLists.{delimiter_snoc}
-use Rattle.git_msg.proofs.RoundTrip.{written_says}
+use Rattle.git_msg.proofs.RoundTrip.{written_conveys}
 use Rattle.git_msg.proofs.Rows.{headed, one_value, one_word}
 use Rattle.git_msg.proofs.WrittenNames.{length-hex_of}
-use Rattle.git_both_ends.specs.ToldAnswers.{packets_of}
+use Rattle.git_both_ends.specs.AnnouncedAnswers.{packets_of}
 
 -- ---- an object name that is read has the reader's format
 
@@ -34,19 +34,19 @@ name_fits Sha1 Sha256 id h (other, is) = absurd (omega (arith, length-hex_of Sha
 name_fits Sha256 Sha1 id h (other, is) = absurd (omega (arith, length-hex_of Sha256 id h, is.count))
 
 value_stays : (shape : Shape) (word : List ℕ) (written read : Format) (value other : Value) → MayFollow shape written value
-    → SaysValue shape word read (word ++ written_value value) other → MayFollow shape read value
-value_stays object_name word written read (id_value id) (id_value other) fits says =
-    let same : says.value ≡ hex_of id = one_value word (word ++ hex_of id) says.value (hex_of id) says.spelled refl in
-    name_fits written read id fits (other, rw same at says.holds)
-value_stays object_name word written read (id_value id) other fits says = absurd says
-value_stays shape word written read value other fits says = fits
+    → HasValueOf shape word read (word ++ written_value value) other → MayFollow shape read value
+value_stays object_name word written read (id_value id) (id_value other) fits conveys =
+    let same : conveys.value ≡ hex_of id = one_value word (word ++ hex_of id) conveys.value (hex_of id) conveys.spelled refl in
+    name_fits written read id fits (other, rw same at conveys.holds)
+value_stays object_name word written read (id_value id) other fits conveys = absurd conveys
+value_stays shape word written read value other fits conveys = fits
 
 -- so an argument that is read is allowed in a request of that format
-in_range : (written read : Format) (arg other : Arg) → IsInRange written arg → SaysArgument read (written_text arg) other → IsInRange read arg
-in_range written read arg other value says =
-    let same = one_word (written_text arg) other.word arg.word (headed read (written_text arg) other says)
-    (headed written (written_text arg) arg (written_says written arg value)) in
-    value_stays (row arg.word).shape (row arg.word).keyword written read arg.value other.value value (rw same at says)
+in_range : (written read : Format) (arg other : Arg) → IsInRange written arg → HasArgumentOf read (written_text arg) other → IsInRange read arg
+in_range written read arg other value conveys =
+    let same = one_word (written_text arg) other.word arg.word (headed read (written_text arg) other conveys)
+    (headed written (written_text arg) arg (written_conveys written arg value)) in
+    value_stays (row arg.word).shape (row arg.word).keyword written read arg.value other.value value (rw same at conveys)
 
 -- ---- the lines of a request
 
@@ -72,8 +72,8 @@ arguments_behind offer limit command format (arg ∷ args) before (g ∷ gs) (li
     let rest : packets_of gs ≡ argument_packets args = cc in
     let value = All-head (IsValue command format) arg args values in
     let read = payload_argument offer limit before bytes line (rw (first, behind) at is) in
-    let says : SaysArgument offer.format (written_text arg) read.0 = rw (text_of-line_end (written_text arg)) at read.2.reads.is_argument.1 in
-    All-cons (IsValue command offer.format) arg args (value.0, in_range format offer.format arg read.0 value.1 says)
+    let conveys : HasArgumentOf offer.format (written_text arg) read.0 = rw (text_of-line_end (written_text arg)) at read.2.reads.is_argument.1 in
+    All-cons (IsValue command offer.format) arg args (value.0, in_range format offer.format arg read.0 value.1 conveys)
     (arguments_behind offer limit command format args (before ++ line ∷ []) gs lines
     (delimiter_snoc before line ∙ or_right (is_delimiter line) (has_delimiter before) behind) taken rest
     (All-tail (IsValue command format) arg args values))

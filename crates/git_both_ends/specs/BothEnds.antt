@@ -19,7 +19,7 @@ use Rattle.git_server.specs.declared.server.Pulled.{Pulled}
 use Rattle.git_server.specs.declared.server.Pulled.TheVariants.{Packet}
 use Rattle.git_server.specs.declared.server.Server.{Server}
 use Rattle.git_both_ends.specs.Plays.{setting_of}
-use Rattle.git_both_ends.specs.ToldAnswers.{CanBeWritten}
+use Rattle.git_both_ends.specs.AnnouncedAnswers.{CanBeWritten}
 
 -- a call of either side
 pub data EitherCall (A : Type 0) : Type 0 where
@@ -40,7 +40,7 @@ terms_with format = terms_of format FlushOnly
 module _ {A : Type 0} where
   -- the bytes that a call of the client used
   abbrev pub taken_by : ClientCall A → List ℕ
-  taken_by (feed piece answer) = take answer.used piece
+  taken_by (feed chunk answer) = take answer.used chunk
   taken_by call = []
 
   -- the bytes that the call sent

@@ -1,3 +1,3 @@
-pub mod ToldAnswers
+pub mod AnnouncedAnswers
 pub mod Plays
 pub mod BothEnds

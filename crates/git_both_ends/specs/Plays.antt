@@ -13,7 +13,7 @@ use Rattle.git_client.specs.Machine.Client.{History, questions_of, spelled}
 use Rattle.git_client.specs.Conversation.{HasEvents, HasNoted}
 use Rattle.git_client.specs.Events.{pack_bytes}
 use Rattle.git_client.specs.Parts.{Terms}
-use Rattle.git_client.specs.Machine.Runs.{HasAsked, HasSaid, IsMalformed, IsRefusedRequest, IsWholeRun}
+use Rattle.git_client.specs.Machine.Runs.{HasAsked, HasSent, IsMalformed, IsRefusedRequest, IsWholeRun}
 use Rattle.git_client.specs.Transcript.{transcript_of}
 use Rattle.git_client.specs.declared.events.Ending.{Ending}
 use Rattle.git_client.specs.declared.events.Ending.TheVariants.{FlushOnly, ResponseEnd}
@@ -36,7 +36,7 @@ setting_of t limit state advertise = record {
 
 -- the bytes sent to a server, and those that it sent
 pub record Talk : Type 0 where
-  pub said : List ℕ
+  pub content : List ℕ
   pub given : List ℕ
 
 -- a pack was lost only if more reads of the repository have failed by now than before
@@ -47,15 +47,15 @@ IsLostFor before now outcome = IsPackLost (Some outcome) → before < now
 pub record IsTalk (now : ℕ) (s : Setting) (talk : Talk) : Type 0 where
   pub used : List ℕ
   pub unused : List ℕ
-  pub parts : talk.said ≡ used ++ unused
+  pub parts : talk.content ≡ used ++ unused
   pub runs : ((unused ≡ []) × GoesOn s used talk.given)
-      ⊎ ((outcome : Outcome) × (owed : List Pkt) × IsEnding s used false talk.given outcome owed × IsLostFor s.failures now outcome)
+      ⊎ ((outcome : Outcome) × (unsent : List Pkt) × IsEnding s used false talk.given outcome unsent × IsLostFor s.failures now outcome)
 
 -- a server has sent all that it sends: it waits for more, or its session ended after a prefix of the bytes sent to it
 pub record IsDone (now : ℕ) (s : Setting) (talk : Talk) : Type 0 where
   pub used : List ℕ
   pub unused : List ℕ
-  pub parts : talk.said ≡ used ++ unused
+  pub parts : talk.content ≡ used ++ unused
   pub done : ((unused ≡ []) × IsAnswered s used talk.given)
       ⊎ ((outcome : Outcome) × IsSession s used false talk.given outcome × IsLostFor s.failures now outcome)
 
@@ -64,17 +64,17 @@ abbrev pub with_end : Talk → List ℕ
 with_end talk = talk.given ++ spelled (resp_end ∷ [])
 
 -- the servers: one alone, or one that only advertises and then one for each request, to which that request is sent
-abbrev pub AreSaid : Ending → (first : Talk) (later : List Talk) (said : List ℕ) (questions : List (List ℕ)) → Type 0
-AreSaid FlushOnly first later said questions = (later ≡ []) × (first.said ≡ said)
-AreSaid ResponseEnd first later said questions = (first.said ≡ []) × (map (λ talk. talk.said) later ≡ questions)
+abbrev pub AreSent : Ending → (first : Talk) (later : List Talk) (content : List ℕ) (questions : List (List ℕ)) → Type 0
+AreSent FlushOnly first later content questions = (later ≡ []) × (first.content ≡ content)
+AreSent ResponseEnd first later content questions = (first.content ≡ []) × (map (λ talk. talk.content) later ≡ questions)
 
 -- the bytes of each request as it is sent, if this was advertised
-abbrev pub said_each : Terms → Caps → List Asked → List (List ℕ)
-said_each t caps asked = map (λ q. spelled (questions_of t.format caps (q ∷ []))) asked
+abbrev pub sent_each : Terms → Caps → List Asked → List (List ℕ)
+sent_each t caps asked = map (λ q. spelled (questions_of t.format caps (q ∷ []))) asked
 
 -- the bytes sent to the servers; the client used a prefix of those that the servers sent
 pub record AreServed (t : Terms) (h : History) (unheard : List ℕ) (first : Talk) (later : List Talk) : Type 0 where
-  pub said : (caps : Caps) → HasNoted t h.asked h.used caps → AreSaid t.ending first later h.given (said_each t caps h.asked)
+  pub content : (caps : Caps) → HasNoted t h.asked h.used caps → AreSent t.ending first later h.given (sent_each t caps h.asked)
   pub gave : h.used ++ unheard ≡ first.given ++ flat_map with_end later
 
 -- this holds of the sessions: that of the first server, and those of the later ones
@@ -93,14 +93,14 @@ pub record IsServed (now : ℕ) (t : Terms) (limit : ℕ) (state : RepoState) (h
 -- a server answered all requests that were sent to it, and after them it received the flush of the client that leaves
 pub record IsAnsweredAndLeft (now : ℕ) (s : Setting) (talk : Talk) : Type 0 where
   pub questions : List ℕ
-  pub parts : talk.said ≡ questions ++ spelled (flush ∷ [])
+  pub parts : talk.content ≡ questions ++ spelled (flush ∷ [])
   pub answered : IsAnswered s questions talk.given
   pub talks : IsTalk now s talk
 
 -- each server sent all that its session gives for the requests that it got
 abbrev pub AreWholeSessions : (now : ℕ) → Ending → Terms → ℕ → RepoState → Talk → List Talk → Type 0
 AreWholeSessions now FlushOnly t limit state first later = IsAnsweredAndLeft now (setting_of t limit state true) first
-AreWholeSessions now ResponseEnd t limit state first later = AreAll (λ s talk. IsAnswered s talk.said talk.given) t limit state first later
+AreWholeSessions now ResponseEnd t limit state first later = AreAll (λ s talk. IsAnswered s talk.content talk.given) t limit state first later
 
 -- ---- how a play ended
 
@@ -111,7 +111,7 @@ pub record IsBrokenPlay (now : ℕ) (t : Terms) (limit : ℕ) (state : RepoState
   pub same_used : h.used ≡ reached.used
   pub asked : (h.asked ≡ reached.asked) ⊎ ((last : Asked) × (h.asked ≡ reached.asked ++ last ∷ []))
   pub stays : reached.left ≡ false
-  pub all_said : HasSaid t reached
+  pub all_sent : HasSent t reached
   pub is_served : IsServed now t limit state reached
 
 module _ {A : Type 0} where
@@ -131,7 +131,7 @@ module _ {A : Type 0} where
     pub ended : Bool
     pub fault_is : IsMalformed t ended unheard h fault ⊎ IsRefusedRequest t rest h fault
     pub stays : h.left ≡ false
-    pub said : HasSaid t h
+    pub content : HasSent t h
     pub served : AreServed t h unheard first later
     pub sessions : AreAll (IsTalk now) t limit state first later
     pub done : ended ≡ true → (unheard ≡ []) × AreAll (IsDone now) t limit state first later
@@ -150,7 +150,7 @@ module _ {A : Type 0} where
     pub h : History
     pub rest : List (Request A)
     pub nothing_read : read ≡ []
-    pub told : given ≡ transcript_of h.asked h.events ∷ pack_bytes h.events ∷ []
-    pub heard : HasEvents t h.asked h.used h.events
+    pub announced : given ≡ transcript_of h.asked h.events ∷ pack_bytes h.events ∷ []
+    pub arrived : HasEvents t h.asked h.used h.events
     pub asked : HasAsked t requests rest h
     pub ends : EndsAs now t limit state result rest h

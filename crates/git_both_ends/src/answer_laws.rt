@@ -20,13 +20,13 @@ ghost use Rattle.git_server.specs.Sessions.{AreAnswers};
 ghost use Rattle.git_server.specs.declared.list_repo.ListRepo.{ListRepo};
 ghost use Rattle.git_repository.specs.Packs.{PackBytes};
 ghost use Rattle.git_repository.specs.RepositoryText.{IsRepositoryText};
-ghost use Rattle.git_both_ends.specs.ToldAnswers.{AsksIn, CanBeWritten, end_packets, packets_of, told_all, told_by, told_offer};
+ghost use Rattle.git_both_ends.specs.AnnouncedAnswers.{AsksIn, CanBeWritten, end_packets, packets_of, announced_all, announced_by, announced_offer};
 
 /// A client receives the advertisement of any offer as it was meant, whatever is asked later. Then the first answer may follow. The
 /// capabilities that a client notes in bytes that begin with the advertisement are exactly that offer.
-pub fn heard_offer()
-    ensures heard { (t : Terms) (asked : List Asked) (offer : Offer) (gs : List Given) → offer.format ≡ t.format
-        → packets_of gs ≡ advertisement_of offer → GiveAll t asked [] gs (told_offer offer) }
+pub fn received_offer()
+    ensures arrived { (t : Terms) (asked : List Asked) (offer : Offer) (gs : List Given) → offer.format ≡ t.format
+        → packets_of gs ≡ advertisement_of offer → GiveAll t asked [] gs (announced_offer offer) }
     ensures whole { (t : Terms) (offer : Offer) (gs : List Given) → offer.format ≡ t.format
         → packets_of gs ≡ advertisement_of offer → AreWhole t [] (nearest gs []) }
     ensures noted { (t : Terms) (asked : List Asked) (offer : Offer) (more : List ℕ) (caps : Caps) → offer.format ≡ t.format
@@ -35,11 +35,11 @@ pub fn heard_offer()
 
 /// A client receives a whole answer as it was meant: after the advertisement and the answers to the earlier requests, none of its packets is
 /// refused, and they give exactly the events of the repository's answer, however the pack is cut. Then the next answer may follow.
-pub fn heard_answer()
-    ensures heard { (t : Terms) (repo : Repository) (earlier later : List Asked) (q : Asked) (before packets : List Pkt) (gs : List Given)
+pub fn received_answer()
+    ensures arrived { (t : Terms) (repo : Repository) (earlier later : List Asked) (q : Asked) (before packets : List Pkt) (gs : List Given)
         → IsSound repo → CanBeWritten repo → repo.format ≡ t.format → AsksIn t.format q → IsAnswer repo q packets
         → AreWhole t earlier before → packets_of gs ≡ packets ++ end_packets t.ending
-        → GiveAll t (earlier ++ q ∷ later) before gs (told_by repo q ++ ended ∷ []) }
+        → GiveAll t (earlier ++ q ∷ later) before gs (announced_by repo q ++ ended ∷ []) }
     ensures whole { (t : Terms) (repo : Repository) (earlier : List Asked) (q : Asked) (before packets : List Pkt) (gs : List Given)
         → IsSound repo → CanBeWritten repo → repo.format ≡ t.format → AsksIn t.format q → IsAnswer repo q packets
         → AreWhole t earlier before → packets_of gs ≡ packets ++ end_packets t.ending
@@ -48,11 +48,11 @@ pub fn heard_answer()
 
 /// A client receives the answers of a session as they were meant: all answers that a server sent, one after the other, give exactly the
 /// events of the repository's answers to the requests, and then the conversation is complete.
-pub fn heard_answers()
-    ensures heard { (t : Terms) (repo : Repository) (earlier later asked : List Asked) (before packets : List Pkt) (gs : List Given)
+pub fn received_answers()
+    ensures arrived { (t : Terms) (repo : Repository) (earlier later asked : List Asked) (before packets : List Pkt) (gs : List Given)
         → IsSound repo → CanBeWritten repo → repo.format ≡ t.format → All (AsksIn t.format) asked → AreAnswers repo asked packets
         → AreWhole t earlier before → t.ending ≡ FlushOnly → packets_of gs ≡ packets
-        → GiveAll t (earlier ++ (asked ++ later)) before gs (told_all repo asked) }
+        → GiveAll t (earlier ++ (asked ++ later)) before gs (announced_all repo asked) }
     ensures whole { (t : Terms) (repo : Repository) (earlier asked : List Asked) (before packets : List Pkt) (gs : List Given)
         → IsSound repo → CanBeWritten repo → repo.format ≡ t.format → All (AsksIn t.format) asked → AreAnswers repo asked packets
         → AreWhole t earlier before → t.ending ≡ FlushOnly → packets_of gs ≡ packets

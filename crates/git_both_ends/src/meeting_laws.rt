@@ -13,7 +13,7 @@ ghost use Rattle.git_server.specs.Repository.{IsSound, RepoState};
 ghost use Rattle.git_server.specs.declared.server.Server.{Server};
 ghost use Rattle.git_both_ends.specs.BothEnds.{BothEnds, CanGoOn, EitherCall, HasRefused, HaveMet, Moves, history_of, terms_with};
 ghost use Rattle.git_both_ends.specs.Plays.{setting_of};
-ghost use Rattle.git_both_ends.specs.ToldAnswers.{CanBeWritten, told_play};
+ghost use Rattle.git_both_ends.specs.AnnouncedAnswers.{CanBeWritten, announced_play};
 
 use git_msg::Memory;
 use git_server::Repo;
@@ -37,7 +37,7 @@ pub fn ends_meet_call_by_call<R: Repo, A: Memory + Copy>()
 pub fn neither_waits_for_the_other<R: Repo, A: Memory + Copy>()
     ensures front { (format : Format) (limit : ℕ) (before : RepoState) (calls : List (EitherCall A)) (now : BothEnds R A)
         → HaveMet R.state A.refuses format limit before calls now → ¬ IsPackLost (outcome_of now.server)
-        → (later : List EventValue) × (told_play format before.answers (history_of calls).asked ≡ (history_of calls).events ++ later) }
+        → (later : List EventValue) × (announced_play format before.answers (history_of calls).asked ≡ (history_of calls).events ++ later) }
     ensures goes_on { (format : Format) (limit : ℕ) (before : RepoState) (calls : List (EitherCall A)) (now : BothEnds R A)
         → HaveMet R.state A.refuses format limit before calls now
         → fault_of now.client ≡ None → has_left now.client ≡ false → outcome_of now.server ≡ None → CanGoOn R.state now }

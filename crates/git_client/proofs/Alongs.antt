@@ -9,57 +9,57 @@ use Rattle.git_client.specs.Events.{EventValue, pack_bytes, progress_bytes}
 use Rattle.git_client.specs.Parts.{Terms}
 use Rattle.git_pkt.specs.Streams.{Flow, IsTimely}
 use Rattle.git_client.specs.Transcript.{asked_line, next_asked, transcript_from, transcript_of}
-use Rattle.git_client.specs.Machine.Client.{History, Converses, HearsOn, can_ask, fault_of, nothing_yet, phase_of, wants_input}
-use Rattle.git_client.specs.Machine.RunSteps.{no_counts, counts_with, CanCount, HearsBytes, AsksNext, FaultsInTime}
+use Rattle.git_client.specs.Machine.Client.{History, Converses, ReceivesOn, can_ask, fault_of, nothing_yet, phase_of, wants_input}
+use Rattle.git_client.specs.Machine.RunSteps.{no_counts, counts_with, CanCount, ReceivesBytes, AsksNext, FaultsInTime}
 use Rattle.git_client.specs.declared.client.Client.{Client}
-use Rattle.git_client.specs.declared.hearing.Counts.{Counts}
+use Rattle.git_client.specs.declared.receiving.Counts.{Counts}
 use Rattle.git_client.proofs.Counting.{bytes_fit}
 use Rattle.git_client.proofs.EventCounts.{few_events}
 use Rattle.git_client.proofs.OneTurn.{Adds, turn_adds}
 use Rattle.git_client.proofs.Packs.{pack_bytes-append}
-use Rattle.git_client.proofs.Phases.{not_ready_where_due}
+use Rattle.git_client.proofs.Phases.{not_ready_where_expected}
 
 -- ---- what a history fixes of the transcript
 
 -- Whatever follows, the transcript begins with these lines. If the client can ask, the next request's line follows them; if not, the response goes on
 -- after the counted bytes of the pack and of the progress.
-abbrev pub IsTold : Bool → History → List ℕ → Counts → Type 0
-IsTold true h lines counts = (later : List Asked) (more : List EventValue)
+abbrev pub IsAnnounced : Bool → History → List ℕ → Counts → Type 0
+IsAnnounced true h lines counts = (later : List Asked) (more : List EventValue)
     → transcript_of (h.asked ++ later) (h.events ++ more) ≡ lines ++ next_asked later ++ transcript_from (drop 1 later) 0 0 more
-IsTold false h lines counts = (later : List Asked) (more : List EventValue)
+IsAnnounced false h lines counts = (later : List Asked) (more : List EventValue)
     → transcript_of (h.asked ++ later) (h.events ++ more) ≡ lines ++ transcript_from later counts.pack counts.progress more
 
 -- events add their lines to these
-lines_told : (asks : Bool) (h : History) (used : List ℕ) (events : List EventValue) (lines : List ℕ) (counts : Counts) → IsTold false h lines counts
+lines_announced : (asks : Bool) (h : History) (used : List ℕ) (events : List EventValue) (lines : List ℕ) (counts : Counts) → IsAnnounced false h lines counts
     → Adds asks events
-    → IsTold asks (record h { used = h.used ++ used; events = h.events ++ events })
+    → IsAnnounced asks (record h { used = h.used ++ used; events = h.events ++ events })
     (lines ++ transcript_from [] counts.pack counts.progress events) (counts_with counts events)
-lines_told true h used events lines counts told adds = λ later more.
+lines_announced true h used events lines counts announced adds = λ later more.
     let now = transcript_from [] counts.pack counts.progress events in
     ap (transcript_of (h.asked ++ later)) (append_assoc h.events events more)
-    ∙ told later (events ++ more)
+    ∙ announced later (events ++ more)
     ∙ ap (λ (l : List ℕ). lines ++ l) (adds later counts.pack counts.progress more)
     ∙ sym (append_assoc lines (now ++ next_asked later) (transcript_from (drop 1 later) 0 0 more))
     ∙ ap (λ (l : List ℕ). l ++ transcript_from (drop 1 later) 0 0 more) (sym (append_assoc lines now (next_asked later)))
-lines_told false h used events lines counts told adds = λ later more.
+lines_announced false h used events lines counts announced adds = λ later more.
     ap (transcript_of (h.asked ++ later)) (append_assoc h.events events more)
-    ∙ told later (events ++ more)
+    ∙ announced later (events ++ more)
     ∙ ap (λ (l : List ℕ). lines ++ l) (adds later counts.pack counts.progress more)
     ∙ sym (append_assoc lines (transcript_from [] counts.pack counts.progress events)
     (transcript_from later (counts.pack + length (pack_bytes events)) (counts.progress + length (progress_bytes events)) more))
 
 -- after a request its line comes next, and no byte of its response was received yet
-told_asked : (h : History) (question : Asked) (lines : List ℕ) (counts : Counts) → IsTold true h lines counts
-    → IsTold false (record h { asked = h.asked ++ question ∷ [] }) (lines ++ asked_line (command_asked question)) no_counts
-told_asked h question lines counts told later more =
-    ap (λ (asked : List Asked). transcript_of asked (h.events ++ more)) (append_assoc h.asked (question ∷ []) later) ∙ told (question ∷ later) more
+announced_asked : (h : History) (question : Asked) (lines : List ℕ) (counts : Counts) → IsAnnounced true h lines counts
+    → IsAnnounced false (record h { asked = h.asked ++ question ∷ [] }) (lines ++ asked_line (command_asked question)) no_counts
+announced_asked h question lines counts announced later more =
+    ap (λ (asked : List Asked). transcript_of asked (h.events ++ more)) (append_assoc h.asked (question ∷ []) later) ∙ announced (question ∷ later) more
 
 module _ {A : Type 0} where
   -- counts that are at most the number of events so far do not overflow by what the client receives next
   pub can_count : (t : Terms) (h : History) (old new : Client A) (used : List ℕ) (events : List EventValue) (counts : Counts) → Converses t h old
-      → HearsOn old used events new → counts.pack + counts.progress ≤ length h.events → CanCount counts events
-  can_count t h old new used events counts stands hears within =
-      let few = few_events t (record h { used = h.used ++ used; events = h.events ++ events }) new (hears t h stands) in
+      → ReceivesOn old used events new → counts.pack + counts.progress ≤ length h.events → CanCount counts events
+  can_count t h old new used events counts stands arrives within =
+      let few = few_events t (record h { used = h.used ++ used; events = h.events ++ events }) new (arrives t h stands) in
       let all = length-append h.events events in
       record {
         pack = omega (arith, few, all, within, bytes_fit events);
@@ -69,16 +69,17 @@ module _ {A : Type 0} where
   -- a client with these terms and this history, its lines of the transcript and its bytes of the pack
   pub record Along (t : Terms) (h : History) (client : Client A) (lines packed : List ℕ) (counts : Counts) : Type 0 where
     pub stands : Converses t h client
-    pub told : IsTold (can_ask client) h lines counts
+    pub announced : IsAnnounced (can_ask client) h lines counts
     pub pack_is : packed ≡ pack_bytes h.events
     pub within : counts.pack + counts.progress ≤ length h.events
 
   -- before the first byte
   pub along_begun : (t : Terms) (client : Client A) → wants_input client ≡ true → Converses t nothing_yet client
       → Along t nothing_yet client [] [] no_counts
-  along_begun t client due stands = record {
+  along_begun t client expected stands = record {
     stands = stands;
-    told = subst (λ (ready : Bool). IsTold ready nothing_yet [] no_counts) (sym (not_ready_where_due (phase_of client) due)) (λ later more. refl);
+    announced = subst (λ (ready : Bool). IsAnnounced ready nothing_yet [] no_counts) (sym (not_ready_where_expected (phase_of client) expected))
+        (λ later more. refl);
     pack_is = refl;
     within = omega arith;
   }
@@ -88,7 +89,8 @@ module _ {A : Type 0} where
     pub along_anew : can_ask client ≡ true → Along t h client lines packed no_counts
     along_anew ready = record {
       stands = along.stands;
-      told = subst (λ (now : Bool). IsTold now h lines no_counts) (sym ready) (subst (λ (now : Bool). IsTold now h lines counts) ready along.told);
+      announced = subst (λ (now : Bool). IsAnnounced now h lines no_counts) (sym ready)
+          (subst (λ (now : Bool). IsAnnounced now h lines counts) ready along.announced);
       pack_is = along.pack_is;
       within = omega arith;
     }
@@ -100,30 +102,30 @@ module _ {A : Type 0} where
         (lines ++ asked_line (command_asked (asked_of request))) packed no_counts
     along_asked {request = request} ready step = record {
       stands = step.goes t h along.stands;
-      told = subst (λ (can : Bool). IsTold can (record h { asked = h.asked ++ asked_of request ∷ []; given = h.given ++ step.given })
+      announced = subst (λ (can : Bool). IsAnnounced can (record h { asked = h.asked ++ asked_of request ∷ []; given = h.given ++ step.given })
           (lines ++ asked_line (command_asked (asked_of request))) no_counts) (sym step.not_ready)
-          (told_asked h (asked_of request) lines counts (subst (λ (can : Bool). IsTold can h lines counts) ready along.told));
+          (announced_asked h (asked_of request) lines counts (subst (λ (can : Bool). IsAnnounced can h lines counts) ready along.announced));
       pack_is = along.pack_is;
       within = omega arith;
     }
 
     -- no count overflows by what the client receives
-    pub counts_on : {new : Client A} {used : List ℕ} {events : List EventValue} → HearsOn client used events new → CanCount counts events
-    counts_on {new = new} {used = used} {events = events} hears = can_count t h client new used events counts along.stands hears along.within
+    pub counts_on : {new : Client A} {used : List ℕ} {events : List EventValue} → ReceivesOn client used events new → CanCount counts events
+    counts_on {new = new} {used = used} {events = events} arrives = can_count t h client new used events counts along.stands arrives along.within
 
     -- bytes were received
-    pub along_heard : {broken : Bool} {new : Client A} {counts_after : Counts} {used : List ℕ} {out packs progress : Flow} → wants_input client ≡ true
-        → (step : HearsBytes broken client new counts counts_after used out packs progress)
+    pub along_received : {broken : Bool} {new : Client A} {counts_after : Counts} {used : List ℕ} {out packs progress : Flow} → wants_input client ≡ true
+        → (step : ReceivesBytes broken client new counts counts_after used out packs progress)
         → Along t (record h { used = h.used ++ used; events = h.events ++ step.events }) new
         (lines ++ transcript_from [] counts.pack counts.progress step.events) (packed ++ pack_bytes step.events) counts_after
-    along_heard {new = new} {used = used} waits step =
-        let told : IsTold false h lines counts =
-        subst (λ (asks : Bool). IsTold asks h lines counts) (not_ready_where_due (phase_of client) waits) along.told in
+    along_received {new = new} {used = used} waits step =
+        let announced : IsAnnounced false h lines counts =
+        subst (λ (asks : Bool). IsAnnounced asks h lines counts) (not_ready_where_expected (phase_of client) waits) along.announced in
         subst (λ (after : Counts). Along t (record h { used = h.used ++ used; events = h.events ++ step.events }) new
         (lines ++ transcript_from [] counts.pack counts.progress step.events) (packed ++ pack_bytes step.events) after)
-        (sym (step.counted (counts_on step.hears))) (record {
-          stands = step.hears t h along.stands;
-          told = lines_told (can_ask new) h used step.events lines counts told (turn_adds (can_ask new) step.events step.one_turn);
+        (sym (step.counted (counts_on step.arrives))) (record {
+          stands = step.arrives t h along.stands;
+          announced = lines_announced (can_ask new) h used step.events lines counts announced (turn_adds (can_ask new) step.events step.one_turn);
           pack_is = ap (λ (l : List ℕ). l ++ pack_bytes step.events) along.pack_is ∙ sym (pack_bytes-append h.events step.events);
           within = omega (arith, along.within, bytes_fit step.events, length-append h.events step.events);
         })
@@ -133,7 +135,7 @@ module _ {A : Type 0} where
   pub in_time_where_sound : (client : Client A) (ended : Bool) (unused : List ℕ) → fault_of client ≡ None → FaultsInTime client ended unused
   in_time_where_sound client ended unused sound fault failed = absurd (cc)
 
-  pub in_time_where_told : (client : Client A) (fault : Fault) (ended : Bool) (unused : List ℕ) → fault_of client ≡ Some fault
+  pub in_time_where_announced : (client : Client A) (fault : Fault) (ended : Bool) (unused : List ℕ) → fault_of client ≡ Some fault
       → IsTimely fault.kind ended unused → FaultsInTime client ended unused
-  in_time_where_told client fault ended unused told timely met failed =
+  in_time_where_announced client fault ended unused announced timely met failed =
       let same : fault ≡ met = cc in subst (λ (f : Fault). IsTimely f.kind ended unused) same timely

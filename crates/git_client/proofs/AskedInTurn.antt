@@ -16,8 +16,8 @@ use Rattle.git_client.specs.Conversation.{HasNoted, IsConversation}
 use Rattle.git_client.specs.Machine.Client.{History, Converses, ask_checks, can_ask, caps_of, format_of}
 use Rattle.git_client.specs.Machine.Runs.{HasAsked}
 use Rattle.git_client.specs.declared.client.Client.{Client}
-use Rattle.git_client.proofs.CanAsk.{can_ask_tells}
-use Rattle.git_client.proofs.EventsHeard.{has_noted, is_whole}
+use Rattle.git_client.proofs.CanAsk.{can_ask_announces}
+use Rattle.git_client.proofs.EventsReceived.{has_noted, is_whole}
 use Rattle.git_client.proofs.Notes.{noted_at}
 use Rattle.git_client.proofs.Sequences.{turns-append}
 
@@ -67,9 +67,9 @@ module _ {A : Type 0} (t : Terms) where
   none_in_turn = record { are = refl; in_turn = omega arith; may_be = inl refl }
 
   -- more bytes were used
-  pub heard_in_turn : (asked : List Asked) (used more : List ℕ) (events now : List EventValue) (front : List (Request A))
+  pub received_in_turn : (asked : List Asked) (used more : List ℕ) (events now : List EventValue) (front : List (Request A))
       → AskedInTurn asked used events front → AskedInTurn asked (used ++ more) (events ++ now) front
-  heard_in_turn asked used more events now front h = record {
+  received_in_turn asked used more events now front h = record {
     are = h.are;
     in_turn = omega (arith, h.in_turn, turns-append events now);
     may_be = elim h.may_be [
@@ -136,7 +136,7 @@ module _ {A : Type 0} (t : Terms) where
     pub asked_in_turn : AskedInTurn h.asked h.used h.events front
         → AskedInTurn (h.asked ++ asked_of request ∷ []) h.used h.events (front ++ request ∷ [])
     asked_in_turn a =
-        let turn = ((can_ask_tells client true ready t h stands).0 refl).2 in
+        let turn = ((can_ask_announces client true ready t h stands).0 refl).2 in
         record {
           are = ap (λ (l : List Asked). l ++ asked_of request ∷ []) a.are ∙ sym (map-append asked_of front (request ∷ []));
           in_turn = omega (arith, turn, length-append h.asked (asked_of request ∷ []));

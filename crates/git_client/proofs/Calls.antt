@@ -14,9 +14,9 @@ use Rattle.git_client.specs.Machine.Turns.{fault_in, has_left_in, is_asking, is_
 use Rattle.git_client.specs.Machine.Calls.{Call, ask, ask_refused, leave, pull, feed, close, Makes, Headline, after_call, history_after, feeds_by, feeds_in}
 use Rattle.git_client.specs.declared.client.Client.{Client}
 use Rattle.git_client.specs.declared.phase.Phase.{Phase}
-use Rattle.git_client.specs.declared.phase.Phase.TheVariants.{Hearing, Asking}
-use Rattle.git_client.proofs.CanAsk.{can_ask_tells}
-use Rattle.git_client.proofs.EventsHeard.{awaits_more, has_events, has_noted, goes_well, is_whole, all_is_said}
+use Rattle.git_client.specs.declared.phase.Phase.TheVariants.{Receiving, Asking}
+use Rattle.git_client.proofs.CanAsk.{can_ask_announces}
+use Rattle.git_client.proofs.EventsReceived.{awaits_more, has_events, has_noted, goes_well, is_whole, all_is_sent}
 use Rattle.git_client.proofs.Faults.{first_fault}
 use Rattle.git_client.proofs.OneFault.{one_shown, one_by_name}
 use Rattle.git_client.proofs.Packs.{has_pack}
@@ -34,14 +34,14 @@ kept_within (Some q) h = h q refl
 
 -- while packets are expected from the server, none is left to be sent
 nothing_left : {A : Type 0} (phase : Phase) (request : Option (Request A)) → takes_packets phase ≡ true → left_in phase request ≡ []
-nothing_left (Hearing due) request waits = refl
+nothing_left (Receiving expected) request waits = refl
 nothing_left phase request waits = absurd (cc)
 
 -- some are left to be sent if none is expected, no error occurred, and the client has not left and cannot ask
-owes_some : {A : Type 0} (phase : Phase) (request : Option (Request A)) → (is_asking phase ≡ true → left_in phase request ≢ []) → fault_in phase ≡ None
+some_unsent : {A : Type 0} (phase : Phase) (request : Option (Request A)) → (is_asking phase ≡ true → left_in phase request ≢ []) → fault_in phase ≡ None
     → has_left_in phase ≡ false → is_ready phase ≡ false → takes_packets phase ≡ false → left_in phase request ≢ []
-owes_some (Asking writer) request some sound stays no_turn no_wait = some refl
-owes_some phase request some sound stays no_turn no_wait = absurd (cc)
+some_unsent (Asking writer) request some sound stays no_turn no_wait = some refl
+some_unsent phase request some sound stays no_turn no_wait = absurd (cc)
 
 -- a history to which nothing is added
 nothing_more : (h : History) → record h { used = h.used ++ []; events = h.events ++ [] } ≡ h
@@ -57,8 +57,8 @@ module _ {A : Type 0} where
   goes_on t (ask_refused request handed_back fault) h before old after new made c =
       subst (λ (client : Client A). Converses t h client) (sym made.0.stays) c
   goes_on t leave h before old after new made c = made.0.leaves t h c
-  goes_on t (pull sent) h before old after new made c = made.0.says t h c
-  goes_on t (feed piece answer) h before old after new made c = made.0.hears t h c
+  goes_on t (pull sent) h before old after new made c = made.0.conveys t h c
+  goes_on t (feed chunk answer) h before old after new made c = made.0.arrives t h c
   goes_on t (close fault) h before old after new made c =
       subst (λ (now : History). Converses t now new) (nothing_more h) (made.0.carries t h c)
 
@@ -70,12 +70,12 @@ module _ {A : Type 0} where
 
   -- the bytes that the call uses
   abbrev used_by : Call A → List ℕ
-  used_by (feed piece answer) = take answer.used piece
+  used_by (feed chunk answer) = take answer.used chunk
   used_by call = []
 
   -- the history grows by these bytes
   adds_used : (call : Call A) (h : History) → length (after_call h call).used ≡ length h.used + length (used_by call)
-  adds_used (feed piece answer) h = length-append h.used (take answer.used piece)
+  adds_used (feed chunk answer) h = length-append h.used (take answer.used chunk)
   adds_used call h = omega arith
 
   all_used : (calls : List (Call A)) (h : History) → length (history_after h calls).used ≡ length h.used + length (flat_map used_by calls)
@@ -97,8 +97,8 @@ module _ {A : Type 0} where
       record { rises = omega (arith, same); within = omega (arith, same, leaves.credit) }
   each_paid (pull sent) before old after new (pulls, same) =
       record { rises = omega (arith, same); within = omega (arith, same, pulls.credit) }
-  each_paid (feed piece answer) before old after new (feeds, fits, pays) =
-      record { rises = pays.rises; within = omega (arith, pays.within, length-take-le answer.used piece fits) }
+  each_paid (feed chunk answer) before old after new (feeds, fits, pays) =
+      record { rises = pays.rises; within = omega (arith, pays.within, length-take-le answer.used chunk fits) }
   each_paid (close fault) before old after new (closes, same) =
       record { rises = omega (arith, same); within = omega (arith, same, closes.credit) }
 
@@ -121,13 +121,13 @@ module _ {A : Type 0} where
         steps = omega (arith, paid.within, none, all_used calls nothing_yet);
         events = events;
         noted = has_noted t h last c;
-        given = all_is_said t h last c;
+        given = all_is_sent t h last c;
         pack = has_pack t h.asked h.used h.events events;
         whole = is_whole t h last c;
-        turn = can_ask_tells last (can_ask last) refl t h c;
-        due = awaits_more t h last c;
-        waits = λ waits. all_is_said t h last c (nothing_left (phase_of last) last.request waits);
-        owes = λ sound stays no_turn no_wait. owes_some (phase_of last) last.request last.owes sound (sym c.left ∙ stays) no_turn no_wait;
+        turn = can_ask_announces last (can_ask last) refl t h c;
+        expected = awaits_more t h last c;
+        waits = λ waits. all_is_sent t h last c (nothing_left (phase_of last) last.request waits);
+        has_unsent = λ sound stays no_turn no_wait. some_unsent (phase_of last) last.request last.has_unsent sound (sym c.left ∙ stays) no_turn no_wait;
         refused = λ fault is. first_fault t h last fault c is;
         unrefused = goes_well t h last c;
         one_refusal = λ fault other is first. one_shown t h.asked h.used fault other (first_fault t h last fault c is) first;

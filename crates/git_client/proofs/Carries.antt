@@ -20,16 +20,16 @@ use Rattle.git_client.specs.Parts.{Terms, nearest, advertisement_of}
 use Rattle.git_client.specs.Places.{Place, place_after}
 use Rattle.git_client.specs.Events.{EventValue, Refuses}
 use Rattle.git_client.specs.Opened.{opened_in}
-use Rattle.git_client.specs.Conversation.{GiveAll, HasDue}
-use Rattle.git_client.specs.Machine.Turns.{has_left_in, left_in, question_in, events_at, phase_in, place_due, NotesAfter, IsTurn}
-use Rattle.git_client.specs.Machine.Client.{History, Converses, HearsOn, StandsIn, Goes, Behind, IsDue, spelled}
+use Rattle.git_client.specs.Conversation.{GiveAll, HasExpected}
+use Rattle.git_client.specs.Machine.Turns.{has_left_in, left_in, question_in, events_at, phase_in, place_expected, NotesAfter, IsTurn}
+use Rattle.git_client.specs.Machine.Client.{History, Converses, ReceivesOn, StandsIn, Goes, Behind, IsExpected, spelled}
 use Rattle.git_client.specs.Machine.Client.{questions_of, farewell, format_of, ending_of, caps_of, phase_of, reader_of, request_of}
 use Rattle.git_client.specs.declared.events.Ending.{Ending}
 use Rattle.git_client.specs.declared.phase.Phase.{Phase}
-use Rattle.git_client.specs.declared.phase.Phase.TheVariants.{Hearing, Ready, Asking, Leaving, Left, Failed}
-use Rattle.git_client.specs.declared.phase.Due.{Due}
-use Rattle.git_client.specs.declared.phase.Due.TheVariants.{Capabilities}
-use Rattle.git_client.specs.declared.phase.Said.{Said}
+use Rattle.git_client.specs.declared.phase.Phase.TheVariants.{Receiving, Ready, Asking, Leaving, Left, Failed}
+use Rattle.git_client.specs.declared.phase.Expected.{Expected}
+use Rattle.git_client.specs.declared.phase.Expected.TheVariants.{Capabilities}
+use Rattle.git_client.specs.declared.phase.LineContent.{LineContent}
 use Rattle.git_client.specs.declared.phase.Turn.{Turn}
 use Rattle.git_client.specs.declared.client.Client.{Client}
 use Rattle.git_client.proofs.Sequences.{nearest_push, give_all_push}
@@ -40,7 +40,7 @@ use Rattle.git_client.proofs.Reached.{Reached, Reaches}
 
 -- the client receives or can ask
 abbrev pub goes_on : Phase → Bool
-goes_on (Hearing due) = true
+goes_on (Receiving expected) = true
 goes_on Ready = true
 goes_on phase = false
 
@@ -48,7 +48,7 @@ goes_on phase = false
 stands_on : (phase : Phase) (t : Terms) (asked : List Asked) (clean given : List Given) (rest : List ℕ) (end : ℕ) (question : Option Asked)
     (reader : PacketReader) → goes_on phase ≡ true → Goes t asked clean given rest None phase reader
     → StandsIn phase t asked clean given rest end question reader
-stands_on (Hearing due) t asked clean given rest end question reader e h =
+stands_on (Receiving expected) t asked clean given rest end question reader e h =
     record { cut = h.cut; sound = h.sound; behind = h.behind; shut = h.shut }
 stands_on Ready t asked clean given rest end question reader e h =
     record { cut = h.cut; sound = h.sound; behind = h.behind; shut = h.shut }
@@ -68,10 +68,10 @@ not_left Leaving e = absurd (cc)
 not_left Left e = absurd (cc)
 not_left phase e = refl
 
-pub owes_nothing : {A : Type 0} (phase : Phase) (request : Option (Request A)) → is_quiet phase ≡ true → left_in phase request ≡ []
-owes_nothing (Asking writer) request e = absurd (cc)
-owes_nothing Leaving request e = absurd (cc)
-owes_nothing phase request e = refl
+pub nothing_unsent : {A : Type 0} (phase : Phase) (request : Option (Request A)) → is_quiet phase ≡ true → left_in phase request ≡ []
+nothing_unsent (Asking writer) request e = absurd (cc)
+nothing_unsent Leaving request e = absurd (cc)
+nothing_unsent phase request e = refl
 
 -- after a packet no byte is left over
 nothing_left : (reader : PacketReader) (bytes : List ℕ) (given : List Given) (rest : List ℕ) → reader_fault_of reader ≡ None → is_open reader ≡ false
@@ -84,26 +84,26 @@ on_terms : (P : Format → Ending → Type 0) (format : Format) (ending : Ending
 on_terms P format ending t same_format same_ending h = subst (P t.format) same_ending (subst (λ (f : Format). P f ending) same_format h)
 
 -- what is expected next has a place
-pub some_place : (t : Terms) (asked : List Asked) (before : List Pkt) (due : Due) → IsDue t asked before due → HasDue t asked before
-some_place t asked before due d = (_, place_is t asked before due (noted_of (advertisement_of before)) d refl)
+pub some_place : (t : Terms) (asked : List Asked) (before : List Pkt) (expected : Expected) → IsExpected t asked before expected → HasExpected t asked before
+some_place t asked before expected d = (_, place_is t asked before expected (noted_of (advertisement_of before)) d refl)
 
 none_of : (asked : List Asked) → length asked ≡ 0 → asked ≡ []
 none_of [] e = refl
 none_of (q ∷ asked) e = absurd (omega arith)
 
 -- capabilities are noted only before anything is asked
-same_questions : (t : Terms) (asked : List Asked) (before : List Pkt) (due : Due) (caps after : Caps) (p : Pkt) → IsDue t asked before due
-    → NotesAfter due caps p after → questions_of t.format after asked ≡ questions_of t.format caps asked
+same_questions : (t : Terms) (asked : List Asked) (before : List Pkt) (expected : Expected) (caps after : Caps) (p : Pkt) → IsExpected t asked before expected
+    → NotesAfter expected caps p after → questions_of t.format after asked ≡ questions_of t.format caps asked
 same_questions t asked before Capabilities caps after (payload line) d notes =
     let none = none_of asked (omega (arith, d.counts, no_flush t asked before _ (stands t asked before Capabilities d).is_part refl)) in
     ap (questions_of t.format after) none ∙ sym (ap (questions_of t.format caps) none)
-same_questions t asked before due caps after p d notes = ap (λ (a : Caps). questions_of t.format a asked) notes
+same_questions t asked before expected caps after p d notes = ap (λ (a : Caps). questions_of t.format a asked) notes
 
 module _ {A : Type 0} where
   -- The client has read these bytes. Then these packets are returned, and these events were handed out for bytes that were passed on.
-  pub record HearsBytes (old new : Client A) (due : Due) (u : List ℕ) (told : List Given) (parts : List EventValue) : Type 0 where
-    pub hearing : phase_of old ≡ Hearing due
-    pub reaches : Reaches old due u told parts (reader_of new)
+  pub record ReceivesBytes (old new : Client A) (expected : Expected) (u : List ℕ) (announced : List Given) (parts : List EventValue) : Type 0 where
+    pub receiving : phase_of old ≡ Receiving expected
+    pub reaches : Reaches old expected u announced parts (reader_of new)
     pub format : format_of new ≡ format_of old
     pub ending : ending_of new ≡ ending_of old
 
@@ -118,16 +118,17 @@ module _ {A : Type 0} where
     pub same_questions : questions_of t.format (caps_of new) h.asked ≡ questions_of t.format (caps_of old) h.asked
 
   -- so the history goes on by these bytes
-  hears_bytes : (old new : Client A) (due : Due) (u : List ℕ) (told : List Given) (parts now : List EventValue) → HearsBytes old new due u told parts
+  receives_bytes : (old new : Client A) (expected : Expected) (u : List ℕ) (announced : List Given) (parts now : List EventValue)
+      → ReceivesBytes old new expected u announced parts
       → is_quiet (phase_of new) ≡ true
-      → ((t : Terms) (h : History) (c : Converses t h old) (r : Reached t h old due u told parts (reader_of new))
-      → Continues t h old new now (r.clean ++ told) r.rest (length (h.used ++ u))) → HearsOn old u now new
-  hears_bytes old new due u told parts now b quiet after t h c =
+      → ((t : Terms) (h : History) (c : Converses t h old) (r : Reached t h old expected u announced parts (reader_of new))
+      → Continues t h old new now (r.clean ++ announced) r.rest (length (h.used ++ u))) → ReceivesOn old u now new
+  receives_bytes old new expected u announced parts now b quiet after t h c =
       let r = b.reaches t h c in
       let a = after t h c r in
-      let was : is_quiet (phase_of old) ≡ true = ap is_quiet b.hearing in
+      let was : is_quiet (phase_of old) ≡ true = ap is_quiet b.receiving in
       record {
-        given = r.clean ++ told;
+        given = r.clean ++ announced;
         rest = r.rest;
         clean = a.clean;
         format_is = b.format ∙ c.format_is;
@@ -141,17 +142,17 @@ module _ {A : Type 0} where
         left = c.left ∙ not_left (phase_of old) was ∙ sym (not_left (phase_of new) quiet);
         spoken =
             ap (λ (l : List Pkt). h.given ++ spelled l)
-            (owes_nothing (phase_of new) (request_of new) quiet ∙ sym (owes_nothing (phase_of old) (request_of old) was))
+            (nothing_unsent (phase_of new) (request_of new) quiet ∙ sym (nothing_unsent (phase_of old) (request_of old) was))
             ∙ c.spoken ∙ ap (λ (l : List Pkt). spelled (l ++ farewell h.left)) (sym a.same_questions);
       }
 
   -- no packet is returned, and the same is expected as before
-  pub hears_parts : (old new : Client A) (due : Due) (u : List ℕ) (parts : List EventValue) → HearsBytes old new due u [] parts
-      → reader_fault_of (reader_of new) ≡ None → phase_of new ≡ Hearing due → caps_of new ≡ caps_of old → HearsOn old u parts new
-  hears_parts old new due u parts b sound now caps =
-      hears_bytes old new due u [] parts parts b (ap is_quiet now) (λ t h c r.
-      let next : Goes t h.asked r.clean (r.clean ++ []) r.rest None (Hearing due) (reader_of new) =
-      record { cut = append-nil r.clean; sound = sound; behind = r.is_due; shut = λ e. absurd (cc) } in
+  pub receives_parts : (old new : Client A) (expected : Expected) (u : List ℕ) (parts : List EventValue) → ReceivesBytes old new expected u [] parts
+      → reader_fault_of (reader_of new) ≡ None → phase_of new ≡ Receiving expected → caps_of new ≡ caps_of old → ReceivesOn old u parts new
+  receives_parts old new expected u parts b sound now caps =
+      receives_bytes old new expected u [] parts parts b (ap is_quiet now) (λ t h c r.
+      let next : Goes t h.asked r.clean (r.clean ++ []) r.rest None (Receiving expected) (reader_of new) =
+      record { cut = append-nil r.clean; sound = sound; behind = r.is_expected; shut = λ e. absurd (cc) } in
       record {
         clean = r.clean;
         whole = r.whole;
@@ -160,122 +161,124 @@ module _ {A : Type 0} where
         notes = caps ∙ r.notes;
         stands =
             subst (λ (phase : Phase). StandsIn phase t h.asked r.clean (r.clean ++ []) r.rest (length (h.used ++ u))
-            (question_in (request_of new)) (reader_of new)) (sym now) (stands_on (Hearing due) t h.asked r.clean (r.clean ++ []) r.rest (length (h.used ++ u))
+            (question_in (request_of new)) (reader_of new)) (sym now)
+            (stands_on (Receiving expected) t h.asked r.clean (r.clean ++ []) r.rest (length (h.used ++ u))
             (question_in (request_of new)) (reader_of new) refl next);
         same_questions = ap (λ (a : Caps). questions_of t.format a h.asked) caps;
       })
 
   -- one packet was read, and is in the hold
-  pub record HearsPacket (old new : Client A) (due : Due) (u : List ℕ) (g : Given) : Type 0 where
-    pub bytes : HearsBytes old new due u (g ∷ []) []
+  pub record ReceivesOnePacket (old new : Client A) (expected : Expected) (u : List ℕ) (g : Given) : Type 0 where
+    pub bytes : ReceivesBytes old new expected u (g ∷ []) []
     pub sound : reader_fault_of (reader_of new) ≡ None
     pub shut : is_open (reader_of new) ≡ false
     pub held : Spells g.packet (held_of (reader_of new))
 
   -- a packet without an error
-  pub hears_packet : (old new : Client A) (due : Due) (u : List ℕ) (g : Given) (found : Said) (turn : Turn) → HearsPacket old new due u g
-      → IsTurn (format_of old) (ending_of old) due (caps_of old) g.packet found (caps_of new) turn → goes_on (phase_in turn) ≡ true
-      → phase_of new ≡ phase_in turn → HearsOn old u (events_at found (body_of g.packet)) new
-  hears_packet old new due u g found turn b judged goes_after now =
-      let said = events_at found (body_of g.packet) in
-      hears_bytes old new due u (g ∷ []) [] said b.bytes
+  pub receives_packet : (old new : Client A) (expected : Expected) (u : List ℕ) (g : Given) (found : LineContent) (turn : Turn)
+      → ReceivesOnePacket old new expected u g
+      → IsTurn (format_of old) (ending_of old) expected (caps_of old) g.packet found (caps_of new) turn → goes_on (phase_in turn) ≡ true
+      → phase_of new ≡ phase_in turn → ReceivesOn old u (events_at found (body_of g.packet)) new
+  receives_packet old new expected u g found turn b judged goes_after now =
+      let content = events_at found (body_of g.packet) in
+      receives_bytes old new expected u (g ∷ []) [] content b.bytes
       (ap is_quiet now ∙ goes_quietly (phase_in turn) goes_after) (λ t h c r.
       let of_terms =
-      on_terms (λ format ending. IsTurn format ending due (caps_of old) g.packet found (caps_of new) turn) _ _ t c.format_is c.ending_is judged in
-      let says = judged_well t h.asked (nearest r.clean []) due (caps_of old) g.packet found (caps_of new) turn r.is_due r.notes of_terms in
+      on_terms (λ format ending. IsTurn format ending expected (caps_of old) g.packet found (caps_of new) turn) _ _ t c.format_is c.ending_is judged in
+      let conveys = judged_well t h.asked (nearest r.clean []) expected (caps_of old) g.packet found (caps_of new) turn r.is_expected r.notes of_terms in
       let push = nearest_push r.clean g [] in
       let nothing = nothing_left (reader_of new) (h.used ++ u) (r.clean ++ g ∷ []) r.rest b.sound b.shut r.reads in
       let next : Goes t h.asked (r.clean ++ g ∷ []) (r.clean ++ g ∷ []) r.rest None (phase_in turn) (reader_of new) = record {
         cut = refl;
         sound = b.sound;
-        behind = subst (λ (l : List Pkt). Behind t h.asked l None (phase_in turn)) (sym push) says.2;
+        behind = subst (λ (l : List Pkt). Behind t h.asked l None (phase_in turn)) (sym push) conveys.2;
         shut = λ _. nothing;
       } in
       let none : (place : Option Place) → opened_in place r.rest ≡ [] =
       λ place. ap (λ (rest : List ℕ). opened_in place rest) nothing ∙ nothing_opened place in
       record {
         clean = r.clean ++ g ∷ [];
-        whole = r.whole ++ said;
-        gives = give_all_push t h.asked [] r.clean g r.whole said r.gives says.0;
+        whole = r.whole ++ content;
+        gives = give_all_push t h.asked [] r.clean g r.whole content r.gives conveys.0;
         events_are =
-            ap (λ (l : List EventValue). l ++ said)
+            ap (λ (l : List EventValue). l ++ content)
             (sym (append-nil h.events) ∙ r.events_are ∙ ap (λ (l : List EventValue). r.whole ++ l) (none _) ∙ append-nil r.whole)
-            ∙ sym (append-nil (r.whole ++ said))
-            ∙ ap (λ (l : List EventValue). (r.whole ++ said) ++ l) (sym (none _));
-        notes = says.1 ∙ ap (λ (l : List Pkt). noted_of (advertisement_of l)) (sym push);
+            ∙ sym (append-nil (r.whole ++ content))
+            ∙ ap (λ (l : List EventValue). (r.whole ++ content) ++ l) (sym (none _));
+        notes = conveys.1 ∙ ap (λ (l : List Pkt). noted_of (advertisement_of l)) (sym push);
         stands =
             subst (λ (phase : Phase). StandsIn phase t h.asked (r.clean ++ g ∷ []) (r.clean ++ g ∷ []) r.rest (length (h.used ++ u))
             (question_in (request_of new)) (reader_of new)) (sym now) (stands_on (phase_in turn) t h.asked _ _ _ _ _ _ goes_after next);
         same_questions =
-            same_questions t h.asked (nearest r.clean []) due (caps_of old) (caps_of new) g.packet r.is_due of_terms.notes;
+            same_questions t h.asked (nearest r.clean []) expected (caps_of old) (caps_of new) g.packet r.is_expected of_terms.notes;
       })
 
   -- a client that fails hands out no event, and keeps all else
-  fails : (t : Terms) (h : History) (old new : Client A) (due : Due) (u : List ℕ) (told : List Given) (f : Fault)
-      → (r : Reached t h old due u told [] (reader_of new)) → phase_of new ≡ Failed f → caps_of new ≡ caps_of old
-      → StandsIn (Failed f) t h.asked r.clean (r.clean ++ told) r.rest (length (h.used ++ u)) (question_in (request_of new)) (reader_of new)
-      → Continues t h old new [] (r.clean ++ told) r.rest (length (h.used ++ u))
-  fails t h old new due u told f r failed caps stands = record {
+  fails : (t : Terms) (h : History) (old new : Client A) (expected : Expected) (u : List ℕ) (announced : List Given) (f : Fault)
+      → (r : Reached t h old expected u announced [] (reader_of new)) → phase_of new ≡ Failed f → caps_of new ≡ caps_of old
+      → StandsIn (Failed f) t h.asked r.clean (r.clean ++ announced) r.rest (length (h.used ++ u)) (question_in (request_of new)) (reader_of new)
+      → Continues t h old new [] (r.clean ++ announced) r.rest (length (h.used ++ u))
+  fails t h old new expected u announced f r failed caps stands = record {
     clean = r.clean;
     whole = r.whole;
     gives = r.gives;
     events_are = r.events_are;
     notes = caps ∙ r.notes;
-    stands = subst (λ (phase : Phase). StandsIn phase t h.asked r.clean (r.clean ++ told) r.rest (length (h.used ++ u)) (question_in (request_of new))
+    stands = subst (λ (phase : Phase). StandsIn phase t h.asked r.clean (r.clean ++ announced) r.rest (length (h.used ++ u)) (question_in (request_of new))
         (reader_of new)) (sym failed) stands;
     same_questions = ap (λ (a : Caps). questions_of t.format a h.asked) caps;
   }
 
   -- a packet that is refused
-  pub hears_refused : (old new : Client A) (due : Due) (u : List ℕ) (g : Given) (kind : Kind) → HearsPacket old new due u g
-      → Refuses (format_of old) (ending_of old) (place_due (caps_of old) (format_of old) due) g.packet kind
-      → phase_of new ≡ Failed (record { kind = kind; offset = g.offset }) → caps_of new ≡ caps_of old → HearsOn old u [] new
-  hears_refused old new due u g kind b judged failed caps =
-      hears_bytes old new due u (g ∷ []) [] [] b.bytes (ap is_quiet failed) (λ t h c r.
+  pub receives_refused : (old new : Client A) (expected : Expected) (u : List ℕ) (g : Given) (kind : Kind) → ReceivesOnePacket old new expected u g
+      → Refuses (format_of old) (ending_of old) (place_expected (caps_of old) (format_of old) expected) g.packet kind
+      → phase_of new ≡ Failed (record { kind = kind; offset = g.offset }) → caps_of new ≡ caps_of old → ReceivesOn old u [] new
+  receives_refused old new expected u g kind b judged failed caps =
+      receives_bytes old new expected u (g ∷ []) [] [] b.bytes (ap is_quiet failed) (λ t h c r.
       let of_terms =
-      on_terms (λ format ending. Refuses format ending (place_due (caps_of old) format due) g.packet kind) _ _ t c.format_is c.ending_is judged in
-      fails t h old new due u (g ∷ []) (record { kind = kind; offset = g.offset }) r failed caps (inl (record {
+      on_terms (λ format ending. Refuses format ending (place_expected (caps_of old) format expected) g.packet kind) _ _ t c.format_is c.ending_is judged in
+      fails t h old new expected u (g ∷ []) (record { kind = kind; offset = g.offset }) r failed caps (inl (record {
         bad = g;
         cut = refl;
         nothing = nothing_left (reader_of new) (h.used ++ u) (r.clean ++ g ∷ []) r.rest b.sound b.shut r.reads;
-        refused = judged_badly t h.asked (nearest r.clean []) due (caps_of old) g.packet kind r.is_due r.notes of_terms;
+        refused = judged_badly t h.asked (nearest r.clean []) expected (caps_of old) g.packet kind r.is_expected r.notes of_terms;
         at = refl;
         held = b.held;
       })))
 
   -- bytes that the packet reader refuses
-  pub hears_failed : (old new : Client A) (due : Due) (u : List ℕ) (f : Fault) → HearsBytes old new due u [] []
-      → reader_fault_of (reader_of new) ≡ Some f → phase_of new ≡ Failed f → caps_of new ≡ caps_of old → HearsOn old u [] new
-  hears_failed old new due u f b told failed caps =
-      hears_bytes old new due u [] [] [] b (ap is_quiet failed) (λ t h c r.
+  pub receives_failed : (old new : Client A) (expected : Expected) (u : List ℕ) (f : Fault) → ReceivesBytes old new expected u [] []
+      → reader_fault_of (reader_of new) ≡ Some f → phase_of new ≡ Failed f → caps_of new ≡ caps_of old → ReceivesOn old u [] new
+  receives_failed old new expected u f b announced failed caps =
+      receives_bytes old new expected u [] [] [] b (ap is_quiet failed) (λ t h c r.
       let end : ℕ = length (h.used ++ u) in
       let start : 0 + end ≡ end = omega arith in
       let stops : StandsAt (Some f) (0 + end - length r.rest) (0 + end) r.rest (reader_of new) =
-      subst (λ (o : Option Fault). StandsAt o (0 + end - length r.rest) (0 + end) r.rest (reader_of new)) told r.reads.state in
-      fails t h old new due u [] f r failed caps (inr (inl (record {
+      subst (λ (o : Option Fault). StandsAt o (0 + end - length r.rest) (0 + end) r.rest (reader_of new)) announced r.reads.state in
+      fails t h old new expected u [] f r failed caps (inr (inl (record {
         cut = append-nil r.clean;
-        due = some_place t h.asked (nearest r.clean []) due r.is_due;
+        expected = some_place t h.asked (nearest r.clean []) expected r.is_expected;
         by = subst (λ (n : ℕ). StopsBy (n - length r.rest) r.rest n f.kind f.offset) start stops.1;
       }))))
 
   -- the input ended after a whole packet
-  pub hears_end : (old new : Client A) (due : Due) (f : Fault) → HearsBytes old new due [] [] [] → reader_fault_of (reader_of new) ≡ None
+  pub receives_end : (old new : Client A) (expected : Expected) (f : Fault) → ReceivesBytes old new expected [] [] [] → reader_fault_of (reader_of new) ≡ None
       → is_open (reader_of new) ≡ false → f.kind ≡ Truncated → f.offset ≡ position_of (reader_of new) → phase_of new ≡ Failed f
-      → caps_of new ≡ caps_of old → HearsOn old [] [] new
-  hears_end old new due f b sound shut kind at failed caps =
-      hears_bytes old new due [] [] [] [] b (ap is_quiet failed) (λ t h c r.
-      fails t h old new due [] [] f r failed caps (inr (inr (record {
+      → caps_of new ≡ caps_of old → ReceivesOn old [] [] new
+  receives_end old new expected f b sound shut kind at failed caps =
+      receives_bytes old new expected [] [] [] [] b (ap is_quiet failed) (λ t h c r.
+      fails t h old new expected [] [] f r failed caps (inr (inr (record {
         cut = append-nil r.clean;
         nothing = nothing_left (reader_of new) (h.used ++ []) (r.clean ++ []) r.rest sound shut r.reads;
-        due = some_place t h.asked (nearest r.clean []) due r.is_due;
+        expected = some_place t h.asked (nearest r.clean []) expected r.is_expected;
         kind = kind;
         at = at ∙ r.reads.position ∙ zero-add (length (h.used ++ []));
       }))))
 
   -- two steps in a row
-  pub hears_twice : (a b c : Client A) (u v : List ℕ) (now later : List EventValue) → HearsOn a u now b → HearsOn b v later c
-      → HearsOn a (u ++ v) (now ++ later) c
-  hears_twice a b c u v now later first second t h r =
+  pub receives_twice : (a b c : Client A) (u v : List ℕ) (now later : List EventValue) → ReceivesOn a u now b → ReceivesOn b v later c
+      → ReceivesOn a (u ++ v) (now ++ later) c
+  receives_twice a b c u v now later first second t h r =
       subst (λ (es : List EventValue). Converses t (record h { used = h.used ++ (u ++ v); events = es }) c) (append_assoc h.events now later)
       (subst (λ (bs : List ℕ). Converses t (record h { used = bs; events = (h.events ++ now) ++ later }) c) (append_assoc h.used u v)
       (second t (record h { used = h.used ++ u; events = h.events ++ now }) (first t h r)))

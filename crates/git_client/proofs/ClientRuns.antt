@@ -20,23 +20,24 @@ use Rattle.git_client.specs.Parts.{Terms}
 use Rattle.git_client.specs.Events.{EventValue, pack_bytes, progress_bytes}
 use Rattle.git_client.specs.Transcript.{transcript_from, transcript_of}
 use Rattle.git_client.specs.Machine.Client.{History, Converses, Leaves, nothing_yet, ask_checks, caps_of, ending_of, can_ask, fault_of, wants_input}
-use Rattle.git_client.specs.Machine.Client.{left_to_say, phase_of, request_of}
+use Rattle.git_client.specs.Machine.Client.{left_to_send, phase_of, request_of}
 use Rattle.git_pkt.specs.Streams.{Flow, flow, WrittenAs, Moves, is_broken}
-use Rattle.git_client.specs.Machine.RunSteps.{HearsFrom, HearsTo, HearsWhole, Says, AsksNext, AsksNot, AsksTo, FaultsInTime, no_counts, window_of}
-use Rattle.git_client.specs.Machine.Runs.{leaves_last, HasSaid, IsBrokenRun, IsInterrupted, IsRefusedRequest, IsWholeRun, EndsAs, Conversed}
+use Rattle.git_client.specs.Machine.RunSteps.{ReceivesFrom, ReceivesResponse, ReceivesWholeResponse, SendsPackets, AsksNext, AsksNot, AsksTo}
+use Rattle.git_client.specs.Machine.RunSteps.{FaultsInTime, no_counts, window_of}
+use Rattle.git_client.specs.Machine.Runs.{leaves_last, HasSent, IsBrokenRun, IsInterrupted, IsRefusedRequest, IsWholeRun, EndsAs, Conversed}
 use Rattle.git_client.specs.declared.client.Client.{Client}
 use Rattle.git_client.specs.declared.events.Ending.{Ending}
 use Rattle.git_client.specs.declared.events.Ending.TheVariants.{FlushOnly, ResponseEnd}
-use Rattle.git_client.specs.declared.hearing.Counts.{Counts}
-use Rattle.git_client.specs.declared.hearing.Window.{Window}
-use Rattle.git_client.proofs.Alongs.{in_time_where_sound, in_time_where_told}
-use Rattle.git_client.proofs.Alongs.{IsTold, Along, along_anew, along_asked, along_begun, along_heard, counts_on}
+use Rattle.git_client.specs.declared.receiving.Counts.{Counts}
+use Rattle.git_client.specs.declared.receiving.Window.{Window}
+use Rattle.git_client.proofs.Alongs.{in_time_where_sound, in_time_where_announced}
+use Rattle.git_client.proofs.Alongs.{IsAnnounced, Along, along_anew, along_asked, along_begun, along_received, counts_on}
 use Rattle.git_client.proofs.Counting.{progress_bytes-append}
-use Rattle.git_client.proofs.Carries.{is_quiet, not_left, owes_nothing}
-use Rattle.git_client.proofs.Phases.{sound_where_due, sound_where_ready, quiet_where_due, quiet_where_failed, quiet_where_ready}
-use Rattle.git_client.proofs.EventsHeard.{has_noted, awaits_more, is_whole, position_is, all_is_said}
+use Rattle.git_client.proofs.Carries.{is_quiet, not_left, nothing_unsent}
+use Rattle.git_client.proofs.Phases.{sound_where_expected, sound_where_ready, quiet_where_expected, quiet_where_failed, quiet_where_ready}
+use Rattle.git_client.proofs.EventsReceived.{has_noted, awaits_more, is_whole, position_is, all_is_sent}
 use Rattle.git_client.proofs.Faults.{first_fault}
-use Rattle.git_client.proofs.AskedInTurn.{AskedInTurn, asked_in_turn, has_asked, heard_in_turn, none_in_turn}
+use Rattle.git_client.proofs.AskedInTurn.{AskedInTurn, asked_in_turn, has_asked, received_in_turn, none_in_turn}
 
 -- ---- what was read and written
 
@@ -48,14 +49,14 @@ read_on before held after used waiting came more unused first second parts =
     (Consumes-trans before held after (used ++ waiting) came first second)
 
 -- if nothing more is asked or received, the lines so far are the whole transcript
-all_lines : (ready : Bool) (h : History) (lines : List ℕ) (counts : Counts) → IsTold ready h lines counts
+all_lines : (ready : Bool) (h : History) (lines : List ℕ) (counts : Counts) → IsAnnounced ready h lines counts
     → transcript_of (h.asked ++ []) (h.events ++ []) ≡ lines
-all_lines true h lines counts told = told [] [] ∙ append-nil (lines ++ []) ∙ append-nil lines
-all_lines false h lines counts told = told [] [] ∙ append-nil lines
+all_lines true h lines counts announced = announced [] [] ∙ append-nil (lines ++ []) ∙ append-nil lines
+all_lines false h lines counts announced = announced [] [] ∙ append-nil lines
 
-all_told : (ready : Bool) (h : History) (lines : List ℕ) (counts : Counts) → IsTold ready h lines counts → lines ≡ transcript_of h.asked h.events
-all_told ready h lines counts told =
-    sym (all_lines ready h lines counts told) ∙ ap (λ (asked : List Asked). transcript_of asked (h.events ++ [])) (append-nil h.asked)
+all_announced : (ready : Bool) (h : History) (lines : List ℕ) (counts : Counts) → IsAnnounced ready h lines counts → lines ≡ transcript_of h.asked h.events
+all_announced ready h lines counts announced =
+    sym (all_lines ready h lines counts announced) ∙ ap (λ (asked : List Asked). transcript_of asked (h.events ++ [])) (append-nil h.asked)
     ∙ ap (λ (events : List EventValue). transcript_of h.asked events) (append-nil h.events)
 
 -- ---- which streams failed
@@ -70,10 +71,10 @@ sound_first a b sound = ap (λ (x : Bool). x || b) (sym sound)
 -- the error that `?` returns is reported like the one that occurred
 pub fails_at : (r : Result (Unit {0}) RunFault) (fault : RunFault) (read reads written writes : Bool) → IsErrAnd r (λ e. e ≡ fault) → read ≡ reads
     → written ≡ writes → FailsAs {T = Unit {0}} (Err fault) read written → FailsAs r reads writes
-fails_at r fault read reads written writes met same others told =
+fails_at r fault read reads written writes met same others announced =
     let (e, is, named) = err_from_is_err_and r met in
     subst (λ (x : Result (Unit {0}) RunFault). FailsAs x reads writes) (sym (is ∙ ap Err named))
-    (subst (λ (b : Bool). FailsAs {T = Unit {0}} (Err fault) b writes) same (subst (FailsAs {T = Unit {0}} (Err fault) read) others told))
+    (subst (λ (b : Bool). FailsAs {T = Unit {0}} (Err fault) b writes) same (subst (FailsAs {T = Unit {0}} (Err fault) read) others announced))
 
 shown_by : (fault : RunFault) (R S : Type 0) (written writes : Bool) {Read Spent : Type 0} → (Read → R) → (Spent → S) → written ≡ writes
     → IsShownBy Read (IsTrue written) Spent fault → IsShownBy R (IsTrue writes) S fault
@@ -116,8 +117,8 @@ module _ {A : Type 0} where
     pub stays : h.left ≡ false
     pub in_turn : AskedInTurn t h.asked h.used h.events front
     pub read : Consumes reader.before reader.after (h.used ++ unused)
-    pub said : WrittenAs broken writer h.given
-    pub told : WrittenAs broken out lines
+    pub content : WrittenAs broken writer h.given
+    pub announced : WrittenAs broken out lines
     pub sent : WrittenAs broken pack packed
     pub reported : WrittenAs broken progress (progress_bytes h.events)
 
@@ -127,8 +128,8 @@ module _ {A : Type 0} where
     pub stands : Converses t h client
     pub in_turn : AskedInTurn t h.asked h.used h.events front
     pub read : Consumes reader.before reader.after (h.used ++ unused)
-    pub said : WrittenAs broken writer h.given
-    pub told : WrittenAs broken out (transcript_of h.asked h.events)
+    pub content : WrittenAs broken writer h.given
+    pub announced : WrittenAs broken out (transcript_of h.asked h.events)
     pub sent : WrittenAs broken pack (pack_bytes h.events)
     pub reported : WrittenAs broken progress (progress_bytes h.events)
 
@@ -140,8 +141,8 @@ module _ {A : Type 0} where
     stands = r.along.stands;
     in_turn = r.in_turn;
     read = r.read;
-    said = r.said;
-    told = subst (WrittenAs broken out) (all_told (can_ask client) h r.lines counts r.along.told) r.told;
+    content = r.content;
+    announced = subst (WrittenAs broken out) (all_announced (can_ask client) h r.lines counts r.along.announced) r.announced;
     sent = subst (WrittenAs broken pack) r.along.pack_is r.sent;
     reported = r.reported;
   }
@@ -152,8 +153,8 @@ module _ {A : Type 0} where
       → Ran broken t h front client unused reader writer out pack progress → Consumes reader_now.before reader_now.after (h.used ++ more)
       → WrittenAs again writer_now h.given → WrittenAs again out_now (transcript_of h.asked h.events) → WrittenAs again pack_now (pack_bytes h.events)
       → WrittenAs again progress_now (progress_bytes h.events) → Ran again t h front client more reader_now writer_now out_now pack_now progress_now
-  ran_as r read said told sent reported =
-      record { stands = r.stands; in_turn = r.in_turn; read = read; said = said; told = told; sent = sent; reported = reported }
+  ran_as r read content announced sent reported =
+      record { stands = r.stands; in_turn = r.in_turn; read = read; content = content; announced = announced; sent = sent; reported = reported }
 
   -- ---- the steps of a run
 
@@ -162,15 +163,15 @@ module _ {A : Type 0} where
     pub begins : (client : Client A) (reader writer flushed out pack progress : Option (List ℕ)) → wants_input client ≡ true → Converses t nothing_yet client
         → Keeps writer flushed → Running false t nothing_yet [] client no_counts [] (flow reader reader) (flow writer flushed) (flow out out)
         (flow pack pack) (flow progress progress)
-    begins client reader writer flushed out pack progress due stands kept = record {
+    begins client reader writer flushed out pack progress expected stands kept = record {
       lines = [];
       packed = [];
-      along = along_begun t client due stands;
+      along = along_begun t client expected stands;
       stays = refl;
       in_turn = none_in_turn t;
       read = Consumes-nil reader;
-      said = Appends-kept writer writer flushed [] (written_nothing writer) kept;
-      told = written_nothing out;
+      content = Appends-kept writer writer flushed [] (written_nothing writer) kept;
+      announced = written_nothing out;
       sent = written_nothing pack;
       reported = written_nothing progress;
     }
@@ -190,39 +191,39 @@ module _ {A : Type 0} where
           stays = r.stays;
           in_turn = asked_in_turn t h old front request r.along.stands ready step.passes r.in_turn;
           read = r.read;
-          said = written_then broken w0 w1 w2 h.given step.given r.said step.said;
-          told = written_then broken o0 o1 o2 r.lines _ r.told step.told;
+          content = written_then broken w0 w1 w2 h.given step.given r.content step.content;
+          announced = written_then broken o0 o1 o2 r.lines _ r.announced step.announced;
           sent = written_whole broken pack r.packed r.sent;
           reported = written_whole broken progress (progress_bytes h.events) r.reported;
         }
 
     -- bytes were received, or a write failed meanwhile
-    pub hears_on : (broken : Bool) {h : History} (front : List (Request A)) (old new : Client A) (waiting unused : List ℕ)
+    pub receives_on : (broken : Bool) {h : History} (front : List (Request A)) (old new : Client A) (waiting unused : List ℕ)
         {writer : Flow} {left_before left left_after out_before out_held out_after pack_before pack_held pack_after : Option (List ℕ)}
         {progress_before progress_held progress_after : Option (List ℕ)}
         → Running false t h front old no_counts waiting (flow left_before left) writer (flow out_before out_held) (flow pack_before pack_held)
         (flow progress_before progress_held) → wants_input old ≡ true
-        → (step : HearsFrom broken old new waiting unused (flow left left_after) (flow out_held out_after) (flow pack_held pack_after)
+        → (step : ReceivesFrom broken old new waiting unused (flow left left_after) (flow out_held out_after) (flow pack_held pack_after)
         (flow progress_held progress_after))
         → Running broken t (record h { used = h.used ++ step.used; events = h.events ++ step.bytes.events }) front new step.counts unused
         (flow left_before left_after) writer (flow out_before out_after) (flow pack_before pack_after) (flow progress_before progress_after)
-    hears_on broken {h} front old new waiting unused {writer} {left_before = r0} {left = r1} {left_after = r2} {out_before = o0} {out_held = o1}
+    receives_on broken {h} front old new waiting unused {writer} {left_before = r0} {left = r1} {left_after = r2} {out_before = o0} {out_held = o1}
         {out_after = o2} {pack_before = p0} {pack_held = p1} {pack_after = p2} {progress_before = q0} {progress_held = q1} {progress_after = q2} r waits
         step =
-        let heard = step.bytes in
-        let lines = transcript_from [] 0 0 heard.events in
+        let arrived = step.bytes in
+        let lines = transcript_from [] 0 0 arrived.events in
         record {
           lines = r.lines ++ lines;
-          packed = r.packed ++ pack_bytes heard.events;
-          along = along_heard r.along waits heard;
+          packed = r.packed ++ pack_bytes arrived.events;
+          along = along_received r.along waits arrived;
           stays = r.stays;
-          in_turn = heard_in_turn t h.asked h.used step.used h.events heard.events front r.in_turn;
+          in_turn = received_in_turn t h.asked h.used step.used h.events arrived.events front r.in_turn;
           read = read_on r0 r1 r2 h.used waiting step.came step.used unused r.read step.read step.parts;
-          said = written_whole broken writer h.given r.said;
-          told = written_then broken o0 o1 o2 r.lines lines r.told (heard.told (counts_on r.along heard.hears));
-          sent = written_then broken p0 p1 p2 r.packed (pack_bytes heard.events) r.sent heard.sent;
-          reported = subst (WrittenAs broken (flow q0 q2)) (sym (progress_bytes-append h.events heard.events))
-              (written_then broken q0 q1 q2 (progress_bytes h.events) (progress_bytes heard.events) r.reported heard.reported);
+          content = written_whole broken writer h.given r.content;
+          announced = written_then broken o0 o1 o2 r.lines lines r.announced (arrived.announced (counts_on r.along arrived.arrives));
+          sent = written_then broken p0 p1 p2 r.packed (pack_bytes arrived.events) r.sent arrived.sent;
+          reported = subst (WrittenAs broken (flow q0 q2)) (sym (progress_bytes-append h.events arrived.events))
+              (written_then broken q0 q1 q2 (progress_bytes h.events) (progress_bytes arrived.events) r.reported arrived.reported);
         }
 
     -- a client that can ask counts the next response from zero
@@ -236,40 +237,40 @@ module _ {A : Type 0} where
       stays = r.stays;
       in_turn = r.in_turn;
       read = r.read;
-      said = r.said;
-      told = r.told;
+      content = r.content;
+      announced = r.announced;
       sent = r.sent;
       reported = r.reported;
     }
 
     -- a response was received whole
-    pub hears_whole : {h : History} (front : List (Request A)) (old new : Client A) (waiting : List ℕ) (window : Window) (piece : List ℕ)
+    pub receives_whole : {h : History} (front : List (Request A)) (old new : Client A) (waiting : List ℕ) (window : Window) (chunk : List ℕ)
         {writer : Flow} {left_before left left_after out_before out_held out_after pack_before pack_held pack_after : Option (List ℕ)}
         {progress_before progress_held progress_after : Option (List ℕ)}
         → Running false t h front old no_counts waiting (flow left_before left) writer (flow out_before out_held) (flow pack_before pack_held)
         (flow progress_before progress_held) → wants_input old ≡ true
-        → (step : HearsWhole window old new waiting piece (flow left left_after) (flow out_held out_after) (flow pack_held pack_after)
+        → (step : ReceivesWholeResponse window old new waiting chunk (flow left left_after) (flow out_held out_after) (flow pack_held pack_after)
         (flow progress_held progress_after))
-        → Running false t (record h { used = h.used ++ step.hears.used; events = h.events ++ step.hears.bytes.events }) front new no_counts
-        (window_of window piece) (flow left_before left_after) writer (flow out_before out_after) (flow pack_before pack_after)
+        → Running false t (record h { used = h.used ++ step.arrives.used; events = h.events ++ step.arrives.bytes.events }) front new no_counts
+        (window_of window chunk) (flow left_before left_after) writer (flow out_before out_after) (flow pack_before pack_after)
         (flow progress_before progress_after)
-    hears_whole front old new waiting window piece r waits step =
-        anew step.can_ask_on (hears_on false front old new waiting (window_of window piece) r waits step.hears)
+    receives_whole front old new waiting window chunk r waits step =
+        anew step.can_ask_on (receives_on false front old new waiting (window_of window chunk) r waits step.arrives)
 
     -- the client left, or a write failed meanwhile
     pub leaves_on : (broken : Bool) {h : History} (front : List (Request A)) (old mid new : Client A) (counts : Counts) (unused : List ℕ)
         {reader out pack progress : Flow} {before held after : Option (List ℕ)}
         → Running false t h front old counts unused reader (flow before held) out pack progress → Leaves old mid
-        → (step : Says broken mid new (flow held after))
+        → (step : SendsPackets broken mid new (flow held after))
         → Ran broken t (record h { left = true; given = h.given ++ step.given }) front new unused reader (flow before after) out pack progress
     leaves_on broken {h} front old mid new counts unused {reader} {out} {pack} {progress} {before} {held} {after} r leaving step =
         let at = ran r in
         record {
-          stands = step.says t (record h { left = true }) (leaving.leaves t h at.stands);
+          stands = step.conveys t (record h { left = true }) (leaving.leaves t h at.stands);
           in_turn = at.in_turn;
           read = at.read;
-          said = written_then broken before held after h.given step.given at.said step.written;
-          told = written_whole broken out (transcript_of h.asked h.events) at.told;
+          content = written_then broken before held after h.given step.given at.content step.written;
+          announced = written_whole broken out (transcript_of h.asked h.events) at.announced;
           sent = written_whole broken pack (pack_bytes h.events) at.sent;
           reported = written_whole broken progress (progress_bytes h.events) at.reported;
         }
@@ -279,13 +280,13 @@ module _ {A : Type 0} where
         {before held after : Option (List ℕ)}
         → Ran false t h front client unused reader (flow before held) out pack progress → Keeps held after
         → Ran false t h front client unused reader (flow before after) out pack progress
-    ran_flushed {h} {before} {held} {after} r kept = ran_as r r.read (Appends-kept before held after h.given r.said kept) r.told r.sent r.reported
+    ran_flushed {h} {before} {held} {after} r kept = ran_as r r.read (Appends-kept before held after h.given r.content kept) r.announced r.sent r.reported
 
     -- if only a flush failed, all bytes were written
     ran_in_part : {h : History} {front : List (Request A)} {client : Client A} {unused : List ℕ} {reader writer out pack progress : Flow}
         → Ran false t h front client unused reader writer out pack progress → Ran true t h front client unused reader writer out pack progress
     ran_in_part {h} {writer} {out} {pack} {progress} r =
-        ran_as r r.read (written_whole true writer h.given r.said) (written_whole true out (transcript_of h.asked h.events) r.told)
+        ran_as r r.read (written_whole true writer h.given r.content) (written_whole true out (transcript_of h.asked h.events) r.announced)
         (written_whole true pack (pack_bytes h.events) r.sent) (written_whole true progress (progress_bytes h.events) r.reported)
 
 -- ---- the ends of a run
@@ -297,25 +298,25 @@ stays_last ResponseEnd other = refl
 
 module _ {A : Type 0} (t : Terms) where
   -- a client with no packet left to send has sent all that it had to
-  pub has_said : (h : History) (client : Client A) → Converses t h client → left_to_say client ≡ [] → HasSaid t h
-  has_said h client stands nothing =
-      record { caps = caps_of client; noted = has_noted t h client stands; said = all_is_said t h client stands nothing }
+  pub has_stated : (h : History) (client : Client A) → Converses t h client → left_to_send client ≡ [] → HasSent t h
+  has_stated h client stands nothing =
+      record { caps = caps_of client; noted = has_noted t h client stands; content = all_is_sent t h client stands nothing }
 
-  pub quietly_said : (h : History) (client : Client A) → Converses t h client → is_quiet (phase_of client) ≡ true → HasSaid t h
-  quietly_said h client stands quiet = has_said h client stands (owes_nothing (phase_of client) (request_of client) quiet)
+  pub quietly_stated : (h : History) (client : Client A) → Converses t h client → is_quiet (phase_of client) ≡ true → HasSent t h
+  quietly_stated h client stands quiet = has_stated h client stands (nothing_unsent (phase_of client) (request_of client) quiet)
 
   pub stayed : (h : History) (client : Client A) → Converses t h client → is_quiet (phase_of client) ≡ true → h.left ≡ false
   stayed h client stands quiet = stands.left ∙ not_left (phase_of client) quiet
 
   -- a run that ends while the server's bytes are expected was interrupted
   pub interrupted : (h : History) (client : Client A) → Converses t h client → wants_input client ≡ true → IsInterrupted t [] h
-  interrupted h client stands due =
-      let quiet = quiet_where_due (phase_of client) due in
+  interrupted h client stands expected =
+      let quiet = quiet_where_expected (phase_of client) expected in
       record {
         all = refl;
-        goes_on = awaits_more t h client stands due;
+        goes_on = awaits_more t h client stands expected;
         stays = stayed h client stands quiet;
-        said = quietly_said h client stands quiet;
+        content = quietly_stated h client stands quiet;
       }
 
   -- the next request was refused
@@ -339,13 +340,13 @@ module _ {A : Type 0} (t : Terms) where
       → AsksNot fault old new request (flow w1 w2) (flow o1 o2) → Ran false t h front old unused reader (flow w0 w2) (flow o0 o2) pack progress
   ran_unasked {h} {w0 = w0} {w1 = w1} {w2 = w2} {o0 = o0} {o1 = o1} {o2 = o2} r step =
       let at = ran r in
-      let told = transcript_of h.asked h.events in
-      ran_as at at.read (subst (WrittenAs false (flow w0 w2)) (append-nil h.given) (written_then false w0 w1 w2 h.given [] at.said step.said))
-      (subst (WrittenAs false (flow o0 o2)) (append-nil told) (written_then false o0 o1 o2 told [] at.told step.told)) at.sent at.reported
+      let announced = transcript_of h.asked h.events in
+      ran_as at at.read (subst (WrittenAs false (flow w0 w2)) (append-nil h.given) (written_then false w0 w1 w2 h.given [] at.content step.content))
+      (subst (WrittenAs false (flow o0 o2)) (append-nil announced) (written_then false o0 o1 o2 announced [] at.announced step.announced)) at.sent at.reported
 
   -- a client that waits for bytes has no error
-  due_in_time : (ended : Bool) (client : Client A) → wants_input client ≡ true → FaultsInTime client ended []
-  due_in_time ended client due = in_time_where_sound client ended [] (sound_where_due (phase_of client) due)
+  expected_in_time : (ended : Bool) (client : Client A) → wants_input client ≡ true → FaultsInTime client ended []
+  expected_in_time ended client expected = in_time_where_sound client ended [] (sound_where_expected (phase_of client) expected)
 
   module _ (requests : List (Request A)) where
     -- how a run with this result moved its streams
@@ -377,13 +378,13 @@ module _ {A : Type 0} (t : Terms) where
         used = (h.used ++ unused) ∷ [];
         given = h.given ∷ transcript_of h.asked h.events ∷ pack_bytes h.events ∷ progress_bytes h.events ∷ [];
         read = (r.read, tt);
-        written = (r.said, (r.told, (r.sent, (r.reported, tt))));
+        written = (r.content, (r.announced, (r.sent, (r.reported, tt))));
         related = record {
           h = h;
           unused = unused;
           rest = rest;
-          heard = refl;
-          told = refl;
+          arrived = refl;
+          announced = refl;
           stands = r.stands;
           asked = has_asked t requests front rest h split r.in_turn;
           ends = ends;
@@ -409,32 +410,32 @@ module _ {A : Type 0} (t : Terms) where
           moves (Err WriteFault) ended h client unused (ran_in_part t (ran r)) (not_gone h r.stays) (in_time_where_sound client ended unused sound)
 
       -- a response was not received to its end
-      pub hearing_stopped : {h : History} (fault : RunFault) (ended : Bool) (old new : Client A) (waiting piece : List ℕ) {writer : Flow}
+      pub receiving_ended : {h : History} (fault : RunFault) (ended : Bool) (old new : Client A) (waiting chunk : List ℕ) {writer : Flow}
           {left_before left left_after out_before out_held out_after pack_before pack_held pack_after : Option (List ℕ)}
           {progress_before progress_held progress_after : Option (List ℕ)}
           → Running false t h front old no_counts waiting (flow left_before left) writer (flow out_before out_held) (flow pack_before pack_held)
           (flow progress_before progress_held)
           → wants_input old ≡ true
-          → HearsTo (Err fault) ended old new waiting piece (flow left left_after) (flow out_held out_after) (flow pack_held pack_after)
+          → ReceivesResponse (Err fault) ended old new waiting chunk (flow left left_after) (flow out_held out_after) (flow pack_held pack_after)
           (flow progress_held progress_after)
           → RunEnds (Err fault) ended new (flow left_before left_after) writer (flow out_before out_after) (flow pack_before pack_after)
           (flow progress_before progress_after)
-      hearing_stopped ReadFault ended old new waiting piece r waits step =
-          let on = hears_on t false front old new waiting [] r waits step.hears in
-          moves (Err ReadFault) ended _ new [] (ran on) (interrupted _ new on.along.stands step.due) (due_in_time ended new step.due)
-      hearing_stopped WriteFault ended old new waiting piece r waits step =
-          breaks_off ended new step.hears.counts step.unused step.timely (hears_on t true front old new waiting step.unused r waits step.hears)
-      hearing_stopped ReadLimit ended old new waiting piece r waits step =
-          let on = hears_on t false front old new waiting [] r waits step.hears in
-          moves (Err ReadLimit) ended _ new [] (ran on) (interrupted _ new on.along.stands step.due) (due_in_time ended new step.due)
-      hearing_stopped (Refused fault) ended old new waiting piece r waits step =
-          let on = hears_on t false front old new waiting step.unused r waits step.hears in
-          let quiet = quiet_where_failed (phase_of new) fault step.told in
+      receiving_ended ReadFault ended old new waiting chunk r waits step =
+          let on = receives_on t false front old new waiting [] r waits step.arrives in
+          moves (Err ReadFault) ended _ new [] (ran on) (interrupted _ new on.along.stands step.expected) (expected_in_time ended new step.expected)
+      receiving_ended WriteFault ended old new waiting chunk r waits step =
+          breaks_off ended new step.arrives.counts step.unused step.timely (receives_on t true front old new waiting step.unused r waits step.arrives)
+      receiving_ended ReadLimit ended old new waiting chunk r waits step =
+          let on = receives_on t false front old new waiting [] r waits step.arrives in
+          moves (Err ReadLimit) ended _ new [] (ran on) (interrupted _ new on.along.stands step.expected) (expected_in_time ended new step.expected)
+      receiving_ended (Refused fault) ended old new waiting chunk r waits step =
+          let on = receives_on t false front old new waiting step.unused r waits step.arrives in
+          let quiet = quiet_where_failed (phase_of new) fault step.announced in
           moves (Err (Refused fault)) ended _ new step.unused (ran on) (
-            inl (record { first = first_fault t _ new fault on.along.stands step.told; timely = step.timely }),
+            inl (record { first = first_fault t _ new fault on.along.stands step.announced; timely = step.timely }),
             on.stays,
-            quietly_said _ new on.along.stands quiet,
-          ) (in_time_where_told new fault ended step.unused step.told step.timely)
+            quietly_stated _ new on.along.stands quiet,
+          ) (in_time_where_announced new fault ended step.unused step.announced step.timely)
 
     -- a request was not asked, or a write failed meanwhile
     pub asking_stopped : {h : History} (fault : RunFault) (ended : Bool) (front later : List (Request A)) (request : Request A) (old new : Client A)
@@ -455,7 +456,7 @@ module _ {A : Type 0} (t : Terms) where
         (moves front (request ∷ later) split (Err (Refused fault)) ended h old unused (ran_unasked r step) (
           inr (refused_next h later request old new fault stands ready step),
           r.stays,
-          quietly_said h old stands (quiet_where_ready (phase_of old) ready),
+          quietly_stated h old stands (quiet_where_ready (phase_of old) ready),
         ) (in_time_where_sound old ended unused (sound_where_ready (phase_of old) ready)))
 
     -- ---- all requests were asked, and all responses are whole
@@ -485,13 +486,13 @@ module _ {A : Type 0} (t : Terms) where
             all = refl;
             whole = is_whole t h client stands ready;
             leaves = r.stays ∙ sym (stays_last t.ending (λ last. other (stands.ending_is ∙ last)));
-            said = quietly_said h client stands (quiet_where_ready (phase_of client) ready);
+            content = quietly_stated h client stands (quiet_where_ready (phase_of client) ready);
           }) (sound_where_ready (phase_of client) ready)
 
       module _ (old mid new : Client A) (counts : Counts) (unused : List ℕ) (ready : can_ask old ≡ true) (leaving : Leaves old mid) where
         -- the client left, but a write failed
         pub leaving_stopped : {h : History} (ended : Bool) {reader out pack progress : Flow} {before held after : Option (List ℕ)} → ending_of old ≡ FlushOnly
-            → Running false t h front old counts unused reader (flow before held) out pack progress → Says true mid new (flow held after)
+            → Running false t h front old counts unused reader (flow before held) out pack progress → SendsPackets true mid new (flow held after)
             → RunEnds (Err WriteFault) ended new reader (flow before after) out pack progress
         leaving_stopped {h} ended last r step =
             let stands = r.along.stands in
@@ -503,7 +504,7 @@ module _ {A : Type 0} (t : Terms) where
         pub leaves_at_the_end : {h : History} (result : Result (Unit {0}) RunFault) (ended : Bool) {reader out pack progress : Flow}
             {before held flushed after : Option (List ℕ)}
             → IfErr result (λ fault. fault ≡ WriteFault) → ending_of old ≡ FlushOnly
-            → Running false t h front old counts unused reader (flow before held) out pack progress → Says false mid new (flow held flushed)
+            → Running false t h front old counts unused reader (flow before held) out pack progress → SendsPackets false mid new (flow held flushed)
             → Keeps flushed after
             → RunEnds result ended new reader (flow before after) out pack progress
         leaves_at_the_end {h} result ended named last r step kept =
@@ -513,5 +514,5 @@ module _ {A : Type 0} (t : Terms) where
               all = refl;
               whole = is_whole t h old stands ready;
               leaves = ap leaves_last (sym last ∙ stands.ending_is);
-              said = has_said _ new at.stands (step.all refl);
+              content = has_stated _ new at.stands (step.all refl);
             }) step.sound

@@ -9,20 +9,20 @@ use Rattle.git_pkt.proofs.KnownRest.{sound_rest, none_between, rest_length}
 use Rattle.git_pkt.proofs.Streams.{one_split}
 use Rattle.git_client.specs.Parts.{Terms}
 use Rattle.git_client.specs.Machine.Turns.{takes_packets, fault_in}
-use Rattle.git_client.specs.Machine.Client.{History, Converses, HearsOn, phase_of, reader_of, format_of, ending_of, caps_of, wants_input}
+use Rattle.git_client.specs.Machine.Client.{History, Converses, ReceivesOn, phase_of, reader_of, format_of, ending_of, caps_of, wants_input}
 use Rattle.git_client.specs.declared.phase.Phase.{Phase}
-use Rattle.git_client.specs.declared.phase.Phase.TheVariants.{Hearing, Failed}
-use Rattle.git_client.specs.declared.phase.Due.{Due}
+use Rattle.git_client.specs.declared.phase.Phase.TheVariants.{Receiving, Failed}
+use Rattle.git_client.specs.declared.phase.Expected.{Expected}
 use Rattle.git_client.specs.declared.client.Client.{Client}
 use Rattle.git_client.proofs.Reached.{reach_end}
-use Rattle.git_client.proofs.Carries.{HearsBytes, hears_end, hears_failed}
+use Rattle.git_client.proofs.Carries.{ReceivesBytes, receives_end, receives_failed}
 
-hearing_in : (phase : Phase) → takes_packets phase ≡ true → (due : Due) × (phase ≡ Hearing due)
-hearing_in (Hearing due) takes = (due, refl)
-hearing_in phase takes = absurd (cc)
+receiving_in : (phase : Phase) → takes_packets phase ≡ true → (expected : Expected) × (phase ≡ Receiving expected)
+receiving_in (Receiving expected) takes = (expected, refl)
+receiving_in phase takes = absurd (cc)
 
 pub is_sound : {A : Type 0} (client : Client A) → wants_input client ≡ true → reader_fault_of (reader_of client) ≡ None
-is_sound client wants = client.sound (ap fault_in (hearing_in (phase_of client) wants).1)
+is_sound client wants = client.sound (ap fault_in (receiving_in (phase_of client) wants).1)
 
 -- a reader at the end of its stream: it was between two packets, or reported an error
 abbrev pub EndsBy : PacketReader → Fault → Type 0
@@ -39,18 +39,18 @@ pub record Keeps {A : Type 0} (old new : Client A) (left : PacketReader) : Type 
 
 -- a client whose input ended while more was expected
 pub closes : {A : Type 0} (old new : Client A) (reader : PacketReader) (f : Fault) → wants_input old ≡ true → ReadsOn (reader_of old) [] [] reader
-    → EndsBy reader f → Keeps old new reader → phase_of new ≡ Failed f → HearsOn old [] [] new
+    → EndsBy reader f → Keeps old new reader → phase_of new ≡ Failed f → ReceivesOn old [] [] new
 closes old new reader f wants reads by keeps failed =
-    let (due, hearing) = hearing_in (phase_of old) wants in
-    let bytes : HearsBytes old new due [] [] [] = record {
-      hearing = hearing;
-      reaches = reach_end old due (reader_of new) hearing (subst (ReadsOn (reader_of old) [] []) (sym keeps.reader) reads);
+    let (expected, receiving) = receiving_in (phase_of old) wants in
+    let bytes : ReceivesBytes old new expected [] [] [] = record {
+      receiving = receiving;
+      reaches = reach_end old expected (reader_of new) receiving (subst (ReadsOn (reader_of old) [] []) (sym keeps.reader) reads);
       format = keeps.format;
       ending = keeps.ending;
     } in
     elim (subst (λ (r : PacketReader). EndsBy r f) (sym keeps.reader) by) [
-      | inl b ↦ hears_end old new due f bytes b.0 b.1 b.2 b.3 failed keeps.caps
-      | inr told ↦ hears_failed old new due [] f bytes told failed keeps.caps
+      | inl b ↦ receives_end old new expected f bytes b.0 b.1 b.2 b.3 failed keeps.caps
+      | inr announced ↦ receives_failed old new expected [] f bytes announced failed keeps.caps
     ]
 
 module _ {A : Type 0} (t : Terms) (h : History) (client : Client A) (c : Converses t h client) (wants : wants_input client ≡ true)

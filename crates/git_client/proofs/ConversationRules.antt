@@ -15,15 +15,15 @@ use Rattle.git_msg.specs.Capability.{IsCapability}
 use Rattle.git_msg.specs.Texts.{spaced_words}
 use Rattle.git_client.specs.declared.events.Ending.{Ending}
 use Rattle.git_client.specs.declared.events.Ending.TheVariants.{FlushOnly, ResponseEnd}
-use Rattle.git_client.specs.Parts.{Part, Terms, answer_to, closing, is_end_due, is_zero, message_of, nearest, part_after, terms_of}
+use Rattle.git_client.specs.Parts.{Part, Terms, answer_to, closing, is_end_expected, is_zero, message_of, nearest, part_after, terms_of}
 use Rattle.git_client.specs.Places.{Place, capabilities, place_after, place_of, response_end, version}
-use Rattle.git_client.specs.Events.{EventValue, Gives, GivesLine, capability, flush_says, offered}
+use Rattle.git_client.specs.Events.{EventValue, Gives, GivesLine, capability, events_of_flush, offered}
 use Rattle.git_client.specs.Conversation.{GiveAll, GivesAt, IsConversation}
 use Rattle.git_client.specs.Responses.{AreResponses, GoesByMessages, IsAdvertisement, IsCapabilityLine, IsOfferEnd, IsResponse, IsVersion, Many}
 use Rattle.git_client.specs.Machine.Client.{AreWhole}
 use Rattle.git_client.proofs.ResponseRules.{packets_in, response_is}
 use Rattle.git_client.proofs.Sequences.{give_all_append, gives_more, nearest-append}
-use Rattle.git_client.proofs.Truncation.{none_due}
+use Rattle.git_client.proofs.Truncation.{none_expected}
 
 -- ---- packets that are two lists joined
 
@@ -84,16 +84,16 @@ spoken_order Sha256 gs = any_order (names_format (codes "sha256")) gs
 -- ---- the places of an advertisement
 
 -- after a line of the advertisement comes another, or its flush
-pub line_due : (t : Terms) (asked : List Asked) (line : List ℕ) (before : List Pkt) → flushes before ≡ 0
+pub line_expected : (t : Terms) (asked : List Asked) (line : List ℕ) (before : List Pkt) → flushes before ≡ 0
     → place_after t asked (payload line ∷ before) ≡ Some (capabilities (is_spoken (noted_of (payload line ∷ message_of before)) t.format))
-line_due t asked line before none = by t.ending where
+line_expected t asked line before none = by t.ending where
   by : (ending : Ending) → place_after (terms_of t.format ending) asked (payload line ∷ before)
       ≡ Some (capabilities (is_spoken (noted_of (payload line ∷ message_of before)) t.format))
   by FlushOnly = rw none refl
   by ResponseEnd = rw none refl
 
 -- no response end is expected after its flush
-offer_ends : (ending : Ending) (before : List Pkt) → flushes before ≡ 0 → is_end_due ending (flush ∷ before) ≡ false
+offer_ends : (ending : Ending) (before : List Pkt) → flushes before ≡ 0 → is_end_expected ending (flush ∷ before) ≡ false
 offer_ends FlushOnly before none = refl
 offer_ends ResponseEnd before none = ap (λ (n : ℕ). not (is_zero n)) none
 
@@ -108,11 +108,11 @@ module _ (t : Terms) (asked : List Asked) where
   next_line line before clear message = record {
     clear = clear;
     message = ap (λ (l : List Pkt). payload line ∷ l) message;
-    place = line_due t asked line before clear ∙ ap (λ (l : List Pkt). Some (capabilities (is_spoken (noted_of (payload line ∷ l)) t.format))) message;
+    place = line_expected t asked line before clear ∙ ap (λ (l : List Pkt). Some (capabilities (is_spoken (noted_of (payload line ∷ l)) t.format))) message;
   }
 
   whole_offer : (before : List Pkt) → flushes before ≡ 0 → AreWhole t [] (flush ∷ before)
-  whole_offer before clear = record { all_flushes = ap suc clear; no_end_due = offer_ends t.ending before clear; no_message = refl }
+  whole_offer before clear = record { all_flushes = ap suc clear; no_end_expected = offer_ends t.ending before clear; no_message = refl }
 
   -- ---- if the rule is followed, each packet is in its place
 
@@ -122,12 +122,12 @@ module _ (t : Terms) (asked : List Asked) where
 
   capability_at : (before : List Pkt) (p : Pkt) (now : List EventValue) → IsLine before → IsCapabilityLine p now
       → GivesAt t asked before p now × IsLine (p ∷ before)
-  capability_at before (payload line) now is (clean, (key, value, e, said)) = (
+  capability_at before (payload line) now is (clean, (key, value, e, content)) = (
     record {
       place = capabilities (is_spoken (noted_of before) t.format);
       is_place = is.place;
       gives = subst (Gives t.format t.ending (capabilities (is_spoken (noted_of before) t.format)) (payload line)) (sym e)
-          (record { no_error = clean; says = said });
+          (record { no_error = clean; conveys = content });
     },
     next_line line before is.clear is.message,
   )
@@ -166,7 +166,7 @@ module _ (t : Terms) (asked : List Asked) where
     record {
       place = version;
       is_place = refl;
-      gives = subst (Gives t.format t.ending version (payload line)) (sym none) (record { no_error = clean; says = text });
+      gives = subst (Gives t.format t.ending version (payload line)) (sym none) (record { no_error = clean; conveys = text });
     },
     next_line line [] refl refl,
   )
@@ -185,17 +185,17 @@ module _ (t : Terms) (asked : List Asked) where
   -- ---- if each packet is in its place, the rule is followed
 
   -- the event of a line there
-  line_says : (spoken : Bool) (format : Format) (text : List ℕ) (now : List EventValue) → GivesLine (capabilities spoken) format text now
+  line_conveys : (spoken : Bool) (format : Format) (text : List ℕ) (now : List EventValue) → GivesLine (capabilities spoken) format text now
       → (key : List ℕ) × (value : Option (List ℕ)) × (now ≡ capability key value ∷ []) × IsCapability text key value
-  line_says spoken format text (capability key value ∷ []) h = (key, value, refl, h.says)
-  line_says spoken format text now h = absurd h.says
+  line_conveys spoken format text (capability key value ∷ []) h = (key, value, refl, h.conveys)
+  line_conveys spoken format text now h = absurd h.conveys
 
-  version_says : (format : Format) (text : List ℕ) (now : List EventValue) → GivesLine version format text now → (text ≡ codes "version 2") × (now ≡ [])
-  version_says format text [] h = (h.says, refl)
-  version_says format text (event ∷ now) h = absurd h.says
+  version_conveys : (format : Format) (text : List ℕ) (now : List EventValue) → GivesLine version format text now → (text ≡ codes "version 2") × (now ≡ [])
+  version_conveys format text [] h = (h.conveys, refl)
+  version_conveys format text (event ∷ now) h = absurd h.conveys
 
   -- the event of a flush there
-  flush_spoken : (spoken : Bool) (now : List EventValue) → flush_says t.ending (capabilities spoken) ≡ Ok now → (spoken ≡ true) × (now ≡ offered ∷ [])
+  flush_spoken : (spoken : Bool) (now : List EventValue) → events_of_flush t.ending (capabilities spoken) ≡ Ok now → (spoken ≡ true) × (now ≡ offered ∷ [])
   flush_spoken true now e = (refl, cc)
   flush_spoken false now e = absurd (cc)
 
@@ -210,18 +210,18 @@ module _ (t : Terms) where
   nothing_more : (asked : List Asked) (gs : List Given) (before : List Pkt) (es : List EventValue) → AreWhole t asked before → GiveAll t asked before gs es
       → (gs ≡ []) × (es ≡ [])
   nothing_more asked [] before es whole h = (refl, h)
-  nothing_more asked (g ∷ gs) before es whole h = let none = sym (none_due t asked before whole) ∙ h.3.is_place in absurd (cc)
+  nothing_more asked (g ∷ gs) before es whole h = let none = sym (none_expected t asked before whole) ∙ h.3.is_place in absurd (cc)
 
   -- a packet there is a line or the flush
   line_or_end : (spoken : Bool) (p : Pkt) (now : List EventValue) → Gives t.format t.ending (capabilities spoken) p now
       → (IsCapabilityLine p now × (line : List ℕ) × (p ≡ payload line)) ⊎ ((p ≡ flush) × (spoken ≡ true) × (now ≡ offered ∷ []))
-  line_or_end spoken (payload line) now h = inl ((h.no_error, line_says t [] spoken t.format (text_of line) now h), line, refl)
+  line_or_end spoken (payload line) now h = inl ((h.no_error, line_conveys t [] spoken t.format (text_of line) now h), line, refl)
   line_or_end spoken flush now h = let (is, gives) = flush_spoken t [] spoken now h in inr (refl, is, gives)
   line_or_end spoken delim now h = absurd (cc)
   line_or_end spoken resp_end now h = absurd (cc)
 
   first_line : (p : Pkt) (now : List EventValue) → Gives t.format t.ending version p now → IsVersion p now × (line : List ℕ) × (p ≡ payload line)
-  first_line (payload line) now h = ((h.no_error, version_says t [] t.format (text_of line) now h), line, refl)
+  first_line (payload line) now h = ((h.no_error, version_conveys t [] t.format (text_of line) now h), line, refl)
   first_line flush now h = absurd (cc)
   first_line delim now h = absurd (cc)
   first_line resp_end now h = absurd (cc)
@@ -275,19 +275,19 @@ part_less asked more zero few = refl
 part_less asked more (suc k) few = ap answer_to (slice_get_less asked more k (omega (arith, few)))
 
 module _ (t : Terms) (asked more : List Asked) where
-  place_less : (before : List Pkt) → (is_end_due t.ending before ≡ true) ⊎ (flushes before ≤ length asked)
+  place_less : (before : List Pkt) → (is_end_expected t.ending before ≡ true) ⊎ (flushes before ≤ length asked)
       → place_after t (asked ++ more) before ≡ place_after t asked before
   place_less [] h = refl
-  place_less (p ∷ before) (inl due) =
+  place_less (p ∷ before) (inl expected) =
       let message = message_of (p ∷ before) in
       let count = flushes (p ∷ before) in
-      ap (λ (ends : Bool). place_of t.format (cond ends (Some closing) (part_after (asked ++ more) count)) message) due
-      ∙ sym (ap (λ (ends : Bool). place_of t.format (cond ends (Some closing) (part_after asked count)) message) due)
+      ap (λ (ends : Bool). place_of t.format (cond ends (Some closing) (part_after (asked ++ more) count)) message) expected
+      ∙ sym (ap (λ (ends : Bool). place_of t.format (cond ends (Some closing) (part_after asked count)) message) expected)
   place_less (p ∷ before) (inr few) =
-      ap (λ (o : Option Part). place_of t.format (cond (is_end_due t.ending (p ∷ before)) (Some closing) o) (message_of (p ∷ before)))
+      ap (λ (o : Option Part). place_of t.format (cond (is_end_expected t.ending (p ∷ before)) (Some closing) o) (message_of (p ∷ before)))
       (part_less asked more (flushes (p ∷ before)) few)
 
-  gives_less : (before : List Pkt) (p : Pkt) (now : List EventValue) → (is_end_due t.ending before ≡ true) ⊎ (flushes before ≤ length asked)
+  gives_less : (before : List Pkt) (p : Pkt) (now : List EventValue) → (is_end_expected t.ending before ≡ true) ⊎ (flushes before ≤ length asked)
       → GivesAt t (asked ++ more) before p now → GivesAt t asked before p now
   gives_less before p now within at = record { place = at.place; is_place = sym (place_less before within) ∙ at.is_place; gives = at.gives }
 
@@ -311,14 +311,14 @@ module _ (t : Terms) (asked more : List Asked) where
   flush_or_none (payload line) before = inr refl
 
   -- if a response end is expected, nothing else may come
-  response_end_is : (before : List Pkt) (p q : Pkt) (now : List EventValue) → is_end_due t.ending (q ∷ before) ≡ true
+  response_end_is : (before : List Pkt) (p q : Pkt) (now : List EventValue) → is_end_expected t.ending (q ∷ before) ≡ true
       → GivesAt t (asked ++ more) (q ∷ before) p now → p ≡ resp_end
-  response_end_is before p q now due at = by p place gives where
+  response_end_is before p q now expected at = by p place gives where
     place : at.place ≡ response_end
     place =
         let message = message_of (q ∷ before) in
         let here = sym at.is_place
-        ∙ ap (λ (ends : Bool). place_of t.format (cond ends (Some closing) (part_after (asked ++ more) (flushes (q ∷ before)))) message) due in
+        ∙ ap (λ (ends : Bool). place_of t.format (cond ends (Some closing) (part_after (asked ++ more) (flushes (q ∷ before)))) message) expected in
         cc
 
     gives : Gives t.format t.ending at.place p now
@@ -335,18 +335,20 @@ module _ (t : Terms) (asked more : List Asked) where
   resp_end_whole : (before : List Pkt) (q : Pkt) → q ≡ flush → flushes before ≡ length asked → AreWhole t asked (resp_end ∷ (q ∷ before))
   resp_end_whole before q last count = record {
     all_flushes = ap (λ (p : Pkt). flushes (p ∷ before)) last ∙ ap suc count;
-    no_end_due = none_after t.ending (q ∷ before);
+    no_end_expected = none_after t.ending (q ∷ before);
     no_message = refl;
   } where
-    none_after : (ending : Ending) (packets : List Pkt) → is_end_due ending (resp_end ∷ packets) ≡ false
+    none_after : (ending : Ending) (packets : List Pkt) → is_end_expected ending (resp_end ∷ packets) ≡ false
     none_after FlushOnly packets = refl
     none_after ResponseEnd packets = refl
 
   -- the message ends with its flush, or with the response end after it
-  message_ends : (due : Bool) (g : Given) (gs : List Given) (before : List Pkt) (es now later : List EventValue) → is_end_due t.ending (g.packet ∷ before) ≡ due
+  message_ends : (expected : Bool) (g : Given) (gs : List Given) (before : List Pkt) (es now later : List EventValue)
+      → is_end_expected t.ending (g.packet ∷ before) ≡ expected
       → g.packet ≡ flush → flushes before ≡ length asked → es ≡ now ++ later → GivesAt t (asked ++ more) before g.packet now
-      → GiveAll t (asked ++ more) (g.packet ∷ before) gs later → is_end_due t.ending (nearest gs (g.packet ∷ before)) ≡ false → FirstWhole before (g ∷ gs) es
-  message_ends false g gs before es now later due last count e at rest none = record {
+      → GiveAll t (asked ++ more) (g.packet ∷ before) gs later → is_end_expected t.ending (nearest gs (g.packet ∷ before)) ≡ false
+      → FirstWhole before (g ∷ gs) es
+  message_ends false g gs before es now later expected last count e at rest none = record {
     front = g ∷ [];
     back = gs;
     now = now;
@@ -356,14 +358,14 @@ module _ (t : Terms) (asked more : List Asked) where
     gives = (now, [], sym (append-nil now), gives_less before g.packet now (inr (omega (arith, count))) at, refl);
     whole = record {
       all_flushes = ap (λ (p : Pkt). flushes (p ∷ before)) last ∙ ap suc count;
-      no_end_due = due;
+      no_end_expected = expected;
       no_message = ap (λ (p : Pkt). message_of (p ∷ before)) last;
     };
     onward = rest;
   }
-  message_ends true g [] before es now later due last count e at rest none = absurd (cc)
-  message_ends true g (r ∷ gs) before es now later due last count e at (then, others, split, next, rest) none =
-      let end = response_end_is before r.packet g.packet then due next in
+  message_ends true g [] before es now later expected last count e at rest none = absurd (cc)
+  message_ends true g (r ∷ gs) before es now later expected last count e at (then, others, split, next, rest) none =
+      let end = response_end_is before r.packet g.packet then expected next in
       record {
         front = g ∷ r ∷ [];
         back = gs;
@@ -376,17 +378,17 @@ module _ (t : Terms) (asked more : List Asked) where
           then,
           refl,
           gives_less before g.packet now (inr (omega (arith, count))) at,
-          (then, [], sym (append-nil then), gives_less (g.packet ∷ before) r.packet then (inl due) next, refl),
+          (then, [], sym (append-nil then), gives_less (g.packet ∷ before) r.packet then (inl expected) next, refl),
         );
         whole = subst (λ (p : Pkt). AreWhole t asked (p ∷ (g.packet ∷ before))) (sym end) (resp_end_whole before g.packet last count);
         onward = rest;
       }
 
   first_whole : (gs : List Given) (before : List Pkt) (es : List EventValue) → GiveAll t (asked ++ more) before gs es → flushes before ≡ length asked
-      → suc (length asked) ≤ flushes (nearest gs before) → is_end_due t.ending (nearest gs before) ≡ false → FirstWhole before gs es
+      → suc (length asked) ≤ flushes (nearest gs before) → is_end_expected t.ending (nearest gs before) ≡ false → FirstWhole before gs es
   first_whole [] before es h count some none = absurd (omega (arith, count, some))
   first_whole (g ∷ gs) before es (now, later, e, at, rest) count some none = elim (flush_or_none g.packet before) [
-    | inl last ↦ message_ends (is_end_due t.ending (g.packet ∷ before)) g gs before es now later refl last count e at rest none
+    | inl last ↦ message_ends (is_end_expected t.ending (g.packet ∷ before)) g gs before es now later refl last count e at rest none
     | inr same ↦
         let then = first_whole gs (g.packet ∷ before) later rest (same ∙ count) some none in
         record {
@@ -429,16 +431,16 @@ module _ (t : Terms) where
 
   responses_come : (asked earlier : List Asked) (before : List Pkt) (gs : List Given) (es : List EventValue) → AreWhole t earlier before
       → GiveAll t (earlier ++ asked) before gs es → flushes (nearest gs before) ≡ suc (length (earlier ++ asked))
-      → is_end_due t.ending (nearest gs before) ≡ false → AreResponses t asked (packets_in gs) es
+      → is_end_expected t.ending (nearest gs before) ≡ false → AreResponses t asked (packets_in gs) es
   responses_come [] earlier before gs es whole h count none =
       let (nothing, silent) = nothing_more t earlier gs before es whole (subst (λ (l : List Asked). GiveAll t l before gs es) (append-nil earlier) h) in
       (ap packets_in nothing, silent)
   responses_come (q ∷ asked) earlier before gs es whole h count none =
-      let said = earlier ++ q ∷ [] in
+      let content = earlier ++ q ∷ [] in
       let long = length-append earlier (q ∷ []) in
       let regroup = append_assoc earlier (q ∷ []) asked in
-      let all : GiveAll t (said ++ asked) before gs es = subst (λ (l : List Asked). GiveAll t l before gs es) (sym regroup) h in
-      let f = first_whole t said asked gs before es all (omega (arith, whole.all_flushes, long))
+      let all : GiveAll t (content ++ asked) before gs es = subst (λ (l : List Asked). GiveAll t l before gs es) (sym regroup) h in
+      let f = first_whole t content asked gs before es all (omega (arith, whole.all_flushes, long))
       (omega (arith, count, long, length-append earlier (q ∷ asked))) none in
       let end : nearest gs before ≡ nearest f.back (nearest f.front before) =
       ap (λ (l : List Given). nearest l before) f.parts ∙ nearest-append f.front f.back before in (
@@ -449,14 +451,14 @@ module _ (t : Terms) where
         ap packets_in f.parts ∙ map-append (λ (g : Given). g.packet) f.front f.back,
         f.events,
         (response_is t earlier q before f.front f.now whole).1 (f.gives, f.whole),
-        responses_come asked said (nearest f.front before) f.back f.later f.whole f.onward
+        responses_come asked content (nearest f.front before) f.back f.later f.whole f.onward
             (ap flushes (sym end) ∙ count ∙ ap (λ (l : List Asked). suc (length l)) (sym regroup))
-            (ap (is_end_due t.ending) (sym end) ∙ none),
+            (ap (is_end_expected t.ending) (sym end) ∙ none),
       )
 
   comes_by_messages : (asked : List Asked) (bytes : List ℕ) (es : List EventValue) → IsConversation t asked bytes es → GoesByMessages t asked bytes es
   comes_by_messages asked bytes es c =
-      let f = first_whole t [] asked c.given [] es c.gives refl (omega (arith, c.all_flushes)) c.no_end_due in
+      let f = first_whole t [] asked c.given [] es c.gives refl (omega (arith, c.all_flushes)) c.no_end_expected in
       let end : nearest c.given [] ≡ nearest f.back (nearest f.front []) =
       ap (λ (l : List Given). nearest l []) f.parts ∙ nearest-append f.front f.back [] in
       record {
@@ -471,7 +473,7 @@ module _ (t : Terms) where
           f.events,
           offer_comes t f.front f.now f.gives f.whole,
           responses_come asked [] (nearest f.front []) f.back f.later f.whole f.onward (ap flushes (sym end) ∙ c.all_flushes)
-              (ap (is_end_due t.ending) (sym end) ∙ c.no_end_due),
+              (ap (is_end_expected t.ending) (sym end) ∙ c.no_end_expected),
         );
       }
 
@@ -491,7 +493,7 @@ module _ (t : Terms) where
             (subst (λ (l : List Given). GiveAll t asked [] l (now ++ later)) (sym c.whole)
             (give_all_append t asked [] c.first c.second now later gives more));
         all_flushes = ap flushes end ∙ all.all_flushes;
-        no_end_due = ap (is_end_due t.ending) end ∙ all.no_end_due;
+        no_end_expected = ap (is_end_expected t.ending) end ∙ all.no_end_expected;
       }
 
 pub conversation_is : (t : Terms) (asked : List Asked) (bytes : List ℕ) (es : List EventValue)

@@ -2,7 +2,7 @@
 use Rattle.std.proofs.Common.{arith, ◌≡◌, ℕ, ◌+◌, ◌≤◌, List, [], ◌∷◌, ◌++◌, length, refl, ap, ◌∙◌, length-append}
 use Rattle.git_client.specs.Events.{EventValue, pack, progress, pack_bytes, progress_bytes}
 use Rattle.git_client.specs.Machine.RunSteps.{counts_with, CanCount}
-use Rattle.git_client.specs.declared.hearing.Counts.{Counts}
+use Rattle.git_client.specs.declared.receiving.Counts.{Counts}
 use Rattle.git_client.proofs.Packs.{pack_bytes-append}
 
 abbrev pub counts_of : ℕ → ℕ → Counts

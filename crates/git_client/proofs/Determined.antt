@@ -17,19 +17,19 @@ use Rattle.git_client.specs.Conversation.{GivesAt, RefusesAt, GiveAll, IsStop, F
 use Rattle.git_client.proofs.PlaceLines.{one_line, line_or_fault, one_line_fault}
 
 -- a computed result is unique
-one_said : (says : Result (List EventValue) Kind) (events others : List EventValue) → says ≡ Ok events → says ≡ Ok others → events ≡ others
-one_said says events others h k = cc
+one_content : (conveys : Result (List EventValue) Kind) (events others : List EventValue) → conveys ≡ Ok events → conveys ≡ Ok others → events ≡ others
+one_content conveys events others h k = cc
 
-one_error : (says : Result (List EventValue) Kind) (kind other : Kind) → says ≡ Err kind → says ≡ Err other → kind ≡ other
-one_error says kind other h k = cc
+one_error : (conveys : Result (List EventValue) Kind) (kind other : Kind) → conveys ≡ Err kind → conveys ≡ Err other → kind ≡ other
+one_error conveys kind other h k = cc
 
-said_or_error : (says : Result (List EventValue) Kind) (events : List EventValue) (kind : Kind) → says ≡ Ok events → says ≡ Err kind → ⊥
-said_or_error says events kind h k = cc
+stated_or_error : (conveys : Result (List EventValue) Kind) (events : List EventValue) (kind : Kind) → conveys ≡ Ok events → conveys ≡ Err kind → ⊥
+stated_or_error conveys events kind h k = cc
 
 -- a text line at a place has one list of events, or one error
 one_line_gift : (place : Place) (format : Format) (text : List ℕ) (events others : List EventValue) → GivesLine place format text events
     → GivesLine place format text others → events ≡ others
-one_line_gift place format text events others h k = one_line place format text events others h.says k.says
+one_line_gift place format text events others h k = one_line place format text events others h.conveys k.conveys
 
 one_line_refusal : (place : Place) (format : Format) (text : List ℕ) (kind other : Kind) → RefusesLine place format text kind
     → RefusesLine place format text other → kind ≡ other
@@ -41,17 +41,17 @@ one_line_refusal place format text kind other (inr h) (inr k) = one_line_fault p
 line_excluded : (place : Place) (format : Format) (text : List ℕ) (events : List EventValue) (kind : Kind) → GivesLine place format text events
     → RefusesLine place format text kind → ⊥
 line_excluded place format text events kind h (inl k) = h.no_error k.0
-line_excluded place format text events kind h (inr k) = line_or_fault place format text events kind h.says k.1
+line_excluded place format text events kind h (inr k) = line_or_fault place format text events kind h.conveys k.1
 
 -- and so has every packet
 gift_in : (format : Format) (ending : Ending) (place : Place) (p : Pkt) (events others : List EventValue) → Gives format ending place p events
     → Gives format ending place p others → events ≡ others
-gift_in format ending packfile (payload bytes) events others h k = one_said _ events others h k
+gift_in format ending packfile (payload bytes) events others h k = one_content _ events others h k
 gift_in format ending response_end (payload bytes) events others h k = absurd h
 gift_in format ending place (payload bytes) events others h k = one_line_gift place format (text_of bytes) events others h k
-gift_in format ending place flush events others h k = one_said _ events others h k
-gift_in format ending place delim events others h k = one_said _ events others h k
-gift_in format ending place resp_end events others h k = one_said _ events others h k
+gift_in format ending place flush events others h k = one_content _ events others h k
+gift_in format ending place delim events others h k = one_content _ events others h k
+gift_in format ending place resp_end events others h k = one_content _ events others h k
 
 refusal_in : (format : Format) (ending : Ending) (place : Place) (p : Pkt) (kind other : Kind) → Refuses format ending place p kind
     → Refuses format ending place p other → kind ≡ other
@@ -64,12 +64,12 @@ refusal_in format ending place resp_end kind other h k = one_error _ kind other 
 
 excluded_in : (format : Format) (ending : Ending) (place : Place) (p : Pkt) (events : List EventValue) (kind : Kind)
     → Gives format ending place p events → Refuses format ending place p kind → ⊥
-excluded_in format ending packfile (payload bytes) events kind h k = said_or_error _ events kind h k
+excluded_in format ending packfile (payload bytes) events kind h k = stated_or_error _ events kind h k
 excluded_in format ending response_end (payload bytes) events kind h k = h
 excluded_in format ending place (payload bytes) events kind h k = line_excluded place format (text_of bytes) events kind h k
-excluded_in format ending place flush events kind h k = said_or_error _ events kind h k
-excluded_in format ending place delim events kind h k = said_or_error _ events kind h k
-excluded_in format ending place resp_end events kind h k = said_or_error _ events kind h k
+excluded_in format ending place flush events kind h k = stated_or_error _ events kind h k
+excluded_in format ending place delim events kind h k = stated_or_error _ events kind h k
+excluded_in format ending place resp_end events kind h k = stated_or_error _ events kind h k
 
 -- a packet has one place
 same_place : (t : Terms) (asked : List Asked) (before : List Pkt) (a b : Place) → place_after t asked before ≡ Some a

@@ -15,14 +15,14 @@ use Rattle.git_client.specs.declared.events.Ending.TheVariants.{FlushOnly, Respo
 use Rattle.git_client.specs.Parts.{Terms, nearest}
 use Rattle.git_client.specs.Places.{Place, version, capabilities, references, header, acknowledgments, shallow_info, wanted_refs, packfile}
 use Rattle.git_client.specs.Places.{size_line, sizes, response_end, place_after}
-use Rattle.git_client.specs.Events.{EventValue, pack, progress, Gives, ended_by, band_says, flush_says, delimiter_says, response_end_says}
+use Rattle.git_client.specs.Events.{EventValue, pack, progress, Gives, ended_by, events_of_band, events_of_flush, events_of_delimiter, events_of_response_end}
 use Rattle.git_client.specs.Opened.{IsOfRest, opened_in, unless_refused}
 use Rattle.git_client.specs.Conversation.{GiveAll, HasEvents}
 use Rattle.git_client.specs.Machine.Client.{History, Converses}
 use Rattle.git_client.specs.declared.client.Client.{Client}
 use Rattle.git_client.proofs.PlaceLines.{ReadsLine, boundary_event, line_read}
 use Rattle.git_client.proofs.Opened.{few_opened}
-use Rattle.git_client.proofs.EventsHeard.{has_events}
+use Rattle.git_client.proofs.EventsReceived.{has_events}
 
 -- ---- the events of a packet: at most one, or on a band one for each byte
 
@@ -34,9 +34,9 @@ line_gives version format text events h = of_one _ events h.1 (omega arith)
 line_gives (capabilities spoken) format text events h = of_one _ events h.3 (omega arith)
 line_gives references format text events h = of_one _ events h.2 (omega arith)
 line_gives (header allowed) format text events h = of_one _ events h.1 (omega arith)
-line_gives (acknowledgments told) format text events (inl h) = of_one _ events h.2 (omega arith)
-line_gives (acknowledgments told) format text events (inr (inl h)) = of_one _ events h.2 (omega arith)
-line_gives (acknowledgments told) format text events (inr (inr h)) = of_one _ events h.3 (omega arith)
+line_gives (acknowledgments announced) format text events (inl h) = of_one _ events h.2 (omega arith)
+line_gives (acknowledgments announced) format text events (inr (inl h)) = of_one _ events h.2 (omega arith)
+line_gives (acknowledgments announced) format text events (inr (inr h)) = of_one _ events h.3 (omega arith)
 line_gives shallow_info format text events (line, is, e) = of_one (boundary_event line ∷ []) events e (omega arith)
 line_gives wanted_refs format text events h = of_one _ events h.2 (omega arith)
 line_gives size_line format text events h = of_one _ events h.1 (omega arith)
@@ -64,32 +64,32 @@ on_band false true third bytes = omega (arith, length-map bytes progress)
 on_band false false true bytes = tt
 on_band false false false bytes = tt
 
-band_gives : (bytes : List ℕ) (events : List EventValue) → band_says bytes ≡ Ok events → length events ≤ length bytes
-band_gives [] events says = absurd (cc)
-band_gives (band ∷ bytes) events says =
-    let few : length events ≤ length bytes = subst (HasAtMost (length bytes)) says (on_band (band == 1) (band == 2) (band == 3) bytes) in
+band_gives : (bytes : List ℕ) (events : List EventValue) → events_of_band bytes ≡ Ok events → length events ≤ length bytes
+band_gives [] events conveys = absurd (cc)
+band_gives (band ∷ bytes) events conveys =
+    let few : length events ≤ length bytes = subst (HasAtMost (length bytes)) conveys (on_band (band == 1) (band == 2) (band == 3) bytes) in
     omega (arith, few)
 
 ended_one : (ending : Ending) → length (ended_by ending) ≤ 1
 ended_one FlushOnly = omega arith
 ended_one ResponseEnd = omega arith
 
-flush_gives : (ending : Ending) (place : Place) → HasAtMost 1 (flush_says ending place)
+flush_gives : (ending : Ending) (place : Place) → HasAtMost 1 (events_of_flush ending place)
 flush_gives ending (capabilities spoken) = one_if_allowed spoken _ _ (omega arith)
 flush_gives ending references = ended_one ending
-flush_gives ending (acknowledgments told) = one_unless_refused told.ready _ _ (ended_one ending)
+flush_gives ending (acknowledgments announced) = one_unless_refused announced.ready _ _ (ended_one ending)
 flush_gives ending packfile = ended_one ending
 flush_gives ending size_line = ended_one ending
 flush_gives ending sizes = ended_one ending
 flush_gives ending place = tt
 
-delimiter_gives : (place : Place) → HasAtMost 1 (delimiter_says place)
-delimiter_gives (acknowledgments told) = one_if_allowed told.ready _ _ (omega arith)
+delimiter_gives : (place : Place) → HasAtMost 1 (events_of_delimiter place)
+delimiter_gives (acknowledgments announced) = one_if_allowed announced.ready _ _ (omega arith)
 delimiter_gives shallow_info = omega arith
 delimiter_gives wanted_refs = omega arith
 delimiter_gives place = tt
 
-response_end_gives : (place : Place) → HasAtMost 1 (response_end_says place)
+response_end_gives : (place : Place) → HasAtMost 1 (events_of_response_end place)
 response_end_gives response_end = omega arith
 response_end_gives place = tt
 
@@ -98,7 +98,7 @@ payload_gives : (format : Format) (ending : Ending) (place : Place) (bytes : Lis
 payload_gives format ending packfile bytes events gives = omega (arith, band_gives bytes events gives)
 payload_gives format ending response_end bytes events gives = absurd gives
 payload_gives format ending place bytes events gives =
-    omega (arith, line_gives place format (text_of bytes) events (line_read place format (text_of bytes) events gives.says))
+    omega (arith, line_gives place format (text_of bytes) events (line_read place format (text_of bytes) events gives.conveys))
 
 packet_gives : (format : Format) (ending : Ending) (place : Place) (p : Pkt) (events : List EventValue) → Gives format ending place p events
     → length events ≤ length (body_of p) + 1

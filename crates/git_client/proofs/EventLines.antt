@@ -13,10 +13,10 @@ use Rattle.git_client.specs.declared.events.Event.{Event}
 use Rattle.git_client.proofs.Writing.{line_by, one_line}
 
 -- the bytes of an event's line, part by part
-abbrev pub row_of : Parts → (packed told : ℕ) → List (List ℕ)
-row_of p packed told =
+abbrev pub row_of : Parts → (packed announced : ℕ) → List (List ℕ)
+row_of p packed announced =
     unwrap_or (word_of p.kind) [] ∷ object_shown p.kind p.id ∷ shown_after (codes " ") p.name ∷ shown_after (text_word p.kind) p.text
-    ∷ peeled_text p.peeled ∷ size_after p.kind p.size ∷ count_after p.kind packed ∷ count_after p.kind told ∷ []
+    ∷ peeled_text p.peeled ∷ size_after p.kind p.size ∷ count_after p.kind packed ∷ count_after p.kind announced ∷ []
 
 pub no_lines_of_pack : (bytes : List ℕ) (p q : ℕ) → lines_of (map pack bytes) p q ≡ []
 no_lines_of_pack [] p q = refl
@@ -31,45 +31,46 @@ abbrev pub IsLineOfRow : Option (List ℕ) → (row line : List ℕ) → Type 0
 IsLineOfRow None row line = line ≡ []
 IsLineOfRow (Some word) row line = row ≡ line
 
-pub row_line : (event : Event) (packed told : ℕ)
-    → IsLineOfRow (word_of (parts_of event).kind) (line_by (row_of (parts_of event) packed told)) (lines_of (values_of event) packed told)
-row_line (Event.Capability c) packed told =
+pub row_line : (event : Event) (packed announced : ℕ)
+    → IsLineOfRow (word_of (parts_of event).kind) (line_by (row_of (parts_of event) packed announced)) (lines_of (values_of event) packed announced)
+row_line (Event.Capability c) packed announced =
     one_line (codes "capability ") (escaped_of c.key.now ∷ value_shown (option_copied c.value) ∷ codes "\n" ∷ [] ∷ [])
-row_line Event.Offered packed told = refl
-row_line (Event.Reference None name target peeled) packed told =
+row_line Event.Offered packed announced = refl
+row_line (Event.Reference None name target peeled) packed announced =
     one_line (codes "ref unborn ")
     (escaped_of name.now ∷ target_shown (option_copied target) ∷ peeled_text (option_copied peeled) ∷ codes "\n" ∷ [] ∷ [])
-row_line (Event.Reference (Some id) name target peeled) packed told =
+row_line (Event.Reference (Some id) name target peeled) packed announced =
     one_line (codes "ref ") (hex_of id.now ∷ codes " " ∷ escaped_of name.now ∷ target_shown (option_copied target)
     ∷ peeled_text (option_copied peeled) ∷ codes "\n" ∷ [] ∷ [])
-row_line (Event.Ack id) packed told = one_line (codes "ack ") (hex_of id.now ∷ codes "\n" ∷ [] ∷ [])
-row_line Event.Nak packed told = refl
-row_line Event.Ready packed told = refl
-row_line (Event.Shallow id) packed told = one_line (codes "shallow ") (hex_of id.now ∷ codes "\n" ∷ [] ∷ [])
-row_line (Event.Unshallow id) packed told = one_line (codes "unshallow ") (hex_of id.now ∷ codes "\n" ∷ [] ∷ [])
-row_line (Event.WantedRef id name) packed told =
+row_line (Event.Ack id) packed announced = one_line (codes "ack ") (hex_of id.now ∷ codes "\n" ∷ [] ∷ [])
+row_line Event.Nak packed announced = refl
+row_line Event.Ready packed announced = refl
+row_line (Event.Shallow id) packed announced = one_line (codes "shallow ") (hex_of id.now ∷ codes "\n" ∷ [] ∷ [])
+row_line (Event.Unshallow id) packed announced = one_line (codes "unshallow ") (hex_of id.now ∷ codes "\n" ∷ [] ∷ [])
+row_line (Event.WantedRef id name) packed announced =
     one_line (codes "wanted-ref ") (hex_of id.now ∷ codes " " ∷ escaped_of name.now ∷ codes "\n" ∷ [] ∷ [])
-row_line (Event.Info id None) packed told = one_line (codes "info ") (hex_of id.now ∷ codes " " ∷ codes "-" ∷ codes "\n" ∷ [] ∷ [])
-row_line (Event.Info id (Some size)) packed told =
+row_line (Event.Info id None) packed announced = one_line (codes "info ") (hex_of id.now ∷ codes " " ∷ codes "-" ∷ codes "\n" ∷ [] ∷ [])
+row_line (Event.Info id (Some size)) packed announced =
     one_line (codes "info ") (hex_of id.now ∷ codes " " ∷ decimal size ∷ codes "\n" ∷ [] ∷ [])
-row_line (Event.Pack bytes) packed told = no_lines_of_pack bytes.now packed told
-row_line (Event.Progress bytes) packed told = no_lines_of_progress bytes.now packed told
-row_line Event.Ended packed told =
-    one_line (codes "end ") (decimal packed ∷ codes " " ∷ decimal told ∷ codes "\n" ∷ [] ∷ [])
+row_line (Event.Pack bytes) packed announced = no_lines_of_pack bytes.now packed announced
+row_line (Event.Progress bytes) packed announced = no_lines_of_progress bytes.now packed announced
+row_line Event.Ended packed announced =
+    one_line (codes "end ") (decimal packed ∷ codes " " ∷ decimal announced ∷ codes "\n" ∷ [] ∷ [])
 
-module _ (event : Event) (packed told : ℕ) (p : Parts) (same : p ≡ parts_of event) where
-  row_is : IsLineOfRow (word_of p.kind) (line_by (row_of p packed told)) (lines_of (values_of event) packed told)
+module _ (event : Event) (packed announced : ℕ) (p : Parts) (same : p ≡ parts_of event) where
+  row_is : IsLineOfRow (word_of p.kind) (line_by (row_of p packed announced)) (lines_of (values_of event) packed announced)
   row_is =
-      subst (λ (q : Parts). IsLineOfRow (word_of q.kind) (line_by (row_of q packed told)) (lines_of (values_of event) packed told)) (sym same)
-      (row_line event packed told)
+      subst (λ (q : Parts). IsLineOfRow (word_of q.kind) (line_by (row_of q packed announced)) (lines_of (values_of event) packed announced)) (sym same)
+      (row_line event packed announced)
 
   abbrev RowFor : Option (List ℕ) → Type 0
-  RowFor word = IsLineOfRow word (line_by (row_of p packed told)) (lines_of (values_of event) packed told)
+  RowFor word = IsLineOfRow word (line_by (row_of p packed announced)) (lines_of (values_of event) packed announced)
 
   pub no_row : (word : Option (Bor (List ℕ))) → option_copied word ≡ word_of p.kind → ((some : Bor (List ℕ)) → word ≡ Some some → ⊥)
-      → lines_of (values_of event) packed told ≡ []
+      → lines_of (values_of event) packed announced ≡ []
   no_row None is none = subst RowFor (sym is) row_is
   no_row (Some word) is none = absurd (none word refl)
 
-  pub row_shown : (word : Bor (List ℕ)) → option_copied (Some word) ≡ word_of p.kind → line_by (row_of p packed told) ≡ lines_of (values_of event) packed told
+  pub row_shown : (word : Bor (List ℕ)) → option_copied (Some word) ≡ word_of p.kind
+      → line_by (row_of p packed announced) ≡ lines_of (values_of event) packed announced
   row_shown word is = subst RowFor (sym is) row_is

@@ -24,14 +24,15 @@ use Rattle.git_msg.proofs.ReferenceWords.{value_spelled}
 use Rattle.git_client.specs.Places.{Place, version, capabilities, references, header, acknowledgments, shallow_info, wanted_refs, packfile}
 use Rattle.git_client.specs.Places.{size_line, sizes, response_end}
 use Rattle.git_client.specs.Events.{EventValue, capability, reference, ack, nak, ready, shallow, unshallow, wanted_ref, pack, progress, info}
-use Rattle.git_client.specs.Events.{ended, offered, Gives, band_says, delimiter_says, ended_by, flush_says, response_end_says, parts_length, all_parts_length}
+use Rattle.git_client.specs.Events.{ended, offered, Gives, events_of_band, events_of_delimiter, ended_by, events_of_flush, events_of_response_end}
+use Rattle.git_client.specs.Events.{parts_length, all_parts_length}
 use Rattle.git_client.specs.Opened.{events_on}
 use Rattle.git_client.specs.Packs.{on_first_band}
 use Rattle.git_client.specs.declared.events.Ending.{Ending}
 use Rattle.git_client.specs.declared.events.Ending.TheVariants.{FlushOnly, ResponseEnd}
 use Rattle.git_client.proofs.Opened.{on_fatal, on_pack, on_progress}
 use Rattle.git_client.proofs.PlaceLines.{IsOfBand, ReadsLine, band_of, boundary_event, line_read}
-use Rattle.git_client.proofs.PlacePackets.{said_by, said_if, said_unless}
+use Rattle.git_client.proofs.PlacePackets.{stated_by, stated_if, stated_unless}
 
 -- the length of all texts together
 total : List (List ℕ) → ℕ
@@ -193,13 +194,13 @@ read_fits (capabilities spoken) format text events (key, value, is, e) within =
     rw e (alone (capability key value) (omega (arith, capability_fits text key value is)))
 read_fits references format text events (ref, is, e) within = rw e (alone (reference ref) (omega (arith, reference_fits format text ref is)))
 read_fits (header allowed) format text events (is, e) within = rw e (omega arith)
-read_fits (acknowledgments told) format text events (inl h) within = rw h.2 (alone nak (omega arith))
-read_fits (acknowledgments told) format text events (inr (inl h)) within = rw h.2 (alone ready (omega arith))
-read_fits (acknowledgments told) format text events (inr (inr h)) within = rw h.3 (object_fits (ack h.0) h.0 refl)
+read_fits (acknowledgments announced) format text events (inl h) within = rw h.2 (alone nak (omega arith))
+read_fits (acknowledgments announced) format text events (inr (inl h)) within = rw h.2 (alone ready (omega arith))
+read_fits (acknowledgments announced) format text events (inr (inr h)) within = rw h.3 (object_fits (ack h.0) h.0 refl)
 read_fits shallow_info format text events (line, is, e) within = rw e (boundary_fits line)
 read_fits wanted_refs format text events (wanted, is, e) within = rw e (wanted_fits format text wanted is within)
 read_fits size_line format text events (is, e) within = rw e (omega arith)
-read_fits sizes format text events (told, is, e) within = rw e (object_fits (info told) told.id refl)
+read_fits sizes format text events (announced, is, e) within = rw e (object_fits (info announced) announced.id refl)
 read_fits packfile format text events h within = absurd h
 read_fits response_end format text events h within = absurd h
 
@@ -221,10 +222,11 @@ of_band_fits : (first bytes : List ℕ) (events : List EventValue) → IsOfBand 
 of_band_fits first bytes events (inl e) h k = rw e (omega (arith, each_one pack first (λ byte. refl)))
 of_band_fits first bytes events (inr (none, e)) h k = rw e (omega (arith, each_one progress bytes (λ byte. refl)))
 
-band_fits : (bytes : List ℕ) (events : List EventValue) → band_says bytes ≡ Ok events → length bytes ≤ longest_payload → Fits events
-band_fits [] events says within = absurd (cc)
-band_fits (band ∷ bytes) events says within =
-    of_band_fits (on_first_band (band ∷ bytes)) bytes events (band_of (band == 1) (band == 2) (band == 3) bytes events says) (first (band == 1)) (omega arith)
+band_fits : (bytes : List ℕ) (events : List EventValue) → events_of_band bytes ≡ Ok events → length bytes ≤ longest_payload → Fits events
+band_fits [] events conveys within = absurd (cc)
+band_fits (band ∷ bytes) events conveys within =
+    of_band_fits (on_first_band (band ∷ bytes)) bytes events (band_of (band == 1) (band == 2) (band == 3) bytes events conveys) (first (band == 1))
+    (omega arith)
   where
     first : (b : Bool) → length (cond b bytes []) ≤ longest_payload
     first true = omega arith
@@ -234,31 +236,31 @@ ended_fits : (ending : Ending) → Fits (ended_by ending)
 ended_fits FlushOnly = alone ended (omega arith)
 ended_fits ResponseEnd = omega arith
 
-flush_fits : (ending : Ending) (place : Place) (events : List EventValue) → flush_says ending place ≡ Ok events → Fits events
-flush_fits ending (capabilities spoken) events says = rw (said_if spoken _ _ events says) (alone offered (omega arith))
-flush_fits ending references events says = rw (said_by _ _ events refl says) (ended_fits ending)
-flush_fits ending (acknowledgments told) events says = rw (said_unless told.ready _ _ events says) (ended_fits ending)
-flush_fits ending packfile events says = rw (said_by _ _ events refl says) (ended_fits ending)
-flush_fits ending size_line events says = rw (said_by _ _ events refl says) (ended_fits ending)
-flush_fits ending sizes events says = rw (said_by _ _ events refl says) (ended_fits ending)
-flush_fits ending _ events says = absurd (cc)
+flush_fits : (ending : Ending) (place : Place) (events : List EventValue) → events_of_flush ending place ≡ Ok events → Fits events
+flush_fits ending (capabilities spoken) events conveys = rw (stated_if spoken _ _ events conveys) (alone offered (omega arith))
+flush_fits ending references events conveys = rw (stated_by _ _ events refl conveys) (ended_fits ending)
+flush_fits ending (acknowledgments announced) events conveys = rw (stated_unless announced.ready _ _ events conveys) (ended_fits ending)
+flush_fits ending packfile events conveys = rw (stated_by _ _ events refl conveys) (ended_fits ending)
+flush_fits ending size_line events conveys = rw (stated_by _ _ events refl conveys) (ended_fits ending)
+flush_fits ending sizes events conveys = rw (stated_by _ _ events refl conveys) (ended_fits ending)
+flush_fits ending _ events conveys = absurd (cc)
 
-delimiter_fits : (place : Place) (events : List EventValue) → delimiter_says place ≡ Ok events → Fits events
-delimiter_fits (acknowledgments told) events says = rw (said_if told.ready _ _ events says) (omega arith)
-delimiter_fits shallow_info events says = rw (said_by _ _ events refl says) (omega arith)
-delimiter_fits wanted_refs events says = rw (said_by _ _ events refl says) (omega arith)
-delimiter_fits _ events says = absurd (cc)
+delimiter_fits : (place : Place) (events : List EventValue) → events_of_delimiter place ≡ Ok events → Fits events
+delimiter_fits (acknowledgments announced) events conveys = rw (stated_if announced.ready _ _ events conveys) (omega arith)
+delimiter_fits shallow_info events conveys = rw (stated_by _ _ events refl conveys) (omega arith)
+delimiter_fits wanted_refs events conveys = rw (stated_by _ _ events refl conveys) (omega arith)
+delimiter_fits _ events conveys = absurd (cc)
 
-response_end_fits : (place : Place) (events : List EventValue) → response_end_says place ≡ Ok events → Fits events
-response_end_fits response_end events says = rw (said_by _ _ events refl says) (alone ended (omega arith))
-response_end_fits _ events says = absurd (cc)
+response_end_fits : (place : Place) (events : List EventValue) → events_of_response_end place ≡ Ok events → Fits events
+response_end_fits response_end events conveys = rw (stated_by _ _ events refl conveys) (alone ended (omega arith))
+response_end_fits _ events conveys = absurd (cc)
 
 payload_fits : (format : Format) (ending : Ending) (place : Place) (bytes : List ℕ) (events : List EventValue)
     → Gives format ending place (payload bytes) events → length bytes ≤ longest_payload → Fits events
 payload_fits format ending packfile bytes events gives within = band_fits bytes events gives within
 payload_fits format ending response_end bytes events gives within = absurd gives
 payload_fits format ending place bytes events gives within =
-    read_fits place format (text_of bytes) events (line_read place format (text_of bytes) events gives.says) (omega (arith, text_within bytes))
+    read_fits place format (text_of bytes) events (line_read place format (text_of bytes) events gives.conveys) (omega (arith, text_within bytes))
 
 -- the parts of a packet's events together are no longer than the longest payload
 pub events_fit : (format : Format) (ending : Ending) (place : Place) (p : Pkt) (events : List EventValue) → Gives format ending place p events

@@ -8,7 +8,7 @@ use Rattle.git_pkt.proofs.Gathered.{open_nothing}
 use Rattle.git_msg.specs.Asked.{Asked}
 use Rattle.git_client.specs.Parts.{Terms, nearest}
 use Rattle.git_client.specs.Events.{EventValue}
-use Rattle.git_client.specs.Conversation.{GiveAll, HasDue, FirstMalformed}
+use Rattle.git_client.specs.Conversation.{GiveAll, HasExpected, FirstMalformed}
 use Rattle.git_client.specs.Machine.Turns.{fault_in, question_in}
 use Rattle.git_client.specs.Machine.Client.{History, Converses, StandsIn, RefusedPacket, RefusedBytes, EndedEarly, fault_of, phase_of, reader_of, request_of}
 use Rattle.git_client.specs.declared.phase.Phase.{Phase}
@@ -41,7 +41,7 @@ module _ (t : Terms) (asked : List Asked) (bytes : List ℕ) (clean given : List
     events = events;
     splits = splits;
     sound = subst (λ (gs : List Given). GiveAll t asked [] gs events) (sym p.cut) gives;
-    due = subst (λ (gs : List Given). HasDue t asked (nearest gs [])) (sym p.cut) p.due;
+    expected = subst (λ (gs : List Given). HasExpected t asked (nearest gs [])) (sym p.cut) p.expected;
     by = p.by;
   }))
 
@@ -53,7 +53,7 @@ module _ (t : Terms) (asked : List Asked) (bytes : List ℕ) (clean given : List
     splits = splits;
     sound = subst (λ (gs : List Given). GiveAll t asked [] gs events) (sym p.cut) gives;
     still_open = subst (λ (l : List ℕ). IsOpen l) (sym p.nothing) open_nothing;
-    due = subst (λ (gs : List Given). HasDue t asked (nearest gs [])) (sym p.cut) p.due;
+    expected = subst (λ (gs : List Given). HasExpected t asked (nearest gs [])) (sym p.cut) p.expected;
     kind = p.kind;
     at = omega (arith, p.at, ap length p.nothing);
   }))
@@ -71,6 +71,6 @@ module _ (t : Terms) (asked : List Asked) (bytes : List ℕ) (clean given : List
 module _ {A : Type 0} where
   pub first_fault : (t : Terms) (h : History) (client : Client A) (fault : Fault) → Converses t h client → fault_of client ≡ Some fault
       → FirstMalformed t h.asked h.used fault
-  first_fault t h client fault c told =
+  first_fault t h client fault c announced =
       in_phase t h.asked h.used c.clean c.given c.rest c.whole c.reads.splits c.gives fault (phase_of client) (question_in (request_of client))
-      (reader_of client) told c.stands
+      (reader_of client) announced c.stands

@@ -13,13 +13,13 @@ use Rattle.git_client.specs.Events.{EventValue, pack, progress, all_parts_length
 use Rattle.git_client.specs.Opened.{events_on}
 use Rattle.git_client.specs.Machine.Turns.{fault_in, takes_packets, values_of}
 use Rattle.git_client.specs.Machine.HandedOut.{HandsOut, HasPart, Shows}
-use Rattle.git_client.specs.Machine.Client.{EndsAt, Feeds, HearsOn, IsPassed, LeavesAfter, Takes, events_of, phase_of, wants_input}
+use Rattle.git_client.specs.Machine.Client.{EndsAt, Feeds, ReceivesOn, IsPassed, LeavesAfter, Takes, events_of, phase_of, wants_input}
 use Rattle.git_client.specs.declared.events.Event.{Event}
 use Rattle.git_client.specs.declared.events.Event.TheVariants.{Pack as PackEvent, Progress as ProgressEvent}
-use Rattle.git_client.specs.declared.events.HeardGot.{HeardGot}
-use Rattle.git_client.specs.declared.events.HeardGot.TheVariants.{More as MoreGot, Event as EventGot, Failed as FailedGot}
+use Rattle.git_client.specs.declared.events.ReceivedGot.{ReceivedGot}
+use Rattle.git_client.specs.declared.events.ReceivedGot.TheVariants.{More as MoreGot, Event as EventGot, Failed as FailedGot}
 use Rattle.git_client.specs.declared.phase.Phase.{Phase}
-use Rattle.git_client.specs.declared.phase.Phase.TheVariants.{Hearing}
+use Rattle.git_client.specs.declared.phase.Phase.TheVariants.{Receiving}
 use Rattle.git_client.specs.declared.client.Client.{Client}
 use Rattle.git_client.specs.declared.client.Outcome.{Outcome}
 use Rattle.git_client.specs.declared.client.Outcome.TheVariants.{More, Event as EventNow, Passed as PassedNow, Failed as FailedNow}
@@ -27,7 +27,7 @@ use Rattle.git_client.specs.declared.client.Passed.{Passed}
 use Rattle.git_client.proofs.Opened.{on_pack, on_progress}
 
 pub has_no_fault : (phase : Phase) → takes_packets phase ≡ true → (f : Fault) → fault_in phase ≡ Some f → ⊥
-has_no_fault (Hearing due) takes f is = cc
+has_no_fault (Receiving expected) takes f is = cc
 has_no_fault _ takes f is = absurd (cc)
 
 no_length : {X : Type 0} (l : List X) → 0 < length l → l ≢ []
@@ -35,57 +35,57 @@ no_length l some none = absurd (omega (arith, some, ap length none))
 
 module _ {A : Type 0} where
   -- an event of these bytes, on this band
-  record ShowsPart (band : Band) (bytes : List ℕ) (event : Event) (used : ℕ) (piece : List ℕ) (new : Client A) : Type 0 where
+  record ShowsPart (band : Band) (bytes : List ℕ) (event : Event) (used : ℕ) (chunk : List ℕ) (new : Client A) : Type 0 where
     values : values_of event ≡ events_on (map (on band) bytes)
-    ends : EndsAt event used piece new
+    ends : EndsAt event used chunk new
     some : values_of event ≢ []
     leaves : LeavesAfter event new
 
-  shows_part : (band : Band) (bytes shown : List ℕ) (event : Event) (used : ℕ) (piece : List ℕ) (new : Client A) → shown ≡ bytes → 0 < length bytes
-      → IsPassed bytes used piece new → wants_input new ≡ true → Shows band shown event → ShowsPart band bytes event used piece new
-  shows_part Pack bytes shown (PackEvent lent) used piece new same some part waits is =
+  shows_part : (band : Band) (bytes shown : List ℕ) (event : Event) (used : ℕ) (chunk : List ℕ) (new : Client A) → shown ≡ bytes → 0 < length bytes
+      → IsPassed bytes used chunk new → wants_input new ≡ true → Shows band shown event → ShowsPart band bytes event used chunk new
+  shows_part Pack bytes shown (PackEvent lent) used chunk new same some part waits is =
       let all : lent.now ≡ bytes = is ∙ same in
       record {
         values = ap (map pack) all ∙ sym (on_pack bytes);
-        ends = subst (λ (l : List ℕ). IsPassed l used piece new) (sym all) part;
+        ends = subst (λ (l : List ℕ). IsPassed l used chunk new) (sym all) part;
         some = no_length (map pack lent.now) (omega (arith, some, length-map lent.now pack, ap length all));
         leaves = waits;
       }
-  shows_part Progress bytes shown (ProgressEvent lent) used piece new same some part waits is =
+  shows_part Progress bytes shown (ProgressEvent lent) used chunk new same some part waits is =
       let all : lent.now ≡ bytes = is ∙ same in
       record {
         values = ap (map progress) all ∙ sym (on_progress bytes);
-        ends = subst (λ (l : List ℕ). IsPassed l used piece new) (sym all) part;
+        ends = subst (λ (l : List ℕ). IsPassed l used chunk new) (sym all) part;
         some = no_length (map progress lent.now) (omega (arith, some, length-map lent.now progress, ap length all));
         leaves = waits;
       }
-  shows_part band bytes shown event used piece new same some part waits is = absurd is
+  shows_part band bytes shown event used chunk new same some part waits is = absurd is
 
-  module _ (old new : Client A) (piece : List ℕ) (used : ℕ) (wants : wants_input old ≡ true) (within : used ≤ length piece) where
+  module _ (old new : Client A) (chunk : List ℕ) (used : ℕ) (wants : wants_input old ≡ true) (within : used ≤ length chunk) where
     -- the result, whose events have no more bytes than a payload
-    pub record Answers (got : HeardGot) : Type 0 where
-      pub feeds : Feeds old piece (record { used = used; got = got }) new
+    pub record Answers (got : ReceivedGot) : Type 0 where
+      pub feeds : Feeds old chunk (record { used = used; got = got }) new
       pub fits : all_parts_length (events_of got) ≤ longest_payload
 
-    pub has_part : (outcome : Outcome) → Takes old piece (record { used = used; outcome = outcome }) new → HasPart outcome used
+    pub has_part : (outcome : Outcome) → Takes old chunk (record { used = used; outcome = outcome }) new → HasPart outcome used
     has_part (PassedNow passed) takes =
         let (bytes, long, some, other, part, are) = takes.comes in
-        (omega (arith, long, length-take-le used piece within, ap length part.lies, length-append part.front bytes), other)
+        (omega (arith, long, length-take-le used chunk within, ap length part.lies, length-append part.front bytes), other)
     has_part More takes = tt
     has_part EventNow takes = tt
     has_part (FailedNow fault) takes = tt
 
-    answers_part : (passed : Passed) (event : Event) → Takes old piece (record { used = used; outcome = PassedNow passed }) new
-        → HandsOut (PassedNow passed) used piece (EventGot event) → Answers (EventGot event)
+    answers_part : (passed : Passed) (event : Event) → Takes old chunk (record { used = used; outcome = PassedNow passed }) new
+        → HandsOut (PassedNow passed) used chunk (EventGot event) → Answers (EventGot event)
     answers_part passed event takes hands =
         let (bytes, long, some, other, part, are) = takes.comes in
-        let same = last_of_used piece part.front bytes used passed.count part.lies long within in
-        let shows = shows_part passed.band bytes _ event used piece new same (omega (arith, some, long)) part takes.leaves.1 hands in
+        let same = last_of_used chunk part.front bytes used passed.count part.lies long within in
+        let shows = shows_part passed.band bytes _ event used chunk new same (omega (arith, some, long)) part takes.leaves.1 hands in
         let values : values_of event ≡ takes.events = shows.values ∙ sym are in
         record {
           feeds = record {
-            hears = subst (λ (es : List EventValue). HearsOn old (take used piece) es new) (sym values) takes.hears;
-            tells = (takes.leaves.0, shows.ends, shows.some, shows.leaves);
+            arrives = subst (λ (es : List EventValue). ReceivesOn old (take used chunk) es new) (sym values) takes.arrives;
+            announces = (takes.leaves.0, shows.ends, shows.some, shows.leaves);
             news = λ f none is. absurd (cc);
             stays = λ f is. absurd (has_no_fault (phase_of old) wants f is);
             waits = λ idle. let never = sym wants ∙ idle in absurd (cc);
@@ -93,11 +93,11 @@ module _ {A : Type 0} where
           fits = omega (arith, takes.fits, ap all_parts_length values);
         }
 
-    answers_all : Takes old piece (record { used = used; outcome = More }) new → used ≡ length piece → Answers MoreGot
+    answers_all : Takes old chunk (record { used = used; outcome = More }) new → used ≡ length chunk → Answers MoreGot
     answers_all takes all = record {
       feeds = record {
-        hears = subst (λ (es : List EventValue). HearsOn old (take used piece) es new) takes.comes takes.hears;
-        tells = λ _. (all, takes.leaves.0);
+        arrives = subst (λ (es : List EventValue). ReceivesOn old (take used chunk) es new) takes.comes takes.arrives;
+        announces = λ _. (all, takes.leaves.0);
         news = λ f none is. absurd (cc);
         stays = λ f is. absurd (has_no_fault (phase_of old) wants f is);
         waits = λ idle. let never = sym wants ∙ idle in absurd (cc);
@@ -105,22 +105,22 @@ module _ {A : Type 0} where
       fits = omega arith;
     }
 
-    answers_failed : (fault : Fault) → Takes old piece (record { used = used; outcome = FailedNow fault }) new → Answers (FailedGot fault)
+    answers_failed : (fault : Fault) → Takes old chunk (record { used = used; outcome = FailedNow fault }) new → Answers (FailedGot fault)
     answers_failed fault takes = record {
       feeds = record {
-        hears = subst (λ (es : List EventValue). HearsOn old (take used piece) es new) takes.comes takes.hears;
-        tells = takes.leaves.0;
-        news = λ f none is. let same : fault ≡ f = cc in subst (λ (x : Fault). ShownByFeed x used piece) same takes.leaves.1;
+        arrives = subst (λ (es : List EventValue). ReceivesOn old (take used chunk) es new) takes.comes takes.arrives;
+        announces = takes.leaves.0;
+        news = λ f none is. let same : fault ≡ f = cc in subst (λ (x : Fault). ShownByFeed x used chunk) same takes.leaves.1;
         stays = λ f is. absurd (has_no_fault (phase_of old) wants f is);
         waits = λ idle. let never = sym wants ∙ idle in absurd (cc);
       };
       fits = omega arith;
     }
 
-    pub answers : (outcome : Outcome) (got : HeardGot) → Takes old piece (record { used = used; outcome = outcome }) new → (outcome ≡ EventNow → ⊥)
-        → (outcome ≡ More → used ≡ length piece) → HandsOut outcome used piece got → Answers got
+    pub answers : (outcome : Outcome) (got : ReceivedGot) → Takes old chunk (record { used = used; outcome = outcome }) new → (outcome ≡ EventNow → ⊥)
+        → (outcome ≡ More → used ≡ length chunk) → HandsOut outcome used chunk got → Answers got
     answers (PassedNow passed) (EventGot event) takes other all hands = answers_part passed event takes hands
-    answers (FailedNow fault) (FailedGot told) takes other all hands = subst (λ (f : Fault). Answers (FailedGot f)) hands (answers_failed fault takes)
+    answers (FailedNow fault) (FailedGot announced) takes other all hands = subst (λ (f : Fault). Answers (FailedGot f)) hands (answers_failed fault takes)
     answers More MoreGot takes other all hands = answers_all takes (all refl)
     answers EventNow got takes other all hands = absurd (other refl)
     answers outcome got takes other all hands = absurd hands

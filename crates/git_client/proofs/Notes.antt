@@ -23,8 +23,8 @@ pub first_of_split : (p : ℕ) (bytes : List ℕ) (gs hs : List Given) (x rest :
     → (tail : List Given) × (hs ≡ gs ++ tail)
 first_of_split p bytes [] hs x rest a b none = (hs, refl)
 first_of_split p bytes (g ∷ gs) [] x rest (s, more, parts, at, spells, onward) b none = absurd (none g.packet s more (sym b ∙ parts) spells)
-first_of_split p bytes (g ∷ gs) (h ∷ hs) x rest (s, more, parts, at, spells, onward) (u, later, others, place, tells, after) none =
-    let same = same_start g.packet h.packet s u more later spells tells (sym parts ∙ others) in
+first_of_split p bytes (g ∷ gs) (h ∷ hs) x rest (s, more, parts, at, spells, onward) (u, later, others, place, announces, after) none =
+    let same = same_start g.packet h.packet s u more later spells announces (sym parts ∙ others) in
     let moved : SpellsAll (p + length s) more hs rest =
     subst (λ (l : List ℕ). SpellsAll (p + length l) more hs rest) (sym same.spelling)
     (subst (λ (l : List ℕ). SpellsAll (p + length u) l hs rest) (sym same.rest) after) in

@@ -10,12 +10,12 @@ use Rattle.git_pkt.specs.declared.fault.Kind.TheVariants.{RemoteFatal, BadBand}
 use Rattle.git_pkt.proofs.BandCarries.{passes_short}
 use Rattle.git_msg.specs.declared.offers.Caps.{Caps}
 use Rattle.git_client.specs.Places.{Place, packfile}
-use Rattle.git_client.specs.Events.{EventValue, pack, progress, band_says, pack_bytes, turns_of}
+use Rattle.git_client.specs.Events.{EventValue, pack, progress, events_of_band, pack_bytes, turns_of}
 use Rattle.git_client.specs.Opened.{band_event, events_on, opened_in}
 use Rattle.git_client.specs.Packs.{on_first_band, open_pack_in}
-use Rattle.git_client.specs.Machine.Turns.{place_due}
-use Rattle.git_client.specs.declared.phase.Due.{Due}
-use Rattle.git_client.specs.declared.phase.Due.TheVariants.{Packfile}
+use Rattle.git_client.specs.Machine.Turns.{place_expected}
+use Rattle.git_client.specs.declared.phase.Expected.{Expected}
+use Rattle.git_client.specs.declared.phase.Expected.TheVariants.{Packfile}
 
 pub nothing_opened : (place : Option Place) → opened_in place [] ≡ []
 nothing_opened (Some packfile) = refl
@@ -27,9 +27,10 @@ opened_short (Some packfile) rest few = ap events_on (passes_short rest few)
 opened_short place rest few = refl
 
 -- unless bytes on a band are expected, an open packet gives no events
-pub not_opened : (due : Due) → due ≢ Packfile → (caps : Caps) (format : Format) (rest : List ℕ) → opened_in (Some (place_due caps format due)) rest ≡ []
+pub not_opened : (expected : Expected) → expected ≢ Packfile → (caps : Caps) (format : Format) (rest : List ℕ)
+    → opened_in (Some (place_expected caps format expected)) rest ≡ []
 not_opened Packfile other caps format rest = absurd (other refl)
-not_opened due other caps format rest = refl
+not_opened expected other caps format rest = refl
 
 pub events_on-append : (bytes more : List OnBand) → events_on (bytes ++ more) ≡ events_on bytes ++ events_on more
 events_on-append [] more = refl
@@ -59,7 +60,7 @@ by_band false true third bytes e = ap (λ (l : List EventValue). Ok l) (sym (on_
 by_band false false third bytes e = absurd (cc)
 
 -- a payload of the packfile section that begins with such a band's byte gives the bytes that pass of it
-pub band_gives : (bytes : List ℕ) → begins_band bytes ≡ true → band_says bytes ≡ Ok (events_on (passed_in bytes))
+pub band_gives : (bytes : List ℕ) → begins_band bytes ≡ true → events_of_band bytes ≡ Ok (events_on (passed_in bytes))
 band_gives [] e = absurd (cc)
 band_gives (byte ∷ bytes) e = by_band (byte == 1) (byte == 2) (byte == 3) bytes e
 

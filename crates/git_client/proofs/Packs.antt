@@ -12,7 +12,7 @@ use Rattle.git_client.specs.Conversation.{GiveAll, Sounds, HasEvents, IsConversa
 use Rattle.git_client.specs.Packs.{pack_in, pack_of, open_pack_in, HasPack}
 use Rattle.git_client.proofs.PlacePackets.{comes_after, packet_adds}
 use Rattle.git_client.proofs.Determined.{moved_rest, one_opened, same_sounds}
-use Rattle.git_client.proofs.EventsHeard.{later_questions}
+use Rattle.git_client.proofs.EventsReceived.{later_questions}
 use Rattle.git_client.proofs.Opened.{pack_opened}
 
 pub pack_bytes-append : (events later : List EventValue) → pack_bytes (events ++ later) ≡ pack_bytes events ++ pack_bytes later

@@ -3,20 +3,20 @@ use Rattle.std.proofs.Common.{◌≡◌, true, false, Some, None, refl}
 use Rattle.git_pkt.specs.declared.fault.Fault.{Fault}
 use Rattle.git_client.specs.Machine.Turns.{takes_packets, fault_in, is_ready, has_left_in}
 use Rattle.git_client.specs.declared.phase.Phase.{Phase}
-use Rattle.git_client.specs.declared.phase.Phase.TheVariants.{Hearing, Ready, Leaving, Left, Failed}
+use Rattle.git_client.specs.declared.phase.Phase.TheVariants.{Receiving, Ready, Leaving, Left, Failed}
 use Rattle.git_client.proofs.Carries.{is_quiet}
 
-pub not_ready_where_due : (phase : Phase) → takes_packets phase ≡ true → is_ready phase ≡ false
-not_ready_where_due (Hearing due) e = refl
-not_ready_where_due phase e = absurd (cc)
+pub not_ready_where_expected : (phase : Phase) → takes_packets phase ≡ true → is_ready phase ≡ false
+not_ready_where_expected (Receiving expected) e = refl
+not_ready_where_expected phase e = absurd (cc)
 
 pub not_ready_where_failed : (phase : Phase) (fault : Fault) → fault_in phase ≡ Some fault → is_ready phase ≡ false
 not_ready_where_failed (Failed f) fault e = refl
 not_ready_where_failed phase fault e = absurd (cc)
 
-pub sound_where_due : (phase : Phase) → takes_packets phase ≡ true → fault_in phase ≡ None
-sound_where_due (Hearing due) e = refl
-sound_where_due phase e = absurd (cc)
+pub sound_where_expected : (phase : Phase) → takes_packets phase ≡ true → fault_in phase ≡ None
+sound_where_expected (Receiving expected) e = refl
+sound_where_expected phase e = absurd (cc)
 
 pub sound_where_ready : (phase : Phase) → is_ready phase ≡ true → fault_in phase ≡ None
 sound_where_ready Ready e = refl
@@ -38,9 +38,9 @@ pub quiet_where_ready : (phase : Phase) → is_ready phase ≡ true → is_quiet
 quiet_where_ready Ready e = refl
 quiet_where_ready phase e = absurd (cc)
 
-pub quiet_where_due : (phase : Phase) → takes_packets phase ≡ true → is_quiet phase ≡ true
-quiet_where_due (Hearing due) e = refl
-quiet_where_due phase e = absurd (cc)
+pub quiet_where_expected : (phase : Phase) → takes_packets phase ≡ true → is_quiet phase ≡ true
+quiet_where_expected (Receiving expected) e = refl
+quiet_where_expected phase e = absurd (cc)
 
 pub quiet_where_failed : (phase : Phase) (fault : Fault) → fault_in phase ≡ Some fault → is_quiet phase ≡ true
 quiet_where_failed (Failed f) fault e = refl

@@ -22,17 +22,17 @@ use Rattle.git_msg.specs.declared.offers.Caps.{Caps}
 use Rattle.git_msg.specs.declared.requests.Request.{Request}
 use Rattle.git_msg.specs.declared.writer.RequestWriter.{RequestWriter}
 use Rattle.git_client.specs.Parts.{Terms, listing, sections, informing, closing, nearest, answer_to, part_after, part_of}
-use Rattle.git_client.specs.Sections.{is_empty, is_header_due, allowed_after}
+use Rattle.git_client.specs.Sections.{is_empty, is_header_expected, allowed_after}
 use Rattle.git_client.specs.Places.{place_after}
 use Rattle.git_client.specs.Events.{EventValue}
 use Rattle.git_client.specs.Opened.{opened_in}
-use Rattle.git_client.specs.Machine.Turns.{fault_in, is_ready, has_left_in, left_in, question_in, first_due}
-use Rattle.git_client.specs.Machine.Client.{History, Converses, AsksOn, SaysOn, GivesOne, Leaves, Puts, StandsIn, Goes, Behind, AreWhole, IsAsked, IsDue}
-use Rattle.git_client.specs.Machine.Client.{questions_of, said_of, spelled, format_of, ending_of, caps_of, phase_of, reader_of}
-use Rattle.git_client.specs.Machine.Client.{request_of, has_left, left_to_say}
+use Rattle.git_client.specs.Machine.Turns.{fault_in, is_ready, has_left_in, left_in, question_in, first_expected}
+use Rattle.git_client.specs.Machine.Client.{History, Converses, AsksOn, SendsOn, GivesOne, Leaves, Puts, StandsIn, Goes, Behind, AreWhole, IsAsked, IsExpected}
+use Rattle.git_client.specs.Machine.Client.{questions_of, sent_of, spelled, format_of, ending_of, caps_of, phase_of, reader_of}
+use Rattle.git_client.specs.Machine.Client.{request_of, has_left, left_to_send}
 use Rattle.git_client.specs.declared.phase.Phase.{Phase}
-use Rattle.git_client.specs.declared.phase.Phase.TheVariants.{Hearing, Ready, Asking, Leaving, Left, Failed}
-use Rattle.git_client.specs.declared.phase.Due.{Due}
+use Rattle.git_client.specs.declared.phase.Phase.TheVariants.{Receiving, Ready, Asking, Leaving, Left, Failed}
+use Rattle.git_client.specs.declared.phase.Expected.{Expected}
 use Rattle.git_client.specs.declared.client.Client.{Client}
 use Rattle.git_client.proofs.Opened.{nothing_opened}
 use Rattle.git_client.proofs.Sequences.{gives_more}
@@ -47,49 +47,49 @@ part_asked : (t : Terms) (earlier : List Asked) (last : Asked) (before : List Pk
 part_asked t earlier last [] whole = absurd (omega (arith, whole.all_flushes))
 part_asked t earlier last (p ∷ before) whole =
     let asked = earlier ++ last ∷ [] in
-    ap (λ (due : Bool). cond due (Some closing) (part_after asked (flushes (p ∷ before)))) whole.no_end_due
+    ap (λ (expected : Bool). cond expected (Some closing) (part_after asked (flushes (p ∷ before)))) whole.no_end_expected
     ∙ ap (part_after asked) whole.all_flushes ∙ ap answer_to (slice_get_last earlier last)
 
 -- once the last request has been sent, its response is expected
-due_asked : (t : Terms) (earlier : List Asked) (last : Asked) (before : List Pkt) → AreWhole t earlier before
-    → IsDue t (earlier ++ last ∷ []) before (first_due last)
-due_asked t earlier (ls_refs q) before whole =
+expected_asked : (t : Terms) (earlier : List Asked) (last : Asked) (before : List Pkt) → AreWhole t earlier before
+    → IsExpected t (earlier ++ last ∷ []) before (first_expected last)
+expected_asked t earlier (ls_refs q) before whole =
     record {
       part = listing;
       is_part = part_asked t earlier (ls_refs q) before whole;
       counts = omega (arith, whole.all_flushes, length-append earlier (ls_refs q ∷ []));
       same_lines = λ none. absurd (omega (arith, none, whole.all_flushes));
-      is_due = tt;
+      is_expected = tt;
     }
-due_asked t earlier (fetch q) before whole =
+expected_asked t earlier (fetch q) before whole =
     record {
       part = sections q.done;
       is_part = part_asked t earlier (fetch q) before whole;
       counts = omega (arith, whole.all_flushes, length-append earlier (fetch q ∷ []));
       same_lines = λ none. absurd (omega (arith, none, whole.all_flushes));
-      is_due = (ap is_header_due whole.no_message, ap (allowed_after q.done) (sym whole.no_message));
+      is_expected = (ap is_header_expected whole.no_message, ap (allowed_after q.done) (sym whole.no_message));
     }
-due_asked t earlier (object_info q) before whole =
+expected_asked t earlier (object_info q) before whole =
     record {
       part = informing;
       is_part = part_asked t earlier (object_info q) before whole;
       counts = omega (arith, whole.all_flushes, length-append earlier (object_info q ∷ []));
       same_lines = λ none. absurd (omega (arith, none, whole.all_flushes));
-      is_due = ap is_empty whole.no_message;
+      is_expected = ap is_empty whole.no_message;
     }
 
-pub due_said : (t : Terms) (asked : List Asked) (before : List Pkt) (question : Asked) → IsAsked t asked before (Some question)
-    → IsDue t asked before (first_due question)
-due_said t asked before question h =
+pub expected_stated : (t : Terms) (asked : List Asked) (before : List Pkt) (question : Asked) → IsAsked t asked before (Some question)
+    → IsExpected t asked before (first_expected question)
+expected_stated t asked before question h =
     let same : h.last ≡ question = cc in
-    subst (λ (l : List Asked). IsDue t l before (first_due question)) (sym h.asked_is)
-    (subst (λ (q : Asked). IsDue t (h.earlier ++ h.last ∷ []) before (first_due q)) same (due_asked t h.earlier h.last before h.whole))
+    subst (λ (l : List Asked). IsExpected t l before (first_expected question)) (sym h.asked_is)
+    (subst (λ (q : Asked). IsExpected t (h.earlier ++ h.last ∷ []) before (first_expected q)) same (expected_asked t h.earlier h.last before h.whole))
 
 -- what is sent with one more request
-said_more : (format : Format) (caps : Caps) (asked : List Asked) (question : Asked) (given : List ℕ)
-    → given ++ [] ≡ spelled (said_of format caps asked false)
-    → given ++ spelled (lines_written caps.agent caps.object_format format question) ≡ spelled (said_of format caps (asked ++ question ∷ []) false)
-said_more format caps asked question given h =
+stated_more : (format : Format) (caps : Caps) (asked : List Asked) (question : Asked) (given : List ℕ)
+    → given ++ [] ≡ spelled (sent_of format caps asked false)
+    → given ++ spelled (lines_written caps.agent caps.object_format format question) ≡ spelled (sent_of format caps (asked ++ question ∷ []) false)
+stated_more format caps asked question given h =
     let write : Asked → List Pkt = lines_written caps.agent caps.object_format format in
     ap (λ (l : List ℕ). l ++ spelled (write question))
     (sym (append-nil given) ∙ h ∙ ap spelled (append-nil (questions_of format caps asked)))
@@ -125,7 +125,7 @@ lent r hold fits shut = (
 stands_in : (phase : Phase) (t : Terms) (asked : List Asked) (clean given : List Given) (rest : List ℕ) (end : ℕ) (question : Option Asked)
     (reader : PacketReader) → fault_in phase ≡ None → Goes t asked clean given rest question phase reader
     → StandsIn phase t asked clean given rest end question reader
-stands_in (Hearing due) t asked clean given rest end question reader e h = h
+stands_in (Receiving expected) t asked clean given rest end question reader e h = h
 stands_in Ready t asked clean given rest end question reader e h = h
 stands_in (Asking writer) t asked clean given rest end question reader e h = h
 stands_in Leaving t asked clean given rest end question reader e h = h
@@ -133,7 +133,7 @@ stands_in Left t asked clean given rest end question reader e h = h
 stands_in (Failed fault) t asked clean given rest end question reader e h = absurd (cc)
 
 pub ready_phase : (phase : Phase) → is_ready phase ≡ true → phase ≡ Ready
-ready_phase (Hearing due) e = absurd (cc)
+ready_phase (Receiving expected) e = absurd (cc)
 ready_phase Ready e = refl
 ready_phase (Asking writer) e = absurd (cc)
 ready_phase Leaving e = absurd (cc)
@@ -197,10 +197,10 @@ module _ {A : Type 0} where
       let caps = caps_of old in
       let asked = h.asked ++ asked_of request ∷ [] in
       let stays : h.left ≡ false = c.left ∙ ap has_left_in b.was in
-      let spoken : h.given ++ [] ≡ spelled (said_of t.format caps h.asked false) =
+      let spoken : h.given ++ [] ≡ spelled (sent_of t.format caps h.asked false) =
       ap (λ (phase : Phase). h.given ++ spelled (left_in phase (request_of old))) (sym b.was) ∙ c.spoken
-      ∙ ap (λ (left : Bool). spelled (said_of t.format caps h.asked left)) stays in
-      let written : left_to_say new ≡ lines_written caps.agent caps.object_format t.format (asked_of request) =
+      ∙ ap (λ (left : Bool). spelled (sent_of t.format caps h.asked left)) stays in
+      let written : left_to_send new ≡ lines_written caps.agent caps.object_format t.format (asked_of request) =
       ap (λ (phase : Phase). left_in phase (request_of new)) b.now ∙ ap (left_in (Asking writer)) b.keeps ∙ b.writes
       ∙ ap (λ (format : Format). lines_written caps.agent caps.object_format format (asked_of request)) (b.format ∙ c.format_is) in
       record {
@@ -216,9 +216,9 @@ module _ {A : Type 0} where
         notes = b.terms.caps ∙ c.notes;
         stands = stands_asking t h old new request writer c b;
         left = stays ∙ sym (ap has_left_in b.now);
-        spoken = ap (λ (l : List Pkt). h.given ++ spelled l) written ∙ said_more t.format caps h.asked (asked_of request) h.given spoken
-            ∙ ap (λ (left : Bool). spelled (said_of t.format caps asked left)) (sym stays)
-            ∙ ap (λ (noted : Caps). spelled (said_of t.format noted asked h.left)) (sym b.terms.caps);
+        spoken = ap (λ (l : List Pkt). h.given ++ spelled l) written ∙ stated_more t.format caps h.asked (asked_of request) h.given spoken
+            ∙ ap (λ (left : Bool). spelled (sent_of t.format caps asked left)) (sym stays)
+            ∙ ap (λ (noted : Caps). spelled (sent_of t.format noted asked h.left)) (sym b.terms.caps);
       }
 
   -- the request's writer has put its next packet into the hold
@@ -233,16 +233,16 @@ module _ {A : Type 0} where
 
   -- what is left to send of the request
   left_of : (client : Client A) (request : Request A) (writer : RequestWriter) → phase_of client ≡ Asking writer → request_of client ≡ Some request
-      → left_to_say client ≡ left_to_write writer request
+      → left_to_send client ≡ left_to_write writer request
   left_of client request writer is kept = ap (λ (phase : Phase). left_in phase (request_of client)) is ∙ ap (left_in (Asking writer)) kept
 
   -- it is the next packet that has to be sent
-  says_next : (old new : Client A) (request : Request A) (writer next : RequestWriter) (bytes : List ℕ) → PutsNext old request writer next bytes new
-      → fault_in (phase_of new) ≡ None → has_left new ≡ false → left_to_say new ≡ left_to_write next request
+  conveys_next : (old new : Client A) (request : Request A) (writer next : RequestWriter) (bytes : List ℕ) → PutsNext old request writer next bytes new
+      → fault_in (phase_of new) ≡ None → has_left new ≡ false → left_to_send new ≡ left_to_write next request
       → ((t : Terms) (asked : List Asked) (before : List Pkt) → IsAsked t asked before (Some (asked_of request))
-      → Behind t asked before (question_in (request_of new)) (phase_of new)) → SaysOn old (held_of (reader_of new)) new
-  says_next old new request writer next bytes b sound stays left behind t h c =
-      let later = left_to_say new in
+      → Behind t asked before (question_in (request_of new)) (phase_of new)) → SendsOn old (held_of (reader_of new)) new
+  conveys_next old new request writer next bytes b sound stays left behind t h c =
+      let later = left_to_send new in
       let stood : StandsIn (Asking writer) t h.asked c.clean c.given c.rest (length h.used) (question_in (request_of old)) (reader_of old) =
       subst (λ (phase : Phase). StandsIn phase t h.asked c.clean c.given c.rest (length h.used) (question_in (request_of old)) (reader_of old))
       b.was c.stands in
@@ -270,11 +270,11 @@ module _ {A : Type 0} where
             ∙ ap (λ (l : List ℕ). h.given ++ (l ++ spelled later)) (b.held ∙ b.puts.written)
             ∙ ap (λ (l : List Pkt). h.given ++ spelled (b.puts.packet ∷ l)) left
             ∙ ap (λ (l : List Pkt). h.given ++ spelled l) (sym (left_of old request writer b.was b.kept ∙ b.puts.first)) ∙ c.spoken
-            ∙ ap (λ (noted : Caps). spelled (said_of t.format noted h.asked h.left)) (sym b.terms.caps);
+            ∙ ap (λ (noted : Caps). spelled (sent_of t.format noted h.asked h.left)) (sym b.terms.caps);
       }
 
   gives_next : (old new : Client A) (request : Request A) (writer next : RequestWriter) (bytes : List ℕ) → PutsNext old request writer next bytes new
-      → fault_in (phase_of new) ≡ None → has_left new ≡ false → is_ready (phase_of new) ≡ false → left_to_say new ≡ left_to_write next request
+      → fault_in (phase_of new) ≡ None → has_left new ≡ false → is_ready (phase_of new) ≡ false → left_to_send new ≡ left_to_write next request
       → GivesOne old new (held_of (reader_of new))
   gives_next old new request writer next bytes b sound stays not_ready left = record {
     packet = b.puts.packet;
@@ -293,7 +293,7 @@ module _ {A : Type 0} where
       let stays = ap has_left_in now in
       let left = left_of new request next now keeps in
       record {
-        says = says_next old new request writer next bytes b sound stays left (λ t asked before h.
+        conveys = conveys_next old new request writer next bytes b sound stays left (λ t asked before h.
             subst (Behind t asked before (question_in (request_of new))) (sym now)
             (subst (λ (kept : Option (Request A)). IsAsked t asked before (question_in kept)) (sym keeps) h));
         gives = gives_next old new request writer next bytes b sound stays (ap is_ready now) left;
@@ -301,24 +301,24 @@ module _ {A : Type 0} where
       }
 
   -- the whole request was sent
-  pub hears_now : (old new : Client A) (request : Request A) (writer next : RequestWriter) (bytes : List ℕ) (due : Due)
-      → PutsNext old request writer next bytes new → phase_of new ≡ Hearing due → due ≡ first_due (asked_of request)
+  pub receives_now : (old new : Client A) (request : Request A) (writer next : RequestWriter) (bytes : List ℕ) (expected : Expected)
+      → PutsNext old request writer next bytes new → phase_of new ≡ Receiving expected → expected ≡ first_expected (asked_of request)
       → left_to_write next request ≡ [] → Puts old new
-  hears_now old new request writer next bytes due b now first none =
+  receives_now old new request writer next bytes expected b now first none =
       let sound = ap fault_in now in
       let stays = ap has_left_in now in
       let left = ap (λ (phase : Phase). left_in phase (request_of new)) now ∙ sym none in
       record {
-        says = says_next old new request writer next bytes b sound stays left (λ t asked before h.
+        conveys = conveys_next old new request writer next bytes b sound stays left (λ t asked before h.
             subst (Behind t asked before (question_in (request_of new))) (sym now)
-            (subst (IsDue t asked before) (sym first) (due_said t asked before (asked_of request) h)));
+            (subst (IsExpected t asked before) (sym first) (expected_stated t asked before (asked_of request) h)));
         gives = gives_next old new request writer next bytes b sound stays (ap is_ready now) left;
         credit = ap (λ (n : ℕ). 56 * n) (shut_counts_none (reader_of new) b.shut);
       }
 
   -- a writer with packets left has put the first of them
   pub puts_next : (old : Client A) (request : Request A) (writer next : RequestWriter) (held : List ℕ) (pulled : Bool) (P Q : Type 0)
-      → phase_of old ≡ Asking writer → request_of old ≡ Some request → left_to_say old ≢ []
+      → phase_of old ≡ Asking writer → request_of old ≡ Some request → left_to_send old ≢ []
       → OnTrue pulled (PutsFirst (left_to_write writer request) (left_to_write next request) held)
       → OnFalse pulled ((left_to_write writer request ≡ []) × P × Q) → PutsFirst (left_to_write writer request) (left_to_write next request) held
   puts_next old request writer next held true P Q was kept some put none = put
@@ -339,7 +339,7 @@ module _ {A : Type 0} where
             sym (append-nil h.given)
             ∙ ap (λ (phase : Phase). h.given ++ spelled (left_in phase (request_of old))) (sym was)
             ∙ c.spoken
-            ∙ ap (λ (left : Bool). spelled (said_of t.format (caps_of old) h.asked left)) (c.left ∙ ap has_left_in was)
+            ∙ ap (λ (left : Bool). spelled (sent_of t.format (caps_of old) h.asked left)) (c.left ∙ ap has_left_in was)
             ∙ ap spelled (append-nil questions) in
             record {
               given = c.given;
@@ -364,9 +364,9 @@ module _ {A : Type 0} where
               spoken = ap (λ (phase : Phase). h.given ++ spelled (left_in phase (request_of new))) now
                   ∙ ap (λ (l : List ℕ). l ++ spelled (flush ∷ [])) asked
                   ∙ sym (flat_map-append spelling_of questions (flush ∷ []))
-                  ∙ ap (λ (noted : Caps). spelled (said_of t.format noted h.asked true)) (sym terms.caps);
+                  ∙ ap (λ (noted : Caps). spelled (sent_of t.format noted h.asked true)) (sym terms.caps);
             };
-        owes = ap (λ (phase : Phase). left_in phase (request_of new)) now;
+        has_unsent = ap (λ (phase : Phase). left_in phase (request_of new)) now;
         no_more = ap has_left_in now;
         credit = omega (arith, ap credit_of reader);
       }

@@ -5,14 +5,14 @@ use Rattle.std.proofs.Math.Bool.{and-false}
 use Rattle.std.proofs.lemmas.Slice.Eq.{bytes_eq-Decides}
 use Rattle.git_pkt.specs.Packets.{Pkt, payload, text_of}
 use Rattle.git_client.specs.Parts.{sections}
-use Rattle.git_client.specs.Sections.{header_of, section_named, section_of, is_header_due, lines_of, allowed_after, allows, next_allowed, may_begin}
+use Rattle.git_client.specs.Sections.{header_of, section_named, section_of, is_header_expected, lines_of, allowed_after, allows, next_allowed, may_begin}
 use Rattle.git_client.specs.Sections.{acks_in}
-use Rattle.git_client.specs.Machine.Turns.{due_after_header, after_acknowledgments}
-use Rattle.git_client.specs.Machine.Client.{IsDueIn, IsInside}
+use Rattle.git_client.specs.Machine.Turns.{expected_after_header, after_acknowledgments}
+use Rattle.git_client.specs.Machine.Client.{IsExpectedIn, IsInside}
 use Rattle.git_client.specs.declared.sections.Section.{Section}
 use Rattle.git_client.specs.declared.sections.Section.TheVariants.{Acknowledgments, ShallowInfo, WantedRefs, Packfile}
 use Rattle.git_client.specs.declared.sections.Allowed.{Allowed}
-use Rattle.git_client.specs.declared.phase.Due.TheVariants.{Header}
+use Rattle.git_client.specs.declared.phase.Expected.TheVariants.{Header}
 
 first_or_later : (text : List ℕ) (first section : Section) (rest : Option Section)
     → cond (bytes_eq text (header_of first)) (Some first) rest ≡ Some section → (rest ≡ Some section → text ≡ header_of section)
@@ -37,18 +37,18 @@ inside_more section message line h = record {
 }
 
 -- a packet inside a section does not change which sections may begin
-pub allowed_stays : (done : Bool) (p : Pkt) (message : List Pkt) → is_header_due message ≡ false
+pub allowed_stays : (done : Bool) (p : Pkt) (message : List Pkt) → is_header_expected message ≡ false
     → allowed_after done (p ∷ message) ≡ allowed_after done message
 allowed_stays done p [] inside = absurd (cc)
 allowed_stays done p (q ∷ message) inside = rw inside refl
 
 -- a header does
-allowed_more : (done : Bool) (message : List Pkt) (line : List ℕ) (section : Section) → is_header_due message ≡ true → text_of line ≡ header_of section
+allowed_more : (done : Bool) (message : List Pkt) (line : List ℕ) (section : Section) → is_header_expected message ≡ true → text_of line ≡ header_of section
     → next_allowed (allowed_after done message) section ≡ allowed_after done (payload line ∷ message)
-allowed_more done message line Acknowledgments due text = rw (due, text, and-false) refl
-allowed_more done message line ShallowInfo due text = rw (due, text, and-false) refl
-allowed_more done message line WantedRefs due text = rw (due, text, and-false) refl
-allowed_more done message line Packfile due text = rw (due, text, and-false) refl
+allowed_more done message line Acknowledgments expected text = rw (expected, text, and-false) refl
+allowed_more done message line ShallowInfo expected text = rw (expected, text, and-false) refl
+allowed_more done message line WantedRefs expected text = rw (expected, text, and-false) refl
+allowed_more done message line Packfile expected text = rw (expected, text, and-false) refl
 
 -- no section comes before the acknowledgments
 none_before : (done : Bool) (message : List Pkt) → allows (allowed_after done message) Acknowledgments ≡ true
@@ -58,22 +58,22 @@ none_before true (p ∷ message) may = absurd (cc)
 none_before false (p ∷ message) may = absurd (cc)
 
 header_more : (done : Bool) (message : List Pkt) (line : List ℕ) (named : Option Section) → section_named (text_of line) ≡ named
-    → is_header_due message ≡ true → may_begin (allowed_after done message) named ≡ true
-    → IsDueIn (sections done) (payload line ∷ message) (due_after_header (allowed_after done message) named)
-header_more done message line None named due may = absurd (cc)
-header_more done message line (Some section) named due may = go section named may where
+    → is_header_expected message ≡ true → may_begin (allowed_after done message) named ≡ true
+    → IsExpectedIn (sections done) (payload line ∷ message) (expected_after_header (allowed_after done message) named)
+header_more done message line None named expected may = absurd (cc)
+header_more done message line (Some section) named expected may = go section named may where
   inside : (section : Section) → section_named (text_of line) ≡ Some section → IsInside section (payload line ∷ message)
-  inside section named = record { inside = refl; begun = ap (λ (b : Bool). cond b (section_named (text_of line)) (section_of message)) due ∙ named }
+  inside section named = record { inside = refl; begun = ap (λ (b : Bool). cond b (section_named (text_of line)) (section_of message)) expected ∙ named }
 
   more : (section : Section) → section_named (text_of line) ≡ Some section
       → next_allowed (allowed_after done message) section ≡ allowed_after done (payload line ∷ message)
-  more section named = allowed_more done message line section due (header_named (text_of line) section named)
+  more section named = allowed_more done message line section expected (header_named (text_of line) section named)
 
   go : (section : Section) → section_named (text_of line) ≡ Some section → allows (allowed_after done message) section ≡ true
-      → IsDueIn (sections done) (payload line ∷ message) (due_after_header (allowed_after done message) (Some section))
+      → IsExpectedIn (sections done) (payload line ∷ message) (expected_after_header (allowed_after done message) (Some section))
   go Acknowledgments named may = (
     inside Acknowledgments named,
-    ap (λ (b : Bool). acks_in (cond b [] (payload line ∷ lines_of message))) (sym due),
+    ap (λ (b : Bool). acks_in (cond b [] (payload line ∷ lines_of message))) (sym expected),
     sym (more Acknowledgments named) ∙ none_before done message may,
   )
   go ShallowInfo named may = (inside ShallowInfo named, more ShallowInfo named)
@@ -81,8 +81,8 @@ header_more done message line (Some section) named due may = go section named ma
   go Packfile named may = inside Packfile named
 
 -- after a section's header its lines are expected
-pub header_due : (done : Bool) (message : List Pkt) (allowed : Allowed) (line : List ℕ) → IsDueIn (sections done) message (Header allowed)
+pub header_expected : (done : Bool) (message : List Pkt) (allowed : Allowed) (line : List ℕ) → IsExpectedIn (sections done) message (Header allowed)
     → may_begin allowed (section_named (text_of line)) ≡ true
-    → IsDueIn (sections done) (payload line ∷ message) (due_after_header allowed (section_named (text_of line)))
-header_due done message allowed line (due, is) may =
-    rw is (header_more done message line (section_named (text_of line)) refl due (rw is at may))
+    → IsExpectedIn (sections done) (payload line ∷ message) (expected_after_header allowed (section_named (text_of line)))
+header_expected done message allowed line (expected, is) may =
+    rw is (header_more done message line (section_named (text_of line)) refl expected (rw is at may))

@@ -5,13 +5,13 @@ use Rattle.std.proofs.lemmas.List.{append-nil}
 use Rattle.git_pkt.specs.Packets.{Pkt, flushes}
 use Rattle.git_pkt.specs.Splits.{Given}
 use Rattle.git_msg.specs.Asked.{Asked}
-use Rattle.git_client.specs.Parts.{Terms, Part, closing, nearest, is_zero, advertisement_of, message_of, is_end_due, answer_to, part_after, part_of}
+use Rattle.git_client.specs.Parts.{Terms, Part, closing, nearest, is_zero, advertisement_of, message_of, is_end_expected, answer_to, part_after, part_of}
 use Rattle.git_client.specs.Places.{Place}
 use Rattle.git_client.specs.Places.{place_of, place_after}
 use Rattle.git_client.specs.Events.{EventValue, offered, ended}
 use Rattle.git_client.specs.Events.{turns_of}
 use Rattle.git_client.specs.Conversation.{GivesAt, GiveAll}
-use Rattle.git_client.proofs.PlacePackets.{nothing_due, comes_after, one_if, packet_adds}
+use Rattle.git_client.proofs.PlacePackets.{nothing_expected, comes_after, one_if, packet_adds}
 
 pub nearest_push : (gs : List Given) (g : Given) (before : List Pkt) → nearest (gs ++ g ∷ []) before ≡ g.packet ∷ nearest gs before
 nearest_push [] g before = refl
@@ -60,8 +60,8 @@ part_after_same : (asked more : List Asked) (n : ℕ) → (part_after asked n �
 part_after_same asked more zero = inr refl
 part_after_same asked more (suc k) = elim (slice_get_more asked more k) [ inl none ↦ inl (ap answer_to none) | inr same ↦ inr (ap answer_to same) ]
 
-part_chosen : (due : Bool) (part more : Option Part) → (part ≡ None) ⊎ (more ≡ part)
-    → (cond due (Some closing) part ≡ None) ⊎ (cond due (Some closing) more ≡ cond due (Some closing) part)
+part_chosen : (expected : Bool) (part more : Option Part) → (part ≡ None) ⊎ (more ≡ part)
+    → (cond expected (Some closing) part ≡ None) ⊎ (cond expected (Some closing) more ≡ cond expected (Some closing) part)
 part_chosen true part more h = inr refl
 part_chosen false part more h = h
 
@@ -69,7 +69,7 @@ part_same : (t : Terms) (asked more : List Asked) (before : List Pkt)
     → (part_of t asked before ≡ None) ⊎ (part_of t (asked ++ more) before ≡ part_of t asked before)
 part_same t asked more [] = inr refl
 part_same t asked more (p ∷ before) =
-    part_chosen (is_end_due t.ending (p ∷ before)) (part_after asked (flushes (p ∷ before))) (part_after (asked ++ more) (flushes (p ∷ before)))
+    part_chosen (is_end_expected t.ending (p ∷ before)) (part_after asked (flushes (p ∷ before))) (part_after (asked ++ more) (flushes (p ∷ before)))
     (part_after_same asked more (flushes (p ∷ before)))
 
 -- and its place
@@ -99,8 +99,8 @@ turns-append (event ∷ events) later = turns-append events later
 
 -- packets add one turn for each flush, except for a flush after which a response end is expected
 turns_after : (t : Terms) (asked : List Asked) (before : List Pkt) (gs : List Given) (events : List EventValue) → GiveAll t asked before gs events
-    → turns_of events + one_if (is_end_due t.ending (nearest gs before)) + flushes before
-    ≡ flushes (nearest gs before) + one_if (is_end_due t.ending before)
+    → turns_of events + one_if (is_end_expected t.ending (nearest gs before)) + flushes before
+    ≡ flushes (nearest gs before) + one_if (is_end_expected t.ending before)
 turns_after t asked before [] events e = omega (arith, ap turns_of e)
 turns_after t asked before (g ∷ gs) events (now, later, e, at, rest) =
     omega (
@@ -113,6 +113,6 @@ turns_after t asked before (g ∷ gs) events (now, later, e, at, rest) =
 
 -- the client could ask once for each flush so far, except for a flush after which a response end is expected
 pub turns_are_messages : (t : Terms) (asked : List Asked) (clean : List Given) (events : List EventValue) → GiveAll t asked [] clean events
-    → turns_of events + one_if (is_end_due t.ending (nearest clean [])) ≡ flushes (nearest clean [])
+    → turns_of events + one_if (is_end_expected t.ending (nearest clean [])) ≡ flushes (nearest clean [])
 turns_are_messages t asked clean events h =
-    omega (arith, turns_after t asked [] clean events h, ap one_if (nothing_due t.ending))
+    omega (arith, turns_after t asked [] clean events h, ap one_if (nothing_expected t.ending))

@@ -13,20 +13,20 @@ use Rattle.git_msg.specs.declared.requests.Request.{Request}
 use Rattle.git_client.specs.Parts.{Terms, closing, answer_to, nearest, message_of, part_after}
 use Rattle.git_client.specs.Places.{place_after, place_of}
 use Rattle.git_client.specs.Events.{EventValue}
-use Rattle.git_client.specs.Conversation.{FirstFault, GiveAll, HasDue}
+use Rattle.git_client.specs.Conversation.{FirstFault, GiveAll, HasExpected}
 use Rattle.git_client.specs.Machine.Turns.{fault_in, has_left_in, is_ready, left_in, question_in, takes_packets}
-use Rattle.git_client.specs.Machine.Client.{AreWhole, Asks, Converses, Feeds, History, IsAsked, Leaves, LeavesAfter, StandsIn, Tells}
-use Rattle.git_client.specs.Machine.Client.{can_ask, fault_of, left_to_say, phase_of, reader_of, request_of, wants_input}
+use Rattle.git_client.specs.Machine.Client.{AreWhole, Asks, Converses, Feeds, History, IsAsked, Leaves, LeavesAfter, StandsIn, Announces}
+use Rattle.git_client.specs.Machine.Client.{can_ask, fault_of, left_to_send, phase_of, reader_of, request_of, wants_input}
 use Rattle.git_client.specs.Machine.Calls.{Call, ask, ask_refused, leave, pull, feed, close, IsTruncated, Makes, after_call, closes}
 use Rattle.git_client.specs.declared.client.Client.{Client}
 use Rattle.git_client.specs.declared.events.Event.{Event}
 use Rattle.git_client.specs.declared.events.Event.TheVariants.{Offered, Ended}
-use Rattle.git_client.specs.declared.events.Heard.{Heard}
-use Rattle.git_client.specs.declared.events.HeardGot.{HeardGot}
-use Rattle.git_client.specs.declared.events.HeardGot.TheVariants.{More, Event as EventGot, Failed as FailedGot}
+use Rattle.git_client.specs.declared.events.Received.{Received}
+use Rattle.git_client.specs.declared.events.ReceivedGot.{ReceivedGot}
+use Rattle.git_client.specs.declared.events.ReceivedGot.TheVariants.{More, Event as EventGot, Failed as FailedGot}
 use Rattle.git_client.specs.declared.events.Sent.TheVariants.{Packet, NeedInput, CanAsk, Finished, Failed as FailedSent}
 use Rattle.git_client.specs.declared.phase.Phase.{Phase}
-use Rattle.git_client.specs.declared.phase.Phase.TheVariants.{Hearing, Ready, Asking, Leaving, Left, Failed}
+use Rattle.git_client.specs.declared.phase.Phase.TheVariants.{Receiving, Ready, Asking, Leaving, Left, Failed}
 use Rattle.git_client.proofs.Calls.{goes_on}
 use Rattle.git_client.proofs.OneFault.{none_among}
 use Rattle.git_client.proofs.Sequences.{gives_more, place_more}
@@ -38,11 +38,11 @@ past_all : (asked : List Asked) → slice_get asked (length asked) ≡ None
 past_all [] = refl
 past_all (q ∷ asked) = past_all asked
 
-pub none_due : (t : Terms) (asked : List Asked) (before : List Pkt) → AreWhole t asked before → place_after t asked before ≡ None
-none_due t asked [] whole = let count : 0 ≡ suc (length asked) = whole.all_flushes in absurd (omega (arith, count))
-none_due t asked (p ∷ before) whole =
+pub none_expected : (t : Terms) (asked : List Asked) (before : List Pkt) → AreWhole t asked before → place_after t asked before ≡ None
+none_expected t asked [] whole = let count : 0 ≡ suc (length asked) = whole.all_flushes in absurd (omega (arith, count))
+none_expected t asked (p ∷ before) whole =
     let message = message_of (p ∷ before) in
-    ap (λ (ends : Bool). place_of t.format (cond ends (Some closing) (part_after asked (flushes (p ∷ before)))) message) whole.no_end_due
+    ap (λ (ends : Bool). place_of t.format (cond ends (Some closing) (part_after asked (flushes (p ∷ before)))) message) whole.no_end_expected
     ∙ ap (λ (n : ℕ). place_of t.format (part_after asked n) message) whole.all_flushes
     ∙ ap (λ (o : Option Asked). place_of t.format (answer_to o) message) (past_all asked)
 
@@ -52,9 +52,9 @@ module _ (t : Terms) (asked more : List Asked) (used : List ℕ) (given again : 
   same_packets : given ≡ again
   same_packets = (one_split 0 used given again rest other one.spelled two.spelled one.ends two.ends).packets
 
-  due_or_whole : (clean : List Given) → given ≡ clean → HasDue t asked (nearest clean []) → AreWhole t asked (nearest again []) → ⊥
-  due_or_whole clean cut (place, is) whole =
-      let none = none_due t asked (nearest again []) whole in
+  expected_or_whole : (clean : List Given) → given ≡ clean → HasExpected t asked (nearest clean []) → AreWhole t asked (nearest again []) → ⊥
+  expected_or_whole clean cut (place, is) whole =
+      let none = none_expected t asked (nearest again []) whole in
       let same : clean ≡ again = sym cut ∙ same_packets in
       let some : place_after t asked (nearest again []) ≡ Some place = ap (λ (gs : List Given). place_after t asked (nearest gs [])) (sym same) ∙ is in
       cc
@@ -78,12 +78,12 @@ module _ (t : Terms) (asked more : List Asked) (used : List ℕ) (given again : 
         at = h.at;
       } in
       none_among t (asked ++ more) again whole f.kind f.offset gives first
-  failed_or_whole clean events whole end f reader sound (inr (inl h)) gives all = due_or_whole clean h.cut h.due all
-  failed_or_whole clean events whole end f reader sound (inr (inr h)) gives all = due_or_whole clean h.cut h.due all
+  failed_or_whole clean events whole end f reader sound (inr (inl h)) gives all = expected_or_whole clean h.cut h.expected all
+  failed_or_whole clean events whole end f reader sound (inr (inr h)) gives all = expected_or_whole clean h.cut h.expected all
 
 -- the properties of a phase with an error
 failed_phase : (phase : Phase) (f : Fault) → fault_in phase ≡ Some f → phase ≡ Failed f
-failed_phase (Hearing due) f e = absurd (cc)
+failed_phase (Receiving expected) f e = absurd (cc)
 failed_phase Ready f e = absurd (cc)
 failed_phase (Asking writer) f e = absurd (cc)
 failed_phase Leaving f e = absurd (cc)
@@ -99,27 +99,27 @@ module _ {A : Type 0} where
   ready_or_failed client f ready failed =
       let is : is_ready (Failed f) ≡ true = subst (λ (phase : Phase). is_ready phase ≡ true) (failed_phase client.phase f failed) ready in cc
 
-  owes_or_failed : (client : Client A) (f : Fault) (p : Pkt) (ps : List Pkt) → left_to_say client ≡ p ∷ ps → fault_of client ≡ Some f → ⊥
-  owes_or_failed client f p ps owes failed =
+  has_unsent_or_failed : (client : Client A) (f : Fault) (p : Pkt) (ps : List Pkt) → left_to_send client ≡ p ∷ ps → fault_of client ≡ Some f → ⊥
+  has_unsent_or_failed client f p ps has_unsent failed =
       let is : left_in (Failed f) client.request ≡ p ∷ ps =
-      subst (λ (phase : Phase). left_in phase client.request ≡ p ∷ ps) (failed_phase client.phase f failed) owes in cc
+      subst (λ (phase : Phase). left_in phase client.request ≡ p ∷ ps) (failed_phase client.phase f failed) has_unsent in cc
 
 -- if a client asks or has left, all before was whole
 module _ (t : Terms) (asked : List Asked) (clean given : List Given) (rest : List ℕ) (end : ℕ) (question : Option Asked) (reader : PacketReader) where
   pub asks_in : {A : Type 0} (phase : Phase) (request : Option (Request A)) (line : List ℕ) (ps : List Pkt) → left_in phase request ≡ payload line ∷ ps
       → StandsIn phase t asked clean given rest end question reader → (given ≡ clean) × IsAsked t asked (nearest clean []) question
-  asks_in (Asking writer) request line ps owes h = (h.cut, h.behind)
-  asks_in (Hearing due) request line ps owes h = absurd (cc)
-  asks_in Ready request line ps owes h = absurd (cc)
-  asks_in Leaving request line ps owes h = absurd (cc)
-  asks_in Left request line ps owes h = absurd (cc)
-  asks_in (Failed fault) request line ps owes h = absurd (cc)
+  asks_in (Asking writer) request line ps has_unsent h = (h.cut, h.behind)
+  asks_in (Receiving expected) request line ps has_unsent h = absurd (cc)
+  asks_in Ready request line ps has_unsent h = absurd (cc)
+  asks_in Leaving request line ps has_unsent h = absurd (cc)
+  asks_in Left request line ps has_unsent h = absurd (cc)
+  asks_in (Failed fault) request line ps has_unsent h = absurd (cc)
 
   left_whole : (phase : Phase) → has_left_in phase ≡ true → StandsIn phase t asked clean given rest end question reader
       → (given ≡ clean) × AreWhole t asked (nearest clean [])
   left_whole Leaving left h = (h.cut, h.behind)
   left_whole Left left h = (h.cut, h.behind)
-  left_whole (Hearing due) left h = absurd (cc)
+  left_whole (Receiving expected) left h = absurd (cc)
   left_whole Ready left h = absurd (cc)
   left_whole (Asking writer) left h = absurd (cc)
   left_whole (Failed fault) left h = absurd (cc)
@@ -137,7 +137,7 @@ module _ {A : Type 0} (t : Terms) (h : History) (old : Client A) (f : Fault) (c 
       let d = asks.asks t h c in
       let (cut, behind) =
       asks_in t (h.asked ++ question ∷ []) d.clean d.given d.rest (length h.used) (question_in (request_of new)) (reader_of new) (phase_of new)
-      (request_of new) _ _ asks.owes d.stands in
+      (request_of new) _ _ asks.has_unsent d.stands in
       let gives : GiveAll t (h.asked ++ question ∷ []) [] d.given d.whole =
       subst (λ (gs : List Given). GiveAll t (h.asked ++ question ∷ []) [] gs d.whole) (sym cut) d.gives in
       let whole : AreWhole t behind.earlier (nearest d.given []) =
@@ -148,7 +148,7 @@ module _ {A : Type 0} (t : Terms) (h : History) (old : Client A) (f : Fault) (c 
       failed_or_whole t h.asked (question ∷ []) h.used c.given d.given c.rest d.rest c.reads.splits d.reads.splits c.clean c.whole d.whole (length h.used) f
       (reader_of old) c.gives stands_failed gives (record {
         all_flushes = omega (arith, whole.all_flushes, long, parts, others);
-        no_end_due = whole.no_end_due;
+        no_end_expected = whole.no_end_expected;
         no_message = whole.no_message;
       })
 
@@ -180,47 +180,49 @@ module _ {A : Type 0} where
   stays_truncated t (ask_refused request handed_back fault) h before old after new made c cut = subst IsTruncated (sym made.0.stays) cut
   stays_truncated t leave h before old after new made c (f, failed, kind) = absurd (failed_or_leaves t h old f c failed new made.0)
   stays_truncated t (pull (Packet bytes)) h before old after new made c (f, failed, kind) =
-      absurd (owes_or_failed old f made.0.tells.packet (left_to_say new) made.0.tells.first failed)
-  stays_truncated t (pull NeedInput) h before old after new made c cut = subst IsTruncated (sym made.0.tells.1) cut
-  stays_truncated t (pull CanAsk) h before old after new made c cut = subst IsTruncated (sym made.0.tells.1) cut
-  stays_truncated t (pull Finished) h before old after new made c cut = subst IsTruncated (sym made.0.tells.2) cut
-  stays_truncated t (pull (FailedSent fault)) h before old after new made c cut = subst IsTruncated (sym made.0.tells.1) cut
-  stays_truncated t (feed piece answer) h before old after new made c (f, failed, kind) =
+      absurd (has_unsent_or_failed old f made.0.announces.packet (left_to_send new) made.0.announces.first failed)
+  stays_truncated t (pull NeedInput) h before old after new made c cut = subst IsTruncated (sym made.0.announces.1) cut
+  stays_truncated t (pull CanAsk) h before old after new made c cut = subst IsTruncated (sym made.0.announces.1) cut
+  stays_truncated t (pull Finished) h before old after new made c cut = subst IsTruncated (sym made.0.announces.2) cut
+  stays_truncated t (pull (FailedSent fault)) h before old after new made c cut = subst IsTruncated (sym made.0.announces.1) cut
+  stays_truncated t (feed chunk answer) h before old after new made c (f, failed, kind) =
       subst IsTruncated (sym (made.0.stays f failed).2) (f, failed, kind)
   stays_truncated t (close fault) h before old after new made c (f, failed, kind) = absurd (wants_or_failed old f made.0.waits failed)
 
   -- `feed` makes no client truncated
-  fed_truncated : (piece : List ℕ) (old new : Client A) (answer : Heard) (so_far : Option Fault) (wants : Bool) (got : HeardGot)
-      → Feeds old piece answer new → fault_of old ≡ so_far → wants_input old ≡ wants → answer.got ≡ got → IsTruncated new → IsTruncated old
-  fed_truncated piece old new answer (Some fault) wants got feeds is wanted heard cut =
+  fed_truncated : (chunk : List ℕ) (old new : Client A) (answer : Received) (so_far : Option Fault) (wants : Bool) (got : ReceivedGot)
+      → Feeds old chunk answer new → fault_of old ≡ so_far → wants_input old ≡ wants → answer.got ≡ got → IsTruncated new → IsTruncated old
+  fed_truncated chunk old new answer (Some fault) wants got feeds is wanted arrived cut =
       subst IsTruncated (feeds.stays fault is).2 cut
-  fed_truncated piece old new answer None false got feeds is wanted heard cut =
+  fed_truncated chunk old new answer None false got feeds is wanted arrived cut =
       subst IsTruncated (feeds.waits wanted is).2 cut
-  fed_truncated piece old new answer None true More feeds is wanted heard (f, failed, kind) =
-      let tells : Tells More answer.used piece old new = subst (λ (g : HeardGot). Tells g answer.used piece old new) heard feeds.tells in
-      absurd (wants_or_failed new f (tells wanted).1 failed)
-  fed_truncated piece old new answer None true (EventGot event) feeds is wanted heard (f, failed, kind) =
-      let tells : Tells (EventGot event) answer.used piece old new = subst (λ (g : HeardGot). Tells g answer.used piece old new) heard feeds.tells in
-      absurd (event_or_failed event new f tells.3 failed)
-  fed_truncated piece old new answer None true (FailedGot fault) feeds is wanted heard (f, failed, kind) =
-      let tells : Tells (FailedGot fault) answer.used piece old new = subst (λ (g : HeardGot). Tells g answer.used piece old new) heard feeds.tells in
-      let same : f ≡ fault = let both = sym failed ∙ tells in cc in
-      absurd ((feeds.news fault is heard).not_the_end (ap (λ (x : Fault). x.kind) (sym same) ∙ kind))
+  fed_truncated chunk old new answer None true More feeds is wanted arrived (f, failed, kind) =
+      let announces : Announces More answer.used chunk old new = subst (λ (g : ReceivedGot). Announces g answer.used chunk old new) arrived feeds.announces in
+      absurd (wants_or_failed new f (announces wanted).1 failed)
+  fed_truncated chunk old new answer None true (EventGot event) feeds is wanted arrived (f, failed, kind) =
+      let announces : Announces (EventGot event) answer.used chunk old new =
+      subst (λ (g : ReceivedGot). Announces g answer.used chunk old new) arrived feeds.announces in
+      absurd (event_or_failed event new f announces.3 failed)
+  fed_truncated chunk old new answer None true (FailedGot fault) feeds is wanted arrived (f, failed, kind) =
+      let announces : Announces (FailedGot fault) answer.used chunk old new =
+      subst (λ (g : ReceivedGot). Announces g answer.used chunk old new) arrived feeds.announces in
+      let same : f ≡ fault = let both = sym failed ∙ announces in cc in
+      absurd ((feeds.news fault is arrived).not_the_end (ap (λ (x : Fault). x.kind) (sym same) ∙ kind))
 
   -- nor does any other call but `close`
   was_truncated : (call : Call A) (calls : List (Call A)) (before : ℕ) (old : Client A) (after : ℕ) (new : Client A) → Makes call before old after new
       → IsTruncated new → IsTruncated old ⊎ (closes (call ∷ calls) ≡ true)
-  was_truncated (ask request) calls before old after new made (f, failed, kind) = absurd (owes_or_failed new f _ _ made.0.owes failed)
+  was_truncated (ask request) calls before old after new made (f, failed, kind) = absurd (has_unsent_or_failed new f _ _ made.0.has_unsent failed)
   was_truncated (ask_refused request handed_back fault) calls before old after new made cut = inl (subst IsTruncated made.0.stays cut)
-  was_truncated leave calls before old after new made (f, failed, kind) = absurd (owes_or_failed new f flush [] made.0.owes failed)
+  was_truncated leave calls before old after new made (f, failed, kind) = absurd (has_unsent_or_failed new f flush [] made.0.has_unsent failed)
   was_truncated (pull (Packet bytes)) calls before old after new made (f, failed, kind) =
-      let both = sym made.0.tells.sound ∙ failed in absurd (cc)
-  was_truncated (pull NeedInput) calls before old after new made cut = inl (subst IsTruncated made.0.tells.1 cut)
-  was_truncated (pull CanAsk) calls before old after new made cut = inl (subst IsTruncated made.0.tells.1 cut)
-  was_truncated (pull Finished) calls before old after new made cut = inl (subst IsTruncated made.0.tells.2 cut)
-  was_truncated (pull (FailedSent fault)) calls before old after new made cut = inl (subst IsTruncated made.0.tells.1 cut)
-  was_truncated (feed piece answer) calls before old after new made cut =
-      inl (fed_truncated piece old new answer (fault_of old) (wants_input old) answer.got made.0 refl refl refl cut)
+      let both = sym made.0.announces.sound ∙ failed in absurd (cc)
+  was_truncated (pull NeedInput) calls before old after new made cut = inl (subst IsTruncated made.0.announces.1 cut)
+  was_truncated (pull CanAsk) calls before old after new made cut = inl (subst IsTruncated made.0.announces.1 cut)
+  was_truncated (pull Finished) calls before old after new made cut = inl (subst IsTruncated made.0.announces.2 cut)
+  was_truncated (pull (FailedSent fault)) calls before old after new made cut = inl (subst IsTruncated made.0.announces.1 cut)
+  was_truncated (feed chunk answer) calls before old after new made cut =
+      inl (fed_truncated chunk old new answer (fault_of old) (wants_input old) answer.got made.0 refl refl refl cut)
   was_truncated (close fault) calls before old after new made cut = inr refl
 
   -- if the later calls have a `close`, so have all
@@ -229,7 +231,7 @@ module _ {A : Type 0} where
   closes_more (ask_refused request handed_back fault) calls e = e
   closes_more leave calls e = e
   closes_more (pull sent) calls e = e
-  closes_more (feed piece answer) calls e = e
+  closes_more (feed chunk answer) calls e = e
   closes_more (close fault) calls e = refl
 
   -- ---- all calls
@@ -248,7 +250,7 @@ module _ {A : Type 0} where
   closes_first (ask_refused request handed_back fault) calls e = inr e
   closes_first leave calls e = inr e
   closes_first (pull sent) calls e = inr e
-  closes_first (feed piece answer) calls e = inr e
+  closes_first (feed chunk answer) calls e = inr e
   closes_first (close fault) calls e = inl (fault, refl)
 
   closed_now : (fault : Fault) (before : ℕ) (old : Client A) (after : ℕ) (new : Client A) → Makes (close fault) before old after new → IsTruncated new

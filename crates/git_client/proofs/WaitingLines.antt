@@ -3,20 +3,20 @@ use Rattle.std.proofs.Common.{◌≡◌, ℕ, Bool, true, false, List, [], ◌++
 use Rattle.std.proofs.Common.{refl, sym, ap, ◌∙◌, subst, append_assoc, append-nil}
 use Rattle.git_pkt.specs.Machine.Sends.{Puts, Sends}
 use Rattle.git_pkt.specs.Streams.{Flow, flow, is_broken, WrittenAs}
-use Rattle.git_pkt.specs.Machine.Told.{inner_of}
+use Rattle.git_pkt.specs.Machine.Recorded.{inner_of}
 use Rattle.git_pkt.specs.declared.fault.Fault.{Fault}
 use Rattle.git_pkt.specs.declared.fault.RunFault.{RunFault}
 use Rattle.git_pkt.specs.declared.fault.RunFault.TheVariants.{WriteFault}
-use Rattle.git_pkt.specs.declared.told.Told.{Told}
+use Rattle.git_pkt.specs.declared.recorded.Recorded.{Recorded}
 use Rattle.git_pkt.proofs.EngineLemmas.{AppendsFront-longer, written_nothing, written_then, written_whole}
 use Rattle.git_client.specs.Events.{pack_bytes, progress_bytes}
 use Rattle.git_client.specs.Machine.LineParts.{PutAs}
-use Rattle.git_client.specs.Machine.RunSteps.{HearsBytes, HearsInPiece, HearsToFault, HearsPieceBroken}
+use Rattle.git_client.specs.Machine.RunSteps.{ReceivesBytes, ReceivesInChunk, ReceivesToFault, ReceivesChunkBroken}
 use Rattle.git_client.specs.Machine.Client.{wants_input, fault_of}
 use Rattle.git_client.specs.declared.client.Client.{Client}
-use Rattle.git_client.specs.declared.hearing.Counts.{Counts}
-use Rattle.git_client.proofs.HeardBytes.{nothing_heard}
-use Rattle.git_client.proofs.Telling.{written_by}
+use Rattle.git_client.specs.declared.receiving.Counts.{Counts}
+use Rattle.git_client.proofs.ReceivedBytes.{nothing_received}
+use Rattle.git_client.proofs.Announcing.{written_by}
 
 -- ---- bytes that are appended to the waiting ones
 
@@ -25,7 +25,7 @@ put_whole (Ok done) named p whole = p
 put_whole (Err WriteFault) named p whole = absurd (cc)
 put_whole (Err fault) named p whole = absurd (cc)
 
-pub put_by : {T W : Type 0} {contents : W → Option (List ℕ)} {a c : Told W} {s u t : List ℕ} (result : Result T RunFault) → Puts contents a s u result c t
+pub put_by : {T W : Type 0} {contents : W → Option (List ℕ)} {a c : Recorded W} {s u t : List ℕ} (result : Result T RunFault) → Puts contents a s u result c t
     → PutAs (is_broken result) (flow (contents (inner_of a)) (contents (inner_of c))) s u t
 put_by {contents = contents} {a = a} {c = c} result puts = record {
   sent = puts.sent;
@@ -36,7 +36,7 @@ put_by {contents = contents} {a = a} {c = c} result puts = record {
 }
 
 -- all waiting bytes were sent
-pub put_drained : {W : Type 0} {contents : W → Option (List ℕ)} {a c : Told W} {s t : List ℕ} (broken : Bool) → Sends {T = Unit {0}} contents a s (Ok tt) c
+pub put_drained : {W : Type 0} {contents : W → Option (List ℕ)} {a c : Recorded W} {s t : List ℕ} (broken : Bool) → Sends {T = Unit {0}} contents a s (Ok tt) c
     → t ≡ [] → PutAs broken (flow (contents (inner_of a)) (contents (inner_of c))) s [] t
 put_drained {contents = contents} {a = a} {c = c} {s = s} broken sends none = record {
   sent = s;
@@ -53,7 +53,7 @@ broken_answer (Err WriteFault) named answered = refl
 broken_answer (Err fault) named answered = absurd (cc)
 
 -- a prefix of the waiting bytes was sent
-pub put_undrained : {S T W : Type 0} {contents : W → Option (List ℕ)} {a c : Told W} {s t : List ℕ} {met : RunFault} (result : Result T RunFault)
+pub put_undrained : {S T W : Type 0} {contents : W → Option (List ℕ)} {a c : Recorded W} {s t : List ℕ} {met : RunFault} (result : Result T RunFault)
     → Sends {T = S} contents a s (Err met) c → IsErrAnd result (λ e. e ≡ met)
     → PutAs (is_broken result) (flow (contents (inner_of a)) (contents (inner_of c))) s [] t
 put_undrained {contents = contents} {a = a} {c = c} {s = s} {t = t} result sends answered =
@@ -61,7 +61,7 @@ put_undrained {contents = contents} {a = a} {c = c} {s = s} {t = t} result sends
     (record { sent = s; rest = []; all = refl; written = sends.err; waits = λ whole. absurd (cc) })
 
 -- and nothing was written to another stream
-pub unwritten : {S T W : Type 0} {contents : W → Option (List ℕ)} {a c : Told W} {s : List ℕ} {met : RunFault} (result : Result T RunFault)
+pub unwritten : {S T W : Type 0} {contents : W → Option (List ℕ)} {a c : Recorded W} {s : List ℕ} {met : RunFault} (result : Result T RunFault)
     (held : Option (List ℕ)) (bytes : List ℕ) → Sends {T = S} contents a s (Err met) c → IsErrAnd result (λ e. e ≡ met)
     → WrittenAs (is_broken result) (flow held held) bytes
 unwritten result held bytes sends answered =
@@ -124,76 +124,76 @@ held lines = flow (Some []) (Some lines)
 
 module _ {A : Type 0} where
   -- bytes of a chunk were received, and their lines of the transcript were written or wait
-  pub record HeardLines (old new : Client A) (counts after : Counts) (used : List ℕ) (out : Flow) (waiting : List ℕ) (packs progress : Flow) : Type 0 where
+  pub record ReceivedLines (old new : Client A) (counts after : Counts) (used : List ℕ) (out : Flow) (waiting : List ℕ) (packs progress : Flow) : Type 0 where
     pub lines : List ℕ
-    pub bytes : HearsBytes false old new counts after used (held lines) packs progress
+    pub bytes : ReceivesBytes false old new counts after used (held lines) packs progress
     pub put : PutAs false out [] lines waiting
 
-  pub no_lines_yet : (c : Client A) (counts : Counts) (told sent reported : Option (List ℕ)) (waiting : List ℕ) → wants_input c ≡ true → waiting ≡ []
-      → HeardLines c c counts counts [] (flow told told) waiting (flow sent sent) (flow reported reported)
-  no_lines_yet c counts told sent reported waiting due none = record {
+  pub no_lines_yet : (c : Client A) (counts : Counts) (announced sent reported : Option (List ℕ)) (waiting : List ℕ) → wants_input c ≡ true → waiting ≡ []
+      → ReceivedLines c c counts counts [] (flow announced announced) waiting (flow sent sent) (flow reported reported)
+  no_lines_yet c counts announced sent reported waiting expected none = record {
     lines = [];
-    bytes = nothing_heard c counts (Some []) sent reported due;
-    put = record { sent = []; rest = []; all = refl; written = written_nothing told; waits = λ whole. none };
+    bytes = nothing_received c counts (Some []) sent reported expected;
+    put = record { sent = []; rest = []; all = refl; written = written_nothing announced; waits = λ whole. none };
   }
 
   module _ {old new : Client A} {counts after : Counts} {lines : List ℕ} {out packs progress : Flow} where
     -- the lines were written
-    lines_written : {broken : Bool} {used : List ℕ} → HearsBytes false old new counts after used (held lines) packs progress → WrittenAs broken out lines
-        → HearsBytes broken old new counts after used out packs progress
+    lines_written : {broken : Bool} {used : List ℕ} → ReceivesBytes false old new counts after used (held lines) packs progress → WrittenAs broken out lines
+        → ReceivesBytes broken old new counts after used out packs progress
     lines_written {broken = broken} bytes written = record {
       events = bytes.events;
-      hears = bytes.hears;
+      arrives = bytes.arrives;
       one_turn = bytes.one_turn;
-      owes = bytes.owes;
+      has_unsent = bytes.has_unsent;
       counted = bytes.counted;
-      told = λ can. subst (WrittenAs broken out) (bytes.told can) written;
+      announced = λ can. subst (WrittenAs broken out) (bytes.announced can) written;
       sent = written_whole broken packs (pack_bytes bytes.events) bytes.sent;
       reported = written_whole broken progress (progress_bytes bytes.events) bytes.reported;
     }
 
     -- a prefix of them was written
-    front_written : {used : List ℕ} → HearsBytes true old new counts after used (held lines) packs progress → WrittenAs true out lines
-        → HearsBytes true old new counts after used out packs progress
+    front_written : {used : List ℕ} → ReceivesBytes true old new counts after used (held lines) packs progress → WrittenAs true out lines
+        → ReceivesBytes true old new counts after used out packs progress
     front_written bytes written = record {
       events = bytes.events;
-      hears = bytes.hears;
+      arrives = bytes.arrives;
       one_turn = bytes.one_turn;
-      owes = bytes.owes;
+      has_unsent = bytes.has_unsent;
       counted = bytes.counted;
-      told = λ can.
-          let (front, rest, all, whole) = bytes.told can in
+      announced = λ can.
+          let (front, rest, all, whole) = bytes.announced can in
           subst (WrittenAs true out) (ap (λ (l : List ℕ). l ++ rest) whole ∙ sym all) (AppendsFront-longer out.before out.after lines rest written);
       sent = bytes.sent;
       reported = bytes.reported;
     }
 
-    module _ {piece : List ℕ} where
-      pub piece_written : {used : ℕ} → HearsInPiece old new counts after piece used (held lines) packs progress → WrittenAs false out lines
-          → HearsInPiece old new counts after piece used out packs progress
-      piece_written piece written = record {
-        hears = lines_written piece.hears written;
-        within = piece.within;
-        all = piece.all;
-        sound = piece.sound;
-        whole = piece.whole;
-        moves = piece.moves;
+    module _ {chunk : List ℕ} where
+      pub chunk_written : {used : ℕ} → ReceivesInChunk old new counts after chunk used (held lines) packs progress → WrittenAs false out lines
+          → ReceivesInChunk old new counts after chunk used out packs progress
+      chunk_written chunk written = record {
+        arrives = lines_written chunk.arrives written;
+        within = chunk.within;
+        all = chunk.all;
+        sound = chunk.sound;
+        whole = chunk.whole;
+        moves = chunk.moves;
       }
 
-      pub fault_written : {fault : Fault} → HearsToFault fault old new counts after piece (held lines) packs progress → WrittenAs false out lines
-          → HearsToFault fault old new counts after piece out packs progress
+      pub fault_written : {fault : Fault} → ReceivesToFault fault old new counts after chunk (held lines) packs progress → WrittenAs false out lines
+          → ReceivesToFault fault old new counts after chunk out packs progress
       fault_written fault written =
-          record { used = fault.used; hears = lines_written fault.hears written; told = fault.told; shown = fault.shown }
+          record { used = fault.used; arrives = lines_written fault.arrives written; announced = fault.announced; shown = fault.shown }
 
       -- the lines could not be written
-      pub piece_unwritten : (used : ℕ) → HearsBytes false old new counts after (take used piece) (held lines) packs progress → fault_of new ≡ None
-          → WrittenAs true out lines → HearsPieceBroken old new counts after piece out packs progress
-      piece_unwritten used bytes sound written = record {
+      pub chunk_unwritten : (used : ℕ) → ReceivesBytes false old new counts after (take used chunk) (held lines) packs progress → fault_of new ≡ None
+          → WrittenAs true out lines → ReceivesChunkBroken old new counts after chunk out packs progress
+      chunk_unwritten used bytes sound written = record {
         used = used;
-        hears = lines_written bytes written;
+        arrives = lines_written bytes written;
         shown = λ fault met. absurd (cc);
       }
 
-      pub broken_unwritten : HearsPieceBroken old new counts after piece (held lines) packs progress → WrittenAs true out lines
-          → HearsPieceBroken old new counts after piece out packs progress
-      broken_unwritten broken written = record { used = broken.used; hears = front_written broken.hears written; shown = broken.shown }
+      pub broken_unwritten : ReceivesChunkBroken old new counts after chunk (held lines) packs progress → WrittenAs true out lines
+          → ReceivesChunkBroken old new counts after chunk out packs progress
+      broken_unwritten broken written = record { used = broken.used; arrives = front_written broken.arrives written; shown = broken.shown }

@@ -9,7 +9,7 @@ use Rattle.git_names.specs.declared.object_format.Format.TheVariants.{Sha1, Sha2
 use Rattle.git_pkt.specs.Escape.{escaped_of}
 use Rattle.git_pkt.specs.Machine.Sends.{Puts, Sends}
 use Rattle.git_pkt.specs.declared.fault.RunFault.{RunFault}
-use Rattle.git_pkt.specs.declared.told.Told.{Told}
+use Rattle.git_pkt.specs.declared.recorded.Recorded.{Recorded}
 use Rattle.git_pkt.proofs.Escapes.{escaped-append, escaped-parts}
 use Rattle.git_pkt.proofs.EngineLemmas.{take-next}
 use Rattle.git_pkt.proofs.Sends.{puts_then, puts_front, sends_all, sends_stopped}
@@ -17,14 +17,14 @@ use Rattle.git_client.specs.Machine.LineParts.{part_shown, line_shown}
 use Rattle.git_client.specs.declared.line.Part.{Part}
 
 -- the parts before an index were put, and the line's parts from there on are left
-pub record PutsSome {W : Type 0} (contents : W → Option (List ℕ)) (old : Told W) (before : List ℕ) (parts : List Part) (at : ℕ) (new : Told W)
+pub record PutsSome {W : Type 0} (contents : W → Option (List ℕ)) (old : Recorded W) (before : List ℕ) (parts : List Part) (at : ℕ) (new : Recorded W)
     (waiting : List ℕ) : Type 0 where
   pub put : List ℕ
   pub puts : Puts {T = Unit {0}} contents old before put (Ok tt) new waiting
   pub left : line_shown parts ≡ put ++ line_shown (drop at parts)
 
 module _ {W : Type 0} {contents : W → Option (List ℕ)} where
-  module _ {old mid : Told W} {before : List ℕ} {parts : List Part} {at : ℕ} {waiting : List ℕ} (part : Part)
+  module _ {old mid : Recorded W} {before : List ℕ} {parts : List Part} {at : ℕ} {waiting : List ℕ} (part : Part)
       (some : PutsSome contents old before parts at mid waiting) (within : at < length parts) (is : part ≡ slice_index_or parts at part) where
     -- this part, and those after it
     left_from : line_shown parts ≡ (some.put ++ part_shown part) ++ line_shown (drop (at + 1) parts)
@@ -33,12 +33,12 @@ module _ {W : Type 0} {contents : W → Option (List ℕ)} where
         ∙ ap (λ (p : Part). some.put ++ (part_shown p ++ line_shown (drop (at + 1) parts))) (sym is)
         ∙ sym (append_assoc some.put (part_shown part) (line_shown (drop (at + 1) parts)))
 
-    pub puts_part : {new : Told W} {after : List ℕ} → Puts {T = Unit {0}} contents mid waiting (part_shown part) (Ok tt) new after
+    pub puts_part : {new : Recorded W} {after : List ℕ} → Puts {T = Unit {0}} contents mid waiting (part_shown part) (Ok tt) new after
         → PutsSome contents old before parts (at + 1) new after
     puts_part puts = record { put = some.put ++ part_shown part; puts = puts_then some.puts puts; left = left_from }
 
     -- this part could not be put
-    pub part_stopped : {S : Type 0} {new : Told W} {after last : List ℕ} {met : RunFault} {result : Result (Unit {0}) RunFault}
+    pub part_stopped : {S : Type 0} {new : Recorded W} {after last : List ℕ} {met : RunFault} {result : Result (Unit {0}) RunFault}
         → Puts {T = S} contents mid waiting (part_shown part) (Err met) new after
         → IsErrAnd result (λ e. e ≡ met) → Puts contents old before (line_shown parts) result new last
     part_stopped {new = new} {last = last} {result = result} stopped answered =
@@ -46,18 +46,19 @@ module _ {W : Type 0} {contents : W → Option (List ℕ)} where
         (puts_front (line_shown (drop (at + 1) parts)) (puts_then some.puts stopped) answered)
 
   -- all parts were put, and what is left is the line's end
-  pub all_put : {old new : Told W} {before : List ℕ} {parts : List Part} {at : ℕ} {waiting : List ℕ} (some : PutsSome contents old before parts at new waiting)
+  pub all_put : {old new : Recorded W} {before : List ℕ} {parts : List Part} {at : ℕ} {waiting : List ℕ}
+      (some : PutsSome contents old before parts at new waiting)
       → length parts ≤ at → some.put ++ codes "\n" ≡ line_shown parts
   all_put {parts = parts} some end =
       sym (some.left ∙ ap (λ (l : List Part). some.put ++ line_shown l) (drop_all _ parts end))
 
   -- nothing waited before, and at the end all waiting bytes are sent
-  pub sends_lines : {S T : Type 0} {a b c : Told W} {s u t : List ℕ} {x : S} {result : Result T RunFault} → s ≡ [] → Puts contents a s u (Ok x) b t
+  pub sends_lines : {S T : Type 0} {a b c : Recorded W} {s u t : List ℕ} {x : S} {result : Result T RunFault} → s ≡ [] → Puts contents a s u (Ok x) b t
       → Sends contents b t result c → Sends contents a u result c
   sends_lines {a = a} {b = b} {u = u} {t = t} {x = x} none puts sends =
       sends_all (subst (λ (l : List ℕ). Puts contents a l u (Ok x) b t) none puts) sends
 
-  pub lines_stopped : {S T : Type 0} {a c : Told W} {s u t : List ℕ} {met : RunFault} {result : Result T RunFault} → s ≡ []
+  pub lines_stopped : {S T : Type 0} {a c : Recorded W} {s u t : List ℕ} {met : RunFault} {result : Result T RunFault} → s ≡ []
       → Puts {T = S} contents a s u (Err met) c t → IsErrAnd result (λ e. e ≡ met) → Sends contents a u result c
   lines_stopped {S = S} {a = a} {c = c} {u = u} {t = t} {met = met} none puts answered =
       sends_stopped (subst (λ (l : List ℕ). Puts {T = S} contents a l u (Err met) c t) none puts) answered
@@ -91,7 +92,7 @@ line_same (bytes ∷ more) (others ∷ rest) (same, all) = ap₂ (λ (l m : List
 line_same [] (others ∷ rest) same = absurd same
 line_same (bytes ∷ more) [] same = absurd same
 
-module _ {W T : Type 0} {contents : W → Option (List ℕ)} {a c : Told W} {s t : List ℕ} {result : Result T RunFault} where
+module _ {W T : Type 0} {contents : W → Option (List ℕ)} {a c : Recorded W} {s t : List ℕ} {result : Result T RunFault} where
   pub puts_as : (given shown : List (List ℕ)) → AreSame given shown → Puts contents a s (line_by given) result c t
       → Puts contents a s (line_by shown) result c t
   puts_as given shown same puts = subst (λ (l : List ℕ). Puts contents a s l result c t) (line_same given shown same) puts
@@ -106,7 +107,7 @@ next_escaped : (bytes : List ℕ) (done count : ℕ)
 next_escaped bytes done count =
     sym (escaped-append (take done bytes) (take (done + count - done) (drop done bytes))) ∙ ap escaped_of (sym (take-next done count bytes))
 
-module _ {W : Type 0} {contents : W → Option (List ℕ)} (bytes : List ℕ) (done count : ℕ) {a b c : Told W} {s t x : List ℕ} where
+module _ {W : Type 0} {contents : W → Option (List ℕ)} (bytes : List ℕ) (done count : ℕ) {a b c : Recorded W} {s t x : List ℕ} where
   -- one more block
   pub block_put : {T : Type 0} {result : Result T RunFault} → Puts {T = Unit {0}} contents a s (escaped_of (take done bytes)) (Ok tt) b t
       → Puts contents b t (escaped_of (take (done + count - done) (drop done bytes))) result c x

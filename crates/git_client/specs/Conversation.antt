@@ -9,7 +9,7 @@ use Rattle.git_pkt.specs.declared.fault.Kind.TheVariants.{Truncated}
 use Rattle.git_msg.specs.Advertisement.{noted_of}
 use Rattle.git_msg.specs.Asked.{Asked}
 use Rattle.git_msg.specs.declared.offers.Caps.{Caps}
-use Rattle.git_client.specs.Parts.{Terms, nearest, advertisement_of, is_end_due}
+use Rattle.git_client.specs.Parts.{Terms, nearest, advertisement_of, is_end_expected}
 use Rattle.git_client.specs.Places.{Place, place_after}
 use Rattle.git_client.specs.Events.{EventValue, Gives, Refuses}
 use Rattle.git_client.specs.Opened.{IsOfRest, opened_in, unless_refused}
@@ -75,8 +75,8 @@ HasNoted t asked bytes caps =
     × (caps ≡ noted_of (advertisement_of (nearest clean [])))
 
 -- something is expected after these packets
-abbrev pub HasDue : Terms → List Asked → List Pkt → Type 0
-HasDue t asked before = (place : Place) × (place_after t asked before ≡ Some place)
+abbrev pub HasExpected : Terms → List Asked → List Pkt → Type 0
+HasExpected t asked before = (place : Place) × (place_after t asked before ≡ Some place)
 
 -- a packet of the bytes is the first with an error
 pub record MalformedPacket (t : Terms) (asked : List Asked) (bytes : List ℕ) (fault : Fault) : Type 0 where
@@ -93,7 +93,7 @@ pub record MalformedRest (t : Terms) (asked : List Asked) (bytes : List ℕ) (fa
   pub events : List EventValue
   pub splits : Splits 0 bytes given rest
   pub sound : GiveAll t asked [] given events
-  pub due : HasDue t asked (nearest given [])
+  pub expected : HasExpected t asked (nearest given [])
   pub by : StopsBy (length bytes - length rest) rest (length bytes) fault.kind fault.offset
 
 -- nothing has an error, and the input ended before the expected packets had come: reported at the end of the last whole packet
@@ -104,7 +104,7 @@ pub record CutShort (t : Terms) (asked : List Asked) (bytes : List ℕ) (fault :
   pub splits : Splits 0 bytes given rest
   pub sound : GiveAll t asked [] given events
   pub still_open : IsOpen rest
-  pub due : HasDue t asked (nearest given [])
+  pub expected : HasExpected t asked (nearest given [])
   pub kind : fault.kind ≡ Truncated
   pub at : fault.offset + length rest ≡ length bytes
 
@@ -131,7 +131,7 @@ pub record GoesOn (t : Terms) (asked : List Asked) (bytes : List ℕ) (events : 
   pub splits : Splits 0 bytes given rest
   pub sound : GiveAll t asked [] given whole
   pub still_open : IsOpen rest
-  pub due : HasDue t asked (nearest given [])
+  pub expected : HasExpected t asked (nearest given [])
   pub events_are : events ≡ whole ++ opened_in (place_after t asked (nearest given [])) rest
 
 -- the bytes are exactly a whole advertisement and a whole response to each request, none of their packets has an error, and
@@ -141,4 +141,4 @@ pub record IsConversation (t : Terms) (asked : List Asked) (bytes : List ℕ) (e
   pub splits : Splits 0 bytes given []
   pub gives : GiveAll t asked [] given events
   pub all_flushes : flushes (nearest given []) ≡ suc (length asked)
-  pub no_end_due : is_end_due t.ending (nearest given []) ≡ false
+  pub no_end_expected : is_end_expected t.ending (nearest given []) ≡ false

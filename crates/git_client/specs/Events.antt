@@ -39,30 +39,30 @@ pub data EventValue : Type 0 where
   ended : EventValue
 
 -- a text at this place, not of an error packet, gives these events
-abbrev pub SaysLine : Place → Format → List ℕ → List EventValue → Type 0
-SaysLine version format text [] = text ≡ codes "version 2"
-SaysLine (capabilities spoken) format text (capability key value ∷ []) = IsCapability text key value
-SaysLine references format text (reference ref ∷ []) = IsReferenceLine format text ref
-SaysLine (header allowed) format text [] = may_begin allowed (section_named text) ≡ true
-SaysLine (acknowledgments acks) format text (nak ∷ []) = (text ≡ codes "NAK") × (acks.any ≡ false)
-SaysLine (acknowledgments acks) format text (ready ∷ []) = (text ≡ codes "ready") × (acks.ready ≡ false)
-SaysLine (acknowledgments acks) format text (ack id ∷ []) = IsAckLine format text id × ((acks.nak || acks.ready) ≡ false)
-SaysLine shallow_info format text (shallow id ∷ []) = IsBoundaryLine format text (Shallow id)
-SaysLine shallow_info format text (unshallow id ∷ []) = IsBoundaryLine format text (Unshallow id)
-SaysLine wanted_refs format text (wanted_ref wanted ∷ []) = IsWantedLine format text wanted
-SaysLine size_line format text [] = text ≡ codes "size"
-SaysLine sizes format text (info entry ∷ []) = IsInfoLine format text entry
-SaysLine _ format text _ = ⊥
+abbrev pub MeansEvents : Place → Format → List ℕ → List EventValue → Type 0
+MeansEvents version format text [] = text ≡ codes "version 2"
+MeansEvents (capabilities spoken) format text (capability key value ∷ []) = IsCapability text key value
+MeansEvents references format text (reference ref ∷ []) = IsReferenceLine format text ref
+MeansEvents (header allowed) format text [] = may_begin allowed (section_named text) ≡ true
+MeansEvents (acknowledgments acks) format text (nak ∷ []) = (text ≡ codes "NAK") × (acks.any ≡ false)
+MeansEvents (acknowledgments acks) format text (ready ∷ []) = (text ≡ codes "ready") × (acks.ready ≡ false)
+MeansEvents (acknowledgments acks) format text (ack id ∷ []) = IsAckLine format text id × ((acks.nak || acks.ready) ≡ false)
+MeansEvents shallow_info format text (shallow id ∷ []) = IsBoundaryLine format text (Shallow id)
+MeansEvents shallow_info format text (unshallow id ∷ []) = IsBoundaryLine format text (Unshallow id)
+MeansEvents wanted_refs format text (wanted_ref wanted ∷ []) = IsWantedLine format text wanted
+MeansEvents size_line format text [] = text ≡ codes "size"
+MeansEvents sizes format text (info entry ∷ []) = IsInfoLine format text entry
+MeansEvents _ format text _ = ⊥
 
 -- the text is not a line that may come after the acknowledgments so far: `NAK` comes alone, and nothing comes after `ready`
-pub record IsNotDue (acks : Acks) (text : List ℕ) : Type 0 where
+pub record IsNotExpected (acks : Acks) (text : List ℕ) : Type 0 where
   pub nak : text ≡ codes "NAK" → acks.any ≡ true
   pub ready : text ≡ codes "ready" → acks.ready ≡ true
   pub ack : (name : List ℕ) → text ≡ codes "ACK " ++ name → (acks.nak || acks.ready) ≡ true
 
 -- a line of the acknowledgments may come, and this one has no object name
 pub record IsBadAck (format : Format) (acks : Acks) (text : List ℕ) : Type 0 where
-  pub due : (acks.nak || acks.ready) ≡ false
+  pub expected : (acks.nak || acks.ready) ≡ false
   pub no_name : Follows (codes "ACK ") (IsNoObjectName format) text
 
 -- the name of the error that refuses a text at this place, not of an error packet
@@ -72,7 +72,7 @@ IsLineFault (capabilities spoken) format text kind = IsNoCapability text × (kin
 IsLineFault references format text kind = IsReferenceFault format text kind
 IsLineFault (header allowed) format text kind = (may_begin allowed (section_named text) ≡ false) × (kind ≡ UnexpectedSection)
 IsLineFault (acknowledgments acks) format text kind =
-    (IsNotDue acks text × (kind ≡ BadLine)) ⊎ (IsBadAck format acks text × (kind ≡ BadObjectName))
+    (IsNotExpected acks text × (kind ≡ BadLine)) ⊎ (IsBadAck format acks text × (kind ≡ BadObjectName))
 IsLineFault shallow_info format text kind = IsBoundaryFault format text kind
 IsLineFault wanted_refs format text kind = IsWantedFault format text kind
 IsLineFault size_line format text kind = (text ≢ codes "size") × (kind ≡ BadLine)
@@ -85,43 +85,43 @@ ended_by FlushOnly = ended ∷ []
 ended_by ResponseEnd = []
 
 -- the events of a payload of the packfile section: its first byte is the band of the others
-abbrev pub band_says : List ℕ → Result (List EventValue) Kind
-band_says [] = Err NoBand
-band_says (band ∷ bytes) =
+abbrev pub events_of_band : List ℕ → Result (List EventValue) Kind
+events_of_band [] = Err NoBand
+events_of_band (band ∷ bytes) =
     if band == 1 then Ok (map pack bytes)
     else if band == 2 then Ok (map progress bytes)
     else if band == 3 then Err RemoteFatal
     else Err BadBand
 
 -- the events of a flush
-abbrev pub flush_says : Ending → Place → Result (List EventValue) Kind
-flush_says ending version = Err NotVersion2
-flush_says ending (capabilities spoken) = if spoken then Ok (offered ∷ []) else Err WrongFormat
-flush_says ending references = Ok (ended_by ending)
-flush_says ending (acknowledgments acks) = if acks.ready then Err UnexpectedPacket else Ok (ended_by ending)
-flush_says ending packfile = Ok (ended_by ending)
-flush_says ending size_line = Ok (ended_by ending)
-flush_says ending sizes = Ok (ended_by ending)
-flush_says ending place = Err UnexpectedPacket
+abbrev pub events_of_flush : Ending → Place → Result (List EventValue) Kind
+events_of_flush ending version = Err NotVersion2
+events_of_flush ending (capabilities spoken) = if spoken then Ok (offered ∷ []) else Err WrongFormat
+events_of_flush ending references = Ok (ended_by ending)
+events_of_flush ending (acknowledgments acks) = if acks.ready then Err UnexpectedPacket else Ok (ended_by ending)
+events_of_flush ending packfile = Ok (ended_by ending)
+events_of_flush ending size_line = Ok (ended_by ending)
+events_of_flush ending sizes = Ok (ended_by ending)
+events_of_flush ending place = Err UnexpectedPacket
 
 -- the events of a delimiter
-abbrev pub delimiter_says : Place → Result (List EventValue) Kind
-delimiter_says version = Err NotVersion2
-delimiter_says (acknowledgments acks) = if acks.ready then Ok [] else Err UnexpectedPacket
-delimiter_says shallow_info = Ok []
-delimiter_says wanted_refs = Ok []
-delimiter_says place = Err UnexpectedPacket
+abbrev pub events_of_delimiter : Place → Result (List EventValue) Kind
+events_of_delimiter version = Err NotVersion2
+events_of_delimiter (acknowledgments acks) = if acks.ready then Ok [] else Err UnexpectedPacket
+events_of_delimiter shallow_info = Ok []
+events_of_delimiter wanted_refs = Ok []
+events_of_delimiter place = Err UnexpectedPacket
 
 -- the events of a response end
-abbrev pub response_end_says : Place → Result (List EventValue) Kind
-response_end_says version = Err NotVersion2
-response_end_says response_end = Ok (ended ∷ [])
-response_end_says place = Err UnexpectedPacket
+abbrev pub events_of_response_end : Place → Result (List EventValue) Kind
+events_of_response_end version = Err NotVersion2
+events_of_response_end response_end = Ok (ended ∷ [])
+events_of_response_end place = Err UnexpectedPacket
 
 -- a text line at this place gives these events
 pub record GivesLine (place : Place) (format : Format) (text : List ℕ) (events : List EventValue) : Type 0 where
   pub no_error : ¬ IsErrorText text
-  pub says : SaysLine place format text events
+  pub conveys : MeansEvents place format text events
 
 -- a text line at this place is refused with this error: an error packet may come wherever a text line may
 abbrev pub RefusesLine : Place → Format → List ℕ → Kind → Type 0
@@ -130,21 +130,21 @@ RefusesLine place format text kind =
 
 -- a packet at this place gives these events
 abbrev pub Gives : Format → Ending → Place → Pkt → List EventValue → Type 0
-Gives format ending packfile (payload bytes) events = band_says bytes ≡ Ok events
+Gives format ending packfile (payload bytes) events = events_of_band bytes ≡ Ok events
 Gives format ending response_end (payload bytes) events = ⊥
 Gives format ending place (payload bytes) events = GivesLine place format (text_of bytes) events
-Gives format ending place flush events = flush_says ending place ≡ Ok events
-Gives format ending place delim events = delimiter_says place ≡ Ok events
-Gives format ending place resp_end events = response_end_says place ≡ Ok events
+Gives format ending place flush events = events_of_flush ending place ≡ Ok events
+Gives format ending place delim events = events_of_delimiter place ≡ Ok events
+Gives format ending place resp_end events = events_of_response_end place ≡ Ok events
 
 -- a packet at this place is refused with this error
 abbrev pub Refuses : Format → Ending → Place → Pkt → Kind → Type 0
-Refuses format ending packfile (payload bytes) kind = band_says bytes ≡ Err kind
+Refuses format ending packfile (payload bytes) kind = events_of_band bytes ≡ Err kind
 Refuses format ending response_end (payload bytes) kind = kind ≡ UnexpectedPacket
 Refuses format ending place (payload bytes) kind = RefusesLine place format (text_of bytes) kind
-Refuses format ending place flush kind = flush_says ending place ≡ Err kind
-Refuses format ending place delim kind = delimiter_says place ≡ Err kind
-Refuses format ending place resp_end kind = response_end_says place ≡ Err kind
+Refuses format ending place flush kind = events_of_flush ending place ≡ Err kind
+Refuses format ending place delim kind = events_of_delimiter place ≡ Err kind
+Refuses format ending place resp_end kind = events_of_response_end place ≡ Err kind
 
 -- how often the client reached a point at which it can ask
 abbrev pub turns_of : List EventValue → ℕ

@@ -39,9 +39,9 @@ message_of (delim ∷ before) = delim ∷ message_of before
 message_of (payload line ∷ before) = payload line ∷ message_of before
 
 -- the packet before is the flush of a response, and a response end is expected after it
-abbrev pub is_end_due : Ending → List Pkt → Bool
-is_end_due ResponseEnd (flush ∷ before) = not (is_zero (flushes before))
-is_end_due _ _ = false
+abbrev pub is_end_expected : Ending → List Pkt → Bool
+is_end_expected ResponseEnd (flush ∷ before) = not (is_zero (flushes before))
+is_end_expected _ _ = false
 
 -- the parts of a conversation: the first packet, the rest of the advertisement, the response to ls-refs, the response to
 -- a fetch with or without `done`, the response to object-info, and the response end
@@ -69,4 +69,4 @@ part_after asked (suc k) = answer_to (slice_get asked k)
 abbrev pub part_of : Terms → List Asked → List Pkt → Option Part
 part_of terms asked [] = Some opening
 part_of terms asked (p ∷ before) =
-    if is_end_due terms.ending (p ∷ before) then Some closing else part_after asked (flushes (p ∷ before))
+    if is_end_expected terms.ending (p ∷ before) then Some closing else part_after asked (flushes (p ∷ before))

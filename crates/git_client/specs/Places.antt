@@ -9,7 +9,7 @@ use Rattle.git_client.specs.declared.sections.Section.TheVariants.{Acknowledgmen
 use Rattle.git_client.specs.declared.sections.Allowed.{Allowed}
 use Rattle.git_client.specs.declared.sections.Acks.{Acks}
 use Rattle.git_client.specs.Parts.{Terms, Part, opening, advertisement, listing, sections, informing, closing, part_of, message_of}
-use Rattle.git_client.specs.Sections.{is_empty, is_header_due, section_of, lines_of, allowed_after, acks_in}
+use Rattle.git_client.specs.Sections.{is_empty, is_header_expected, section_of, lines_of, allowed_after, acks_in}
 
 -- the places: the line that begins an advertisement; its other lines, which so far have or have not shown that the server speaks the format;
 -- references; the header of a section; the lines of each section; the line that names the attribute listed for each object; the lines that
@@ -42,7 +42,7 @@ place_of format (Some opening) message = Some version
 place_of format (Some advertisement) message = Some (capabilities (is_spoken (noted_of message) format))
 place_of format (Some listing) message = Some references
 place_of format (Some (sections done)) message =
-    if is_header_due message then Some (header (allowed_after done message)) else place_in (section_of message) (lines_of message)
+    if is_header_expected message then Some (header (allowed_after done message)) else place_in (section_of message) (lines_of message)
 place_of format (Some informing) message = if is_empty message then Some size_line else Some sizes
 place_of format (Some closing) message = Some response_end
 

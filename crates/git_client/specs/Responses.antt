@@ -15,7 +15,7 @@ use Rattle.git_client.specs.declared.sections.Section.{Section}
 use Rattle.git_client.specs.declared.sections.Section.TheVariants.{Acknowledgments, ShallowInfo, WantedRefs, Packfile}
 use Rattle.git_client.specs.Sections.{header_of}
 use Rattle.git_client.specs.Places.{references, shallow_info, wanted_refs, size_line, sizes}
-use Rattle.git_client.specs.Events.{EventValue, SaysLine, ack, band_says, capability, ended, nak, offered, ready}
+use Rattle.git_client.specs.Events.{EventValue, MeansEvents, ack, events_of_band, capability, ended, nak, offered, ready}
 use Rattle.git_client.specs.Parts.{Terms}
 
 -- a rule states which packets there are, and which events they give
@@ -47,8 +47,8 @@ Many Is rule (p ∷ packets) events =
 
 -- a text line that is no error packet, with the events of its text
 abbrev pub IsText : (List ℕ → List EventValue → Type 0) → Pkt → List EventValue → Type 0
-IsText Says (payload line) events = (¬ IsErrorText (text_of line)) × Says (text_of line) events
-IsText Says p events = ⊥
+IsText HasContent (payload line) events = (¬ IsErrorText (text_of line)) × HasContent (text_of line) events
+IsText HasContent p events = ⊥
 
 -- the header of a section
 abbrev pub IsHeader : Section → Pkt → List EventValue → Type 0
@@ -60,7 +60,7 @@ IsDelimiter p events = (p ≡ delim) × (events ≡ [])
 
 -- bytes on the band of the pack or of the progress
 abbrev pub IsBand : Pkt → List EventValue → Type 0
-IsBand (payload bytes) events = band_says bytes ≡ Ok events
+IsBand (payload bytes) events = events_of_band bytes ≡ Ok events
 IsBand p events = ⊥
 
 abbrev pub IsNak : Pkt → List EventValue → Type 0
@@ -84,10 +84,10 @@ module _ (format : Format) (ending : Ending) where
 
   -- the sections that may come before it
   abbrev pub ShallowInfoSection : Rule → Rule
-  ShallowInfoSection rule = First (IsHeader ShallowInfo) (Many (IsText (SaysLine shallow_info format)) (First IsDelimiter rule))
+  ShallowInfoSection rule = First (IsHeader ShallowInfo) (Many (IsText (MeansEvents shallow_info format)) (First IsDelimiter rule))
 
   abbrev pub WantedRefsSection : Rule → Rule
-  WantedRefsSection rule = First (IsHeader WantedRefs) (Many (IsText (SaysLine wanted_refs format)) (First IsDelimiter rule))
+  WantedRefsSection rule = First (IsHeader WantedRefs) (Many (IsText (MeansEvents wanted_refs format)) (First IsDelimiter rule))
 
   -- only one of them may come
   abbrev pub ShallowPart : Rule
@@ -117,11 +117,11 @@ module _ (format : Format) (ending : Ending) where
   FetchResponse false = Either AcknowledgmentsSection (PackPart true true)
 
   abbrev pub LsRefsResponse : Rule
-  LsRefsResponse = Many (IsText (SaysLine references format)) (IsEnd ending)
+  LsRefsResponse = Many (IsText (MeansEvents references format)) (IsEnd ending)
 
   abbrev pub ObjectInfoResponse : Rule
   ObjectInfoResponse =
-      Either (IsEnd ending) (First (IsText (SaysLine size_line format)) (Many (IsText (SaysLine sizes format)) (IsEnd ending)))
+      Either (IsEnd ending) (First (IsText (MeansEvents size_line format)) (Many (IsText (MeansEvents sizes format)) (IsEnd ending)))
 
   -- the packets are a whole response to the request, and give these events
   abbrev pub IsResponse : Asked → Rule

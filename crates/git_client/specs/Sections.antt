@@ -30,20 +30,20 @@ begun_by (payload line) = section_named (text_of line)
 begun_by _ = None
 
 -- a section's header is expected: at the start of the message, and after a delimiter
-abbrev pub is_header_due : List Pkt → Bool
-is_header_due [] = true
-is_header_due (delim ∷ message) = true
-is_header_due (p ∷ message) = false
+abbrev pub is_header_expected : List Pkt → Bool
+is_header_expected [] = true
+is_header_expected (delim ∷ message) = true
+is_header_expected (p ∷ message) = false
 
 -- the section begun last
 abbrev pub section_of : List Pkt → Option Section
 section_of [] = None
-section_of (p ∷ message) = if is_header_due message then begun_by p else section_of message
+section_of (p ∷ message) = if is_header_expected message then begun_by p else section_of message
 
 -- the packets since its header
 abbrev pub lines_of : List Pkt → List Pkt
 lines_of [] = []
-lines_of (p ∷ message) = if is_header_due message then [] else p ∷ lines_of message
+lines_of (p ∷ message) = if is_header_expected message then [] else p ∷ lines_of message
 
 -- the packet has this text
 abbrev pub has_text : List ℕ → Pkt → Bool
@@ -53,7 +53,7 @@ has_text text _ = false
 -- the section was begun in the message
 abbrev pub has_begun : Section → List Pkt → Bool
 has_begun section [] = false
-has_begun section (p ∷ message) = (is_header_due message && has_text (header_of section) p) || has_begun section message
+has_begun section (p ∷ message) = (is_header_expected message && has_text (header_of section) p) || has_begun section message
 
 abbrev pub is_empty : List Pkt → Bool
 is_empty [] = true

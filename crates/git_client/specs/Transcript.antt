@@ -32,24 +32,24 @@ size_shown (Some size) = decimal size
 
 -- the line of an event; the numbers count the pack and progress bytes of a response that ends
 abbrev pub line_of : EventValue → ℕ → ℕ → List ℕ
-line_of (capability key value) packed told = codes "capability " ++ escaped_of key ++ value_shown value ++ codes "\n"
-line_of offered packed told = codes "offered\n"
-line_of (reference ref) packed told = reference_shown ref
-line_of (ack id) packed told = codes "ack " ++ hex_of id ++ codes "\n"
-line_of nak packed told = codes "nak\n"
-line_of ready packed told = codes "ready\n"
-line_of (shallow id) packed told = codes "shallow " ++ hex_of id ++ codes "\n"
-line_of (unshallow id) packed told = codes "unshallow " ++ hex_of id ++ codes "\n"
-line_of (wanted_ref wanted) packed told = codes "wanted-ref " ++ hex_of wanted.id ++ codes " " ++ escaped_of wanted.name ++ codes "\n"
-line_of (info of) packed told = codes "info " ++ hex_of of.id ++ codes " " ++ size_shown of.size ++ codes "\n"
-line_of (pack byte) packed told = []
-line_of (progress byte) packed told = []
-line_of ended packed told = codes "end " ++ decimal packed ++ codes " " ++ decimal told ++ codes "\n"
+line_of (capability key value) packed announced = codes "capability " ++ escaped_of key ++ value_shown value ++ codes "\n"
+line_of offered packed announced = codes "offered\n"
+line_of (reference ref) packed announced = reference_shown ref
+line_of (ack id) packed announced = codes "ack " ++ hex_of id ++ codes "\n"
+line_of nak packed announced = codes "nak\n"
+line_of ready packed announced = codes "ready\n"
+line_of (shallow id) packed announced = codes "shallow " ++ hex_of id ++ codes "\n"
+line_of (unshallow id) packed announced = codes "unshallow " ++ hex_of id ++ codes "\n"
+line_of (wanted_ref wanted) packed announced = codes "wanted-ref " ++ hex_of wanted.id ++ codes " " ++ escaped_of wanted.name ++ codes "\n"
+line_of (info of) packed announced = codes "info " ++ hex_of of.id ++ codes " " ++ size_shown of.size ++ codes "\n"
+line_of (pack byte) packed announced = []
+line_of (progress byte) packed announced = []
+line_of ended packed announced = codes "end " ++ decimal packed ++ codes " " ++ decimal announced ++ codes "\n"
 
 -- the lines of events, with these numbers in each
 abbrev pub lines_of : List EventValue → ℕ → ℕ → List ℕ
-lines_of [] packed told = []
-lines_of (event ∷ events) packed told = line_of event packed told ++ lines_of events packed told
+lines_of [] packed announced = []
+lines_of (event ∷ events) packed announced = line_of event packed announced ++ lines_of events packed announced
 
 -- the line of a request
 abbrev pub asked_line : Command → List ℕ
@@ -62,14 +62,14 @@ next_asked (question ∷ questions) = asked_line (command_asked question)
 
 -- the lines of events and of the requests between them, after these numbers of pack and progress bytes of a response
 abbrev pub transcript_from : List Asked → ℕ → ℕ → List EventValue → List ℕ
-transcript_from asked packed told [] = []
-transcript_from asked packed told (pack byte ∷ events) = transcript_from asked (suc packed) told events
-transcript_from asked packed told (progress byte ∷ events) = transcript_from asked packed (suc told) events
-transcript_from asked packed told (offered ∷ events) =
-    line_of offered packed told ++ next_asked asked ++ transcript_from (drop 1 asked) 0 0 events
-transcript_from asked packed told (ended ∷ events) =
-    line_of ended packed told ++ next_asked asked ++ transcript_from (drop 1 asked) 0 0 events
-transcript_from asked packed told (event ∷ events) = line_of event packed told ++ transcript_from asked packed told events
+transcript_from asked packed announced [] = []
+transcript_from asked packed announced (pack byte ∷ events) = transcript_from asked (suc packed) announced events
+transcript_from asked packed announced (progress byte ∷ events) = transcript_from asked packed (suc announced) events
+transcript_from asked packed announced (offered ∷ events) =
+    line_of offered packed announced ++ next_asked asked ++ transcript_from (drop 1 asked) 0 0 events
+transcript_from asked packed announced (ended ∷ events) =
+    line_of ended packed announced ++ next_asked asked ++ transcript_from (drop 1 asked) 0 0 events
+transcript_from asked packed announced (event ∷ events) = line_of event packed announced ++ transcript_from asked packed announced events
 
 -- the transcript of these requests and events
 abbrev pub transcript_of : List Asked → List EventValue → List ℕ

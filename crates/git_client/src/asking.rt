@@ -6,11 +6,11 @@ ghost use Rattle.std.specs.Io.BufRead.{Rests};
 ghost use Rattle.git_pkt.specs.Machine.PacketReader.{held_of};
 ghost use Rattle.git_msg.specs.Checks.{Passes, Refuses};
 ghost use Rattle.git_msg.specs.Machine.HeldRequest.{asked_of};
-ghost use Rattle.git_client.specs.Machine.Turns.{first_due, is_asking};
+ghost use Rattle.git_client.specs.Machine.Turns.{first_expected, is_asking};
 
 use crate::client::Client;
 use crate::events::Sent;
-use crate::phase::{Due, Phase};
+use crate::phase::{Expected, Phase};
 use crate::sections::Allowed;
 use git_msg::{Request, RequestWriter};
 use git_pkt::{Fault, Kind, Packet, put};
@@ -58,7 +58,7 @@ impl<A: Allocator + Copy> Client<A> {
         ensures fits { length (given_by result) ≤ 65520 }
     {
         match self.phase {
-            Phase::Hearing(_) => Sent::NeedInput,
+            Phase::Receiving(_) => Sent::NeedInput,
             Phase::Ready => Sent::CanAsk,
             Phase::Left => Sent::Finished,
             Phase::Failed(fault) => Sent::Failed(fault),
@@ -105,7 +105,7 @@ impl<A: Allocator + Copy> Client<A> {
             self.phase = Phase::Asking(writer);
             return;
         }
-        self.phase = Phase::Hearing(response_due(request));
+        self.phase = Phase::Receiving(response_expected(request));
         self.request = None;
     }
 
@@ -129,12 +129,12 @@ impl<A: Allocator + Copy> Client<A> {
 }
 
 /// The first packet that is expected of the response to the request.
-fn response_due<A: Allocator + Copy>(request: &Request<A>) -> Due
-    ensures { result ≡ first_due (asked_of request.now) }
+fn response_expected<A: Allocator + Copy>(request: &Request<A>) -> Expected
+    ensures { result ≡ first_expected (asked_of request.now) }
 {
     match request {
-        Request::LsRefs(_) => Due::References,
-        Request::Fetch(fetch) => Due::Header(Allowed::at_head(fetch.done())),
-        Request::ObjectInfo(_) => Due::SizeLine,
+        Request::LsRefs(_) => Expected::References,
+        Request::Fetch(fetch) => Expected::Header(Allowed::at_head(fetch.done())),
+        Request::ObjectInfo(_) => Expected::SizeLine,
     }
 }

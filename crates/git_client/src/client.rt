@@ -1,6 +1,6 @@
 //! The client, as a state machine: it sends requests, reads what a server sends in chunks of any size, and returns events.
 //!
-//! The phases of a conversation, and the calls that move it on; each packet is judged by `due`, which advances with it:
+//! The phases of a conversation, and the calls that move it on; each packet is judged by `expected`, which advances with it:
 //!
 //! ```text
 //!               feed: the last expected packet
@@ -37,9 +37,9 @@ ghost use Rattle.git_msg.specs.References.{FitsIn, reference_at};
 ghost use Rattle.git_client.specs.Conversation.{HasNoted};
 ghost use Rattle.git_client.specs.declared.events.Ending.{Ending};
 
-use crate::events::{Ending, Event, Heard, HeardGot};
+use crate::events::{Ending, Event, Received, ReceivedGot};
 use crate::judge::judge;
-use crate::phase::{CapabilityPlaces, Due, Phase, Said, Turn};
+use crate::phase::{CapabilityPlaces, Expected, LineContent, Phase, Turn};
 use git_msg::{Capability, Caps, ReferencePlaces, Request, error_message};
 use git_names::{Format, Oid, Steps};
 use git_pkt::{Band, BandGot, Fault, Got, Kind, Packet, PacketReader, text};
@@ -73,21 +73,21 @@ pub(crate) struct Advance {
 
 impl Advance {
     /// The result of `feed` for this outcome over the chunk, if no event borrows from the buffer.
-    fn heard<'a>(self, piece: &'a [u8]) -> Heard<'a>
+    fn arrived<'a>(self, chunk: &'a [u8]) -> Received<'a>
         requires part { HasPart self.outcome self.used }
-        requires all { self.used ≤ length piece.now }
+        requires all { self.used ≤ length chunk.now }
         ensures used { result.used ≡ self.used }
-        ensures got { HandsOut self.outcome self.used piece.now result.got }
+        ensures got { HandsOut self.outcome self.used chunk.now result.got }
     {
         let used = self.used;
         let got = match self.outcome {
-            Outcome::Passed(passed) => HeardGot::Event(passed.event(
-                &piece[used - passed.count..used],
+            Outcome::Passed(passed) => ReceivedGot::Event(passed.event(
+                &chunk[used - passed.count..used],
             )),
-            Outcome::Failed(fault) => HeardGot::Failed(fault),
-            _ => HeardGot::More,
+            Outcome::Failed(fault) => ReceivedGot::Failed(fault),
+            _ => ReceivedGot::More,
         };
-        Heard { used, got }
+        Received { used, got }
     }
 }
 
@@ -120,12 +120,12 @@ pub struct Client<A: Allocator + Copy> {
     // The request whose packets have to be sent.
     pub(crate) request: Option<Request<A>>,
     // The contents of the last packet. Events borrow from it and from the reader's buffer.
-    pub(crate) said: Said,
+    pub(crate) content: LineContent,
     ghost sound: { fault_in phase ≡ None → reader_fault_of reader ≡ None },
     ghost shut: { fault_in phase ≡ None → takes_packets phase ≡ false → is_open reader ≡ false },
     ghost gathers: { takes_bands phase ≡ false → passes_of reader ≡ false },
     ghost passes: { takes_bands phase ≡ true → MayPass reader },
-    ghost owes: { is_asking phase ≡ true → left_in phase request ≢ [] },
+    ghost has_unsent: { is_asking phase ≡ true → left_in phase request ≢ [] },
     ghost freed: { is_asking phase ≡ false → request ≡ None },
     ghost formats: { ForSome request (λ q. request_format q ≡ format) },
     ghost covered: { ForSome request (λ q. stored_of q ≤ kept_of q) },
@@ -133,8 +133,8 @@ pub struct Client<A: Allocator + Copy> {
 }
 
 impl<A: Allocator + Copy> Client<A> {
-    ghost use Rattle.git_client.specs.Machine.Client.{said_last, Converses, History, nothing_yet, HearsOn, Feeds, events_of, EndsWithMessage};
-    ghost use Rattle.git_client.specs.Machine.Client.{EndsWithoutMessage, fault_of, can_ask, wants_input, has_left, left_to_say, bytes_used, caps_of};
+    ghost use Rattle.git_client.specs.Machine.Client.{content_last, Converses, History, nothing_yet, ReceivesOn, Feeds, events_of, EndsWithMessage};
+    ghost use Rattle.git_client.specs.Machine.Client.{EndsWithoutMessage, fault_of, can_ask, wants_input, has_left, left_to_send, bytes_used, caps_of};
     ghost use Rattle.git_client.specs.Machine.Client.{phase_of, reader_of, Takes, Settles};
     ghost use Rattle.git_client.specs.contracts.client.Client.{the_row};
 
@@ -148,10 +148,10 @@ impl<A: Allocator + Copy> Client<A> {
             reader: PacketReader::new(),
             format,
             ending,
-            phase: Phase::Hearing(Due::Version),
+            phase: Phase::Receiving(Expected::Version),
             caps: Caps::new(),
             request: None,
-            said: Said::Nothing,
+            content: LineContent::Nothing,
         }
     }
 
@@ -170,11 +170,11 @@ impl<A: Allocator + Copy> Client<A> {
     /// Whether bytes of the server are expected: the client cannot ask, has neither left nor failed, and has no packet to send.
     pub fn wants_input(&self) -> bool
         ensures value { result ≡ wants_input self.now }
-        ensures due { IsTrue result ↔ ((can_ask self.now ≡ false) × (has_left self.now ≡ false) × (fault_of self.now ≡ None)
-            × (left_to_say self.now ≡ [])) }
+        ensures expected { IsTrue result ↔ ((can_ask self.now ≡ false) × (has_left self.now ≡ false) × (fault_of self.now ≡ None)
+            × (left_to_send self.now ≡ [])) }
     {
         match self.phase {
-            Phase::Hearing(_) => true,
+            Phase::Receiving(_) => true,
             _ => false,
         }
     }
@@ -219,31 +219,31 @@ impl<A: Allocator + Copy> Client<A> {
     // Inlined into each loop that calls it, together with its own calls: a result that is returned is stored in parts and loaded whole, and a
     // load right after such a store is slow.
     #[inline(always)]
-    pub fn feed<'a>(&'a mut self, piece: &'a [u8], steps: &mut Steps) -> Heard<'a>
-        ensures* after { sem 𝓛 (Rests (the_row A.row A.Allocator) self.entry (λ new. Feeds self.old piece.now result new
+    pub fn feed<'a>(&'a mut self, chunk: &'a [u8], steps: &mut Steps) -> Received<'a>
+        ensures* after { sem 𝓛 (Rests (the_row A.row A.Allocator) self.entry (λ new. Feeds self.old chunk.now result new
             × Pays result.used steps.old steps.new (credit_of (reader_of self.old)) (credit_of (reader_of new)))) }
-        ensures used { result.used ≤ length piece.now }
+        ensures used { result.used ≤ length chunk.now }
         ensures fits { all_parts_length (events_of result.got) ≤ longest_payload }
     {
         if let Phase::Failed(fault) = self.phase {
-            return Heard {
+            return Received {
                 used: 0,
-                got: HeardGot::Failed(fault),
+                got: ReceivedGot::Failed(fault),
             };
         }
         if !self.wants_input() {
-            return Heard {
+            return Received {
                 used: 0,
-                got: HeardGot::More,
+                got: ReceivedGot::More,
             };
         }
-        let step = self.advance(piece, steps);
+        let step = self.advance(chunk, steps);
         match step.outcome {
-            Outcome::Event => Heard {
+            Outcome::Event => Received {
                 used: step.used,
-                got: HeardGot::Event(self.event()),
+                got: ReceivedGot::Event(self.event()),
             },
-            _ => step.heard(piece),
+            _ => step.arrived(chunk),
         }
     }
 
@@ -251,8 +251,8 @@ impl<A: Allocator + Copy> Client<A> {
     /// its last whole packet.
     pub fn close(&mut self) -> Fault
         requires { wants_input self.old ≡ true }
-        ensures carries { HearsOn self.old [] [] self.new }
-        ensures told { fault_of self.new ≡ Some result }
+        ensures carries { ReceivesOn self.old [] [] self.new }
+        ensures announced { fault_of self.new ≡ Some result }
         ensures kind { result.kind ≡ Kind.Truncated }
         ensures offset { (t : Terms) (h : History) (given : List Given) (rest : List ℕ)
             → Converses t h self.old → Splits 0 h.used given rest → result.offset + length rest ≡ length h.used }
@@ -271,16 +271,16 @@ impl<A: Allocator + Copy> Client<A> {
 
     /// Uses bytes up to the first event or error, or all of them.
     #[inline(always)]
-    fn advance(&mut self, piece: &[u8], steps: &mut Steps) -> Advance
+    fn advance(&mut self, chunk: &[u8], steps: &mut Steps) -> Advance
         requires { wants_input self.old ≡ true }
         ensures cost { Pays result.used steps.old steps.new (credit_of (reader_of self.old)) (credit_of (reader_of self.new)) }
-        ensures used { result.used ≤ length piece.now }
-        ensures all { result.outcome ≡ Outcome.More → result.used ≡ length piece.now }
-        ensures takes { Takes self.old piece.now result self.new }
+        ensures used { result.used ≤ length chunk.now }
+        ensures all { result.outcome ≡ Outcome.More → result.used ≡ length chunk.now }
+        ensures takes { Takes self.old chunk.now result self.new }
     {
         let mut used = 0;
-        while used < piece.len() {
-            let step = self.take(&piece[used..], steps);
+        while used < chunk.len() {
+            let step = self.take(&chunk[used..], steps);
             used += step.used;
             match step.outcome {
                 Outcome::More => {}
@@ -294,37 +294,37 @@ impl<A: Allocator + Copy> Client<A> {
     }
 
     /// Uses bytes up to the end of a packet, or all of them; in the packfile section up to the last bytes of the chunk that pass.
-    fn take(&mut self, piece: &[u8], steps: &mut Steps) -> Advance
+    fn take(&mut self, chunk: &[u8], steps: &mut Steps) -> Advance
         requires { wants_input self.old ≡ true }
         ensures cost { Pays result.used steps.old steps.new (credit_of (reader_of self.old)) (credit_of (reader_of self.new)) }
-        ensures paid { result.outcome ≡ Outcome.More → result.used < length piece.now
+        ensures paid { result.outcome ≡ Outcome.More → result.used < length chunk.now
             → steps.new + credit_of (reader_of self.new) ≤ steps.old + credit_of (reader_of self.old) + 64 * result.used }
-        ensures used { result.used ≤ length piece.now }
-        ensures takes { Takes self.old piece.now result self.new }
+        ensures used { result.used ≤ length chunk.now }
+        ensures takes { Takes self.old chunk.now result self.new }
     {
-        let Phase::Hearing(due) = self.phase else {
+        let Phase::Receiving(expected) = self.phase else {
             unreachable!()
         };
-        match due {
-            Due::Packfile => self.take_band(piece, steps),
-            _ => self.take_packet(due, piece, steps),
+        match expected {
+            Expected::Packfile => self.take_band(chunk, steps),
+            _ => self.take_packet(expected, chunk, steps),
         }
     }
 
     /// Uses bytes up to the end of a packet, or all of them.
     ///
     /// The bytes of a whole packet have paid for its steps.
-    fn take_packet(&mut self, due: Due, piece: &[u8], steps: &mut Steps) -> Advance
-        requires hears { phase_of self.old ≡ Phase.Hearing due }
-        requires no_band { due ≢ Due.Packfile }
+    fn take_packet(&mut self, expected: Expected, chunk: &[u8], steps: &mut Steps) -> Advance
+        requires arrives { phase_of self.old ≡ Phase.Receiving expected }
+        requires no_band { expected ≢ Expected.Packfile }
         ensures cost { Pays result.used steps.old steps.new (credit_of (reader_of self.old)) (credit_of (reader_of self.new)) }
-        ensures paid { result.outcome ≡ Outcome.More → result.used < length piece.now
+        ensures paid { result.outcome ≡ Outcome.More → result.used < length chunk.now
             → steps.new + credit_of (reader_of self.new) ≤ steps.old + credit_of (reader_of self.old) + 64 * result.used }
-        ensures used { result.used ≤ length piece.now }
-        ensures takes { Takes self.old piece.now result self.new }
+        ensures used { result.used ≤ length chunk.now }
+        ensures takes { Takes self.old chunk.now result self.new }
     {
         steps.tick(1);
-        let fed = self.reader.feed(piece, steps);
+        let fed = self.reader.feed(chunk, steps);
         let used = fed.used;
         match fed.got {
             Got::More => Advance {
@@ -335,10 +335,10 @@ impl<A: Allocator + Copy> Client<A> {
                 let judged = judge(
                     self.format,
                     self.ending,
-                    due,
+                    expected,
                     &mut self.caps,
                     packet,
-                    &mut self.said,
+                    &mut self.content,
                     steps,
                 );
                 let outcome = self.settle(judged, offset);
@@ -355,16 +355,16 @@ impl<A: Allocator + Copy> Client<A> {
     }
 
     /// Uses bytes of the packfile section: those that pass are returned as they come, and the contents of the last packet stay.
-    fn take_band(&mut self, piece: &[u8], steps: &mut Steps) -> Advance
-        requires hears { phase_of self.old ≡ Phase.Hearing Due.Packfile }
+    fn take_band(&mut self, chunk: &[u8], steps: &mut Steps) -> Advance
+        requires arrives { phase_of self.old ≡ Phase.Receiving Expected.Packfile }
         ensures cost { Pays result.used steps.old steps.new (credit_of (reader_of self.old)) (credit_of (reader_of self.new)) }
-        ensures paid { result.outcome ≡ Outcome.More → result.used < length piece.now
+        ensures paid { result.outcome ≡ Outcome.More → result.used < length chunk.now
             → steps.new + credit_of (reader_of self.new) ≤ steps.old + credit_of (reader_of self.old) + 64 * result.used }
-        ensures used { result.used ≤ length piece.now }
-        ensures takes { Takes self.old piece.now result self.new }
+        ensures used { result.used ≤ length chunk.now }
+        ensures takes { Takes self.old chunk.now result self.new }
     {
         steps.tick(1);
-        let fed = self.reader.feed_band(piece, steps);
+        let fed = self.reader.feed_band(chunk, steps);
         let used = fed.used;
         match fed.got {
             BandGot::More => Advance {
@@ -382,10 +382,10 @@ impl<A: Allocator + Copy> Client<A> {
                 let judged = judge(
                     self.format,
                     self.ending,
-                    Due::Packfile,
+                    Expected::Packfile,
                     &mut self.caps,
                     packet,
-                    &mut self.said,
+                    &mut self.content,
                     steps,
                 );
                 let outcome = self.settle(judged, offset);
@@ -405,14 +405,14 @@ impl<A: Allocator + Copy> Client<A> {
     fn settle(&mut self, judged: Result<Turn, Kind>, offset: u64) -> Outcome
         requires whole { is_open (reader_of self.old) ≡ false }
         requires sound { reader_fault_of (reader_of self.old) ≡ None }
-        requires said { is_asking (phase_of self.old) ≡ false }
+        requires content { is_asking (phase_of self.old) ≡ false }
         ensures { Settles self.old judged offset result self.new }
     {
         match judged {
             Ok(turn) => {
                 self.phase = turn.phase();
-                match self.said {
-                    Said::Nothing => Outcome::More,
+                match self.content {
+                    LineContent::Nothing => Outcome::More,
                     _ => Outcome::Event,
                 }
             }
@@ -423,7 +423,7 @@ impl<A: Allocator + Copy> Client<A> {
     /// Ends the conversation: the packet at this offset is refused.
     fn fail(&mut self, kind: Kind, offset: u64) -> Outcome
         requires whole { is_open (reader_of self.old) ≡ false }
-        requires said { is_asking (phase_of self.old) ≡ false }
+        requires content { is_asking (phase_of self.old) ≡ false }
         ensures { Settles self.old (Err kind) offset result self.new }
     {
         let fault = Fault { kind, offset };
@@ -434,28 +434,28 @@ impl<A: Allocator + Copy> Client<A> {
     /// The event for the contents of the last packet.
     #[inline(always)]
     fn event(&self) -> Event<'_>
-        requires something { said_last self.now ≢ Said.Nothing }
-        requires fits { Fits (said_last self.now) (drop 4 (held_of (reader_of self.now))) }
-        ensures values { values_of result ≡ events_at (said_last self.now) (drop 4 (held_of (reader_of self.now))) }
+        requires something { content_last self.now ≢ LineContent.Nothing }
+        requires fits { Fits (content_last self.now) (drop 4 (held_of (reader_of self.now))) }
+        ensures values { values_of result ≡ events_at (content_last self.now) (drop 4 (held_of (reader_of self.now))) }
         ensures lent { IsLent result }
     {
         let payload = self.payload();
-        match &self.said {
-            Said::Nothing => unreachable!(),
-            Said::Capability(places) => Event::Capability(capability(places, text(payload))),
-            Said::Offered => Event::Offered,
-            Said::Reference(places) => reference(places, text(payload)),
-            Said::Ack(id) => Event::Ack(id),
-            Said::Nak => Event::Nak,
-            Said::Ready => Event::Ready,
-            Said::Shallow(id) => Event::Shallow(id),
-            Said::Unshallow(id) => Event::Unshallow(id),
-            Said::WantedRef(id) => wanted(id, text(payload)),
-            Said::Info(info) => Event::Info {
+        match &self.content {
+            LineContent::Nothing => unreachable!(),
+            LineContent::Capability(places) => Event::Capability(capability(places, text(payload))),
+            LineContent::Offered => Event::Offered,
+            LineContent::Reference(places) => reference(places, text(payload)),
+            LineContent::Ack(id) => Event::Ack(id),
+            LineContent::Nak => Event::Nak,
+            LineContent::Ready => Event::Ready,
+            LineContent::Shallow(id) => Event::Shallow(id),
+            LineContent::Unshallow(id) => Event::Unshallow(id),
+            LineContent::WantedRef(id) => wanted(id, text(payload)),
+            LineContent::Info(info) => Event::Info {
                 id: &info.id,
                 size: info.size,
             },
-            Said::Ended => Event::Ended,
+            LineContent::Ended => Event::Ended,
         }
     }
 

@@ -1,27 +1,27 @@
 //! A client run over a reader and a writer.
 
 ghost use Rattle.std.specs.Prelude.{◌≡◌, ◌≤◌, ◌<◌, ◌||◌, ◌∷◌, [], length, None, true, false, IsTrue, IfErr, is_err};
-ghost use Rattle.git_pkt.specs.Machine.Told.{inner_of, reads_of, has_failed, has_ended, has_wasted, IsNew};
+ghost use Rattle.git_pkt.specs.Machine.Recorded.{inner_of, reads_of, has_failed, has_ended, has_wasted, IsNew};
 ghost use Rattle.git_pkt.specs.Machine.Engine.{FailsAs, IsShownBy, IsSpent};
 ghost use Rattle.git_pkt.specs.Streams.{flow, is_broken, Moves};
 ghost use Rattle.git_client.specs.Parts.{Terms};
 ghost use Rattle.git_client.specs.Machine.Client.{Converses, nothing_yet, can_ask, wants_input, fault_of};
-ghost use Rattle.git_client.specs.Machine.RunSteps.{AsksTo, Says};
+ghost use Rattle.git_client.specs.Machine.RunSteps.{AsksTo, SendsPackets};
 ghost use Rattle.git_client.specs.Machine.Runs.{Conversed, IsHandedBack};
 
 use crate::client::Client;
 use crate::events::{Ending, Sent};
-use crate::hearing::{Window, hear};
+use crate::receiving::{Window, receive_response};
 use crate::transcript::write_asked;
 use git_msg::Request;
-use git_pkt::{Output, RunFault, Told, flush};
+use git_pkt::{Output, Recorded, RunFault, flush};
 use std::alloc::Allocator;
 use std::io::{Read, Write};
 
 /// Runs a new client over a reader of the server's bytes and a writer to the server: it receives the advertisement, sends the
 /// requests in their order, receives the response to each, and leaves after the last, unless each request has a connection of its
 /// own. The transcript is written to `out`, the bytes of packs, in order, to `pack`, and the server's progress, which comes on the
-/// second side band, unchanged to `progress`. The bytes that are read go to the `piece`, which must not be empty.
+/// second side band, unchanged to `progress`. The bytes that are read go to the `chunk`, which must not be empty.
 ///
 /// The writer is flushed before each read and at the end, and so are `out`, `pack` and `progress`.
 ///
@@ -30,17 +30,17 @@ use std::io::{Read, Write};
 /// `ReadLimit` if another read would exceed the number `turns` of reads that are allowed. After `WriteFault` the client is spent, since it
 /// may have received or returned more than was written.
 pub fn converse<R: Read, W: Write, O: Write, P: Write, E: Output, A: Allocator + Copy>(
-    reader: &mut Told<R>,
-    writer: &mut Told<W>,
-    piece: &mut [u8],
+    reader: &mut Recorded<R>,
+    writer: &mut Recorded<W>,
+    chunk: &mut [u8],
     client: &mut Client<A>,
     requests: Vec<Request<A>>,
-    out: &mut Told<O>,
-    pack: &mut Told<P>,
+    out: &mut Recorded<O>,
+    pack: &mut Recorded<P>,
     progress: &mut E,
     turns: u64,
 ) -> Result<(), RunFault>
-    requires room { 0 < length piece.old }
+    requires space { 0 < length chunk.old }
     requires new_reader { IsNew reader.old }
     requires waits { wants_input client.old ≡ true }
     requires sound_writer { has_failed writer.old ≡ false }
@@ -59,20 +59,20 @@ pub fn converse<R: Read, W: Write, O: Write, P: Write, E: Output, A: Allocator +
         ∷ flow (E.contents progress.old) (E.contents progress.new) ∷ []) }
     ensures fault { IfErr result (IsShownBy (IsTrue (has_failed reader.new))
         (IsTrue (has_failed writer.new || (has_failed out.new || (has_failed pack.new || E.failed progress.new)))) (IsSpent reader.new turns)) }
-    ensures told { FailsAs result (has_failed reader.new)
+    ensures announced { FailsAs result (has_failed reader.new)
         (has_failed writer.new || (has_failed out.new || (has_failed pack.new || E.failed progress.new))) }
     ensures handed_back { IsHandedBack result client.new }
 {
     flush(writer)?;
     let nothing = Window { start: 0, end: 0 };
-    let mut waiting = hear(client, reader, piece, nothing, out, pack, progress, turns)?;
+    let mut waiting = receive_response(client, reader, chunk, nothing, out, pack, progress, turns)?;
     for request in requests {
         ask_next(client, request, writer, out)?;
-        waiting = hear(client, reader, piece, waiting, out, pack, progress, turns)?;
+        waiting = receive_response(client, reader, chunk, waiting, out, pack, progress, turns)?;
     }
     if client.ending == Ending::FlushOnly {
         client.leave();
-        say(client, writer)?;
+        send_all(client, writer)?;
     }
     flush(writer)
 }
@@ -85,7 +85,7 @@ pub fn ask_next<W: Output, O: Write, A: Allocator + Copy>(
     client: &mut Client<A>,
     request: Request<A>,
     writer: &mut W,
-    out: &mut Told<O>,
+    out: &mut Recorded<O>,
 ) -> Result<(), RunFault>
     requires ready { can_ask client.old ≡ true }
     requires sound_writer { W.failed writer.old ≡ false }
@@ -94,24 +94,24 @@ pub fn ask_next<W: Output, O: Write, A: Allocator + Copy>(
         (flow (W.contents writer.old) (W.contents writer.new))
         (flow (O.contents (inner_of out.old)) (O.contents (inner_of out.new))) }
     ensures fault { IfErr result (IsShownBy ⊥ (IsTrue (W.failed writer.new || has_failed out.new)) ⊥) }
-    ensures told { FailsAs result false (W.failed writer.new || has_failed out.new) }
+    ensures announced { FailsAs result false (W.failed writer.new || has_failed out.new) }
 {
     let command = request.command();
     if let Err((_, fault)) = client.ask(request) {
         return Err(RunFault::Refused(fault));
     }
     write_asked(out, command)?;
-    say(client, writer)
+    send_all(client, writer)
 }
 
 /// Sends all packets that the client has to send.
-fn say<W: Output, A: Allocator + Copy>(
+fn send_all<W: Output, A: Allocator + Copy>(
     client: &mut Client<A>,
     writer: &mut W,
 ) -> Result<(), RunFault>
     requires speaks { can_ask client.old ≡ false }
     requires sound { fault_of client.old ≡ None }
-    ensures says { Says (is_broken result) client.old client.new (flow (W.contents writer.old) (W.contents writer.new)) }
+    ensures conveys { SendsPackets (is_broken result) client.old client.new (flow (W.contents writer.old) (W.contents writer.new)) }
     ensures fault { IfErr result (λ fault. fault ≡ RunFault.WriteFault) }
     ensures failed { W.failed writer.new ≡ (W.failed writer.old || is_err result) }
 {

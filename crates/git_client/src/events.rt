@@ -65,16 +65,16 @@ pub enum Event<'a> {
 
 /// The result of one call of [`Client::feed`](crate::Client::feed).
 #[derive(Clone, Copy, Debug)]
-pub struct Heard<'a> {
+pub struct Received<'a> {
     /// The number of bytes of the chunk that were used.
     pub used: usize,
     /// The result of using them.
-    pub got: HeardGot<'a>,
+    pub got: ReceivedGot<'a>,
 }
 
 /// The result of using bytes.
 #[derive(Clone, Copy, Debug)]
-pub enum HeardGot<'a> {
+pub enum ReceivedGot<'a> {
     /// No event is complete yet and the chunk was used up, or the client does not wait for input.
     More,
     /// One event.

@@ -4,10 +4,10 @@ ghost use Rattle.std.specs.Prelude.{◌≡◌, Err, ◌+◌, ◌*◌, false, len
 ghost use Rattle.git_names.specs.declared.object_format.Format.{Format};
 ghost use Rattle.git_names.specs.Steps.{TakesAtMost};
 ghost use Rattle.git_pkt.specs.Packets.{body_of, flush, delim, resp_end, payload as payload_of, seen};
-ghost use Rattle.git_client.specs.Events.{band_says};
-ghost use Rattle.git_client.specs.Machine.Turns.{Judges, JudgesLine, TakesLines, phase_after_response, phase_in, said_after_flush};
+ghost use Rattle.git_client.specs.Events.{events_of_band};
+ghost use Rattle.git_client.specs.Machine.Turns.{Judges, JudgesLine, TakesLines, phase_after_response, phase_in, content_after_flush};
 ghost use Rattle.git_msg.specs.declared.offers.Caps.{Caps};
-ghost use Rattle.git_client.specs.declared.phase.Due.{Due};
+ghost use Rattle.git_client.specs.declared.phase.Expected.{Expected};
 ghost use Rattle.git_pkt.specs.Passed.{begins_band, is_on_band};
 ghost use Rattle.git_client.specs.declared.events.Ending.{Ending};
 
@@ -16,7 +16,7 @@ use crate::judge_lines::{
     judge_acknowledgment, judge_boundary, judge_capability, judge_header, judge_info,
     judge_reference, judge_size_line, judge_version, judge_wanted,
 };
-use crate::phase::{Due, Said, Turn};
+use crate::phase::{Expected, LineContent, Turn};
 use crate::sections::Allowed;
 use git_msg::{Caps, is_error};
 use git_names::{Format, Steps};
@@ -25,45 +25,45 @@ use git_pkt::{Band, Kind, Packet, split_band, text};
 // The maximum length of a word that is a whole line.
 const LONGEST_WORD: usize = 15;
 
-/// Judges a packet if `due` is expected. Returns whose turn it is then, or why the packet is refused. Writes its contents to `said`, and
+/// Judges a packet if `expected` is expected. Returns whose turn it is then, or why the packet is refused. Writes its contents to `content`, and
 /// what the advertisement notes with it to `caps`: these are large, and are not moved. In the packfile section the packet is one
 /// without bytes that pass.
 pub(crate) fn judge(
     format: Format,
     ending: Ending,
-    due: Due,
+    expected: Expected,
     caps: &mut Caps,
     packet: Packet<'_>,
-    said: &mut Said,
+    content: &mut LineContent,
     steps: &mut Steps,
 ) -> Result<Turn, Kind>
-    requires on_no_band { due ≡ Due.Packfile → is_on_band (seen packet) ≡ false }
-    ensures turn { Judges format ending due caps.old (seen packet.entry) said.new caps.new result }
+    requires on_no_band { expected ≡ Expected.Packfile → is_on_band (seen packet) ≡ false }
+    ensures turn { Judges format ending expected caps.old (seen packet.entry) content.new caps.new result }
     ensures cost { TakesAtMost (48 * (length (body_of (seen packet.entry)) + 1)) steps.old steps.new }
 {
     match packet {
-        Packet::Payload(payload) => judge_payload(format, due, caps, payload, said, steps),
-        Packet::Flush => judge_flush(format, ending, due, caps, said),
-        Packet::Delim => judge_delimiter(due, said),
-        Packet::RespEnd => judge_response_end(due, said),
+        Packet::Payload(payload) => judge_payload(format, expected, caps, payload, content, steps),
+        Packet::Flush => judge_flush(format, ending, expected, caps, content),
+        Packet::Delim => judge_delimiter(expected, content),
+        Packet::RespEnd => judge_response_end(expected, content),
     }
 }
 
 fn judge_payload(
     format: Format,
-    due: Due,
+    expected: Expected,
     caps: &mut Caps,
     payload: &[u8],
-    said: &mut Said,
+    content: &mut LineContent,
     steps: &mut Steps,
 ) -> Result<Turn, Kind>
-    requires on_no_band { due ≡ Due.Packfile → begins_band payload.now ≡ false }
-    ensures turn { (ending : Ending) → Judges format ending due caps.old (payload_of payload.now) said.new caps.new result }
+    requires on_no_band { expected ≡ Expected.Packfile → begins_band payload.now ≡ false }
+    ensures turn { (ending : Ending) → Judges format ending expected caps.old (payload_of payload.now) content.new caps.new result }
     ensures cost { TakesAtMost (48 * (length payload.now + 1)) steps.old steps.new }
 {
-    match due {
-        Due::Packfile => Err(refused_on_band(payload)),
-        Due::ResponseEnd => Err(Kind::UnexpectedPacket),
+    match expected {
+        Expected::Packfile => Err(refused_on_band(payload)),
+        Expected::ResponseEnd => Err(Kind::UnexpectedPacket),
         _ => {
             let line = text(payload);
             // `ERR `, and four words that a line may be.
@@ -71,7 +71,7 @@ fn judge_payload(
             if is_error(line) {
                 return Err(Kind::RemoteError);
             }
-            judge_line(format, due, caps, line, said, steps)
+            judge_line(format, expected, caps, line, content, steps)
         }
     }
 }
@@ -79,65 +79,65 @@ fn judge_payload(
 /// A text line that is no error packet.
 fn judge_line(
     format: Format,
-    due: Due,
+    expected: Expected,
     caps: &mut Caps,
     line: &[u8],
-    said: &mut Said,
+    content: &mut LineContent,
     steps: &mut Steps,
 ) -> Result<Turn, Kind>
-    requires { TakesLines due }
-    ensures turn { JudgesLine format due caps.old line.now said.new caps.new result }
+    requires { TakesLines expected }
+    ensures turn { JudgesLine format expected caps.old line.now content.new caps.new result }
     ensures cost { TakesAtMost (40 * (length line.now + 1)) steps.old steps.new }
 {
-    match due {
-        Due::Version => {
+    match expected {
+        Expected::Version => {
             judge_version(line)?;
-            *said = Said::Nothing;
-            Ok(Turn::Hearing(Due::Capabilities))
+            *content = LineContent::Nothing;
+            Ok(Turn::Receiving(Expected::Capabilities))
         }
-        Due::Capabilities => {
-            *said = Said::Capability(judge_capability(caps, line, steps)?);
-            Ok(Turn::Hearing(due))
+        Expected::Capabilities => {
+            *content = LineContent::Capability(judge_capability(caps, line, steps)?);
+            Ok(Turn::Receiving(expected))
         }
-        Due::References => {
-            judge_reference(format, line, said, steps)?;
-            Ok(Turn::Hearing(due))
+        Expected::References => {
+            judge_reference(format, line, content, steps)?;
+            Ok(Turn::Receiving(expected))
         }
-        Due::Header(allowed) => {
+        Expected::Header(allowed) => {
             let next = judge_header(allowed, line)?;
-            *said = Said::Nothing;
-            Ok(Turn::Hearing(next))
+            *content = LineContent::Nothing;
+            Ok(Turn::Receiving(next))
         }
-        Due::Acknowledgments(told) => {
-            let after = judge_acknowledgment(format, told, line, said, steps)?;
-            Ok(Turn::Hearing(Due::Acknowledgments(after)))
+        Expected::Acknowledgments(announced) => {
+            let after = judge_acknowledgment(format, announced, line, content, steps)?;
+            Ok(Turn::Receiving(Expected::Acknowledgments(after)))
         }
-        Due::ShallowInfo(_) => {
-            judge_boundary(format, line, said, steps)?;
-            Ok(Turn::Hearing(due))
+        Expected::ShallowInfo(_) => {
+            judge_boundary(format, line, content, steps)?;
+            Ok(Turn::Receiving(expected))
         }
-        Due::WantedRefs(_) => {
-            judge_wanted(format, line, said, steps)?;
-            Ok(Turn::Hearing(due))
+        Expected::WantedRefs(_) => {
+            judge_wanted(format, line, content, steps)?;
+            Ok(Turn::Receiving(expected))
         }
-        Due::SizeLine => {
+        Expected::SizeLine => {
             judge_size_line(line)?;
-            *said = Said::Nothing;
-            Ok(Turn::Hearing(Due::Sizes))
+            *content = LineContent::Nothing;
+            Ok(Turn::Receiving(Expected::Sizes))
         }
-        Due::Sizes => {
-            judge_info(format, line, said, steps)?;
-            Ok(Turn::Hearing(due))
+        Expected::Sizes => {
+            judge_info(format, line, content, steps)?;
+            Ok(Turn::Receiving(expected))
         }
-        Due::Packfile => Err(Kind::UnexpectedPacket),
-        Due::ResponseEnd => Err(Kind::UnexpectedPacket),
+        Expected::Packfile => Err(Kind::UnexpectedPacket),
+        Expected::ResponseEnd => Err(Kind::UnexpectedPacket),
     }
 }
 
 /// Why a payload of the packfile section without bytes that pass is refused.
 fn refused_on_band(payload: &[u8]) -> Kind
     requires on_no_band { begins_band payload.now ≡ false }
-    ensures { band_says payload.now ≡ Err result }
+    ensures { events_of_band payload.now ≡ Err result }
 {
     match split_band(payload) {
         Ok((Band::Fatal, _)) => Kind::RemoteFatal,
@@ -149,78 +149,78 @@ fn refused_on_band(payload: &[u8]) -> Kind
 fn judge_flush(
     format: Format,
     ending: Ending,
-    due: Due,
+    expected: Expected,
     caps: &Caps,
-    said: &mut Said,
+    content: &mut LineContent,
 ) -> Result<Turn, Kind>
-    ensures turn { Judges format ending due caps.now flush said.new caps.now result }
+    ensures turn { Judges format ending expected caps.now flush content.new caps.now result }
 {
-    match due {
-        Due::Version => Err(Kind::NotVersion2),
-        Due::Capabilities => {
+    match expected {
+        Expected::Version => Err(Kind::NotVersion2),
+        Expected::Capabilities => {
             if !caps.speaks(format) {
                 return Err(Kind::WrongFormat);
             }
-            *said = Said::Offered;
+            *content = LineContent::Offered;
             Ok(Turn::Ready)
         }
-        Due::References => Ok(after_flush(ending, said)),
-        Due::Header(_) => Err(Kind::UnexpectedPacket),
-        Due::Acknowledgments(told) => {
-            if told.ready {
+        Expected::References => Ok(after_flush(ending, content)),
+        Expected::Header(_) => Err(Kind::UnexpectedPacket),
+        Expected::Acknowledgments(announced) => {
+            if announced.ready {
                 return Err(Kind::UnexpectedPacket);
             }
-            Ok(after_flush(ending, said))
+            Ok(after_flush(ending, content))
         }
-        Due::ShallowInfo(_) => Err(Kind::UnexpectedPacket),
-        Due::WantedRefs(_) => Err(Kind::UnexpectedPacket),
-        Due::Packfile => Ok(after_flush(ending, said)),
-        Due::SizeLine => Ok(after_flush(ending, said)),
-        Due::Sizes => Ok(after_flush(ending, said)),
-        Due::ResponseEnd => Err(Kind::UnexpectedPacket),
+        Expected::ShallowInfo(_) => Err(Kind::UnexpectedPacket),
+        Expected::WantedRefs(_) => Err(Kind::UnexpectedPacket),
+        Expected::Packfile => Ok(after_flush(ending, content)),
+        Expected::SizeLine => Ok(after_flush(ending, content)),
+        Expected::Sizes => Ok(after_flush(ending, content)),
+        Expected::ResponseEnd => Err(Kind::UnexpectedPacket),
     }
 }
 
-fn judge_delimiter(due: Due, said: &mut Said) -> Result<Turn, Kind>
-    ensures turn { (format : Format) (ending : Ending) (caps : Caps) → Judges format ending due caps delim said.new caps result }
+fn judge_delimiter(expected: Expected, content: &mut LineContent) -> Result<Turn, Kind>
+    ensures turn { (format : Format) (ending : Ending) (caps : Caps) → Judges format ending expected caps delim content.new caps result }
 {
-    *said = Said::Nothing;
-    match due {
-        Due::Version => Err(Kind::NotVersion2),
-        Due::Acknowledgments(told) => {
-            if !told.ready {
+    *content = LineContent::Nothing;
+    match expected {
+        Expected::Version => Err(Kind::NotVersion2),
+        Expected::Acknowledgments(announced) => {
+            if !announced.ready {
                 return Err(Kind::UnexpectedPacket);
             }
-            Ok(Turn::Hearing(Due::Header(Allowed::AFTER_ACKNOWLEDGMENTS)))
+            Ok(Turn::Receiving(Expected::Header(Allowed::AFTER_ACKNOWLEDGMENTS)))
         }
-        Due::ShallowInfo(allowed) => Ok(Turn::Hearing(Due::Header(allowed))),
-        Due::WantedRefs(allowed) => Ok(Turn::Hearing(Due::Header(allowed))),
+        Expected::ShallowInfo(allowed) => Ok(Turn::Receiving(Expected::Header(allowed))),
+        Expected::WantedRefs(allowed) => Ok(Turn::Receiving(Expected::Header(allowed))),
         _ => Err(Kind::UnexpectedPacket),
     }
 }
 
-fn judge_response_end(due: Due, said: &mut Said) -> Result<Turn, Kind>
-    ensures turn { (format : Format) (ending : Ending) (caps : Caps) → Judges format ending due caps resp_end said.new caps result }
+fn judge_response_end(expected: Expected, content: &mut LineContent) -> Result<Turn, Kind>
+    ensures turn { (format : Format) (ending : Ending) (caps : Caps) → Judges format ending expected caps resp_end content.new caps result }
 {
-    *said = Said::Ended;
-    match due {
-        Due::Version => Err(Kind::NotVersion2),
-        Due::ResponseEnd => Ok(Turn::Ready),
+    *content = LineContent::Ended;
+    match expected {
+        Expected::Version => Err(Kind::NotVersion2),
+        Expected::ResponseEnd => Ok(Turn::Ready),
         _ => Err(Kind::UnexpectedPacket),
     }
 }
 
 /// The flush of a response ends the response, or a response-end packet is expected after it.
-fn after_flush(ending: Ending, said: &mut Said) -> Turn
-    ensures said { said.new ≡ said_after_flush ending }
+fn after_flush(ending: Ending, content: &mut LineContent) -> Turn
+    ensures content { content.new ≡ content_after_flush ending }
     ensures turn { phase_in result ≡ phase_after_response ending }
 {
-    *said = match ending {
-        Ending::FlushOnly => Said::Ended,
-        Ending::ResponseEnd => Said::Nothing,
+    *content = match ending {
+        Ending::FlushOnly => LineContent::Ended,
+        Ending::ResponseEnd => LineContent::Nothing,
     };
     match ending {
         Ending::FlushOnly => Turn::Ready,
-        Ending::ResponseEnd => Turn::Hearing(Due::ResponseEnd),
+        Ending::ResponseEnd => Turn::Receiving(Expected::ResponseEnd),
     }
 }

@@ -1,5 +1,5 @@
 //! The meaning of each text line of a conversation if it is expected, and the reasons to refuse it. The contents of a line are written to
-//! `said`. Error packets are judged before that.
+//! `content`. Error packets are judged before that.
 
 ghost use Rattle.std.specs.Prelude.{◌≡◌, ◌≢◌, Some, true, codes, MatchResult, OnErr, ◌+◌, ◌*◌, length};
 ghost use Rattle.git_names.specs.declared.object_format.Format.{Format};
@@ -8,9 +8,9 @@ ghost use Rattle.git_msg.specs.Capability.{IsNoCapability};
 ghost use Rattle.git_client.specs.Events.{IsLineFault};
 ghost use Rattle.git_client.specs.Places.{references, acknowledgments, header, shallow_info, sizes, wanted_refs};
 ghost use Rattle.git_client.specs.Sections.{acks_with, may_begin, section_named};
-ghost use Rattle.git_client.specs.Machine.Turns.{FindsCapability, Says, due_after_header};
+ghost use Rattle.git_client.specs.Machine.Turns.{FindsCapability, HasContent, expected_after_header};
 
-use crate::phase::{CapabilityPlaces, Due, Said};
+use crate::phase::{CapabilityPlaces, Expected, LineContent};
 use crate::sections::{Acks, Allowed, Section, read_header};
 use git_msg::{
     Boundary, Caps, ReferencePlaces, is_word, locate_reference, read_ack, read_boundary,
@@ -54,27 +54,27 @@ pub(crate) fn judge_capability(
 pub(crate) fn judge_reference(
     format: Format,
     line: &[u8],
-    said: &mut Said,
+    content: &mut LineContent,
     steps: &mut Steps,
 ) -> Result<(), Kind>
-    ensures line { MatchResult result (λ _. Says references format line.now said.new) (IsLineFault references format line.now) }
+    ensures line { MatchResult result (λ _. HasContent references format line.now content.new) (IsLineFault references format line.now) }
     ensures cost { TakesAtMost (40 * (length line.now + 1)) steps.old steps.new }
 {
     // Most lines follow another reference line, and their places are written over its places.
-    match said {
-        Said::Reference(_) => {}
-        _ => *said = Said::Reference(ReferencePlaces::new()),
+    match content {
+        LineContent::Reference(_) => {}
+        _ => *content = LineContent::Reference(ReferencePlaces::new()),
     }
-    match said {
-        Said::Reference(places) => locate_reference(format, line, places, steps),
+    match content {
+        LineContent::Reference(places) => locate_reference(format, line, places, steps),
         _ => unreachable!(),
     }
 }
 
 /// The header of a section. Returns what is expected after it.
-pub(crate) fn judge_header(allowed: Allowed, line: &[u8]) -> Result<Due, Kind>
+pub(crate) fn judge_header(allowed: Allowed, line: &[u8]) -> Result<Expected, Kind>
     ensures { (format : Format) → MatchResult result
-        (λ due. (may_begin allowed (section_named line.now) ≡ true) × (due ≡ due_after_header allowed (section_named line.now)))
+        (λ expected. (may_begin allowed (section_named line.now) ≡ true) × (expected ≡ expected_after_header allowed (section_named line.now)))
         (IsLineFault (header allowed) format line.now) }
 {
     let Some(section) = read_header(line) else {
@@ -85,10 +85,10 @@ pub(crate) fn judge_header(allowed: Allowed, line: &[u8]) -> Result<Due, Kind>
     }
     let next = allowed.after(section);
     Ok(match section {
-        Section::Acknowledgments => Due::Acknowledgments(Acks::NOTHING),
-        Section::ShallowInfo => Due::ShallowInfo(next),
-        Section::WantedRefs => Due::WantedRefs(next),
-        Section::Packfile => Due::Packfile,
+        Section::Acknowledgments => Expected::Acknowledgments(Acks::NOTHING),
+        Section::ShallowInfo => Expected::ShallowInfo(next),
+        Section::WantedRefs => Expected::WantedRefs(next),
+        Section::Packfile => Expected::Packfile,
     })
 }
 
@@ -97,10 +97,10 @@ pub(crate) fn judge_acknowledgment(
     format: Format,
     acks: Acks,
     line: &[u8],
-    said: &mut Said,
+    content: &mut LineContent,
     steps: &mut Steps,
 ) -> Result<Acks, Kind>
-    ensures line { MatchResult result (λ after. Says (acknowledgments acks) format line.now said.new × (after ≡ acks_with acks line.now))
+    ensures line { MatchResult result (λ after. HasContent (acknowledgments acks) format line.now content.new × (after ≡ acks_with acks line.now))
         (IsLineFault (acknowledgments acks) format line.now) }
     ensures cost { TakesAtMost (40 * (length line.now + 1)) steps.old steps.new }
 {
@@ -109,14 +109,14 @@ pub(crate) fn judge_acknowledgment(
         if acks.any {
             return Err(Kind::BadLine);
         }
-        *said = Said::Nak;
+        *content = LineContent::Nak;
         return Ok(Acks { nak: true, ..after });
     }
     if is_word(line, b"ready") {
         if acks.ready {
             return Err(Kind::BadLine);
         }
-        *said = Said::Ready;
+        *content = LineContent::Ready;
         return Ok(Acks {
             ready: true,
             ..after
@@ -126,7 +126,7 @@ pub(crate) fn judge_acknowledgment(
         return Err(Kind::BadLine);
     }
     let id = read_ack(format, line, steps)?;
-    *said = Said::Ack(id);
+    *content = LineContent::Ack(id);
     Ok(after)
 }
 
@@ -144,14 +144,14 @@ pub(crate) fn judge_size_line(line: &[u8]) -> Result<(), Kind>
 pub(crate) fn judge_info(
     format: Format,
     line: &[u8],
-    said: &mut Said,
+    content: &mut LineContent,
     steps: &mut Steps,
 ) -> Result<(), Kind>
     ensures cost { TakesAtMost (40 * (length line.now + 1)) steps.old steps.new }
-    ensures line { MatchResult result (λ _. Says sizes format line.now said.new) (IsLineFault sizes format line.now) }
+    ensures line { MatchResult result (λ _. HasContent sizes format line.now content.new) (IsLineFault sizes format line.now) }
 {
     let info = read_info(format, line, steps)?;
-    *said = Said::Info(info);
+    *content = LineContent::Info(info);
     Ok(())
 }
 
@@ -159,15 +159,15 @@ pub(crate) fn judge_info(
 pub(crate) fn judge_boundary(
     format: Format,
     line: &[u8],
-    said: &mut Said,
+    content: &mut LineContent,
     steps: &mut Steps,
 ) -> Result<(), Kind>
     ensures cost { TakesAtMost (40 * (length line.now + 1)) steps.old steps.new }
-    ensures line { MatchResult result (λ _. Says shallow_info format line.now said.new) (IsLineFault shallow_info format line.now) }
+    ensures line { MatchResult result (λ _. HasContent shallow_info format line.now content.new) (IsLineFault shallow_info format line.now) }
 {
     match read_boundary(format, line, steps)? {
-        Boundary::Shallow(id) => *said = Said::Shallow(id),
-        Boundary::Unshallow(id) => *said = Said::Unshallow(id),
+        Boundary::Shallow(id) => *content = LineContent::Shallow(id),
+        Boundary::Unshallow(id) => *content = LineContent::Unshallow(id),
     }
     Ok(())
 }
@@ -176,15 +176,15 @@ pub(crate) fn judge_boundary(
 pub(crate) fn judge_wanted(
     format: Format,
     line: &[u8],
-    said: &mut Said,
+    content: &mut LineContent,
     steps: &mut Steps,
 ) -> Result<(), Kind>
     ensures cost { TakesAtMost (40 * (length line.now + 1)) steps.old steps.new }
-    ensures line { MatchResult result (λ _. Says wanted_refs format line.now said.new) (IsLineFault wanted_refs format line.now) }
+    ensures line { MatchResult result (λ _. HasContent wanted_refs format line.now content.new) (IsLineFault wanted_refs format line.now) }
 {
     match read_wanted(format, line, steps) {
         Ok(wanted) => {
-            *said = Said::WantedRef(wanted.id);
+            *content = LineContent::WantedRef(wanted.id);
             Ok(())
         }
         Err(kind) => Err(kind),

@@ -15,16 +15,16 @@ ghost use Rattle.git_client.specs.Events.{EventValue, pack_bytes};
 ghost use Rattle.git_client.specs.Packs.{HasPack};
 ghost use Rattle.git_client.specs.Responses.{GoesByMessages, IsResponse};
 ghost use Rattle.git_client.specs.Conversation.{GivesAt, GiveAll, RefusesAt, FirstFault, HasEvents, HasNoted, FirstMalformed, GoesWell, IsConversation};
-ghost use Rattle.git_client.specs.Machine.Client.{Converses, History, bytes_held, limit_of, fault_of, can_ask, left_to_say, said_of, spelled, caps_of};
+ghost use Rattle.git_client.specs.Machine.Client.{Converses, History, bytes_held, limit_of, fault_of, can_ask, left_to_send, sent_of, spelled, caps_of};
 ghost use Rattle.git_client.specs.Machine.Client.{bytes_held_by_fields, nothing_yet, reader_of, wants_input};
-ghost use Rattle.git_client.specs.Machine.Client.{AreWhole, Asks, Feeds, HearsOn, Leaves, Pulls, RefusesToAsk};
+ghost use Rattle.git_client.specs.Machine.Client.{AreWhole, Asks, Feeds, ReceivesOn, Leaves, Pulls, RefusesToAsk};
 ghost use Rattle.git_client.specs.Machine.RunSteps.{CanCount};
 ghost use Rattle.git_client.specs.Machine.Calls.{Call, Headline, IsTruncated, Makes, closes, feeds_in, history_after};
 ghost use Rattle.git_client.specs.Machine.Calls.{ask, ask_refused, leave, pull, feed, close};
 ghost use Rattle.git_client.specs.declared.client.Client.{Client};
-ghost use Rattle.git_client.specs.declared.events.Heard.{Heard};
+ghost use Rattle.git_client.specs.declared.events.Received.{Received};
 ghost use Rattle.git_client.specs.declared.events.Sent.{Sent};
-ghost use Rattle.git_client.specs.declared.hearing.Counts.{Counts};
+ghost use Rattle.git_client.specs.declared.receiving.Counts.{Counts};
 
 use std::alloc::Allocator;
 
@@ -75,7 +75,7 @@ pub fn one_first_malformed()
 {}
 
 /// The events that a client has returned are those of the bytes that it used.
-pub fn heard_events<A: Allocator + Copy>()
+pub fn received_events<A: Allocator + Copy>()
     ensures { (t : Terms) (h : History) (client : Client A) → Converses t h client → HasEvents t h.asked h.used h.events }
 {}
 
@@ -119,9 +119,9 @@ pub fn later_questions()
 {}
 
 /// A client that has nothing to send has sent exactly the written form of each request, and the flush if it has left.
-pub fn all_is_said<A: Allocator + Copy>()
+pub fn all_is_sent<A: Allocator + Copy>()
     ensures { (t : Terms) (h : History) (client : Client A)
-        → Converses t h client → left_to_say client ≡ [] → h.given ≡ spelled (said_of t.format (caps_of client) h.asked h.left) }
+        → Converses t h client → left_to_send client ≡ [] → h.given ≡ spelled (sent_of t.format (caps_of client) h.asked h.left) }
 {}
 
 /// Bytes have one pack.
@@ -131,7 +131,7 @@ pub fn one_pack()
 {}
 
 /// The pack bytes that were returned are the pack of the bytes used, and so are those of a whole conversation.
-pub fn heard_pack()
+pub fn received_pack()
     ensures all { (t : Terms) (asked : List Asked) (bytes : List ℕ) (events : List EventValue)
         → HasEvents t asked bytes events → HasPack t asked bytes (pack_bytes events) }
     ensures whole { (t : Terms) (asked : List Asked) (bytes : List ℕ) (events : List EventValue)
@@ -156,10 +156,10 @@ pub fn methods_make_calls<A: Allocator + Copy>()
         → RefusesToAsk old request back fault new → Makes (ask_refused request back fault) steps old steps new }
     ensures left { (old new : Client A) (steps : ℕ) → Leaves old new → Makes leave steps old steps new }
     ensures pulled { (old new : Client A) (sent : Sent) (steps : ℕ) → Pulls old sent new → Makes (pull sent) steps old steps new }
-    ensures fed { (old new : Client A) (piece : List ℕ) (answer : Heard) (before after : ℕ) → Feeds old piece answer new
-        → answer.used ≤ length piece → Pays answer.used before after (credit_of (reader_of old)) (credit_of (reader_of new))
-        → Makes (feed piece answer) before old after new }
-    ensures closed { (old new : Client A) (fault : Fault) (steps : ℕ) → wants_input old ≡ true → HearsOn old [] [] new
+    ensures fed { (old new : Client A) (chunk : List ℕ) (answer : Received) (before after : ℕ) → Feeds old chunk answer new
+        → answer.used ≤ length chunk → Pays answer.used before after (credit_of (reader_of old)) (credit_of (reader_of new))
+        → Makes (feed chunk answer) before old after new }
+    ensures closed { (old new : Client A) (fault : Fault) (steps : ℕ) → wants_input old ≡ true → ReceivesOn old [] [] new
         → fault_of new ≡ Some fault → fault.kind ≡ Truncated
         → ((t : Terms) (h : History) (given : List Given) (rest : List ℕ) → Converses t h old → Splits 0 h.used given rest
         → fault.offset + length rest ≡ length h.used)
@@ -173,7 +173,7 @@ pub fn methods_make_calls<A: Allocator + Copy>()
 /// Counts of bytes that are together at most the number of a client's events do not overflow with the events that it receives next.
 pub fn counts_stay_below_their_end<A: Allocator + Copy>()
     ensures { (t : Terms) (h : History) (old new : Client A) (used : List ℕ) (events : List EventValue) (counts : Counts) → Converses t h old
-        → HearsOn old used events new → counts.pack + counts.progress ≤ length h.events → CanCount counts events }
+        → ReceivesOn old used events new → counts.pack + counts.progress ≤ length h.events → CanCount counts events }
 {}
 
 /// After any calls, a client that had not failed before them has failed with `Truncated` if and only if one of the calls closed its input.

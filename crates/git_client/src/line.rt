@@ -7,13 +7,13 @@ ghost use Rattle.git_pkt.specs.Machine.Sends.{Puts, Sends};
 ghost use Rattle.git_client.specs.Machine.LineParts.{line_shown, part_shown};
 
 use git_names::Oid;
-use git_pkt::{RunFault, Told, escape_into, is_plain, send};
+use git_pkt::{Recorded, RunFault, escape_into, is_plain, send};
 use itoa::Buffer;
 use std::io::Write;
 use std::marker::Model;
 
 /// The maximum number of bytes that wait for the writer: some tens of lines.
-const ROOM: usize = 2048;
+const SPACE: usize = 2048;
 
 /// The maximum length of a reference line without its name: a word, 64 digits, a space and the line's end.
 const BESIDES: usize = 4 + 64 + 1 + 1;
@@ -37,19 +37,19 @@ pub(crate) enum Part<'a> {
 /// The bytes of lines that wait for the writer, so that many lines take one write.
 #[derive(Drop)]
 pub(crate) struct Lines {
-    bytes: [u8; ROOM],
+    bytes: [u8; SPACE],
     count: usize,
 }
 
 impl Model for Lines {
     ghost use Rattle.std.specs.Prelude.{◌≤◌, ℕ, List, take};
-    ghost use Rattle.git_client.specs.declared.line.TheConstants.{ROOM};
+    ghost use Rattle.git_client.specs.declared.line.TheConstants.{SPACE};
 
     ghost Value = { List ℕ };
 
     ghost view = { λ lines. take lines.count lines.bytes };
 
-    ghost invariant = { λ lines. lines.count ≤ ROOM };
+    ghost invariant = { λ lines. lines.count ≤ SPACE };
 }
 
 impl Lines {
@@ -58,7 +58,7 @@ impl Lines {
         ensures { result ≡ [] }
     {
         Lines {
-            bytes: [0; ROOM],
+            bytes: [0; SPACE],
             count: 0,
         }
     }
@@ -66,7 +66,7 @@ impl Lines {
     /// Appends a line of these parts to the bytes that wait.
     pub(crate) fn put_line<W: Write>(
         &mut self,
-        out: &mut Told<W>,
+        out: &mut Recorded<W>,
         parts: &[Part<'_>],
     ) -> Result<(), RunFault>
         ensures { Puts W.contents out.old self.old (line_shown parts.now) result out.new self.new }
@@ -81,13 +81,13 @@ impl Lines {
     /// needs escaping.
     pub(crate) fn put_reference<W: Write>(
         &mut self,
-        out: &mut Told<W>,
+        out: &mut Recorded<W>,
         id: &Oid,
         name: &[u8],
     ) -> Result<(), RunFault>
         ensures { Puts W.contents out.old self.old (codes "ref " ++ hex_of id.now ++ codes " " ++ escaped_of name.now ++ codes "\n") result out.new self.new }
     {
-        if name.len() + BESIDES <= ROOM - self.count && is_plain(name) {
+        if name.len() + BESIDES <= SPACE - self.count && is_plain(name) {
             self.append(b"ref ");
             self.append_name(id);
             self.append(b" ");
@@ -99,7 +99,7 @@ impl Lines {
     }
 
     /// Sends all bytes that wait.
-    pub(crate) fn drain<W: Write>(&mut self, out: &mut Told<W>) -> Result<(), RunFault>
+    pub(crate) fn drain<W: Write>(&mut self, out: &mut Recorded<W>) -> Result<(), RunFault>
         ensures sends { Sends W.contents out.old self.old result out.new }
         ensures empty { OnOk result (self.new ≡ []) }
     {
@@ -109,10 +109,10 @@ impl Lines {
     }
 
     /// Appends bytes to those that wait, or sends both if they do not fit.
-    fn put<W: Write>(&mut self, out: &mut Told<W>, bytes: &[u8]) -> Result<(), RunFault>
+    fn put<W: Write>(&mut self, out: &mut Recorded<W>, bytes: &[u8]) -> Result<(), RunFault>
         ensures { Puts W.contents out.old self.old bytes.now result out.new self.new }
     {
-        if bytes.len() <= ROOM - self.count {
+        if bytes.len() <= SPACE - self.count {
             self.append(bytes);
             return Ok(());
         }
@@ -122,7 +122,7 @@ impl Lines {
 
     /// Appends bytes to those that wait. They must fit.
     fn append(&mut self, bytes: &[u8])
-        requires { length self.old + length bytes.now ≤ ROOM }
+        requires { length self.old + length bytes.now ≤ SPACE }
         ensures { self.new ≡ self.old ++ bytes.now }
     {
         let end = self.count + bytes.len();
@@ -132,7 +132,7 @@ impl Lines {
 
     /// Appends the digits of an object name to the bytes that wait. There must be space for 64. The bytes after the last digit mean nothing.
     fn append_name(&mut self, id: &Oid)
-        requires { length self.old + 64 ≤ ROOM }
+        requires { length self.old + 64 ≤ SPACE }
         ensures name { self.new ≡ self.old ++ hex_of id.now }
         ensures within { length self.new ≤ length self.old + 64 }
     {
@@ -140,7 +140,7 @@ impl Lines {
         self.count += id.format().digits();
     }
 
-    fn put_part<W: Write>(&mut self, out: &mut Told<W>, part: Part<'_>) -> Result<(), RunFault>
+    fn put_part<W: Write>(&mut self, out: &mut Recorded<W>, part: Part<'_>) -> Result<(), RunFault>
         ensures { Puts W.contents out.old self.old (part_shown part.entry) result out.new self.new }
     {
         match part {
@@ -160,20 +160,20 @@ impl Lines {
         }
     }
 
-    fn put_name<W: Write>(&mut self, out: &mut Told<W>, id: &Oid) -> Result<(), RunFault>
+    fn put_name<W: Write>(&mut self, out: &mut Recorded<W>, id: &Oid) -> Result<(), RunFault>
         ensures { Puts W.contents out.old self.old (hex_of id.now) result out.new self.new }
     {
         self.put(out, &id.hex()[..id.format().digits()])
     }
 
-    fn put_number<W: Write>(&mut self, out: &mut Told<W>, number: u64) -> Result<(), RunFault>
+    fn put_number<W: Write>(&mut self, out: &mut Recorded<W>, number: u64) -> Result<(), RunFault>
         ensures { Puts W.contents out.old self.old (decimal number) result out.new self.new }
     {
         self.put(out, Buffer::new().format(number).as_bytes())
     }
 
     /// Appends the escapes of bytes to the bytes that wait: in one step if no byte needs escaping, otherwise a block at a time.
-    fn put_text<W: Write>(&mut self, out: &mut Told<W>, bytes: &[u8]) -> Result<(), RunFault>
+    fn put_text<W: Write>(&mut self, out: &mut Recorded<W>, bytes: &[u8]) -> Result<(), RunFault>
         ensures { Puts W.contents out.old self.old (escaped_of bytes.now) result out.new self.new }
     {
         if is_plain(bytes) {
@@ -188,7 +188,7 @@ impl Lines {
         Ok(())
     }
 
-    fn put_block<W: Write>(&mut self, out: &mut Told<W>, block: &[u8]) -> Result<(), RunFault>
+    fn put_block<W: Write>(&mut self, out: &mut Recorded<W>, block: &[u8]) -> Result<(), RunFault>
         requires { length block.now ≤ BLOCK }
         ensures { Puts W.contents out.old self.old (escaped_of block.now) result out.new self.new }
     {

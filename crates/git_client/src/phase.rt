@@ -12,7 +12,7 @@ use git_pkt::Fault;
 #[derive(Clone, Copy, Debug)]
 pub(crate) enum Phase {
     /// Packets of the server are expected.
-    Hearing(Due),
+    Receiving(Expected),
     /// A request can be asked.
     Ready,
     /// The packets of the request have to be sent, and then its response is expected.
@@ -27,7 +27,7 @@ pub(crate) enum Phase {
 
 /// What is expected from the server.
 #[derive(Clone, Copy, Debug)]
-pub(crate) enum Due {
+pub(crate) enum Expected {
     /// The line that begins an advertisement.
     Version,
     /// The lines of the advertisement, or its flush.
@@ -52,7 +52,7 @@ pub(crate) enum Due {
 /// The contents of a packet without an error, with their places in the payload: so no line is read twice. Bytes of the pack and of
 /// the progress pass without this.
 #[derive(Clone, Copy, Debug)]
-pub(crate) enum Said {
+pub(crate) enum LineContent {
     Nothing,
     Capability(CapabilityPlaces),
     Offered,
@@ -79,7 +79,7 @@ pub(crate) struct CapabilityPlaces {
 #[derive(Clone, Copy, Debug)]
 pub(crate) enum Turn {
     /// The server has to send this next.
-    Hearing(Due),
+    Receiving(Expected),
     /// The client's turn: the message is complete, and a request can be asked.
     Ready,
 }
@@ -88,11 +88,11 @@ impl Turn {
     /// The phase of the conversation in this turn.
     pub(crate) fn phase(self) -> Phase
         ensures value { result ≡ phase_in self }
-        ensures owes { is_asking result ≡ false }
+        ensures has_unsent { is_asking result ≡ false }
         ensures sound { fault_in result ≡ None }
     {
         match self {
-            Turn::Hearing(due) => Phase::Hearing(due),
+            Turn::Receiving(expected) => Phase::Receiving(expected),
             Turn::Ready => Phase::Ready,
         }
     }

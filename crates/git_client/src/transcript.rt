@@ -13,7 +13,7 @@ use crate::events::Event;
 use crate::line::{Lines, Part};
 use git_msg::Command;
 use git_names::Oid;
-use git_pkt::{RunFault, Told};
+use git_pkt::{Recorded, RunFault};
 use std::io::Write;
 
 /// Writes the transcript line of an event, and nothing else. Bytes of the pack or the progress have no line. The numbers count
@@ -22,7 +22,7 @@ use std::io::Write;
 /// The error is `WriteFault` if writing fails; then a prefix of the line was written. A writer that had not
 /// failed before has failed if and only if this is the result.
 pub fn write_event<W: Write>(
-    out: &mut Told<W>,
+    out: &mut Recorded<W>,
     event: &Event<'_>,
     pack: u64,
     progress: u64,
@@ -37,7 +37,7 @@ pub fn write_event<W: Write>(
 /// Appends the line of an event to the bytes that wait for the writer, as [`write_event`] writes it.
 pub(crate) fn put_event<W: Write>(
     lines: &mut Lines,
-    out: &mut Told<W>,
+    out: &mut Recorded<W>,
     event: &Event<'_>,
     pack: u64,
     progress: u64,
@@ -59,7 +59,7 @@ pub(crate) fn put_event<W: Write>(
 #[inline(never)]
 fn put_parts<W: Write>(
     lines: &mut Lines,
-    out: &mut Told<W>,
+    out: &mut Recorded<W>,
     event: &Event<'_>,
     pack: u64,
     progress: u64,
@@ -86,7 +86,7 @@ fn put_parts<W: Write>(
 }
 
 /// Writes the transcript line of a request, and nothing else, with the errors of [`write_event`].
-pub fn write_asked<W: Write>(out: &mut Told<W>, command: Command) -> Result<(), RunFault>
+pub fn write_asked<W: Write>(out: &mut Recorded<W>, command: Command) -> Result<(), RunFault>
     ensures { Sends W.contents out.old (asked_line command) result out.new }
 {
     let mut lines = Lines::new();

@@ -22,13 +22,13 @@ refused_fault A kind fault = refl
 pub some_fault : (A : Type 0) (phase : Phase A) (fault : Fault) → phase ≡ refused_by fault.kind fault → IsSome (fault_in phase)
 some_fault A phase fault is = subst IsSome (sym (ap fault_in is ∙ refused_fault A fault.kind fault)) refl
 
-module _ {A : Type 0} (old new : RequestStream A) (piece : List ℕ) (read : ReadRequest A)
-    (feeds : Feeds old piece read new) (wants : wants_input old ≡ true) where
-  left_by : (got : ReadGot A) → read.got ≡ got → Leaves got read.used piece old new
-  left_by got is = subst (λ (o : ReadGot A). Leaves o read.used piece old new) is feeds.leaves
+module _ {A : Type 0} (old new : RequestStream A) (chunk : List ℕ) (read : ReadRequest A)
+    (feeds : Feeds old chunk read new) (wants : wants_input old ≡ true) where
+  left_by : (got : ReadGot A) → read.got ≡ got → Leaves got read.used chunk old new
+  left_by got is = subst (λ (o : ReadGot A). Leaves o read.used chunk old new) is feeds.leaves
 
   -- what brings no fault uses a byte
-  pub some_used : (got : ReadGot A) → read.got ≡ got → 0 < length piece → 0 < read.used ⊎ ((fault : Fault) × (got ≡ Failed fault))
+  pub some_used : (got : ReadGot A) → read.got ≡ got → 0 < length chunk → 0 < read.used ⊎ ((fault : Fault) × (got ≡ Failed fault))
   some_used More is some = inl (omega (arith, (left_by More is wants).0, some))
   some_used (Request request) is some = inl (left_by (Request request) is).0
   some_used Stop is some = inl (left_by Stop is).0

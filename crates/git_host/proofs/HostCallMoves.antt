@@ -58,9 +58,9 @@ module _ {A : Type 0} (refuses : ℕ → Type 0) where
   one_call : (s : HostSetting) (call : HostCall) (before : ℕ) (old : HostServer A) (after : ℕ) (new : HostServer A) → Makes refuses call before old after new
       → (used : List ℕ) (over : Bool) (facts : List Facts) (given : List ℕ) → Hosts s used over facts given old
       → Hosts s (used ++ used_by call) (over_with call over) (reported_with call facts) (given ++ given_by call) new
-  one_call s (feed piece count begun) before old after new made used over facts given h =
-      more_given s (used ++ take count piece) over (facts ++ begun) given [] new refl
-      (subst (λ (l : List Facts). Hosts s (used ++ take count piece) over (facts ++ l) given new) (sym made.begun_is) (made.feeds s used over facts given h))
+  one_call s (feed chunk count begun) before old after new made used over facts given h =
+      more_given s (used ++ take count chunk) over (facts ++ begun) given [] new refl
+      (subst (λ (l : List Facts). Hosts s (used ++ take count chunk) over (facts ++ l) given new) (sym made.begun_is) (made.feeds s used over facts given h))
   one_call s close before old after new made used over facts given h =
       more_used s used true facts (given ++ []) new (more_given s used true facts given [] new refl (made.0.2 s used over facts given h))
   one_call s (next Packet bytes) before old after new made used over facts given h =
@@ -86,7 +86,7 @@ module _ {A : Type 0} (refuses : ℕ → Type 0) where
   -- a packet that is sent has bytes
   one_packet : (s : HostSetting) (call : HostCall) (before : ℕ) (old : HostServer A) (after : ℕ) (new : HostServer A) → Makes refuses call before old after new
       → (used : List ℕ) (over : Bool) (facts : List Facts) (given : List ℕ) → Hosts s used over facts given old → HandsOut call
-  one_packet s (feed piece count begun) before old after new made used over facts given h = tt
+  one_packet s (feed chunk count begun) before old after new made used over facts given h = tt
   one_packet s close before old after new made used over facts given h = tt
   one_packet s (next Packet bytes) before old after new made used over facts given h =
       subst AreHandedOut (sym made.1) (made.0 s used over facts given h).1
@@ -139,7 +139,7 @@ module _ {A : Type 0} (refuses : ℕ → Type 0) where
   one_memory : (s : HostSetting) (call : HostCall) (before : ℕ) (old : HostServer A) (after : ℕ) (new : HostServer A)
       → Makes refuses call before old after new → (used : List ℕ) (over : Bool) (facts : List Facts) (given : List ℕ) → Hosts s used over facts given old
       → FaultNeedsRefusal refuses s.limit (fault_of old) → FaultNeedsRefusal refuses s.limit (fault_of new)
-  one_memory s (feed piece count begun) before old after new made used over facts given h needs = made.memory s used over facts given h needs
+  one_memory s (feed chunk count begun) before old after new made used over facts given h needs = made.memory s used over facts given h needs
   one_memory s close before old after new made used over facts given h needs =
       memory_closed refuses s used facts given new.stream new.flush new.phase (made.0.2 s used over facts given h).stands
   one_memory s (next step bytes) before old after new made used over facts given h needs =
@@ -167,7 +167,7 @@ module _ {A : Type 0} (refuses : ℕ → Type 0) where
   one_report : (call : HostCall) (before : ℕ) (old : HostServer A) (after : ℕ) (new : HostServer A) → Makes refuses call before old after new
       → LacksMemory refuses call
   one_report (report fact what bytes) before old after new made = λ is. (33 * (objects_by old + 1), made.4 is)
-  one_report (feed piece count begun) before old after new made = tt
+  one_report (feed chunk count begun) before old after new made = tt
   one_report close before old after new made = tt
   one_report (next step bytes) before old after new made = tt
   one_report accept before old after new made = tt
@@ -183,8 +183,8 @@ module _ {A : Type 0} (refuses : ℕ → Type 0) where
   -- each call is paid for by the bytes that it used
   paid_by : (call : HostCall) (before : ℕ) (old : HostServer A) (after : ℕ) (new : HostServer A) → Makes refuses call before old after new
       → ArePaid (length (used_by call)) (feeds_by call) before after (credit_of old) (credit_of new)
-  paid_by (feed piece count begun) before old after new made =
-      record { rises = made.pays.rises; within = omega (arith, made.pays.within, length-take-le count piece made.within) }
+  paid_by (feed chunk count begun) before old after new made =
+      record { rises = made.pays.rises; within = omega (arith, made.pays.within, length-take-le count chunk made.within) }
   paid_by close before old after new made = record { rises = omega (arith, made.1.steps); within = omega (arith, made.1.steps, made.1.credit) }
   paid_by (next step bytes) before old after new made = record { rises = omega (arith, made.2.steps); within = omega (arith, made.2.steps, made.2.credit) }
   paid_by (report fact what bytes) before old after new made =

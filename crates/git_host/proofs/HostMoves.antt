@@ -472,25 +472,25 @@ accepts s used over facts given flush stream request answer begins h = record {
 }
 
 -- ---- what bytes bring to a server that reads
-module _ {A : Type 0} (s : HostSetting) (so_far : List ℕ) (over : Bool) (reported : List Facts) (given : List ℕ) (old new : RequestStream A) (piece : List ℕ)
-    (read : ReadRequest A) (feeds : StreamFeeds old piece read new) (h : IsReading s so_far over reported given old) where
-  reads_now : HasRead (so_far ++ take read.used piece) (h.asked ++ asked_by read.got) new
+module _ {A : Type 0} (s : HostSetting) (so_far : List ℕ) (over : Bool) (reported : List Facts) (given : List ℕ) (old new : RequestStream A) (chunk : List ℕ)
+    (read : ReadRequest A) (feeds : StreamFeeds old chunk read new) (h : IsReading s so_far over reported given old) where
+  reads_now : HasRead (so_far ++ take read.used chunk) (h.asked ++ asked_by read.got) new
   reads_now = feeds.reads so_far h.asked h.reads.reads
 
-  same_asked : asked_by read.got ≡ [] → HasRead (so_far ++ take read.used piece) h.asked new
-  same_asked none = subst (λ (qs : List Asked). HasRead (so_far ++ take read.used piece) qs new) (ap (λ (l : List Asked). h.asked ++ l) none
+  same_asked : asked_by read.got ≡ [] → HasRead (so_far ++ take read.used chunk) h.asked new
+  same_asked none = subst (λ (qs : List Asked). HasRead (so_far ++ take read.used chunk) qs new) (ap (λ (l : List Asked). h.asked ++ l) none
       ∙ append-nil h.asked)
       reads_now
 
   none_begun : AllAnswered s h.asked (reported ++ []) given
   none_begun = subst (λ (fs : List Facts). AllAnswered s h.asked fs given) (sym (append-nil reported)) h.all
 
-  pub brought_more : read.got ≡ More → IsReading s (so_far ++ take read.used piece) over (reported ++ []) given new
+  pub brought_more : read.got ≡ More → IsReading s (so_far ++ take read.used chunk) over (reported ++ []) given new
   brought_more is = record {
     asked = h.asked;
     reads = record {
       reads = same_asked (ap asked_by is);
-      wants = (subst (λ (got : ReadGot A). Leaves got read.used piece old new) is feeds.leaves h.reads.wants).1;
+      wants = (subst (λ (got : ReadGot A). Leaves got read.used chunk old new) is feeds.leaves h.reads.wants).1;
       offer = feeds.offer ∙ h.reads.offer;
       limit = feeds.limit ∙ h.reads.limit;
       goes_on = h.reads.goes_on;
@@ -499,27 +499,27 @@ module _ {A : Type 0} (s : HostSetting) (so_far : List ℕ) (over : Bool) (repor
   }
 
   pub brought_request : (request : Request A) (flush : ℕ) → read.got ≡ RequestGot request → flush ≡ bytes_used new - 4 → stored_of request ≤ kept_of request
-      → IsAtRequest s (so_far ++ take read.used piece) over (reported ++ nothing_for (asked_of request) ∷ []) given new flush
+      → IsAtRequest s (so_far ++ take read.used chunk) over (reported ++ nothing_for (asked_of request) ∷ []) given new flush
       (IsUntouched s.limit (holding_of request))
   brought_request request flush is at covered =
-      let leaves = subst (λ (got : ReadGot A). Leaves got read.used piece old new) is feeds.leaves in
-      request_came s (so_far ++ take read.used piece) over reported given new h.asked request flush h.all h.reads.goes_on
-      (subst (λ (got : ReadGot A). HasRead (so_far ++ take read.used piece) (h.asked ++ asked_by got) new) is reads_now)
+      let leaves = subst (λ (got : ReadGot A). Leaves got read.used chunk old new) is feeds.leaves in
+      request_came s (so_far ++ take read.used chunk) over reported given new h.asked request flush h.all h.reads.goes_on
+      (subst (λ (got : ReadGot A). HasRead (so_far ++ take read.used chunk) (h.asked ++ asked_by got) new) is reads_now)
       (feeds.offer ∙ h.reads.offer) (feeds.limit ∙ h.reads.limit) leaves.1 leaves.2 at
-      (subst (λ (got : ReadGot A). EndsWith got (so_far ++ take read.used piece) new) is (feeds.counts so_far h.asked h.reads.reads))
+      (subst (λ (got : ReadGot A). EndsWith got (so_far ++ take read.used chunk) new) is (feeds.counts so_far h.asked h.reads.reads))
       (record { covered = covered; within = omega (arith, leaves.4, feeds.limit, h.reads.limit) })
 
-  pub brought_stop : read.got ≡ StopGot → IsHosted s (so_far ++ take read.used piece) over (reported ++ []) given Flush
+  pub brought_stop : read.got ≡ StopGot → IsHosted s (so_far ++ take read.used chunk) over (reported ++ []) given Flush
   brought_stop is =
-      let leaves = subst (λ (got : ReadGot A). Leaves got read.used piece old new) is feeds.leaves in
-      left_by_flush new (so_far ++ take read.used piece) h.asked (same_asked (ap asked_by is)) s over (reported ++ []) given none_begun
+      let leaves = subst (λ (got : ReadGot A). Leaves got read.used chunk old new) is feeds.leaves in
+      left_by_flush new (so_far ++ take read.used chunk) h.asked (same_asked (ap asked_by is)) s over (reported ++ []) given none_begun
       (feeds.offer ∙ h.reads.offer) (feeds.limit ∙ h.reads.limit) h.reads.goes_on leaves.1 leaves.2
 
-  pub brought_fault : (fault : Fault) → read.got ≡ FailedGot fault → StopsBy s (so_far ++ take read.used piece) over (reported ++ []) given (Refused fault)
+  pub brought_fault : (fault : Fault) → read.got ≡ FailedGot fault → StopsBy s (so_far ++ take read.used chunk) over (reported ++ []) given (Refused fault)
   brought_fault fault is =
-      let leaves = subst (λ (got : ReadGot A). Leaves got read.used piece old new) is feeds.leaves in
+      let leaves = subst (λ (got : ReadGot A). Leaves got read.used chunk old new) is feeds.leaves in
       let shown = feeds.news fault (no_fault old.stage h.reads.wants) is in
-      stops_by new (so_far ++ take read.used piece) h.asked (same_asked (ap asked_by is)) s over (reported ++ []) given none_begun
+      stops_by new (so_far ++ take read.used chunk) h.asked (same_asked (ap asked_by is)) s over (reported ++ []) given none_begun
       (feeds.offer ∙ h.reads.offer) (feeds.limit ∙ h.reads.limit) fault leaves
       (subst (λ (b : Bool). ShowsWhere b fault.kind) (sym h.reads.goes_on) shown.not_the_end)
 

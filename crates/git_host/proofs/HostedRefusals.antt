@@ -19,7 +19,7 @@ use Rattle.git_msg.specs.Machine.RequestStreams.{AreAsked, IsOne, IsRefusedAs}
 use Rattle.git_msg.specs.Machine.StreamStages.{AreBegun}
 use Rattle.git_msg.proofs.Admission.{admitted_more}
 use Rattle.git_msg.proofs.LineLists.{lines_snoc}
-use Rattle.git_msg.proofs.PacketFaults.{told_of_packets}
+use Rattle.git_msg.proofs.PacketFaults.{announced_of_packets}
 use Rattle.git_msg.proofs.WholeRequests.{last_request}
 use Rattle.git_server.specs.Admission.{HasAsked, barred}
 use Rattle.git_server.specs.Answers.{AllFit, IsAnswerAs, refusal_by, spelled}
@@ -92,7 +92,7 @@ module _ (s : HostSetting) (repo : Repository) (failures : ℕ) where
     last = h.last;
     whole = h.whole;
     begins = begins left h.front (h.last ∷ []) h.whole h.begun had;
-    told = inr (had left [] (sym (append-nil left)), h.told);
+    announced = inr (had left [] (sym (append-nil left)), h.announced);
     no_rest = h.no_rest;
   })
   refused_alike over left rest end fault had shows (inr (inl h)) = inr (inl (record {
@@ -131,7 +131,7 @@ no_pack_at p rest end offset h = h.0
 
 no_pack_read : (offer : Offer) (limit : ℕ) (left : List Given) (rest : List ℕ) (end : ℕ) (fault : Fault) → fault.kind ≡ PackSource
     → IsRefusedAs offer limit left rest end fault → ⊥
-no_pack_read offer limit left rest end fault is (inl h) = told_of_packets PackSource tt offer limit left fault h.told is
+no_pack_read offer limit left rest end fault is (inl h) = announced_of_packets PackSource tt offer limit left fault h.announced is
 no_pack_read offer limit left rest end fault is (inr (inl h)) =
     no_pack_at (end - length rest) rest end fault.offset (subst (λ (k : Kind). StopsAt (end - length rest) rest end k fault.offset) is h.stops)
 no_pack_read offer limit left rest end fault is (inr (inr h)) = let both : PackSource ≡ Truncated = sym is ∙ h.kind in absurd (cc)

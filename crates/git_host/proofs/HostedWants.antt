@@ -308,7 +308,7 @@ module _ (s : HostSetting) (repo : Repository) (failures : ℕ) (used : List ℕ
             last = first.line;
             whole = refl;
             begins = record { lines = first.lines; taken = first.taken; admitted = first.admitted };
-            told = inl (record {
+            announced = inl (record {
               front = first.front;
               last = first.line;
               lines = first.lines;

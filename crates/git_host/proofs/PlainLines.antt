@@ -1,5 +1,6 @@
 -- The line of a reference that points to no other and is no annotated tag.
-use Rattle.std.proofs.Common.{arith, ◌≡◌, ◌≤◌, Bool, true, false, List, [], ◌∷◌, ◌++◌, ℕ, length, length-append, append-nil, Option, Some, None, if◌then◌else◌, ◌∙◌, codes, refl, sym, ap, subst}
+use Rattle.std.proofs.Common.{arith, ◌≡◌, ◌≤◌, Bool, true, false, List, [], ◌∷◌, ◌++◌, ℕ, length, length-append, append-nil, Option, Some, None}
+use Rattle.std.proofs.Common.{if◌then◌else◌, ◌∙◌, codes, refl, sym, ap, subst}
 use Rattle.std.specs.Option.{ForSome}
 use Rattle.std.specs.Prelude.{◌≢◌}
 use Rattle.std.proofs.lemmas.Option.{none-some}

@@ -31,8 +31,11 @@ module _ {A : Type 0} where
       (taken : Result Reported ReferenceFault) → old ≡ References a → r ≡ reported_as reported → taken ≡ Ok reported
       → TakesReference format name a taken b → TakesPlain format name old (Ok r) (References b)
   plain_taken a b old format name reported r taken was is ok done =
-      let (named, does) = subst (λ (x : Result Reported ReferenceFault). TakesReference format name a x b) ok done in
-      (named, λ id of_format. reference_reported a b old (plain_entry id name) reported r (spelling_of (plain_line (hex_of id) name)) was is (does id of_format))
+      let (named, does) = subst (λ (x : Result Reported ReferenceFault). TakesReference format name a x b) ok done in (
+        named,
+        λ id of_format. reference_reported a b old (plain_entry id name) reported r (spelling_of (plain_line (hex_of id) name)) was is
+            (does id of_format),
+      )
 
   -- or refuses it
   pub plain_refused : (a b : ReferencesAnswer A) (old : HostAnswer A) (format : Format) (name : List ℕ) (fault : ReferenceFault)

@@ -214,7 +214,8 @@ unsound_head AfterUnborn format q t last given entry is h sound =
           (All-pop (λ (ref : Entry). ref.name ≢ codes "HEAD") (t.refs ++ entry ∷ []) t.refs (Some entry) refl (u target refl).no_head).1
           ((bytes_eq-Decides entry.name (codes "HEAD")).0 is)
 
-module _ (format : Format) (q : LsRefsAsked) (t : ReferencesFacts) (last : Option (List ℕ)) (given : List Pkt) (target : List ℕ) (at : AtFirst t last given) where
+module _ (format : Format) (q : LsRefsAsked) (t : ReferencesFacts) (last : Option (List ℕ)) (given : List Pkt) (target : List ℕ)
+    (at : AtFirst t last given) where
   head_on : (b : Bool) → asks_for_unborn q ≡ b
       → packets_so_far q (with_unborn target t) ≡ (if b then unborn_packet target ∷ [] else [])
   head_on b e =

@@ -271,11 +271,11 @@ all_with repo [] q (g ∷ fs) f all so = absurd all
 all_with repo (p ∷ qs) q [] f all so = absurd all
 
 -- a pack that is sent is sent where the repository is ready
-as_ready : (more said able : Bool) → (said ≡ true → able ≡ true) → ((more && said) ≡ false → (more && able) ≡ false)
-    → (more && said) ≡ (more && able)
+as_ready : (more content able : Bool) → (content ≡ true → able ≡ true) → ((more && content) ≡ false → (more && able) ≡ false)
+    → (more && content) ≡ (more && able)
 as_ready true true able sends unready = sym (sends refl)
 as_ready true false able sends unready = sym (unready refl)
-as_ready false said able sends unready = refl
+as_ready false content able sends unready = refl
 
 -- with their packs
 with_pack : (repo : Repository) (q : Asked) (f : Facts) → ButPack repo q f → HasItsPack repo q f → IsAdmittedByRepository repo q f × IsOfRepository repo q f

@@ -238,14 +238,14 @@ module _ {A : Type 0} where
         closed_over new.phase h.s h.used h.facts h.given new.stream new.flush (closes.2 h.s h.used h.over h.facts h.given h.hosts).stands)
 
     -- of a chunk with bytes one is used, or the input is refused
-    pub uses_some : (piece : List ℕ) (used : ℕ) → MovesHost old piece used new → reads_on old ≡ true → 0 < length piece
+    pub uses_some : (chunk : List ℕ) (used : ℕ) → MovesHost old chunk used new → reads_on old ≡ true → 0 < length chunk
         → 0 < used ⊎ (is_over new ≡ true)
-    uses_some piece zero moves reads some = inr (∥∥₁_elim session (hlevel props) (λ (h : IsOfAHost old).
+    uses_some chunk zero moves reads some = inr (∥∥₁_elim session (hlevel props) (λ (h : IsOfAHost old).
         elim (moves h.s h.used h.over h.facts h.given h.hosts reads some) [
           | inl used ↦ absurd (omega (arith, used))
           | inr fault ↦ fault_over new.phase fault
         ]))
-    uses_some piece (suc n) moves reads some = inl (omega (arith))
+    uses_some chunk (suc n) moves reads some = inl (omega (arith))
 
     -- moves keep a server to its session
     pub keeps_session : {S : Type 0} {begins : S → Asked → S → Type 0} {replies : S → Question → Reply → S → Type 0} {used given : List ℕ}

@@ -31,7 +31,7 @@ pub data HostCall : Type 0 where
 
 -- the bytes that the call used
 abbrev pub used_by : HostCall → List ℕ
-used_by (feed piece used begun) = take used piece
+used_by (feed chunk used begun) = take used chunk
 used_by call = []
 
 -- the bytes that it gave
@@ -60,7 +60,7 @@ LacksMemory refuses call = Unit {0}
 
 -- what was reported for each request, with what the call reported
 abbrev pub reported_with : HostCall → List Facts → List Facts
-reported_with (feed piece used begun) reported = reported ++ begun
+reported_with (feed chunk used begun) reported = reported ++ begun
 reported_with (report fact what bytes) reported = with_last (with_reported what fact) reported
 reported_with call reported = reported
 
@@ -71,7 +71,7 @@ over_with call over = over
 
 -- 1 for a call of `feed`
 abbrev pub feeds_by : HostCall → ℕ
-feeds_by (feed piece used begun) = 1
+feeds_by (feed chunk used begun) = 1
 feeds_by call = 0
 
 -- all bytes that the calls used, joined, and all that they gave
@@ -107,16 +107,16 @@ module _ {A : Type 0} where
 
 module _ {A : Type 0} (refuses : ℕ → Type 0) where
   -- what `feed` ensures of this chunk, if it used so many bytes: the counter of steps rose from `before` to `after`
-  pub record Feeds (piece : List ℕ) (used : ℕ) (begun : List Facts) (before : ℕ) (old : HostServer A) (after : ℕ) (new : HostServer A) : Type 0 where
-    pub within : used ≤ length piece
+  pub record Feeds (chunk : List ℕ) (used : ℕ) (begun : List Facts) (before : ℕ) (old : HostServer A) (after : ℕ) (new : HostServer A) : Type 0 where
+    pub within : used ≤ length chunk
     pub begun_is : begun ≡ begun_in old.phase new.phase
-    pub feeds : FeedsHost (take used piece) old new
+    pub feeds : FeedsHost (take used chunk) old new
     pub pays : Pays used before after (credit_of old) (credit_of new)
     pub memory : KeepsHostToMemory refuses old new
 
   -- what the contract of the call states of the counter and the server, before it and after it
   abbrev pub Makes : HostCall → ℕ → HostServer A → ℕ → HostServer A → Type 0
-  Makes (feed piece used begun) before old after new = Feeds piece used begun before old after new
+  Makes (feed chunk used begun) before old after new = Feeds chunk used begun before old after new
   Makes close before old after new = ClosesHost old true new × IsFree before old after new
   Makes (next step bytes) before old after new =
       StepsHost old step new × (bytes ≡ given_at step new) × IsFree before old after new × KeepsFault old new

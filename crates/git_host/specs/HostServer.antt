@@ -204,9 +204,9 @@ module _ {A : Type 0} where
 
   -- of a chunk with bytes a server that waits for some uses one at least, or the input is refused
   abbrev pub MovesHost : HostServer A → List ℕ → ℕ → HostServer A → Type 0
-  MovesHost old piece used new =
+  MovesHost old chunk used new =
       (s : HostSetting) (so_far : List ℕ) (over : Bool) (reported : List Facts) (given : List ℕ) → Hosts s so_far over reported given old
-      → reads_on old ≡ true → 0 < length piece → 0 < used ⊎ IsSome (fault_of new)
+      → reads_on old ≡ true → 0 < length chunk → 0 < used ⊎ IsSome (fault_of new)
 
   -- if the session does not end for want of memory, unless a list of at most as many bytes as the limit has was refused, that holds after the call
   abbrev pub KeepsHostToMemory : (ℕ → Type 0) → HostServer A → HostServer A → Type 0

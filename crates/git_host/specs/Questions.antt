@@ -98,10 +98,10 @@ listed_in buffer Lists.End = references_end
 
 -- no more bytes are stated to be there than a buffer of this length has
 abbrev pub IsPartWithin : ℕ → Part → Type 0
-IsPartWithin room (Parts.Pack count) = count ≤ room
-IsPartWithin room (Parts.Progress count) = count ≤ room
-IsPartWithin room Parts.End = Unit {0}
+IsPartWithin space (Parts.Pack count) = count ≤ space
+IsPartWithin space (Parts.Progress count) = count ≤ space
+IsPartWithin space Parts.End = Unit {0}
 
 abbrev pub IsListedWithin : ℕ → Listed → Type 0
-IsListedWithin room (Lists.Unborn count) = count ≤ room
-IsListedWithin room listed = Unit {0}
+IsListedWithin space (Lists.Unborn count) = count ≤ space
+IsListedWithin space listed = Unit {0}

@@ -25,7 +25,7 @@ pub(crate) fn answer_need<S: Store, A: Allocator + Copy>(
     need: Need,
 ) -> bool
     requires asked { IsSome (question_at server.old need) }
-    requires room { 0 < length buffer.old }
+    requires space { 0 < length buffer.old }
     ensures { AnswersNeed S.replies need result server.old store.old server.new store.new }
 {
     match ask(server, store, buffer, need) {
@@ -59,7 +59,7 @@ fn ask<S: Store, A: Allocator + Copy>(
     need: Need,
 ) -> Result<HostReported, StoreFault>
     requires asked { IsSome (question_at server.old need) }
-    requires room { 0 < length buffer.old }
+    requires space { 0 < length buffer.old }
     ensures { Asks S.replies need result server.old store.old server.new store.new }
 {
     match need {
@@ -158,7 +158,7 @@ fn ask_pack<S: Store, A: Allocator + Copy>(
     buffer: &mut [u8],
 ) -> Result<HostReported, StoreFault>
     requires asked { IsSome (question_at server.old Need.Pack) }
-    requires room { 0 < length buffer.old }
+    requires space { 0 < length buffer.old }
     ensures { Asks S.replies Need.Pack result server.old store.old server.new store.new }
 {
     let Some(request) = fetch_asked(server) else {
@@ -177,7 +177,7 @@ fn ask_reference<S: Store, A: Allocator + Copy>(
     buffer: &mut [u8],
 ) -> Result<HostReported, StoreFault>
     requires asked { IsSome (question_at server.old Need.Reference) }
-    requires room { 0 < length buffer.old }
+    requires space { 0 < length buffer.old }
     ensures { Asks S.replies Need.Reference result server.old store.old server.new store.new }
 {
     match store.reference(buffer)? {

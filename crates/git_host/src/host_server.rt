@@ -306,10 +306,10 @@ impl<A: Memory + Copy> HostServer<A> {
 
     /// Takes bytes of the input, and returns how many were used: all of them, or those up to the end of a request, a flush instead of one,
     /// or a fault. None is used while a request is answered, nor after the end.
-    pub fn feed(&mut self, piece: &[u8], steps: &mut Steps) -> usize
-        ensures used { result ≤ length piece.now }
-        ensures feeds { FeedsHost (take result piece.now) self.old self.new }
-        ensures moves { MovesHost self.old piece.now result self.new }
+    pub fn feed(&mut self, chunk: &[u8], steps: &mut Steps) -> usize
+        ensures used { result ≤ length chunk.now }
+        ensures feeds { FeedsHost (take result chunk.now) self.old self.new }
+        ensures moves { MovesHost self.old chunk.now result self.new }
         ensures cost { Pays result steps.old steps.new (credit_of self.old) (credit_of self.new) }
 
         // The input is refused for want of memory only where memory refused a list, which was to have no more bytes than the limit.
@@ -318,7 +318,7 @@ impl<A: Memory + Copy> HostServer<A> {
         if !self.wants_input() {
             return 0;
         }
-        let read = self.stream.feed(piece, steps);
+        let read = self.stream.feed(chunk, steps);
         let used = read.used;
         match read.got {
             ReadGot::More => used,
@@ -386,8 +386,8 @@ impl<A: Memory + Copy> HostServer<A> {
         // Memory refused a list that was to have a copy of the name.
         ensures memory { result ≡ Err ReferenceFault.OutOfMemory → HasRefused A.refuses (length name.now) }
     {
-        let mut room = [0; 64];
-        let Some(digits) = written_digits(self.offer.format, digits, &mut room) else {
+        let mut space = [0; 64];
+        let Some(digits) = written_digits(self.offer.format, digits, &mut space) else {
             return Err(ReferenceFault::BadObjectName);
         };
         let Phase::Answering(answer) = &mut self.phase else {

@@ -86,9 +86,9 @@ pub fn all_fields_are_counted<A: Allocator + Copy>()
 /// What the contract of each method ensures is a call of the headline, also where it returns false; and calls follow one another: so the
 /// headline is about any that a program makes.
 pub fn methods_make_calls<A: Memory + Copy>()
-    ensures fed { (old new : HostServer A) (piece : List ℕ) (used before after : ℕ) → used ≤ length piece → FeedsHost (take used piece) old new
+    ensures fed { (old new : HostServer A) (chunk : List ℕ) (used before after : ℕ) → used ≤ length chunk → FeedsHost (take used chunk) old new
         → Pays used before after (credit_of old) (credit_of new) → KeepsHostToMemory A.refuses old new
-        → Makes A.refuses (feed piece used (begun_in old.phase new.phase)) before old after new }
+        → Makes A.refuses (feed chunk used (begun_in old.phase new.phase)) before old after new }
     ensures closed { (old new : HostServer A) (steps : ℕ) → ClosesHost old true new → credit_of new ≤ credit_of old
         → Makes A.refuses close steps old steps new }
     ensures unclosed { (old new : HostServer A) (steps : ℕ) → ClosesHost old false new → Makes A.refuses nothing steps old steps new }

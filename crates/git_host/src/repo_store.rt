@@ -53,11 +53,11 @@ impl<P: Read + Seek> PackFile<P> {
         ensures length { length out.new ≡ length out.old }
         ensures within { IfOk result (λ count. count ≤ length out.new) }
     {
-        let room = self.left.min(out.len() as u64) as usize;
-        if room == 0 {
+        let space = self.left.min(out.len() as u64) as usize;
+        if space == 0 {
             return Ok(0);
         }
-        let count = read_some(&mut self.reader, &mut out[..room])?;
+        let count = read_some(&mut self.reader, &mut out[..space])?;
         self.left -= count as u64;
         Ok(count)
     }

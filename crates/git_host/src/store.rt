@@ -98,14 +98,14 @@ pub trait Store {
         request: &Fetch<A>,
         out: &mut [u8],
     ) -> Result<Part, StoreFault>
-        requires room { 0 < length out.old }
+        requires space { 0 < length out.old }
         ensures length { length out.new ≡ length out.old }
         ensures within { IfOk result (IsPartWithin (length out.new)) }
         ensures replies { replies self.old (ask_pack request.now.asked) (replied (part_in out.new) result) self.new };
 
     /// What comes next of the references. The name that an unborn `HEAD` points to goes to the front of `out`.
     fn reference(&mut self, out: &mut [u8]) -> Result<Listed, StoreFault>
-        requires room { 0 < length out.old }
+        requires space { 0 < length out.old }
         ensures length { length out.new ≡ length out.old }
         ensures within { IfOk result (IsListedWithin (length out.new)) }
         ensures replies { replies self.old ask_reference (replied (listed_in out.new) result) self.new };

@@ -11,11 +11,11 @@ use git_names::laws::object_name_has_one_written_form;
 use git_names::{Format, Oid, Steps};
 
 /// The digits of the object that the text names, in lower case; none if it is no object name of the format. They are the text itself, if it is
-/// in lower case, and else they are written to `room`.
+/// in lower case, and else they are written to `space`.
 pub(crate) fn written_digits<'a>(
     format: Format,
     text: &'a [u8],
-    room: &'a mut [u8; 64],
+    space: &'a mut [u8; 64],
 ) -> Option<&'a [u8]>
     ensures { MatchOption result (IsNoObjectName format text.entry.now) (λ digits. SpellsId format text.entry.now digits.now) }
 {
@@ -24,7 +24,7 @@ pub(crate) fn written_digits<'a>(
         return Some(text);
     }
     match Oid::read(format, text, &mut Steps::new()) {
-        Ok(id) => Some(id.written(room)),
+        Ok(id) => Some(id.written(space)),
         Err(_) => None,
     }
 }

@@ -8,7 +8,7 @@ use Rattle.git_pkt.specs.Streams.{Flow, flow, WrittenAs, Moves, is_broken}
 use Rattle.git_pkt.specs.declared.fault.RunFault.{RunFault}
 use Rattle.git_pkt.proofs.EngineLemmas.{written_nothing, written_then, written_flushed, at_fault, brings_more}
 use Rattle.git_pkt.proofs.EngineLemmas.{Moved, moved_nothing, moved_flushed, moved_on, moves}
-use Rattle.git_pkt.proofs.Pieces.{left_of, take_joined}
+use Rattle.git_pkt.proofs.Chunks.{left_of, take_joined}
 use Rattle.git_loop.specs.Machines.{StateRelation, RunStates, EndsRun, IsAt, Ran, Writes, WritesEnd, WritesPart}
 
 -- a machine that needs no input has finished

@@ -1,17 +1,17 @@
 //! One loop over any machine: it reads, feeds the machine, and writes the packets that the machine gives.
 
 ghost use Rattle.std.specs.Prelude.{◌≡◌, ◌≤◌, ◌<◌, ◌||◌, [], ◌∷◌, length, true, false, IsTrue, IfOk, IfErr, OnErr, OnOk, is_err};
-ghost use Rattle.git_pkt.specs.Machine.Told.{inner_of, reads_of, has_failed, has_ended, has_wasted, IsNew};
+ghost use Rattle.git_pkt.specs.Machine.Recorded.{inner_of, reads_of, has_failed, has_ended, has_wasted, IsNew};
 ghost use Rattle.git_pkt.specs.Machine.Engine.{FailsAs, IsShownBy, IsSpent};
 ghost use Rattle.git_pkt.specs.Streams.{flow, is_broken, Moves};
 ghost use Rattle.git_loop.specs.Machines.{IsAt, Ran, Writes, WritesChunk, WritesPart};
 
 use crate::machine::{Machine, Next};
-use git_pkt::{RunFault, Told, flush, receive, send};
+use git_pkt::{Recorded, RunFault, flush, receive, send};
 use std::io::{Read, Write};
 
 // Writes the packets that the machine gives until it needs input or has finished. Returns whether it has finished.
-fn drain<M: Machine, W: Write>(machine: &mut M, writer: &mut Told<W>) -> Result<bool, RunFault>
+fn drain<M: Machine, W: Write>(machine: &mut M, writer: &mut Recorded<W>) -> Result<bool, RunFault>
     ensures ok { OnOk result (Writes M.reaches false machine.old machine.new []
         (flow (W.contents (inner_of writer.old)) (W.contents (inner_of writer.new)))) }
     ensures front { OnErr result (Writes M.reaches true machine.old machine.new []
@@ -35,7 +35,7 @@ fn drain<M: Machine, W: Write>(machine: &mut M, writer: &mut Told<W>) -> Result<
 // may have left bytes unused.
 fn feed_all<M: Machine, W: Write>(
     machine: &mut M,
-    writer: &mut Told<W>,
+    writer: &mut Recorded<W>,
     chunk: &[u8],
 ) -> Result<bool, RunFault>
     requires { M.needs_input machine.old }
@@ -65,12 +65,12 @@ fn feed_all<M: Machine, W: Write>(
 /// reader. After `WriteFault` it cannot be run again, since it may have given more than was written.
 pub fn run<M: Machine, R: Read, W: Write>(
     machine: &mut M,
-    reader: &mut Told<R>,
-    writer: &mut Told<W>,
+    reader: &mut Recorded<R>,
+    writer: &mut Recorded<W>,
     buffer: &mut [u8],
     turns: u64,
 ) -> Result<(), RunFault>
-    requires room { 0 < length buffer.old }
+    requires space { 0 < length buffer.old }
     requires new_reader { IsNew reader.old }
     requires sound_writer { has_failed writer.old ≡ false }
 

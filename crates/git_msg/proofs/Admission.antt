@@ -8,20 +8,20 @@ use Rattle.git_pkt.specs.declared.fault.Fault.{Fault}
 use Rattle.git_pkt.specs.declared.fault.Kind.{Kind}
 use Rattle.git_pkt.specs.declared.fault.Kind.TheVariants.{TooMuchKept}
 use Rattle.git_msg.specs.declared.offers.Offer.{Offer}
-use Rattle.git_msg.specs.Admission.{nothing_barred, IsAdmitted, AreAdmitted, IsBarred, IsBarredAtLast, IsToldFor, IsUnbarred}
+use Rattle.git_msg.specs.Admission.{nothing_barred, IsAdmitted, AreAdmitted, IsBarred, IsBarredAtLast, IsAnnouncedFor, IsUnbarred}
 use Rattle.git_msg.specs.Arguments.{Arg}
 use Rattle.git_msg.specs.Lines.{Line, argument_in, arguments_of, HasFault, HasFaultIn, IsArgumentText, IsLine, IsLineIn}
-use Rattle.git_msg.specs.Requests.{AreLines, FirstFault, IsPlainLine, IsTold}
+use Rattle.git_msg.specs.Requests.{AreLines, FirstFault, IsPlainLine, IsAnnounced}
 use Rattle.git_msg.proofs.FaultLaws.{fault_at_last}
 use Rattle.git_msg.proofs.LineLaws.{argument_payload, fronts_same, one_argument_text, one_list_of_lines, payload_argument, refused_for_limit}
 use Rattle.git_msg.proofs.LineLists.{arguments_snoc, last_line}
 use Rattle.git_msg.proofs.WholeRequests.{last_same}
 
 -- if nothing refuses arguments, an error is one that a reader of requests reports
-pub told_by_none : (offer : Offer) (limit : ℕ) (packets : List Given) (fault : Fault) → IsToldFor offer limit nothing_barred packets fault
-    → IsTold offer limit packets fault
-told_by_none offer limit packets fault (inl b) = absurd (let none : None ≡ Some fault.kind = b.is_barred.refuses in cc)
-told_by_none offer limit packets fault (inr (unbarred, told)) = told
+pub announced_by_none : (offer : Offer) (limit : ℕ) (packets : List Given) (fault : Fault) → IsAnnouncedFor offer limit nothing_barred packets fault
+    → IsAnnounced offer limit packets fault
+announced_by_none offer limit packets fault (inl b) = absurd (let none : None ≡ Some fault.kind = b.is_barred.refuses in cc)
+announced_by_none offer limit packets fault (inr (unbarred, announced)) = announced
 
 module _ (offer : Offer) (limit : ℕ) (barred : Arg → Option Kind) where
   -- a barred packet is the line of an argument

@@ -7,14 +7,14 @@ use Rattle.git_msg.specs.declared.arguments.Command.{Command}
 use Rattle.git_msg.specs.declared.arguments.Command.TheVariants.{LsRefs, Fetch, ObjectInfo}
 use Rattle.git_msg.specs.Arguments.{Shape, flag_word, object_name, depth_number, time_number, prefix_text, kept_text, reference_name, row, MayFollow}
 use Rattle.git_msg.specs.Arguments.{Arg, Value, no_value, id_value, number_value, text_value}
-use Rattle.git_msg.specs.Arguments.{SaysValue, SaysArgument, IsArgument, IsInRange, IsValue, written_text}
+use Rattle.git_msg.specs.Arguments.{HasValueOf, HasArgumentOf, IsArgument, IsInRange, IsValue, written_text}
 use Rattle.git_msg.specs.Asked.{Asked, HasValues, asked_by, command_asked, nothing_asked, with_argument, written_bytes}
 use Rattle.git_msg.proofs.ArgumentsInOrder.{asked_in_turn, same_command}
 use Rattle.git_msg.proofs.KeptBytes.{counted_more}
 use Rattle.git_msg.proofs.WrittenNames.{named_in}
 
 -- the value in a text is in its range
-value_follows : (shape : Shape) (word : List ℕ) (format : Format) (line : List ℕ) (value : Value) → SaysValue shape word format line value
+value_follows : (shape : Shape) (word : List ℕ) (format : Format) (line : List ℕ) (value : Value) → HasValueOf shape word format line value
     → MayFollow shape format value
 value_follows flag_word word format line no_value h = tt
 value_follows object_name word format line (id_value id) h = named_in format h.value id h.holds
@@ -25,11 +25,11 @@ value_follows kept_text word format line (text_value kept) h = h.1
 value_follows reference_name word format line (text_value name) h = h.1
 value_follows shape word format line value h = h
 
-pub says_in_range : (format : Format) (text : List ℕ) (arg : Arg) → SaysArgument format text arg → IsInRange format arg
-says_in_range format text arg h = value_follows (row arg.word).shape (row arg.word).keyword format text arg.value h
+pub conveys_in_range : (format : Format) (text : List ℕ) (arg : Arg) → HasArgumentOf format text arg → IsInRange format arg
+conveys_in_range format text arg h = value_follows (row arg.word).shape (row arg.word).keyword format text arg.value h
 
-pub says_value : (c : Command) (format : Format) (text : List ℕ) (arg : Arg) → IsArgument c format text arg → IsValue c format arg
-says_value c format text arg h = (h.0, says_in_range format text arg h.1)
+pub conveys_value : (c : Command) (format : Format) (text : List ℕ) (arg : Arg) → IsArgument c format text arg → IsValue c format arg
+conveys_value c format text arg h = (h.0, conveys_in_range format text arg h.1)
 
 -- a request whose values are allowed keeps that with each further argument
 values_in_turn : (format : Format) (asked : Asked) (args : List Arg) → HasValues format asked → All (IsValue (command_asked asked) format) args

@@ -62,8 +62,8 @@ pub one_number : (text : List ℕ) (a b : ℕ) → IsNumber text a → IsNumber 
 one_number text a b h k = h.value ∙ sym k.value
 
 -- the premises of the standard library's lemmas on digits
-tells_digits : IsDigitsTest (All IsDigit)
-tells_digits = record {
+announces_digits : IsDigitsTest (All IsDigit)
+announces_digits = record {
   empty = All-nil IsDigit;
   parts = λ c cs h. (All-head IsDigit c cs h, All-tail IsDigit c cs h);
   more = λ c cs h hs. All-cons IsDigit c cs h hs;
@@ -73,7 +73,7 @@ weighs_digits : WeighsDigits decimal_value
 weighs_digits = record { empty = refl; more = λ c cs h. refl }
 
 is_numeral : IsNumeralModel (All IsDigit) decimal_value
-is_numeral = numerals_by_weight (All IsDigit) tells_digits decimal_value weighs_digits
+is_numeral = numerals_by_weight (All IsDigit) announces_digits decimal_value weighs_digits
 
 not_empty : (text : List ℕ) → 0 < length text → text ≢ []
 not_empty text some none = omega (arith, some, ap length none)

@@ -14,18 +14,18 @@ use Rattle.git_msg.specs.declared.reader.Part.{Part}
 use Rattle.git_msg.specs.declared.reader.Part.TheVariants.{Arguments, Waiting, Failed}
 use Rattle.git_msg.specs.declared.reader.RequestReader.{RequestReader}
 use Rattle.git_msg.specs.Arguments.{Shape, flag_word, object_name, depth_number, time_number, prefix_text, kept_text, reference_name, row}
-use Rattle.git_msg.specs.Arguments.{Arg, Value, no_value, id_value, number_value, text_value, SaysValue, written_value}
-use Rattle.git_msg.specs.Arguments.{SaysArgument, IsDepth, IsTime, IsNumberIn, IsArgument, IsValueFault, written_text, TakesMemory}
+use Rattle.git_msg.specs.Arguments.{Arg, Value, no_value, id_value, number_value, text_value, HasValueOf, written_value}
+use Rattle.git_msg.specs.Arguments.{HasArgumentOf, IsDepth, IsTime, IsNumberIn, IsArgument, IsValueFault, written_text, TakesMemory}
 use Rattle.git_msg.specs.Texts.{Follows}
 use Rattle.git_msg.proofs.KeptBytes.{stored_fits}
 use Rattle.git_msg.specs.Checks.{Passes}
 use Rattle.git_msg.specs.Machine.HeldRequest.{command_of, format_of, kept_of, limit_of, IsBounded, Keeps, keep_checks, IsRefused}
 use Rattle.git_msg.specs.Lines.{Line, argument, IsLine}
-use Rattle.git_msg.specs.Requests.{AreLines, FirstFault, WantsMemory, IsTold}
+use Rattle.git_msg.specs.Requests.{AreLines, FirstFault, WantsMemory, IsAnnounced}
 use Rattle.git_msg.specs.Machine.RequestReader.{WaitsIn, WaitsBehind, InArguments, KeepsOn, limit_in, waiting_at, waiting_bytes}
 use Rattle.git_msg.proofs.ArgumentsInOrder.{asked_snoc}
 use Rattle.git_msg.proofs.DigitValues.{decimal_is_shortest}
-use Rattle.git_msg.proofs.AskedValues.{says_in_range}
+use Rattle.git_msg.proofs.AskedValues.{conveys_in_range}
 use Rattle.git_msg.proofs.Values.{range_apart}
 use Rattle.git_msg.proofs.WrittenNames.{length-hex_of, named_in}
 use Rattle.git_msg.proofs.LineLists.{commands_snoc, arguments_snoc, delimiter_snoc, kept_snoc, lines_snoc, argument_is_line}
@@ -55,7 +55,7 @@ text_line : (word line text : List ℕ) → line ≡ word ++ text → length (wo
 text_line word line text h = let e = ap length h in omega arith
 
 -- an argument's text is no shorter than its written form
-value_as_written : (shape : Shape) (word : List ℕ) (format : Format) (line : List ℕ) (value : Value) → SaysValue shape word format line value
+value_as_written : (shape : Shape) (word : List ℕ) (format : Format) (line : List ℕ) (value : Value) → HasValueOf shape word format line value
     → length (word ++ written_value value) ≤ length line
 value_as_written flag_word word format line no_value h = let e = ap length (h ∙ sym (append-nil word)) in omega arith
 value_as_written object_name word format line (id_value id) h = name_line word format line id h
@@ -68,7 +68,7 @@ value_as_written kept_text word format line (text_value kept) h = text_line word
 value_as_written reference_name word format line (text_value name) h = text_line word line name h.0
 value_as_written shape word format line value h = absurd h
 
-pub as_written : (format : Format) (text : List ℕ) (arg : Arg) → SaysArgument format text arg → length (written_text arg) ≤ length text
+pub as_written : (format : Format) (text : List ℕ) (arg : Arg) → HasArgumentOf format text arg → length (written_text arg) ≤ length text
 as_written format text arg h = value_as_written (row arg.word).shape (row arg.word).keyword format text arg.value h
 
 -- the text of a packet is no longer than its payload
@@ -137,20 +137,20 @@ same_command cs c d h k = cc
 -- an argument that was read is allowed there
 value_or_fault : (c : Command) (format : Format) (text : List ℕ) (arg : Arg) (kind : Kind) → IsArgument c format text arg → IsValueFault c format arg kind → ⊥
 value_or_fault c format text arg kind h (inl fault) = fault.0 h.0
-value_or_fault c format text arg kind h (inr fault) = range_apart format arg kind (says_in_range format text arg h.1) fault.1
+value_or_fault c format text arg kind h (inr fault) = range_apart format arg kind (conveys_in_range format text arg h.1) fault.1
 
 sound_value : {A : Type 0} (packets : List Given) (offset long : ℕ) (arg : Arg) (r : RequestReader A) (kind : Kind)
     → WaitsBehind packets offset long arg r → IsValueFault (command_of r.request) (format_of r.request) arg kind → ⊥
 sound_value packets offset long arg r kind w fault = search (rules, same_command, value_or_fault)
 
-told : {A : Type 0} (packets : List Given) (offset long : ℕ) (arg : Arg) (r : RequestReader A) (kind : Kind)
+announced : {A : Type 0} (packets : List Given) (offset long : ℕ) (arg : Arg) (r : RequestReader A) (kind : Kind)
     → WaitsBehind packets offset long arg r → IsRefused (keep_checks r.request arg long) arg kind
-    → IsTold r.offer (limit_in r) packets (record { kind = kind; offset = offset })
-told packets offset long arg r kind w (inl (inl h)) = absurd (sound_value packets offset long arg r kind w h)
-told packets offset long arg r kind w (inl (inr (value, inl h))) =
+    → IsAnnounced r.offer (limit_in r) packets (record { kind = kind; offset = offset })
+announced packets offset long arg r kind w (inl (inl h)) = absurd (sound_value packets offset long arg r kind w h)
+announced packets offset long arg r kind w (inl (inr (value, inl h))) =
     inl (subst (λ (k : Kind). FirstFault r.offer (limit_in r) packets k offset) (sym h.1) (too_much packets offset long arg r w h.0))
-told packets offset long arg r kind w (inl (inr (value, inr h))) = absurd h.1
-told packets offset long arg r kind w (inr h) =
+announced packets offset long arg r kind w (inl (inr (value, inr h))) = absurd h.1
+announced packets offset long arg r kind w (inr h) =
     inr (subst (λ (k : Kind). WantsMemory r.offer (limit_in r) packets k offset) (sym h.name)
     (no_memory packets offset long arg r w h.passes.1.0 h.takes_memory))
 
@@ -163,8 +163,8 @@ keeps_err {A} r offset long arg q kind bounded part same refused =
     (record r { part = Failed (record { kind = kind; offset = offset }); request = x; bounded = h })) (sym same) (λ still. record {
       settles = λ packets w.
           let waits : WaitsBehind packets offset long arg r = subst (λ (p : Part). WaitsIn p packets arg r) part w.waits in
-          let it : IsTold r.offer (limit_in r) packets (record { kind = kind; offset = offset }) =
-          told packets offset long arg r kind waits
+          let it : IsAnnounced r.offer (limit_in r) packets (record { kind = kind; offset = offset }) =
+          announced packets offset long arg r kind waits
           (subst (λ (n : ℕ). IsRefused (keep_checks r.request arg n) arg kind) (counted packets offset long arg r waits) refused) in
           (record { stands = it }, it);
       keeps = (

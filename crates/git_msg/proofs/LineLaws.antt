@@ -62,13 +62,13 @@ fair_capability : (offer : Offer) (first : Bool) (text : List ℕ) → AllFair (
 unfolding AllFair
 fair_capability offer first text = search (rules, fair_check, fair_by_key)
 
-format_or_other : (format : Format) (said : Bool) → IsFormatMeant format said → IsOtherFormatMeant format said → ⊥
-format_or_other Sha1 said p q = q
-format_or_other Sha256 said p q = true_false said p q
+format_or_other : (format : Format) (content : Bool) → IsFormatMeant format content → IsOtherFormatMeant format content → ⊥
+format_or_other Sha1 content p q = q
+format_or_other Sha256 content p q = true_false content p q
 
-fair_part : (offer : Offer) (commands : List Command) (said : Bool) → AllFair (part_checks offer commands said)
+fair_part : (offer : Offer) (commands : List Command) (content : Bool) → AllFair (part_checks offer commands content)
 unfolding AllFair
-fair_part offer commands said = search (rules, fair_check, true_false, format_or_other)
+fair_part offer commands content = search (rules, fair_check, true_false, format_or_other)
 
 fair_argument : (offer : Offer) (limit : ℕ) (c : Command) (kept : ℕ) (text : List ℕ) → AllFair (argument_checks offer limit c kept text)
 unfolding AllFair

@@ -15,7 +15,7 @@ use Rattle.git_msg.specs.Asked.{Asked, ls_refs, fetch, object_info}
 use Rattle.git_msg.specs.Checks.{Check, Refuses}
 use Rattle.git_msg.specs.Lines.{Line, argument_checks, capability_checks, commands_of, end_checks, flush_checks_in, has_format}
 use Rattle.git_msg.specs.Lines.{key_checks, part_checks, text_checks, HasFaultIn}
-use Rattle.git_msg.specs.Requests.{IsTold}
+use Rattle.git_msg.specs.Requests.{IsAnnounced}
 
 -- errors that no packet has by itself: those of the limit, of memory, of the stream, of a repository or of the source of a pack
 abbrev pub NotByItself : Kind → Type 0
@@ -65,9 +65,9 @@ module _ (kind : Kind) (strange : NotByItself kind) where
   unfolding AllQuiet
   quiet_capability offer first text = search (rules, quiet, quiet_keys)
 
-  quiet_part : (offer : Offer) (commands : List Command) (said : Bool) → AllQuiet kind (part_checks offer commands said)
+  quiet_part : (offer : Offer) (commands : List Command) (content : Bool) → AllQuiet kind (part_checks offer commands content)
   unfolding AllQuiet
-  quiet_part offer commands said = ((λ r. subst NotByItself r.1 strange), ((λ r. subst NotByItself r.1 strange), tt))
+  quiet_part offer commands content = ((λ r. subst NotByItself r.1 strange), ((λ r. subst NotByItself r.1 strange), tt))
 
   quiet_row : (c : Command) (format : Format) (word : Word) (text : List ℕ) → IsRowFault c format word text kind → ⊥
   quiet_row c format word text fault = by_itself (row word).shape (subst NotByItself fault.named strange)
@@ -136,6 +136,6 @@ module _ (kind : Kind) (strange : NotOfPackets kind) where
   no_such_fault true offer limit before resp_end r = subst NotOfPackets r strange
 
   -- packets have no error of this kind
-  pub told_of_packets : (offer : Offer) (limit : ℕ) (packets : List Given) (fault : Fault) → IsTold offer limit packets fault → fault.kind ≡ kind → ⊥
-  told_of_packets offer limit packets fault (inl h) is = search (rules, no_such_fault)
-  told_of_packets offer limit packets fault (inr w) is = subst NotOfPackets (sym is ∙ w.name) strange
+  pub announced_of_packets : (offer : Offer) (limit : ℕ) (packets : List Given) (fault : Fault) → IsAnnounced offer limit packets fault → fault.kind ≡ kind → ⊥
+  announced_of_packets offer limit packets fault (inl h) is = search (rules, no_such_fault)
+  announced_of_packets offer limit packets fault (inr w) is = subst NotOfPackets (sym is ∙ w.name) strange

@@ -18,8 +18,9 @@ texts_stay bytes more (end ∷ ends) h =
 
 last_text : (bytes text : List ℕ) (low high : ℕ) → low + 256 * high ≡ length text
     → text_at ((bytes ++ text) ++ (low ∷ high ∷ [])) (length bytes + length text) ≡ text
-last_text bytes text low high says = grind (arith, common_steps, length-append, get_or-append-add, append_assoc, drop-append_seam, take-append-le, take-length)
+last_text bytes text low high conveys =
+    grind (arith, common_steps, length-append, get_or-append-add, append_assoc, drop-append_seam, take-append-le, take-length)
 
 pub texts_more : (bytes text ends : List ℕ) (low high : ℕ) → All (IsEnd bytes) ends → low + 256 * high ≡ length text
     → map (text_at (((bytes ++ text) ++ low ∷ []) ++ high ∷ [])) (ends ++ (length bytes + length text) ∷ []) ≡ map (text_at bytes) ends ++ text ∷ []
-texts_more bytes text ends low high sound says = search (rules, append_assoc, texts_stay, map-append, last_text)
+texts_more bytes text ends low high sound conveys = search (rules, append_assoc, texts_stay, map-append, last_text)

@@ -13,7 +13,7 @@ use Rattle.git_msg.specs.References.{IsNoIdText, IsReferenceFault}
 use Rattle.git_msg.specs.ReferenceParts.{BeginsWithId}
 use Rattle.git_msg.proofs.ReferenceLines.{digits_are_unspaced, digits_lack_space, words_of_two}
 use Rattle.git_msg.proofs.ReferenceWords.{id_refused}
-use Rattle.git_pkt.proofs.Pieces.{left_of}
+use Rattle.git_pkt.proofs.Chunks.{left_of}
 use Rattle.git_msg.proofs.TextParts.{drop_cons, no_such_byte, parted_at, parts_at}
 
 -- an object's name, and a space after it

@@ -100,10 +100,10 @@ id_unspaced : (format : Format) (id : Option ObjectName) → IsIdText format (id
 id_unspaced format None h = tested (codes "unborn") refl
 id_unspaced format (Some id) h = digits_are_unspaced format (hex_of id) id h
 
-id_says : (format : Format) (id : Option ObjectName) → ((named : ObjectName) → id ≡ Some named → named.format ≡ format)
+id_conveys : (format : Format) (id : Option ObjectName) → ((named : ObjectName) → id ≡ Some named → named.format ≡ format)
     → ((named : ObjectName) → id ≡ Some named → IsObjectName named.format (hex_of named) named) → IsIdText format (id_text id) id
-id_says format None formats named = refl
-id_says format (Some id) formats named = subst (λ (f : Format). IsObjectName f (hex_of id) id) (formats id refl) (named id refl)
+id_conveys format None formats named = refl
+id_conveys format (Some id) formats named = subst (λ (f : Format). IsObjectName f (hex_of id) id) (formats id refl) (named id refl)
 
 id_at_most : (id : Option ObjectName) → id_length id ≤ 64
 id_at_most None = lit≤ tt
@@ -147,14 +147,14 @@ pub reads_back : (format : Format) (id : Option ObjectName) (name : List ℕ) (t
     → ((p : ObjectName) → peeled ≡ Some p → IsObjectName p.format (hex_of p) p)
     → IsReferenceLine format (reference_text (reference_of id name target peeled)) (reference_of id name target peeled)
 reads_back format id name target peeled w formats named others =
-    let says : IsIdText format (id_text id) id = id_says format id formats.by_id named in
+    let conveys : IsIdText format (id_text id) id = id_conveys format id formats.by_id named in
     let names : (p : ObjectName) → peeled ≡ Some p → IsObjectName format (hex_of p) p = λ p e. of_format format p peeled e formats.by_peeled (others p e) in
     record {
       id = id_text id;
       attributes = target_words target ++ peeled_words peeled;
-      words = words_of_two (id_text id) (name ++ target_text target ++ peeled_text peeled) (id_unspaced format id says)
+      words = words_of_two (id_text id) (name ++ target_text target ++ peeled_text peeled) (id_unspaced format id conveys)
           ∙ ap (λ (ws : List (List ℕ)). id_text id ∷ ws) (tail_words name target peeled w.name w.target others);
-      id_is = says;
+      id_is = conveys;
       name_is = w.name;
       attributes_are = record {
         passes = attributes_pass format target peeled w.target names;
@@ -172,8 +172,8 @@ peeled_fits None = lit≤ tt
 peeled_fits (Some p) = omega (arith, digits_at_most p.format)
 
 -- the line's end still fits
-pub room : (id : Option ObjectName) (name : List ℕ) (target : Option (List ℕ)) (peeled : Option ObjectName) (a b c d e f head : List ℕ)
+pub space : (id : Option ObjectName) (name : List ℕ) (target : Option (List ℕ)) (peeled : Option ObjectName) (a b c d e f head : List ℕ)
     → IsWritable (reference_of id name target peeled) → length head ≡ 4 → length (id_text id) ≡ id_length id
     → length (peeled_text peeled) ≡ peeled_count peeled → a ≡ head → b ≡ a ++ id_text id → c ≡ b ++ 32 ∷ [] → d ≡ c ++ name → e ≡ d ++ target_text target
     → f ≡ e ++ peeled_text peeled → length f + 1 ≤ 65520
-room id name target peeled a b c d e f head w four first count ha hb hc hd he hf = search (rules, id_at_most, target_fits, peeled_fits, length-append)
+space id name target peeled a b c d e f head w four first count ha hb hc hd he hf = search (rules, id_at_most, target_fits, peeled_fits, length-append)

@@ -14,5 +14,5 @@ refused_within refuses least most fits h =
 pub refused_for : (refuses : ℕ → Type 0) (q : Kept Asked) (arg : Arg) (long least : ℕ) → IsCovered q.format q.asked q.kept q.stored
     → IsInRange q.format arg → length (written_text arg) ≤ long → q.kept + long ≤ q.limit → least ≤ q.stored + stored_in arg
     → HasRefused refuses least → HasRefused refuses q.limit
-refused_for refuses q arg long least h range counted room below =
-    refused_within refuses least q.limit (omega (arith, below, h.covered, counted, room, stored_fits q.format arg range))
+refused_for refuses q arg long least h range counted space below =
+    refused_within refuses least q.limit (omega (arith, below, h.covered, counted, space, stored_fits q.format arg range))

@@ -19,8 +19,8 @@ use Rattle.git_msg.specs.declared.flags.Flag.{Flag}
 use Rattle.git_msg.specs.declared.capability_key.Key.TheVariants.{AgentKey}
 use Rattle.git_msg.specs.Texts.{Follows, IsErrorText}
 use Rattle.git_msg.specs.Arguments.{Shape, flag_word, object_name, depth_number, time_number, prefix_text, kept_text, reference_name, row, MayFollow}
-use Rattle.git_msg.specs.Arguments.{Word, of_flag, Arg, Value, no_value, id_value, number_value, text_value, SaysValue}
-use Rattle.git_msg.specs.Arguments.{SaysArgument, IsDepth, IsTime, IsNumberIn, IsInRange, IsNameIn, IsValue, is_offered, name_of, written_text, written_value}
+use Rattle.git_msg.specs.Arguments.{Word, of_flag, Arg, Value, no_value, id_value, number_value, text_value, HasValueOf}
+use Rattle.git_msg.specs.Arguments.{HasArgumentOf, IsDepth, IsTime, IsNumberIn, IsInRange, IsNameIn, IsValue, is_offered, name_of, written_text, written_value}
 use Rattle.git_msg.specs.Capability.{is_value}
 use Rattle.git_msg.specs.Advertisement.{takes_command}
 use Rattle.git_msg.specs.Asked.{Asked, command_asked, asked_by, arguments_in, bytes_of, written_bytes, HasValues, AreOffered}
@@ -81,32 +81,32 @@ no_error_word word rest = not_error ((row word).keyword ++ rest) (λ e. omega ar
 written_clean : (arg : Arg) → ¬ IsErrorText (written_text arg)
 written_clean arg = no_error_word arg.word (written_value arg.value)
 
-name_says : (word : List ℕ) (format : Format) (id : ObjectName) → IsNameIn format id
+name_conveys : (word : List ℕ) (format : Format) (id : ObjectName) → IsNameIn format id
     → Follows word (λ name. IsObjectName format name id) (word ++ hex_of id)
-name_says word format id value = record { value = hex_of id; spelled = refl; holds = hex_of-reads_back format id value }
+name_conveys word format id value = record { value = hex_of id; spelled = refl; holds = hex_of-reads_back format id value }
 
-number_says : (word : List ℕ) (InRange : ℕ → Type 0) (number : ℕ) → number < 2 ^ 64 → InRange number
+number_conveys : (word : List ℕ) (InRange : ℕ → Type 0) (number : ℕ) → number < 2 ^ 64 → InRange number
     → Follows word (λ digits. IsNumberIn InRange digits number) (word ++ decimal number)
-number_says word InRange number small value = search (rules, decimal_reads_back)
+number_conveys word InRange number small value = search (rules, decimal_reads_back)
 
 -- and contains that argument
-value_says : (shape : Shape) (word : List ℕ) (format : Format) (value : Value) → MayFollow shape format value
-    → SaysValue shape word format (word ++ written_value value) value
-value_says flag_word word format no_value fits = append-nil word
-value_says object_name word format (id_value id) fits = name_says word format id fits
-value_says depth_number word format (number_value depth) fits = number_says word IsDepth depth (omega (arith, fits.1)) fits
-value_says time_number word format (number_value time) fits = number_says word IsTime time (omega (arith, fits)) fits
-value_says prefix_text word format (text_value prefix) fits = (refl, fits)
-value_says kept_text word format (text_value kept) fits = (refl, fits)
-value_says reference_name word format (text_value name) fits = (refl, fits)
-value_says shape word format value fits = absurd fits
+value_conveys : (shape : Shape) (word : List ℕ) (format : Format) (value : Value) → MayFollow shape format value
+    → HasValueOf shape word format (word ++ written_value value) value
+value_conveys flag_word word format no_value fits = append-nil word
+value_conveys object_name word format (id_value id) fits = name_conveys word format id fits
+value_conveys depth_number word format (number_value depth) fits = number_conveys word IsDepth depth (omega (arith, fits.1)) fits
+value_conveys time_number word format (number_value time) fits = number_conveys word IsTime time (omega (arith, fits)) fits
+value_conveys prefix_text word format (text_value prefix) fits = (refl, fits)
+value_conveys kept_text word format (text_value kept) fits = (refl, fits)
+value_conveys reference_name word format (text_value name) fits = (refl, fits)
+value_conveys shape word format value fits = absurd fits
 
-pub written_says : (format : Format) (arg : Arg) → IsInRange format arg → SaysArgument format (written_text arg) arg
-written_says format arg value = value_says (row arg.word).shape (row arg.word).keyword format arg.value value
+pub written_conveys : (format : Format) (arg : Arg) → IsInRange format arg → HasArgumentOf format (written_text arg) arg
+written_conveys format arg value = value_conveys (row arg.word).shape (row arg.word).keyword format arg.value value
 
 argument_reads : (c : Command) (offer : Offer) (arg : Arg) → IsValue c offer.format arg → is_offered offer arg ≡ true
     → IsText c offer (written_text arg) arg
-argument_reads c offer arg value offered = search (rules, written_clean, written_says)
+argument_reads c offer arg value offered = search (rules, written_clean, written_conveys)
 
 -- the line of an argument's written form
 abbrev written_line : Arg → Line
@@ -199,28 +199,28 @@ format_written_of offer Sha256 same = search (rules, not_error)
 format_written : (offer : Offer) → IsCapabilityLine offer false (codes "object-format=" ++ format_name offer.format) object_format
 format_written offer = format_written_of offer offer.format refl
 
-pub meant_when_said : (format : Format) → IsFormatMeant format true
-meant_when_said Sha1 = tt
-meant_when_said Sha256 = refl
+pub meant_when_stated : (format : Format) → IsFormatMeant format true
+meant_when_stated Sha1 = tt
+meant_when_stated Sha256 = refl
 
 -- a line before the others, if it is written
-where_said : Bool → Line → List Line → List Line
-where_said true line lines = line ∷ lines
-where_said false line lines = lines
+where_stated : Bool → Line → List Line → List Line
+where_stated true line lines = line ∷ lines
+where_stated false line lines = lines
 
 -- the lines of a request for these arguments
 lines_read : Bool → Bool → Command → List Arg → List Line
-lines_read says_agent says_format c args =
-    command c ∷ where_said says_agent agent (where_said says_format object_format (delimiter ∷ map written_line args))
+lines_read writes_agent writes_format c args =
+    command c ∷ where_stated writes_agent agent (where_stated writes_format object_format (delimiter ∷ map written_line args))
 
 -- the object format, if it is written, and what follows
-format_finish : (offer : Offer) (limit : ℕ) (c : Command) (before : List Line) (says_format : Bool) (args : List Arg) (gs : List Given)
-    → InFront c before → has_format before ≡ false → IsFormatMeant offer.format says_format → AreTexts c offer args → bytes_of args ≤ limit
-    → packets_of gs ≡ where_set says_format (format_line offer.format) (delim ∷ argument_lines args)
-    → Finishes offer limit before gs (where_said says_format object_format (delimiter ∷ map written_line args))
-unfolding where_said
+format_finish : (offer : Offer) (limit : ℕ) (c : Command) (before : List Line) (writes_format : Bool) (args : List Arg) (gs : List Given)
+    → InFront c before → has_format before ≡ false → IsFormatMeant offer.format writes_format → AreTexts c offer args → bytes_of args ≤ limit
+    → packets_of gs ≡ where_set writes_format (format_line offer.format) (delim ∷ argument_lines args)
+    → Finishes offer limit before gs (where_stated writes_format object_format (delimiter ∷ map written_line args))
+unfolding where_stated
 format_finish offer limit c before true args gs part unsaid meant texts fits h =
-    let said : has_format (before ++ object_format ∷ []) ≡ true = format_snoc before object_format in
+    let content : has_format (before ++ object_format ∷ []) ≡ true = format_snoc before object_format in
     cons_line offer limit before gs _ _ _ _ h
     (capability_written offer limit before (codes "object-format=" ++ format_name offer.format) object_format part.in_front
     (rw (ap is_none part.once) (format_written offer)))
@@ -230,86 +230,86 @@ format_finish offer limit c before true args gs part unsaid meant texts fits h =
       once = commands_snoc before object_format ∙ append-nil (commands_of before) ∙ part.once;
       none_kept = omega (arith, kept_snoc before object_format, part.none_kept);
     })
-    (rw said (meant_when_said offer.format)) texts fits h1)
+    (rw content (meant_when_stated offer.format)) texts fits h1)
 format_finish offer limit c before false args gs part unsaid meant texts fits h =
     delimiter_finish offer limit c before args gs part (subst (IsFormatMeant offer.format) (sym unsaid) meant) texts fits h
 
 -- the agent, if it is written, and what follows
-agent_finish : (offer : Offer) (limit : ℕ) (c : Command) (says_agent says_format : Bool) (args : List Arg) (gs : List Given)
-    → IsFormatMeant offer.format says_format → AreTexts c offer args → bytes_of args ≤ limit
-    → packets_of gs ≡ where_set says_agent agent_line (where_set says_format (format_line offer.format) (delim ∷ argument_lines args))
-    → Finishes offer limit (command c ∷ []) gs (where_said says_agent agent (where_said says_format object_format (delimiter ∷ map written_line args)))
-unfolding where_said
-agent_finish offer limit c true says_format args gs meant texts fits h =
+agent_finish : (offer : Offer) (limit : ℕ) (c : Command) (writes_agent writes_format : Bool) (args : List Arg) (gs : List Given)
+    → IsFormatMeant offer.format writes_format → AreTexts c offer args → bytes_of args ≤ limit
+    → packets_of gs ≡ where_set writes_agent agent_line (where_set writes_format (format_line offer.format) (delim ∷ argument_lines args))
+    → Finishes offer limit (command c ∷ []) gs (where_stated writes_agent agent (where_stated writes_format object_format (delimiter ∷ map written_line args)))
+unfolding where_stated
+agent_finish offer limit c true writes_format args gs meant texts fits h =
     cons_line offer limit (command c ∷ []) gs _ _ _ _ h (capability_written offer limit (command c ∷ []) _ agent refl (agent_written offer))
-    (λ gs1 h1. format_finish offer limit c (command c ∷ agent ∷ []) says_format args gs1
+    (λ gs1 h1. format_finish offer limit c (command c ∷ agent ∷ []) writes_format args gs1
     (record { in_front = refl; once = refl; none_kept = refl }) refl meant texts fits h1)
-agent_finish offer limit c false says_format args gs meant texts fits h =
-    format_finish offer limit c (command c ∷ []) says_format args gs (record { in_front = refl; once = refl; none_kept = refl }) refl meant texts fits h
+agent_finish offer limit c false writes_format args gs meant texts fits h =
+    format_finish offer limit c (command c ∷ []) writes_format args gs (record { in_front = refl; once = refl; none_kept = refl }) refl meant texts fits h
 
 -- all packets of a request for these arguments
-lines_finish : (offer : Offer) (limit : ℕ) (c : Command) (says_agent says_format : Bool) (args : List Arg) (gs : List Given)
-    → IsFormatMeant offer.format says_format → takes_command offer c ≡ true → AreTexts c offer args → bytes_of args ≤ limit
+lines_finish : (offer : Offer) (limit : ℕ) (c : Command) (writes_agent writes_format : Bool) (args : List Arg) (gs : List Given)
+    → IsFormatMeant offer.format writes_format → takes_command offer c ≡ true → AreTexts c offer args → bytes_of args ≤ limit
     → packets_of gs ≡ text_line (codes "command=" ++ name_of c)
-    ∷ where_set says_agent agent_line (where_set says_format (format_line offer.format) (delim ∷ argument_lines args))
-    → Finishes offer limit [] gs (lines_read says_agent says_format c args)
+    ∷ where_set writes_agent agent_line (where_set writes_format (format_line offer.format) (delim ∷ argument_lines args))
+    → Finishes offer limit [] gs (lines_read writes_agent writes_format c args)
 unfolding lines_read
-lines_finish offer limit c says_agent says_format args gs meant taken texts fits h =
+lines_finish offer limit c writes_agent writes_format args gs meant taken texts fits h =
     search (rules, cons_line, capability_written, command_written, agent_finish)
 
 -- the contents of lines
-record Says (commands : List Command) (args : List Arg) (kept : ℕ) (delimited : Bool) (lines : List Line) : Type 0 where
-  says_commands : commands_of lines ≡ commands
-  says_arguments : arguments_of lines ≡ args
+record HasContent (commands : List Command) (args : List Arg) (kept : ℕ) (delimited : Bool) (lines : List Line) : Type 0 where
+  conveys_commands : commands_of lines ≡ commands
+  conveys_arguments : arguments_of lines ≡ args
   has_bytes : kept_in lines ≡ kept
   is_delimited : has_delimiter lines ≡ delimited
 
-arguments_say : (args : List Arg) → Says [] args (bytes_of args) false (map written_line args)
-arguments_say [] = record { says_commands = refl; says_arguments = refl; has_bytes = refl; is_delimited = refl }
-arguments_say (arg ∷ args) =
-    let h = arguments_say args in
+arguments_convey : (args : List Arg) → HasContent [] args (bytes_of args) false (map written_line args)
+arguments_convey [] = record { conveys_commands = refl; conveys_arguments = refl; has_bytes = refl; is_delimited = refl }
+arguments_convey (arg ∷ args) =
+    let h = arguments_convey args in
     let bytes = h.has_bytes in
     record {
-      says_commands = h.says_commands;
-      says_arguments = ap (λ (xs : List Arg). arg ∷ xs) h.says_arguments;
+      conveys_commands = h.conveys_commands;
+      conveys_arguments = ap (λ (xs : List Arg). arg ∷ xs) h.conveys_arguments;
       has_bytes =
           omega (arith, bytes, sum_by-cons long_of (written_line arg) (map written_line args), sum_by-cons (λ a. length (written_text a)) arg args);
       is_delimited = h.is_delimited;
     }
 
 -- a line that is neither a command nor an argument adds nothing to the contents
-line_says : (line : Line) → command_in line ≡ None → argument_in line ≡ None → long_of line ≡ 0 → is_delimiter line ≡ false
-    → (said : Bool) (cs : List Command) (args : List Arg) (kept : ℕ) (lines : List Line) → Says cs args kept true lines
-    → Says cs args kept true (where_said said line lines)
-unfolding where_said
-line_says line no_command no_argument no_bytes no_delimiter true cs args kept lines h =
+line_conveys : (line : Line) → command_in line ≡ None → argument_in line ≡ None → long_of line ≡ 0 → is_delimiter line ≡ false
+    → (content : Bool) (cs : List Command) (args : List Arg) (kept : ℕ) (lines : List Line) → HasContent cs args kept true lines
+    → HasContent cs args kept true (where_stated content line lines)
+unfolding where_stated
+line_conveys line no_command no_argument no_bytes no_delimiter true cs args kept lines h =
     let bytes = h.has_bytes in
     record {
-      says_commands = rw no_command h.says_commands;
-      says_arguments = rw no_argument h.says_arguments;
+      conveys_commands = rw no_command h.conveys_commands;
+      conveys_arguments = rw no_argument h.conveys_arguments;
       has_bytes = omega (arith, bytes, no_bytes, sum_by-cons long_of line lines);
       is_delimited = rw no_delimiter h.is_delimited;
     }
-line_says line no_command no_argument no_bytes no_delimiter false cs args kept lines h = h
+line_conveys line no_command no_argument no_bytes no_delimiter false cs args kept lines h = h
 
-lines_say : (says_agent says_format : Bool) (c : Command) (args : List Arg)
-    → Says (c ∷ []) args (bytes_of args) true (lines_read says_agent says_format c args)
+lines_convey : (writes_agent writes_format : Bool) (c : Command) (args : List Arg)
+    → HasContent (c ∷ []) args (bytes_of args) true (lines_read writes_agent writes_format c args)
 unfolding lines_read
-lines_say says_agent says_format c args =
-    let rest = arguments_say args in
-    let part : Says [] args (bytes_of args) true (delimiter ∷ map written_line args) = record {
-      says_commands = rest.says_commands;
-      says_arguments = rest.says_arguments;
+lines_convey writes_agent writes_format c args =
+    let rest = arguments_convey args in
+    let part : HasContent [] args (bytes_of args) true (delimiter ∷ map written_line args) = record {
+      conveys_commands = rest.conveys_commands;
+      conveys_arguments = rest.conveys_arguments;
       has_bytes = rest.has_bytes;
       is_delimited = refl;
     } in
-    let others = where_said says_agent agent (where_said says_format object_format (delimiter ∷ map written_line args)) in
-    let h : Says [] args (bytes_of args) true others =
-    line_says agent refl refl refl refl says_agent [] args (bytes_of args) (where_said says_format object_format (delimiter ∷ map written_line args))
-    (line_says object_format refl refl refl refl says_format [] args (bytes_of args) (delimiter ∷ map written_line args) part) in
+    let others = where_stated writes_agent agent (where_stated writes_format object_format (delimiter ∷ map written_line args)) in
+    let h : HasContent [] args (bytes_of args) true others =
+    line_conveys agent refl refl refl refl writes_agent [] args (bytes_of args) (where_stated writes_format object_format (delimiter ∷ map written_line args))
+    (line_conveys object_format refl refl refl refl writes_format [] args (bytes_of args) (delimiter ∷ map written_line args) part) in
     record {
-      says_commands = ap (λ (cs : List Command). c ∷ cs) h.says_commands;
-      says_arguments = h.says_arguments;
+      conveys_commands = ap (λ (cs : List Command). c ∷ cs) h.conveys_commands;
+      conveys_arguments = h.conveys_arguments;
       has_bytes = h.has_bytes;
       is_delimited = h.is_delimited;
     }
@@ -329,16 +329,16 @@ pub record ReadsLines (offer : Offer) (limit : ℕ) (asked : Asked) (gs : List G
   pub delimited : has_delimiter lines ≡ true
 
 -- the written form of a request has lines that ask for the same, whatever is checked at its end
-pub lines_read_back : (offer : Offer) (limit : ℕ) (says_agent says_format : Bool) (asked : Asked) (gs : List Given)
-    → IsFormatMeant offer.format says_format → takes_command offer (command_asked asked) ≡ true → HasValues offer.format asked → AreOffered offer asked
-    → written_bytes asked ≤ limit → packets_of gs ≡ lines_written says_agent says_format offer.format asked → ReadsLines offer limit asked gs
-lines_read_back offer limit says_agent says_format asked gs meant taken values offered fits h =
+pub lines_read_back : (offer : Offer) (limit : ℕ) (writes_agent writes_format : Bool) (asked : Asked) (gs : List Given)
+    → IsFormatMeant offer.format writes_format → takes_command offer (command_asked asked) ≡ true → HasValues offer.format asked → AreOffered offer asked
+    → written_bytes asked ≤ limit → packets_of gs ≡ lines_written writes_agent writes_format offer.format asked → ReadsLines offer limit asked gs
+lines_read_back offer limit writes_agent writes_format asked gs meant taken values offered fits h =
     let c = command_asked asked in
     let args = arguments_in asked in
-    let lines = lines_read says_agent says_format c args in
+    let lines = lines_read writes_agent writes_format c args in
     let texts : AreTexts c offer args = λ k d within. argument_reads c offer _ (values k d within) (offered k d within) in
-    let f = lines_finish offer limit c says_agent says_format args gs meant taken texts fits h in
-    let says = lines_say says_agent says_format c args in
+    let f = lines_finish offer limit c writes_agent writes_format args gs meant taken texts fits h in
+    let conveys = lines_convey writes_agent writes_format c args in
     record {
       front = f.front;
       last = f.last;
@@ -347,19 +347,19 @@ lines_read_back offer limit says_agent says_format asked gs meant taken values o
       whole = f.whole;
       ends = f.ends;
       taken = f.taken;
-      once = says.says_commands;
-      asked_is = sym (ap (asked_by c) says.says_arguments ∙ arguments_in_order asked);
-      kept_is = sym says.has_bytes;
-      delimited = says.is_delimited;
+      once = conveys.conveys_commands;
+      asked_is = sym (ap (asked_by c) conveys.conveys_arguments ∙ arguments_in_order asked);
+      kept_is = sym conveys.has_bytes;
+      delimited = conveys.is_delimited;
     }
 
 -- the written form of a request is a request for the same
-pub reads_back : (offer : Offer) (limit : ℕ) (says_agent says_format : Bool) (asked : Asked) (gs : List Given) → IsFormatMeant offer.format says_format
+pub reads_back : (offer : Offer) (limit : ℕ) (writes_agent writes_format : Bool) (asked : Asked) (gs : List Given) → IsFormatMeant offer.format writes_format
     → takes_command offer (command_asked asked) ≡ true → HasValues offer.format asked → AreOffered offer asked
     → written_bytes asked ≤ limit → Passes (end_checks asked)
-    → packets_of gs ≡ lines_written says_agent says_format offer.format asked → Asks offer limit gs asked (written_bytes asked)
-reads_back offer limit says_agent says_format asked gs meant taken values offered fits passes h =
-    let r = lines_read_back offer limit says_agent says_format asked gs meant taken values offered fits h in
+    → packets_of gs ≡ lines_written writes_agent writes_format offer.format asked → Asks offer limit gs asked (written_bytes asked)
+reads_back offer limit writes_agent writes_format asked gs meant taken values offered fits passes h =
+    let r = lines_read_back offer limit writes_agent writes_format asked gs meant taken values offered fits h in
     let checks : Passes (flush_checks_in true offer r.lines) =
     ((r.of, r.once, subst (λ (a : Asked). Passes (end_checks a)) r.asked_is passes), tt) in
     record {

@@ -19,19 +19,19 @@ use Rattle.git_msg.specs.declared.capability_key.Key.{Key}
 use Rattle.git_msg.specs.declared.capability_key.Key.TheVariants.{CommandKey, OtherKey}
 use Rattle.git_msg.specs.Arguments.{Word, of_flag, want, words, command_with, most_text, IsDepth, IsTime, IsNumberIn, IsNoNumberIn, IsKeptText, IsNoKeptText}
 use Rattle.git_msg.specs.Arguments.{Shape, flag_word, object_name, depth_number, time_number, prefix_text, kept_text, reference_name, Row, row}
-use Rattle.git_msg.specs.Arguments.{Arg, Value, no_value, id_value, number_value, text_value, refusal_of, SaysValue, IsNoValue, IsNamed}
-use Rattle.git_msg.specs.Arguments.{SaysArgument, IsArgument, HasName, ReadsAs, IsNoArgument, IsUnoffered, IsArgumentFault, IsRowFault}
+use Rattle.git_msg.specs.Arguments.{Arg, Value, no_value, id_value, number_value, text_value, refusal_of, HasValueOf, IsNoValue, IsNamed}
+use Rattle.git_msg.specs.Arguments.{HasArgumentOf, IsArgument, HasName, ReadsAs, IsNoArgument, IsUnoffered, IsArgumentFault, IsRowFault}
 use Rattle.git_msg.specs.Texts.{Follows}
 use Rattle.git_msg.specs.Lines.{IsWordOf, key_by}
 use Rattle.git_msg.proofs.DigitValues.{one_number}
 
 -- a value in a text that has to be a reference name is one
-value_has_name : (shape : Shape) (word : List ℕ) (format : Format) (line : List ℕ) (value : Value) → SaysValue shape word format line value
+value_has_name : (shape : Shape) (word : List ℕ) (format : Format) (line : List ℕ) (value : Value) → HasValueOf shape word format line value
     → IsNamed shape value
 value_has_name reference_name word format line (text_value name) h = h.1
 value_has_name shape word format line value h = tt
 
-pub argument_has_name : (format : Format) (text : List ℕ) (arg : Arg) → SaysArgument format text arg → HasName arg
+pub argument_has_name : (format : Format) (text : List ℕ) (arg : Arg) → HasArgumentOf format text arg → HasName arg
 argument_has_name format text arg h = value_has_name (row arg.word).shape (row arg.word).keyword format text arg.value h
 
 -- a text other than the word
@@ -76,7 +76,7 @@ pub one_word : (line : List ℕ) (word other : Word) → IsHeaded (row word) lin
 one_word line word other h k = search (rules, word_heads)
 
 -- an argument's text has its word at its head
-value_headed : (shape : Shape) (word : List ℕ) (format : Format) (line : List ℕ) (value : Value) → SaysValue shape word format line value
+value_headed : (shape : Shape) (word : List ℕ) (format : Format) (line : List ℕ) (value : Value) → HasValueOf shape word format line value
     → (rest : List ℕ) × (line ≡ line_of shape word rest)
 value_headed flag_word word format line no_value h = ([], h)
 value_headed object_name word format line (id_value id) h = (h.value, h.spelled)
@@ -87,7 +87,7 @@ value_headed kept_text word format line (text_value kept) h = (kept, h.0)
 value_headed reference_name word format line (text_value name) h = (name, h.0)
 value_headed shape word format line value h = absurd h
 
-pub headed : (format : Format) (text : List ℕ) (arg : Arg) → SaysArgument format text arg → IsHeaded (row arg.word) text
+pub headed : (format : Format) (text : List ℕ) (arg : Arg) → HasArgumentOf format text arg → IsHeaded (row arg.word) text
 headed format text arg h =
     let found = value_headed (row arg.word).shape (row arg.word).keyword format text arg.value h in record { rest = found.0; is = found.1 }
 
@@ -127,23 +127,23 @@ one_number_in word text InRange a b h k =
     one_number k.value a b there.is_number k.holds.is_number
 
 -- a text contains one argument
-one_value_said : (shape : Shape) (word : List ℕ) (format : Format) (line : List ℕ) (a b : Value) → SaysValue shape word format line a
-    → SaysValue shape word format line b → a ≡ b
-one_value_said flag_word word format line no_value no_value h k = refl
-one_value_said object_name word format line (id_value m) (id_value n) h k = ap id_value (one_name word format line m n h k)
-one_value_said depth_number word format line (number_value m) (number_value n) h k = ap number_value (one_number_in word line IsDepth m n h k)
-one_value_said time_number word format line (number_value m) (number_value n) h k = ap number_value (one_number_in word line IsTime m n h k)
-one_value_said prefix_text word format line (text_value p) (text_value q) h k = ap text_value (one_value word line p q h.0 k.0)
-one_value_said kept_text word format line (text_value p) (text_value q) h k = ap text_value (one_value word line p q h.0 k.0)
-one_value_said reference_name word format line (text_value p) (text_value q) h k = ap text_value (one_value word line p q h.0 k.0)
-one_value_said shape word format line a b h k = absurd assumption
+one_value_stated : (shape : Shape) (word : List ℕ) (format : Format) (line : List ℕ) (a b : Value) → HasValueOf shape word format line a
+    → HasValueOf shape word format line b → a ≡ b
+one_value_stated flag_word word format line no_value no_value h k = refl
+one_value_stated object_name word format line (id_value m) (id_value n) h k = ap id_value (one_name word format line m n h k)
+one_value_stated depth_number word format line (number_value m) (number_value n) h k = ap number_value (one_number_in word line IsDepth m n h k)
+one_value_stated time_number word format line (number_value m) (number_value n) h k = ap number_value (one_number_in word line IsTime m n h k)
+one_value_stated prefix_text word format line (text_value p) (text_value q) h k = ap text_value (one_value word line p q h.0 k.0)
+one_value_stated kept_text word format line (text_value p) (text_value q) h k = ap text_value (one_value word line p q h.0 k.0)
+one_value_stated reference_name word format line (text_value p) (text_value q) h k = ap text_value (one_value word line p q h.0 k.0)
+one_value_stated shape word format line a b h k = absurd assumption
 
-says_one : (format : Format) (text : List ℕ) (a b : Arg) → SaysArgument format text a → SaysArgument format text b → a ≡ b
-says_one format text a b h k = search (rules, one_word, headed, one_value_said)
+conveys_one : (format : Format) (text : List ℕ) (a b : Arg) → HasArgumentOf format text a → HasArgumentOf format text b → a ≡ b
+conveys_one format text a b h k = search (rules, one_word, headed, one_value_stated)
 
 -- an argument's text is one argument
 pub one_argument : (c : Command) (format : Format) (text : List ℕ) (a b : Arg) → IsArgument c format text a → IsArgument c format text b → a ≡ b
-one_argument c format text a b h k = says_one format text a b h.1 k.1
+one_argument c format text a b h k = conveys_one format text a b h.1 k.1
 
 -- an object name is not refused for its value
 name_or_fault : (word : List ℕ) (format : Format) (text : List ℕ) (id : ObjectName) → Follows word (λ name. IsObjectName format name id) text
@@ -161,7 +161,7 @@ kept_text_or_none text h (inl k) = omega (arith, h.0, k)
 kept_text_or_none text h (inr k) = omega (arith, h.1, k)
 
 -- nor is any argument
-value_or_fault : (shape : Shape) (word : List ℕ) (format : Format) (line : List ℕ) (value : Value) → SaysValue shape word format line value
+value_or_fault : (shape : Shape) (word : List ℕ) (format : Format) (line : List ℕ) (value : Value) → HasValueOf shape word format line value
     → Follows word (IsNoValue shape format) line → ⊥
 value_or_fault object_name word format line (id_value id) h k = name_or_fault word format line id h k
 value_or_fault depth_number word format line (number_value depth) h k = number_or_fault word line IsDepth depth h k
@@ -173,7 +173,7 @@ value_or_fault reference_name word format line (text_value name) h k = k.holds (
 value_or_fault flag_word word format line value h k = k.holds
 value_or_fault shape word format line value h k = h
 
-by_row : (c : Command) (format : Format) (text : List ℕ) (a : Arg) (kind : Kind) (word : Word) → SaysArgument format text a
+by_row : (c : Command) (format : Format) (text : List ℕ) (a : Arg) (kind : Kind) (word : Word) → HasArgumentOf format text a
     → IsRowFault c format word text kind → ⊥
 by_row c format text a kind word h k = search (rules, one_word, headed, refused_headed, value_or_fault)
 
@@ -184,7 +184,7 @@ none_headed Fetch want text (f, k) of h = k.0 h.rest h.is
 none_headed Fetch word text (f, (k, (l, (m, (n, (o, (p, (q, (r, _))))))))) of h = first_of (cc, search (h.is))
 none_headed c word text (f, (k, _)) of h = first_of (cc, search (h.is))
 
-none_or_argument : (c : Command) (format : Format) (text : List ℕ) (a : Arg) → IsNoArgument c text → command_with a ≡ c → SaysArgument format text a → ⊥
+none_or_argument : (c : Command) (format : Format) (text : List ℕ) (a : Arg) → IsNoArgument c text → command_with a ≡ c → HasArgumentOf format text a → ⊥
 none_or_argument c format text a u of h = none_headed c a.word text u of (headed format text a h)
 
 -- a text that is refused for its value is an argument

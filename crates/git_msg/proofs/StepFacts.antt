@@ -24,7 +24,7 @@ use Rattle.git_msg.specs.Lines.{Line, command, agent, server_option, object_form
 use Rattle.git_msg.specs.Lines.{has_format, argument_in, IsLineOf, key_checks, IsCapabilityLine}
 use Rattle.git_msg.specs.Lines.{argument_checks, text_checks, capability_checks, part_checks, end_checks, IsArgumentRefused, HasFault}
 use Rattle.git_msg.specs.Machine.RequestReader.{InCapabilities, InArguments, is_nil, fault_in, waits_in, limit_in, kept_so_far}
-use Rattle.git_msg.specs.Machine.RequestReaderSteps.{InLines, IsSame, Advances, StepsOn, Notes, IsDue, is_first, with_line, restarted}
+use Rattle.git_msg.specs.Machine.RequestReaderSteps.{InLines, IsSame, Advances, StepsOn, Notes, IsExpected, is_first, with_line, restarted}
 use Rattle.git_msg.proofs.PacketFaults.{not_for_limit_by_capability, not_for_limit_by_end, not_for_limit_by_text}
 use Rattle.git_msg.proofs.LineLists.{commands_snoc, arguments_snoc, format_snoc, delimiter_snoc, kept_snoc, capability_is_line}
 
@@ -139,18 +139,18 @@ module _ {A : Type 0} where
 
   -- the checks at the end of the capability part, by the lines
   judged : (lines : List Line) (r : RequestReader A) (c : Command)
-      → InCapabilities lines r → IsDue r c → Passes (part_checks r.offer (commands_of lines) (has_format lines))
-  judged lines r c h due = search rules
+      → InCapabilities lines r → IsExpected r c → Passes (part_checks r.offer (commands_of lines) (has_format lines))
+  judged lines r c h expected = search rules
 
-  commands_due : (lines : List Line) (r : RequestReader A) (c : Command) → InCapabilities lines r → IsDue r c → commands_of lines ≡ c ∷ []
-  commands_due lines r c h due = h.command ∙ ap option_to_list due.there
+  commands_expected : (lines : List Line) (r : RequestReader A) (c : Command) → InCapabilities lines r → IsExpected r c → commands_of lines ≡ c ∷ []
+  commands_expected lines r c h expected = h.command ∙ ap option_to_list expected.there
 
   -- the delimiter
   pub delimited : (r : RequestReader A) (offset : ℕ) (c : Command) (q : Request A)
-      → (bounded : IsBounded q) → r.part ≡ Capabilities → IsDue r c → IsEmpty c r.offer.format (limit_in r) q
+      → (bounded : IsBounded q) → r.part ≡ Capabilities → IsExpected r c → IsEmpty c r.offer.format (limit_in r) q
       → StepsOn r delim offset (Ok More) (record r { part = Arguments; request = q; bounded = bounded })
-  delimited r offset c q bounded part due empty =
-      search (rules, in_capabilities, judged, delimiter_snoc, commands_snoc, append-nil, commands_due, arguments_snoc, kept_snoc)
+  delimited r offset c q bounded part expected empty =
+      search (rules, in_capabilities, judged, delimiter_snoc, commands_snoc, append-nil, commands_expected, arguments_snoc, kept_snoc)
 
   empty_lines : (next r : RequestReader A) → InCapabilities [] (restarted next r)
   empty_lines next r = record { before = refl; begun = refl; command = refl; format = refl; no_argument = refl; nothing_kept = refl }
@@ -161,15 +161,16 @@ module _ {A : Type 0} where
   nothing_but lines r c q h empty = empty.asked ∙ ap (λ args. asked_by c args) (sym h.no_argument)
 
   -- the flush of a request without delimiter, refused for what the request asks for
-  pub flush_refused : (r : RequestReader A) (offset : ℕ) (c : Command) (q : Request A) (kind : Kind) → r.part ≡ Capabilities → r.begun ≡ true → IsDue r c
+  pub flush_refused : (r : RequestReader A) (offset : ℕ) (c : Command) (q : Request A) (kind : Kind) → r.part ≡ Capabilities → r.begun ≡ true → IsExpected r c
       → IsEmpty c r.offer.format (limit_in r) q → Refuses (end_checks (asked_of q)) kind → StepsOn r flush offset (Err kind) r
-  flush_refused r offset c q kind part begun due empty refuses = search (rules, in_capabilities, commands_due, judged, nothing_but, not_for_limit_by_end)
+  flush_refused r offset c q kind part begun expected empty refuses =
+      search (rules, in_capabilities, commands_expected, judged, nothing_but, not_for_limit_by_end)
 
   -- the flush of a request without delimiter
-  pub flushed : (r new : RequestReader A) (offset : ℕ) (c : Command) (q : Request A) → r.part ≡ Capabilities → IsDue r c
+  pub flushed : (r new : RequestReader A) (offset : ℕ) (c : Command) (q : Request A) → r.part ≡ Capabilities → IsExpected r c
       → IsEmpty c r.offer.format (limit_in r) q → Passes (end_checks (asked_of q)) → IsEmpty LsRefs r.offer.format (limit_of q) new.request
       → new ≡ restarted new r → StepsOn r flush offset (Ok (TakenRequest q)) new
-  flushed r new offset c q part due empty passes next same = search (rules, in_capabilities, commands_due, judged, nothing_but, empty_lines)
+  flushed r new offset c q part expected empty passes next same = search (rules, in_capabilities, commands_expected, judged, nothing_but, empty_lines)
 
   -- the flush after the arguments
   pub completed : (r new : RequestReader A) (offset : ℕ) → r.part ≡ Arguments → Passes (end_checks (asked_of r.request))

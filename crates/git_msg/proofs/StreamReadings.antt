@@ -35,8 +35,8 @@ left_stopped offer limit left rest end stage quiet sound h = absurd (cc)
 -- a stage with an error: the packets left are refused with it
 left_refused : (offer : Offer) (limit : ℕ) (left : List Given) (rest : List ℕ) (end : ℕ) (fault : Fault) (stage : Stage)
     → fault_in stage ≡ Some fault → IsLeftIn stage offer limit left rest end → IsRefusedAs offer limit left rest end fault
-left_refused offer limit left rest end fault (Failed other) told h = search rules
-left_refused offer limit left rest end fault stage told h = absurd (cc)
+left_refused offer limit left rest end fault (Failed other) announced h = search rules
+left_refused offer limit left rest end fault stage announced h = absurd (cc)
 
 module _ {A : Type 0} {used : List ℕ} {asked : List Asked} {s : RequestStream A} (h : HasRead used asked s) where
   -- the bytes used are whole requests and what is left
@@ -57,4 +57,4 @@ module _ {A : Type 0} {used : List ℕ} {asked : List Asked} {s : RequestStream 
 
   -- after an error, what is left is refused with it
   pub refused_as : {fault : Fault} → fault_of s ≡ Some fault → IsRefusedAs (offer_of s) (limit_of s) h.left h.rest (length used) fault
-  refused_as {fault = fault} told = left_refused (offer_of s) (limit_of s) h.left h.rest (length used) fault s.stage told h.left_is
+  refused_as {fault = fault} announced = left_refused (offer_of s) (limit_of s) h.left h.rest (length used) fault s.stage announced h.left_is

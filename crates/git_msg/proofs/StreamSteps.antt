@@ -5,7 +5,7 @@ use Rattle.std.proofs.Props.{props}
 use Rattle.std.proofs.Math.Logic.{∥∥₁_elim, ∥∥₁_prop}
 use Rattle.git_pkt.specs.Faults.{StopsBy}
 use Rattle.git_pkt.specs.Splits.{Given, SpellsAll, Splits}
-use Rattle.git_pkt.specs.Machine.PacketReader.{Feeds, Reads, ReadsOn, ShownByFeed, Tells, fault_of as packet_fault, given_by, is_open, position_of}
+use Rattle.git_pkt.specs.Machine.PacketReader.{Feeds, Reads, ReadsOn, ShownByFeed, Announces, fault_of as packet_fault, given_by, is_open, position_of}
 use Rattle.git_pkt.specs.declared.fault.Fault.{Fault}
 use Rattle.git_pkt.specs.declared.fault.Kind.{Kind}
 use Rattle.git_pkt.specs.declared.fault.Kind.TheVariants.{StreamTooLong, Truncated}
@@ -14,13 +14,13 @@ use Rattle.git_pkt.specs.declared.reader.Got.{Got}
 use Rattle.git_pkt.specs.declared.reader.PacketReader.{PacketReader}
 use Rattle.git_pkt.proofs.Cuttings.{stopped}
 use Rattle.git_pkt.proofs.KnownRest.{sound_rest, none_between}
-use Rattle.git_pkt.proofs.Pieces.{joined, left_of}
+use Rattle.git_pkt.proofs.Chunks.{joined, left_of}
 use Rattle.git_pkt.proofs.Streams.{one_split}
 use Rattle.git_msg.specs.declared.offers.Offer.{Offer}
 use Rattle.git_msg.specs.Admission.{nothing_barred}
 use Rattle.git_msg.specs.Asked.{Asked}
 use Rattle.git_msg.specs.Memory.{FaultNeedsRefusal}
-use Rattle.git_msg.specs.Requests.{IsTold}
+use Rattle.git_msg.specs.Requests.{IsAnnounced}
 use Rattle.git_msg.specs.Machine.RequestReader.{Takes, offer_of as offer_in, limit_in, kept_so_far, fault_of as reader_fault, is_waiting}
 use Rattle.git_msg.specs.WholeRequests.{AreRequests}
 use Rattle.git_msg.specs.Machine.StreamStages.{AreBegun, Brings, GotNeedsRefusal, HasTaken, IsBrought, IsWithin}
@@ -34,8 +34,8 @@ use Rattle.git_msg.specs.declared.streams.ReadRequest.{ReadRequest}
 use Rattle.git_msg.specs.declared.streams.RequestStream.{RequestStream}
 use Rattle.git_msg.specs.declared.streams.Stage.{Stage}
 use Rattle.git_msg.specs.declared.streams.Stage.TheVariants.{Between, Within, Stopped, Failed as FailedStage}
-use Rattle.git_msg.proofs.Admission.{told_by_none}
-use Rattle.git_msg.proofs.PacketFaults.{NotOfPackets, told_of_packets}
+use Rattle.git_msg.proofs.Admission.{announced_by_none}
+use Rattle.git_msg.proofs.PacketFaults.{NotOfPackets, announced_of_packets}
 use Rattle.git_msg.proofs.WholeRequests.{left_at_the_end, one_more_request, requests_more}
 
 -- ---- the reader of packets
@@ -51,15 +51,15 @@ pub rest_behind : (r : PacketReader) (bytes : List ℕ) (packets : List Given) (
 rest_behind r bytes packets rest sound shut stream = none_between r rest (sound_rest r 0 bytes packets rest sound stream).0 shut
 
 -- the effect of a call of `feed`, by its result
-pub record FeedsWith (old : PacketReader) (piece : List ℕ) (used : ℕ) (got : Got) (new : PacketReader) : Type 0 where
-  pub reads : ReadsOn old (take used piece) (given_by got) new
-  pub tells : Tells got used piece new
+pub record FeedsWith (old : PacketReader) (chunk : List ℕ) (used : ℕ) (got : Got) (new : PacketReader) : Type 0 where
+  pub reads : ReadsOn old (take used chunk) (given_by got) new
+  pub announces : Announces got used chunk new
 
-pub feeds_with : (old new : PacketReader) (piece : List ℕ) (fed : Fed) (got : Got) → fed.got ≡ got → Feeds old piece fed new
-    → FeedsWith old piece fed.used got new
-feeds_with old new piece fed got is feeds = record {
-  reads = subst (λ (o : Got). ReadsOn old (take fed.used piece) (given_by o) new) is feeds.reads;
-  tells = subst (λ (o : Got). Tells o fed.used piece new) is feeds.tells;
+pub feeds_with : (old new : PacketReader) (chunk : List ℕ) (fed : Fed) (got : Got) → fed.got ≡ got → Feeds old chunk fed new
+    → FeedsWith old chunk fed.used got new
+feeds_with old new chunk fed got is feeds = record {
+  reads = subst (λ (o : Got). ReadsOn old (take fed.used chunk) (given_by o) new) is feeds.reads;
+  announces = subst (λ (o : Got). Announces o fed.used chunk new) is feeds.announces;
 }
 
 -- ---- the stages
@@ -133,24 +133,24 @@ module _ {A : Type 0} where
     within_behind = within_limit got new (brings.within old.within)
 
     -- an error of a packet is never one that the bytes show
-    pub packet_news : (fault : Fault) (used : ℕ) (piece : List ℕ) → got ≡ Failed fault → ShownByFeed fault used piece
-    packet_news fault used piece is =
-        let told : HasTaken old.requests → (left : List Given) × IsTold (offer_in new) (limit_in new) (left ++ g ∷ []) fault =
+    pub packet_news : (fault : Fault) (used : ℕ) (chunk : List ℕ) → got ≡ Failed fault → ShownByFeed fault used chunk
+    packet_news fault used chunk is =
+        let announced : HasTaken old.requests → (left : List Given) × IsAnnounced (offer_in new) (limit_in new) (left ++ g ∷ []) fault =
         λ (left, takes). (
           left,
-          told_by_none (offer_in new) (limit_in new) (left ++ g ∷ []) fault
+          announced_by_none (offer_in new) (limit_in new) (left ++ g ∷ []) fault
               (subst (λ (o : ReadGot A). IsBrought nothing_barred (left ++ g ∷ []) o new) is (brings.brings left takes)),
         ) in
         let other : (kind : Kind) → NotOfPackets kind → fault.kind ≢ kind =
         λ kind strange name. ∥∥₁_elim (old.taken wants) (λ x y. absurd x) (λ (h : HasTaken old.requests).
-        let (left, t) = told h in told_of_packets kind strange (offer_in new) (limit_in new) (left ++ g ∷ []) fault t name) in
+        let (left, t) = announced h in announced_of_packets kind strange (offer_in new) (limit_in new) (left ++ g ∷ []) fault t name) in
         record { not_the_end = other Truncated tt; one_more = λ too_long. absurd (other StreamTooLong tt too_long) }
 
-module _ {A : Type 0} (old new : RequestStream A) (g : Given) (used : ℕ) (piece : List ℕ) (wants : wants_input old ≡ true) (some : 0 < used)
+module _ {A : Type 0} (old new : RequestStream A) (g : Given) (used : ℕ) (chunk : List ℕ) (wants : wants_input old ≡ true) (some : 0 < used)
     (shut : is_open new.packets ≡ false) where
   -- the state that a packet leaves the reader in
   pub packet_leaves : (got : ReadGot A) → Brings nothing_barred old.requests g got new.requests → new.stage ≡ stage_brought got
-      → StepLeaves got used piece old new
+      → StepLeaves got used chunk old new
   packet_leaves More brings is = (some, ap takes_bytes is)
   packet_leaves (Request request) brings is = (
     some,
@@ -212,7 +212,7 @@ module _ {A : Type 0} (old new : RequestStream A) (u : List ℕ) (wants : wants_
   -- the bytes are refused
   pub refused_read : (fault : Fault) → new.stage ≡ FailedStage fault → packet_fault new.packets ≡ Some fault → fault.kind ≢ Truncated
       → ReadsOn old.packets u [] new.packets → HasRead (used ++ u) (asked ++ []) new
-  refused_read fault is told other reads = search (rules, bytes_read, begun_before, stopped_by)
+  refused_read fault is announced other reads = search (rules, bytes_read, begun_before, stopped_by)
 
   -- there are no more bytes, and the input ends
   pub cut_read : (fault : Fault) → new.stage ≡ FailedStage fault → fault.kind ≡ Truncated → packet_fault old.packets ≡ None
@@ -257,9 +257,9 @@ module _ {A : Type 0} (old new : RequestStream A) (u : List ℕ) (wants : wants_
       by rest stream none (Request request) brings is = search (rules, takes, has_read, one_more_request, with_packet)
       by rest stream none Stop brings is = search (rules, has_read, none_more, takes)
       by rest stream none (Failed fault) brings is =
-          let told = told_by_none (offer_of new) (limit_of new) (h.left ++ g ∷ []) fault (brings.brings h.left takes) in
+          let announced = announced_by_none (offer_of new) (limit_of new) (h.left ++ g ∷ []) fault (brings.brings h.left takes) in
           has_read (h.packets ++ g ∷ []) (h.left ++ g ∷ []) rest (asked ++ []) (FailedStage fault) is stream none_more
-          (inl (record { front = h.left; last = g; whole = refl; begun = begun_before; told = told; no_rest = none })) (λ on. absurd (cc))
+          (inl (record { front = h.left; last = g; whole = refl; begun = begun_before; announced = announced; no_rest = none })) (λ on. absurd (cc))
 
   -- a request that they complete is the last in the bytes
   pub packet_counts : (g : Given) (got : ReadGot A) → Brings nothing_barred old.requests g got new.requests → packet_fault new.packets ≡ None
@@ -284,31 +284,31 @@ module _ {A : Type 0} (old new : RequestStream A) (u : List ℕ) (wants : wants_
 -- ---- a step over the rest of a chunk
 
 -- the effect of a step, by its result
-pub steps_with : {A : Type 0} (old new : RequestStream A) (piece : List ℕ) (read : ReadRequest A) (got : ReadGot A) → read.got ≡ got
-    → Steps old piece read new → Steps old piece (record { used = read.used; got = got }) new
-steps_with {A = A} old new piece read got is steps = subst (λ (o : ReadGot A). Steps old piece (record { used = read.used; got = o }) new) is steps
+pub steps_with : {A : Type 0} (old new : RequestStream A) (chunk : List ℕ) (read : ReadRequest A) (got : ReadGot A) → read.got ≡ got
+    → Steps old chunk read new → Steps old chunk (record { used = read.used; got = got }) new
+steps_with {A = A} old new chunk read got is steps = subst (λ (o : ReadGot A). Steps old chunk (record { used = read.used; got = o }) new) is steps
 
-module _ {A : Type 0} (old mid new : RequestStream A) (piece : List ℕ) (done : ℕ) (within : done ≤ length piece)
-    (more : ℕ) (got : ReadGot A) (steps : Steps mid (take (length piece - done) (drop done piece)) (record { used = more; got = got }) new) where
-  pub reads_further : ((used : List ℕ) (asked : List Asked) → HasRead used asked old → HasRead (used ++ take done piece) asked mid)
-      → (used : List ℕ) (asked : List Asked) → HasRead used asked old → HasRead (used ++ take (done + more) piece) (asked ++ asked_by got) new
+module _ {A : Type 0} (old mid new : RequestStream A) (chunk : List ℕ) (done : ℕ) (within : done ≤ length chunk)
+    (more : ℕ) (got : ReadGot A) (steps : Steps mid (take (length chunk - done) (drop done chunk)) (record { used = more; got = got }) new) where
+  pub reads_further : ((used : List ℕ) (asked : List Asked) → HasRead used asked old → HasRead (used ++ take done chunk) asked mid)
+      → (used : List ℕ) (asked : List Asked) → HasRead used asked old → HasRead (used ++ take (done + more) chunk) (asked ++ asked_by got) new
   reads_further before used asked h = search (rules, joined)
 
   -- a request that is handed out is the last in the bytes
-  pub counts_further : ((used : List ℕ) (asked : List Asked) → HasRead used asked old → HasRead (used ++ take done piece) asked mid)
-      → (used : List ℕ) (asked : List Asked) → HasRead used asked old → EndsWith got (used ++ take (done + more) piece) new
+  pub counts_further : ((used : List ℕ) (asked : List Asked) → HasRead used asked old → HasRead (used ++ take done chunk) asked mid)
+      → (used : List ℕ) (asked : List Asked) → HasRead used asked old → EndsWith got (used ++ take (done + more) chunk) new
   counts_further before used asked h =
-      subst (λ (bytes : List ℕ). EndsWith got bytes new) (joined used piece done more within)
-      (steps.counts (used ++ take done piece) asked (before used asked h))
+      subst (λ (bytes : List ℕ). EndsWith got bytes new) (joined used chunk done more within)
+      (steps.counts (used ++ take done chunk) asked (before used asked h))
 
   -- an error that the rest of a chunk shows is one that the chunk shows
-  pub shows_further : wants_input mid ≡ true → (fault : Fault) → got ≡ Failed fault → ShownByFeed fault (done + more) piece
+  pub shows_further : wants_input mid ≡ true → (fault : Fault) → got ≡ Failed fault → ShownByFeed fault (done + more) chunk
   shows_further wants fault is = search (rules, reading, left_of, length-drop)
 
 -- the state after the last step of a call
-pub leaves_further : {A : Type 0} (old mid new : RequestStream A) (piece rest : List ℕ) (done more : ℕ) (got : ReadGot A) → got ≢ More
-    → StepLeaves got more rest mid new → Leaves got (done + more) piece old new
-leaves_further old mid new piece rest done more More other leaves = absurd (other refl)
-leaves_further old mid new piece rest done more (Request request) other (some, between, shut, format, kept, limit) = search rules
-leaves_further old mid new piece rest done more Stop other (some, quiet, none) = (omega (arith, some), quiet, none)
-leaves_further old mid new piece rest done more (Failed fault) other leaves = leaves
+pub leaves_further : {A : Type 0} (old mid new : RequestStream A) (chunk rest : List ℕ) (done more : ℕ) (got : ReadGot A) → got ≢ More
+    → StepLeaves got more rest mid new → Leaves got (done + more) chunk old new
+leaves_further old mid new chunk rest done more More other leaves = absurd (other refl)
+leaves_further old mid new chunk rest done more (Request request) other (some, between, shut, format, kept, limit) = search rules
+leaves_further old mid new chunk rest done more Stop other (some, quiet, none) = (omega (arith, some), quiet, none)
+leaves_further old mid new chunk rest done more (Failed fault) other leaves = leaves

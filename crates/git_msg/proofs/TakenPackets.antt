@@ -117,7 +117,7 @@ module _ {A : Type 0} (old new : RequestReader A) (packets : List Given) (g : Gi
   brings Stop h = brings_stop h
 
 some_is_not_none : (old : Option Fault) (f : Fault) → old ≡ None → old ≡ Some f → ⊥
-some_is_not_none old f sound told = cc
+some_is_not_none old f sound announced = cc
 
 leaves_taken : {A : Type 0} (taken : Taken A) (new : RequestReader A) → LeavesStep (Ok taken) new → LeavesTaken (Ok taken) new
 leaves_taken More new h = h
@@ -132,7 +132,7 @@ takes_ok old new p offset taken sound ready h = record {
       let s = stood old.part packets old sound ready takes.stands in
       brings old new packets _ s h.offer h.limit taken (h.goes s.lines s.in_lines);
   leaves = leaves_taken taken new h.leaves;
-  stays = λ f told. absurd (some_is_not_none (fault_of old) f sound told);
+  stays = λ f announced. absurd (some_is_not_none (fault_of old) f sound announced);
   offer = h.offer;
   limit = h.limit;
   within = h.within;
@@ -151,7 +151,7 @@ takes_err old new p offset kind sound ready h = record {
       first_fault old new packets _ s h.offer h.limit kind fault in
       (record { stands = inl f }, f, not_for_limit);
   leaves = (refl, refl);
-  stays = λ f told. absurd (some_is_not_none (fault_of old) f sound told);
+  stays = λ f announced. absurd (some_is_not_none (fault_of old) f sound announced);
   offer = h.offer;
   limit = h.limit;
   within = h.within;

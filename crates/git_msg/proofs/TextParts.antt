@@ -11,7 +11,7 @@ use Rattle.std.proofs.lemmas.List.Elements.{All-from_get_or}
 use Rattle.std.proofs.lemmas.List.Sums.{fails_before_first, position_or_len_is}
 use Rattle.std.proofs.lemmas.List.Quantifiers.{position-Some}
 use Rattle.std.proofs.lemmas.List.Splits.{slice_split_at, slice_split_none}
-use Rattle.git_pkt.proofs.Pieces.{left_of}
+use Rattle.git_pkt.proofs.Chunks.{left_of}
 use Rattle.git_names.specs.RefName.{Lacks}
 use Rattle.git_msg.specs.Texts.{parts_of, IsCutAt, IsPartedAt}
 pub use Rattle.git_msg.specs.Texts.{bytes_left}

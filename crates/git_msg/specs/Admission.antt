@@ -7,7 +7,7 @@ use Rattle.git_pkt.specs.declared.fault.Kind.{Kind}
 use Rattle.git_msg.specs.declared.offers.Offer.{Offer}
 use Rattle.git_msg.specs.Arguments.{Arg}
 use Rattle.git_msg.specs.Lines.{Line, arguments_of, has_delimiter, IsArgumentText}
-use Rattle.git_msg.specs.Requests.{AreLines, IsTold}
+use Rattle.git_msg.specs.Requests.{AreLines, IsAnnounced}
 
 -- the refusal of an argument if nothing refuses any: none
 abbrev pub nothing_barred : Arg → Option Kind
@@ -46,7 +46,7 @@ IsUnbarred offer limit barred packets = (kind : Kind) (offset : ℕ) → ¬ IsBa
 
 -- a fault of these packets: the refusal of the last one, an argument, which comes before the limit and before lack of
 -- memory; or otherwise what a reader of requests reports
-abbrev pub IsToldFor : Offer → ℕ → (Arg → Option Kind) → List Given → Fault → Type 0
-IsToldFor offer limit barred packets fault =
+abbrev pub IsAnnouncedFor : Offer → ℕ → (Arg → Option Kind) → List Given → Fault → Type 0
+IsAnnouncedFor offer limit barred packets fault =
     IsBarredAtLast offer limit barred packets fault.kind fault.offset
-    ⊎ (IsUnbarred offer limit barred packets × IsTold offer limit packets fault)
+    ⊎ (IsUnbarred offer limit barred packets × IsAnnounced offer limit packets fault)

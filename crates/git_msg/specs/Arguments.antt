@@ -170,23 +170,23 @@ abbrev pub most_limit : ℕ
 most_limit = 1073741824
 
 -- the line is the word with this value, and the value is allowed there
-abbrev pub SaysValue : Shape → List ℕ → Format → List ℕ → Value → Type 0
-SaysValue flag_word word format line no_value = line ≡ word
-SaysValue object_name word format line (id_value id) = Follows word (λ name. IsObjectName format name id) line
-SaysValue depth_number word format line (number_value depth) = Follows word (λ digits. IsNumberIn IsDepth digits depth) line
-SaysValue time_number word format line (number_value time) = Follows word (λ digits. IsNumberIn IsTime digits time) line
-SaysValue prefix_text word format line (text_value prefix) = (line ≡ word ++ prefix) × (length prefix ≤ most_text)
-SaysValue kept_text word format line (text_value kept) = (line ≡ word ++ kept) × IsKeptText kept
-SaysValue reference_name word format line (text_value name) = (line ≡ word ++ name) × IsRefName name
-SaysValue _ word format line _ = ⊥
+abbrev pub HasValueOf : Shape → List ℕ → Format → List ℕ → Value → Type 0
+HasValueOf flag_word word format line no_value = line ≡ word
+HasValueOf object_name word format line (id_value id) = Follows word (λ name. IsObjectName format name id) line
+HasValueOf depth_number word format line (number_value depth) = Follows word (λ digits. IsNumberIn IsDepth digits depth) line
+HasValueOf time_number word format line (number_value time) = Follows word (λ digits. IsNumberIn IsTime digits time) line
+HasValueOf prefix_text word format line (text_value prefix) = (line ≡ word ++ prefix) × (length prefix ≤ most_text)
+HasValueOf kept_text word format line (text_value kept) = (line ≡ word ++ kept) × IsKeptText kept
+HasValueOf reference_name word format line (text_value name) = (line ≡ word ++ name) × IsRefName name
+HasValueOf _ word format line _ = ⊥
 
 -- the text contains this argument, and its value is allowed there
-abbrev pub SaysArgument : Format → List ℕ → Arg → Type 0
-SaysArgument format text arg = SaysValue (row arg.word).shape (row arg.word).keyword format text arg.value
+abbrev pub HasArgumentOf : Format → List ℕ → Arg → Type 0
+HasArgumentOf format text arg = HasValueOf (row arg.word).shape (row arg.word).keyword format text arg.value
 
 -- the text is this argument of the command
 abbrev pub IsArgument : Command → Format → List ℕ → Arg → Type 0
-IsArgument command format text arg = (command_with arg ≡ command) × SaysArgument format text arg
+IsArgument command format text arg = (command_with arg ≡ command) × HasArgumentOf format text arg
 
 -- an object name of the format
 pub record IsNameIn (format : Format) (id : ObjectName) : Type 0 where

@@ -33,7 +33,7 @@ pub record IsCovered (format : Format) (asked : Asked) (kept stored : ℕ) : Typ
 pub record IsWithin (q : Kept Asked) : Type 0 where
   pub counted : IsCounted q.format q.asked q.kept
   pub covered : q.stored ≤ q.kept
-  pub room : q.kept ≤ q.limit
+  pub space : q.kept ≤ q.limit
   pub in_range : q.limit ≤ most_limit
 
 -- a request without arguments

@@ -157,18 +157,18 @@ pub record IsCapabilityLine (offer : Offer) (first : Bool) (text : List ℕ) (li
 
 -- if no line names a format, SHA-1 is meant
 abbrev pub IsFormatMeant : Format → Bool → Type 0
-IsFormatMeant Sha1 said = Unit {0}
-IsFormatMeant Sha256 said = said ≡ true
+IsFormatMeant Sha1 content = Unit {0}
+IsFormatMeant Sha256 content = content ≡ true
 
 abbrev pub IsOtherFormatMeant : Format → Bool → Type 0
-IsOtherFormatMeant Sha1 said = ⊥
-IsOtherFormatMeant Sha256 said = said ≡ false
+IsOtherFormatMeant Sha1 content = ⊥
+IsOtherFormatMeant Sha256 content = content ≡ false
 
 -- the checks at the end of the capability part
 abbrev pub part_checks : Offer → List Command → Bool → List Check
-part_checks offer commands said =
+part_checks offer commands content =
     check (is_none commands ≡ false) (is_none commands ≡ true) NoCommand
-    ∷ check (IsFormatMeant offer.format said) (IsOtherFormatMeant offer.format said) WrongFormat ∷ []
+    ∷ check (IsFormatMeant offer.format content) (IsOtherFormatMeant offer.format content) WrongFormat ∷ []
 
 -- the checks of a text of the argument part, however much is kept
 abbrev pub text_checks : Command → Offer → List ℕ → List Check

@@ -67,8 +67,8 @@ pub record WantsMemory (offer : Offer) (limit : ℕ) (packets : List Given) (kin
   pub at : offset ≡ last.offset
 
 -- a fault of these packets: the first fault of one of them, or lack of memory at the last
-abbrev pub IsTold : Offer → ℕ → List Given → Fault → Type 0
-IsTold offer limit packets fault =
+abbrev pub IsAnnounced : Offer → ℕ → List Given → Fault → Type 0
+IsAnnounced offer limit packets fault =
     FirstFault offer limit packets fault.kind fault.offset ⊎ WantsMemory offer limit packets fault.kind fault.offset
 
 -- the packets are only a flush, which ends a session

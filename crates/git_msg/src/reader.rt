@@ -58,7 +58,7 @@ impl<A: Allocator + Copy> RequestReader<A> {
     ghost use Rattle.git_msg.specs.Lines.{capability_checks};
     ghost use Rattle.git_msg.specs.Machine.RequestReader.{Takes, TakesOn, GivesKeepable};
     ghost use Rattle.git_msg.specs.Machine.RequestReader.{offer_of, limit_in, kept_so_far, fault_of, is_waiting};
-    ghost use Rattle.git_msg.specs.Machine.RequestReaderSteps.{Notes, IsDue, IsUndue, StepsOn, is_first, restarted};
+    ghost use Rattle.git_msg.specs.Machine.RequestReaderSteps.{Notes, IsExpected, IsUndue, StepsOn, is_first, restarted};
 
     /// A reader at the beginning of a request. It takes memory from `alloc` when an argument with a text or an object
     /// name is kept.
@@ -136,7 +136,7 @@ impl<A: Allocator + Copy> RequestReader<A> {
                 Ok(Taken::More)
             }
             Packet::Delim => {
-                let command = self.command_due()?;
+                let command = self.command_expected()?;
                 self.request = self.empty_request(command);
                 self.part = Part::Arguments;
                 Ok(Taken::More)
@@ -145,7 +145,7 @@ impl<A: Allocator + Copy> RequestReader<A> {
                 if !self.begun {
                     return Ok(Taken::Stop);
                 }
-                let command = self.command_due()?;
+                let command = self.command_expected()?;
                 let request = self.empty_request(command);
                 request.check_end()?;
                 self.request = request;
@@ -205,8 +205,8 @@ impl<A: Allocator + Copy> RequestReader<A> {
     }
 
     // The command, which the capability part must have at its end.
-    fn command_due(&self) -> Result<Command, Kind>
-        ensures command { MatchResult result (IsDue self.now) (IsUndue self.now) }
+    fn command_expected(&self) -> Result<Command, Kind>
+        ensures command { MatchResult result (IsExpected self.now) (IsUndue self.now) }
     {
         let Some(command) = self.command else {
             return Err(Kind::NoCommand);

@@ -156,10 +156,10 @@ impl<A: Memory + Copy> RequestStream<A> {
 
     /// Reads on. It returns after a whole request, at a flush in place of one, when the whole chunk is used, or at the first
     /// fault. Call it again with the bytes that it did not use.
-    pub fn feed(&mut self, piece: &[u8], steps: &mut Steps) -> ReadRequest<A>
-        ensures used { result.used ≤ length piece.now }
-        ensures feeds { Feeds self.old piece.now result self.new }
-        ensures moves { wants_input self.old ≡ true → 0 < length piece.now → 0 < result.used ⊎ IsSome (fault_of self.new) }
+    pub fn feed(&mut self, chunk: &[u8], steps: &mut Steps) -> ReadRequest<A>
+        ensures used { result.used ≤ length chunk.now }
+        ensures feeds { Feeds self.old chunk.now result self.new }
+        ensures moves { wants_input self.old ≡ true → 0 < length chunk.now → 0 < result.used ⊎ IsSome (fault_of self.new) }
         ensures cost { Pays result.used steps.old steps.new (credit_of self.old) (credit_of self.new) }
 
         // It reports `OutOfMemory` only if memory for a list was refused, and the list was to have no more bytes than the limit.
@@ -173,8 +173,8 @@ impl<A: Memory + Copy> RequestStream<A> {
             };
         }
         let mut used = 0;
-        while used < piece.len() && self.wants_input() {
-            let step = self.step(&piece[used..], steps);
+        while used < chunk.len() && self.wants_input() {
+            let step = self.step(&chunk[used..], steps);
             used += step.used;
             match step.got {
                 ReadGot::More => {}
@@ -189,21 +189,21 @@ impl<A: Memory + Copy> RequestStream<A> {
 
     /// Uses bytes up to the end of a packet, or all of them. If more is wanted after a packet, the packet's own bytes have
     /// paid for it.
-    fn step(&mut self, piece: &[u8], steps: &mut Steps) -> ReadRequest<A>
+    fn step(&mut self, chunk: &[u8], steps: &mut Steps) -> ReadRequest<A>
         requires waits { wants_input self.old ≡ true }
-        requires some { 0 < length piece.now }
-        ensures used { result.used ≤ length piece.now }
-        ensures steps { StepsTo self.old piece.now result self.new }
+        requires some { 0 < length chunk.now }
+        ensures used { result.used ≤ length chunk.now }
+        ensures steps { StepsTo self.old chunk.now result self.new }
         ensures moves { 0 < result.used ⊎ IsSome (fault_of self.new) }
         ensures memory { FaultNeedsRefusal A.refuses (limit_of self.old) (fault_of self.new) }
         ensures cost { Pays result.used steps.old steps.new (credit_of self.old) (credit_of self.new) }
-        ensures paid { wants_input self.new ≡ true → result.used < length piece.now
+        ensures paid { wants_input self.new ≡ true → result.used < length chunk.now
             → steps.new + credit_of self.new ≤ steps.old + credit_of self.old + 64 * result.used }
     {
         steps.tick(1);
         // The buffer has at most the bytes of the longest packet.
         let _ = self.packets.hold();
-        let fed = self.packets.feed(piece, steps);
+        let fed = self.packets.feed(chunk, steps);
         let used = fed.used;
         match fed.got {
             Got::More => ReadRequest {

@@ -174,13 +174,13 @@ refused_by : {A B : Type 0} (P : A → Type 0) (decoded : Result A FromHexError)
 refused_by P (Ok bytes) result bad h = cc bad
 refused_by P (Err fault) result bad h = rw h refl
 
-pub no_name_refused : {B : Type 0} (format : Format) (text room : List ℕ) (w : ℕ) (P : List ℕ → Type 0) (result : Result B FromHexError)
-    → IsNoObjectName format text → w ≡ width_of format → length room ≡ 32
-    → MatchResult (decode_sized text (length (take w room))) P (λ fault. result ≡ Err fault) → IsErr result
-no_name_refused format text room w P result none wide size h =
+pub no_name_refused : {B : Type 0} (format : Format) (text buffer : List ℕ) (w : ℕ) (P : List ℕ → Type 0) (result : Result B FromHexError)
+    → IsNoObjectName format text → w ≡ width_of format → length buffer ≡ 32
+    → MatchResult (decode_sized text (length (take w buffer))) P (λ fault. result ≡ Err fault) → IsErr result
+no_name_refused format text buffer w P result none wide size h =
     let within = width_of-within format in
-    let long : length (take w room) ≡ width_of format = let same = length-take-le w room (omega arith) in omega arith in
-    refused_by P (decode_sized text (length (take w room))) result (rw long (no_name_decodes format text none)) h
+    let long : length (take w buffer) ≡ width_of format = let same = length-take-le w buffer (omega arith) in omega arith in
+    refused_by P (decode_sized text (length (take w buffer))) result (rw long (no_name_decodes format text none)) h
 
 pub Decodes-no_name : (format : Format) (text : List ℕ) → IsNoObjectName format text → Decodes format text None
 Decodes-no_name format text none =

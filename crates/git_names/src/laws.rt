@@ -25,7 +25,7 @@ pub fn object_name_has_one_written_form()
 {}
 
 /// Object names with the same written form are equal, and so are their formats.
-pub fn written_forms_tell_names_apart()
+pub fn written_forms_differ_as_names_do()
     ensures { (a b : ObjectName) → IsOid a → IsOid b → hex_of a ≡ hex_of b → a ≡ b }
 {}
 

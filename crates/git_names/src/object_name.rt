@@ -80,13 +80,13 @@ impl Oid {
         digits
     }
 
-    /// Writes the name in lower case digits to the front of `room`, and returns them. The bytes of `room` after them mean nothing.
-    pub fn written<'a>(&self, room: &'a mut [u8; 64]) -> &'a [u8]
+    /// Writes the name in lower case digits to the front of `buffer`, and returns them. The bytes of `buffer` after them mean nothing.
+    pub fn written<'a>(&self, buffer: &'a mut [u8; 64]) -> &'a [u8]
         ensures text { result.now ≡ hex_of self.now }
         ensures reads_back { IsObjectName self.now.format (hex_of self.now) self.now }
     {
-        let count = self.write(room);
-        &room[..count]
+        let count = self.write(buffer);
+        &buffer[..count]
     }
 
     /// The format of the name.
@@ -161,8 +161,8 @@ impl fmt::Debug for Oid {
     ghost debug_output = { λ id. Some (hex_of id) };
 
     fn fmt<W: fmt::Write>(&self, f: &mut fmt::Formatter<W>) -> fmt::Result {
-        let mut room = [0; 64];
-        let digits = &mut room[..self.format.digits()];
+        let mut buffer = [0; 64];
+        let digits = &mut buffer[..self.format.digits()];
         hex::encode_to_slice(self.as_bytes(), digits).unwrap();
         f.write_str(str::from_utf8(digits).unwrap())
     }

@@ -101,24 +101,24 @@ others-append (g ∷ gs) hs =
     ap (λ (l : List Given). cond (is_on_band g.packet) l (g ∷ l)) (others-append gs hs)
     ∙ sym (chosen-append (is_on_band g.packet) g (others gs) (others hs))
 
-regrouped : (given front back told : List Given) → (given ++ (front ++ [])) ++ (back ++ told) ≡ given ++ ((front ++ back) ++ told)
-regrouped given front back told =
-    append_assoc given (front ++ []) (back ++ told)
-    ∙ ap (λ (l : List Given). given ++ (l ++ (back ++ told))) (append-nil front)
-    ∙ ap (λ (l : List Given). given ++ l) (sym (append_assoc front back told))
+regrouped : (given front back announced : List Given) → (given ++ (front ++ [])) ++ (back ++ announced) ≡ given ++ ((front ++ back) ++ announced)
+regrouped given front back announced =
+    append_assoc given (front ++ []) (back ++ announced)
+    ∙ ap (λ (l : List Given). given ++ (l ++ (back ++ announced))) (append-nil front)
+    ∙ ap (λ (l : List Given). given ++ l) (sym (append_assoc front back announced))
 
 -- two steps, one after the other
-pub bands_on : (a b c : PacketReader) (u v : List ℕ) (told : List Given) (p q : List OnBand)
-    → ReadsBandsOn a u [] p b → ReadsBandsOn b v told q c → ReadsBandsOn a (u ++ v) told (p ++ q) c
-bands_on a b c u v told p q h k start bytes given rest r =
+pub bands_on : (a b c : PacketReader) (u v : List ℕ) (announced : List Given) (p q : List OnBand)
+    → ReadsBandsOn a u [] p b → ReadsBandsOn b v announced q c → ReadsBandsOn a (u ++ v) announced (p ++ q) c
+bands_on a b c u v announced p q h k start bytes given rest r =
     let first = h start bytes given rest r in
     let next = k start (bytes ++ u) (given ++ (first.passed ++ [])) first.later first.reads in
     record {
       passed = first.passed ++ next.passed;
       later = next.later;
       reads =
-          subst (λ (l : List ℕ). Reads c start l (given ++ ((first.passed ++ next.passed) ++ told)) next.later) (append_assoc bytes u v)
-          (subst (λ (gs : List Given). Reads c start ((bytes ++ u) ++ v) gs next.later) (regrouped given first.passed next.passed told) next.reads);
+          subst (λ (l : List ℕ). Reads c start l (given ++ ((first.passed ++ next.passed) ++ announced)) next.later) (append_assoc bytes u v)
+          (subst (λ (gs : List Given). Reads c start ((bytes ++ u) ++ v) gs next.later) (regrouped given first.passed next.passed announced) next.reads);
       on_bands = others-append first.passed next.passed ∙ ap (λ (l : List Given). l ++ others next.passed) first.on_bands ∙ next.on_bands;
       free = next.free;
       joins =
@@ -187,11 +187,11 @@ bands_failed old new u f fits sound gathers none none_after m start bytes given 
       held = λ g is. absurd (cc);
     }
 
-pub told_unbanded : (g : Given) → is_on_band g.packet ≡ false → others (g ∷ []) ≡ g ∷ []
-told_unbanded g e = ap (λ (b : Bool). cond b [] (g ∷ [])) e
+pub announced_unbanded : (g : Given) → is_on_band g.packet ≡ false → others (g ∷ []) ≡ g ∷ []
+announced_unbanded g e = ap (λ (b : Bool). cond b [] (g ∷ [])) e
 
-pub not_told_banded : (g : Given) → is_on_band g.packet ≡ true → others (g ∷ []) ≡ []
-not_told_banded g e = ap (λ (b : Bool). cond b [] (g ∷ [])) e
+pub not_announced_banded : (g : Given) → is_on_band g.packet ≡ true → others (g ∷ []) ≡ []
+not_announced_banded g e = ap (λ (b : Bool). cond b [] (g ∷ [])) e
 
 -- a packet that is whole in the hold: it is returned if no bytes of its kind pass
 pub bands_whole : (old new : PacketReader) (u : List ℕ) (g : Given) → bytes_held new ≤ 65520 → fault_of old ≡ None → passes_of old ≡ false
@@ -204,7 +204,7 @@ bands_whole old new u g fits sound gathers none m spells at free start bytes giv
       later = [];
       reads = reads_whole old new u g fits sound gathers m spells at start bytes given rest r;
       on_bands = refl;
-      free = told_unbanded g free;
+      free = announced_unbanded g free;
       joins = joined_to_nothing [] (passed_by_rest rest) refl (ap passed_by_rest (sym was) ∙ none);
       held = λ _ is.
           let front = spells_all_front start bytes given rest r.splits.spelled in (
@@ -225,7 +225,7 @@ bands_empty old new u g fits sound gathers none m spells at banded none_by start
       passed = g ∷ [];
       later = [];
       reads = reads_whole old new u g fits sound gathers m spells at start bytes given rest r;
-      on_bands = not_told_banded g banded;
+      on_bands = not_announced_banded g banded;
       free = refl;
       joins = joined_to_nothing ((passed_by g.packet ++ []) ++ []) (passed_by_rest rest)
           (ap (λ (l : List OnBand). (l ++ []) ++ []) none_by) (ap passed_by_rest (sym was) ∙ none);

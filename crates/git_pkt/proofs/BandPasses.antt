@@ -29,7 +29,7 @@ use Rattle.git_pkt.proofs.KnownRest.{none_between, sound_rest}
 use Rattle.git_pkt.proofs.ReaderMoves.{gathers_between, rest_of_shut}
 use Rattle.git_pkt.proofs.OpenLengths.{shut_rises}
 use Rattle.git_pkt.proofs.Carries.{stands_open, was_held}
-use Rattle.git_pkt.proofs.BandCarries.{band_longer, band_of_take, may_pass_shut, not_told_banded, passed_after_five, never_fatal}
+use Rattle.git_pkt.proofs.BandCarries.{band_longer, band_of_take, may_pass_shut, not_announced_banded, passed_after_five, never_fatal}
 
 abbrev fault_in_progress : Progress → Option Fault
 fault_in_progress Open = None
@@ -161,7 +161,7 @@ bands_pass_whole old new left u band b now all start bytes given rest r =
         };
         state = stands_open new _ _ [] (ap fault_in now) (ap passes_in now) (ap (λ (s : State). take (held_in s) (held_of new)) now);
       };
-      on_bands = not_told_banded g banded;
+      on_bands = not_announced_banded g banded;
       free = refl;
       held = λ _ is. absurd (cc);
       joins =
@@ -222,7 +222,7 @@ bands_stop old new left progress was s same last start bytes given rest r = reco
     fits = omega (arith, ap length same, r.fits);
     splits = r.splits;
     state =
-        subst (λ (o : Option Fault). StandsAt o (start + length bytes - length rest) (start + length bytes) rest new) (sym s.told)
+        subst (λ (o : Option Fault). StandsAt o (start + length bytes - length rest) (start + length bytes) rest new) (sym s.announced)
         (s.closed, ((passing_rest old left start bytes given rest was r).still_open, sym r.position ∙ last, refl));
   });
   on_bands = refl;
@@ -234,11 +234,11 @@ bands_stop old new left progress was s same last start bytes given rest r = reco
 -- the error that it ended with
 pub stopped_fault : (old new : PacketReader) (kind : Kind) (offset : ℕ) (f : Fault) → IsStopped old kind offset (Failed f) new
     → fault_of new ≡ Some f
-stopped_fault old new kind offset f s = s.told ∙ ap fault_in_progress (sym s.progress_is)
+stopped_fault old new kind offset f s = s.announced ∙ ap fault_in_progress (sym s.progress_is)
 
-pub shown_at_last : (old new : PacketReader) (offset : ℕ) (f : Fault) (used : ℕ) (piece : List ℕ)
-    → IsStopped old StreamTooLong offset (Failed f) new → used < length piece → ShownByFeed f used piece
-shown_at_last old new offset f used piece s more =
+pub shown_at_last : (old new : PacketReader) (offset : ℕ) (f : Fault) (used : ℕ) (chunk : List ℕ)
+    → IsStopped old StreamTooLong offset (Failed f) new → used < length chunk → ShownByFeed f used chunk
+shown_at_last old new offset f used chunk s more =
     let is : Some StreamTooLong ≡ Some f.kind = ap kind_in_progress (sym s.progress_is) in
     record { not_the_end = λ e. absurd (cc); one_more = λ _. more }
 
@@ -270,7 +270,7 @@ bands_at_once old new u field band sound shut whole five e same at few start byt
         };
         state = stands_open new _ _ [] (ap fault_in same ∙ sound) (gathers_between new closed) (rest_of_shut new closed);
       };
-      on_bands = not_told_banded g (ap is_some e);
+      on_bands = not_announced_banded g (ap is_some e);
       free = refl;
       held = λ _ is. absurd (cc);
       joins =
@@ -280,17 +280,17 @@ bands_at_once old new u field band sound shut whole five e same at few start byt
           ∙ ap (λ (l : List ℕ). passed_by_rest l ++ map (on band) (drop 5 u)) (sym none);
     }
 
-pub at_once_moves : (old new : PacketReader) (piece : List ℕ) (field : ℕ) (band : Band) → fault_of old ≡ None → is_open old ≡ false
-    → field ≤ length piece → IsWhole (take field piece) field → 6 ≤ field → band_in (drop 4 (take field piece)) ≡ Some band → new.state ≡ old.state
+pub at_once_moves : (old new : PacketReader) (chunk : List ℕ) (field : ℕ) (band : Band) → fault_of old ≡ None → is_open old ≡ false
+    → field ≤ length chunk → IsWhole (take field chunk) field → 6 ≤ field → band_in (drop 4 (take field chunk)) ≡ Some band → new.state ≡ old.state
     → position_of new ≡ position_of old + field → length (held_of new) ≤ 5
-    → BandMoves old piece (field - 5 + 5) (Part (record { band = band; count = field - 5 })) new
-at_once_moves old new piece field band sound shut within whole six e same at few =
-    let u = take field piece in
-    let long : length u ≡ field = length-take-le field piece within in
+    → BandMoves old chunk (field - 5 + 5) (Part (record { band = band; count = field - 5 })) new
+at_once_moves old new chunk field band sound shut within whole six e same at few =
+    let u = take field chunk in
+    let long : length u ≡ field = length-take-le field chunk within in
     let sum : field ≡ field - 5 + 5 = omega arith in
     let last : length (drop 5 u) ≡ field - 5 = omega (arith, length-drop 5 u, long) in
     let closed : is_open new ≡ false = ap is_open_in same ∙ shut in
-    let moves : BandMoves old piece field (Part (record { band = band; count = field - 5 })) new = record {
+    let moves : BandMoves old chunk field (Part (record { band = band; count = field - 5 })) new = record {
       passes = may_pass_shut new closed;
       rises = shut_rises new _ closed;
       comes = record {
@@ -310,4 +310,4 @@ at_once_moves old new piece field band sound shut within whole six e same at few
         goes = bands_at_once old new u field band sound shut whole (omega arith) e same (omega (arith, at, long)) few;
       };
     } in
-    subst (λ (n : ℕ). BandMoves old piece n (Part (record { band = band; count = field - 5 })) new) sum moves
+    subst (λ (n : ℕ). BandMoves old chunk n (Part (record { band = band; count = field - 5 })) new) sum moves

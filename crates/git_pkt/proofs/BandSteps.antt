@@ -28,22 +28,23 @@ use Rattle.git_pkt.proofs.BandCarries.{band_longer, band_of_take, banded_body, b
 use Rattle.git_pkt.proofs.BandCarries.{passed_body, passes_short, passes_unbanded, unbanded_short}
 
 -- a step after bytes that gave nothing
-module _ (a b c : PacketReader) (front piece whole : List ℕ) (used total : ℕ) (cut : front ++ piece ≡ whole) (sum : length front + used ≡ total)
+module _ (a b c : PacketReader) (front chunk whole : List ℕ) (used total : ℕ) (cut : front ++ chunk ≡ whole) (sum : length front + used ≡ total)
     (risen : open_length b ≤ open_length a + length front) (first : ReadsBandsOn a front [] [] b) where
-  both : take total whole ≡ front ++ take used piece
+  both : take total whole ≡ front ++ take used chunk
   both =
       ap (λ (n : ℕ). take n whole) (sym sum)
       ∙ ap (λ (l : List ℕ). take (length front + used) l) (sym cut)
-      ∙ take-append-add front piece used
+      ∙ take-append-add front chunk used
 
-  long : length whole ≡ length front + length piece
-  long = ap length (sym cut) ∙ length-append front piece
+  long : length whole ≡ length front + length chunk
+  long = ap length (sym cut) ∙ length-append front chunk
 
-  goes_after : (told : List Given) (parts : List OnBand) → ReadsBandsOn b (take used piece) told parts c → ReadsBandsOn a (take total whole) told parts c
-  goes_after told parts next =
-      subst (λ (l : List ℕ). ReadsBandsOn a l told parts c) (sym both) (bands_on a b c front (take used piece) told [] parts first next)
+  goes_after : (announced : List Given) (parts : List OnBand) → ReadsBandsOn b (take used chunk) announced parts c
+      → ReadsBandsOn a (take total whole) announced parts c
+  goes_after announced parts next =
+      subst (λ (l : List ℕ). ReadsBandsOn a l announced parts c) (sym both) (bands_on a b c front (take used chunk) announced [] parts first next)
 
-  part_after : (bytes : List ℕ) → IsPart bytes used piece c → IsPart bytes total whole c
+  part_after : (bytes : List ℕ) → IsPart bytes used chunk c → IsPart bytes total whole c
   part_after bytes p = record {
     uses = omega (arith, p.uses, sum);
     some = p.some;
@@ -55,7 +56,7 @@ module _ (a b c : PacketReader) (front piece whole : List ℕ) (used total : ℕ
     few = p.few;
   }
 
-  comes_after : (progress : BandProgress) → Comes progress b piece used c → Comes progress a whole total c
+  comes_after : (progress : BandProgress) → Comes progress b chunk used c → Comes progress a whole total c
   comes_after OpenYet h = record { all = omega (arith, h.all, sum, long); no_fault = h.no_fault; goes = goes_after [] [] h.goes }
   comes_after Empty h = record { some = omega (arith, h.some, sum); no_fault = h.no_fault; goes = goes_after [] [] h.goes }
   comes_after (Part part) h = record {
@@ -76,12 +77,12 @@ module _ (a b c : PacketReader) (front piece whole : List ℕ) (used total : ℕ
     goes = λ p offset spells at. goes_after ((record { packet = p; offset = offset }) ∷ []) [] (h.goes p offset spells at);
   }
   comes_after (FailedStep f) h = record {
-    told = h.told;
+    announced = h.announced;
     shown = record { not_the_end = h.shown.not_the_end; one_more = λ e. omega (arith, h.shown.one_more e, sum, long) };
     goes = goes_after [] [] h.goes;
   }
 
-  pub bands_after : (progress : BandProgress) → BandMoves b piece used progress c → BandMoves a whole total progress c
+  pub bands_after : (progress : BandProgress) → BandMoves b chunk used progress c → BandMoves a whole total progress c
   bands_after progress h = record { passes = h.passes; rises = omega (arith, h.rises, risen, sum); comes = comes_after progress h.comes }
 
 -- the hold has at least the bytes of the open packet that are counted there
@@ -130,16 +131,16 @@ module _ (old new : PacketReader) (u : List ℕ) (fits : bytes_held new ≤ 6552
       let whole = whole_spells (held_of new) new.field (whole_held m) in
       whole_uses old new u whole.0 m whole.1
 
-  pub whole_comes : (piece : List ℕ) (used : ℕ) → u ≡ take used piece → used ≤ length piece → Moves old u Whole new
-      → begins_band (drop 4 (held_of new)) ≡ false → IsHeldWhole old piece used new
-  whole_comes piece used e within m free = record {
-    some = omega (arith, some_used m, ap length e, length-take-le used piece within);
+  pub whole_comes : (chunk : List ℕ) (used : ℕ) → u ≡ take used chunk → used ≤ length chunk → Moves old u Whole new
+      → begins_band (drop 4 (held_of new)) ≡ false → IsHeldWhole old chunk used new
+  whole_comes chunk used e within m free = record {
+    some = omega (arith, some_used m, ap length e, length-take-le used chunk within);
     no_fault = m.arrives.no_fault;
     closed = m.arrives.closed;
     whole = whole_held m;
     on_no_band = free;
     behind = whole_behind old new u m;
-    counts = omega (arith, held_counts old new u used gathers (ap length e ∙ length-take-le used piece within) m);
+    counts = omega (arith, held_counts old new u used gathers (ap length e ∙ length-take-le used chunk within) m);
     goes = λ p offset spells at.
         let g : Given = record { packet = p; offset = offset } in
         subst (λ (l : List ℕ). ReadsBandsOn old l (g ∷ []) [] new) e
@@ -181,5 +182,5 @@ module _ (old new : PacketReader) (u : List ℕ) (fits : bytes_held new ≤ 6552
   short_free short m = λ now.
       ap (λ (l : List ℕ). begins_band (drop 4 l)) m.arrives.rest_is ∙ unbanded_short (rest_of old ++ u) short
 
-pub take_front : (used front : ℕ) (piece : List ℕ) → used ≤ length (take front piece) → take used (take front piece) ≡ take used piece
-take_front used front piece within = grind (arith, common_steps)
+pub take_front : (used front : ℕ) (chunk : List ℕ) → used ≤ length (take front chunk) → take used (take front chunk) ≡ take used chunk
+take_front used front chunk within = grind (arith, common_steps)

@@ -85,7 +85,7 @@ reads_failed old new u f fits sound gathers m start bytes given rest r =
         ends = subst (λ (l : List ℕ). NoneBegins l) same m.arrives.none;
       };
       state = subst (λ (o : Option Fault). StandsAt o (start + length (bytes ++ u) - length (rest ++ u)) (start + length (bytes ++ u)) (rest ++ u) new)
-          (sym m.arrives.told) (m.arrives.closed, by);
+          (sym m.arrives.announced) (m.arrives.closed, by);
     }
 
 pub carry_open : (old new : PacketReader) (u : List ℕ) → bytes_held new ≤ 65520 → fault_of old ≡ None → passes_of old ≡ false → Moves old u Open new

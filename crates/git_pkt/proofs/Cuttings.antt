@@ -19,8 +19,8 @@ same_split r s start bytes given others rest other_rest h k =
 -- the error that a reader reports is in its stream
 pub stopped : (r : PacketReader) (f : Fault) (start : ℕ) (bytes : List ℕ) (given : List Given) (rest : List ℕ)
     → Reads r start bytes given rest → fault_of r ≡ Some f → StopsBy (start + length bytes - length rest) rest (start + length bytes) f.kind f.offset
-stopped r f start bytes given rest h told =
-    (subst (λ (o : Option Fault). StandsAt o (start + length bytes - length rest) (start + length bytes) rest r) told h.state).1
+stopped r f start bytes given rest h announced =
+    (subst (λ (o : Option Fault). StandsAt o (start + length bytes - length rest) (start + length bytes) rest r) announced h.state).1
 
 -- an error of one kind is at one offset
 pub one_offset : (p : ℕ) (rest : List ℕ) (end : ℕ) (kind : Kind) (m n : ℕ) → StopsBy p rest end kind m → StopsBy p rest end kind n → m ≡ n
@@ -32,11 +32,11 @@ one_offset p rest end kind m n a b =
     ap (λ (x : Fault). x.offset) (one_fault p rest f g a.0 b.0)
 
 -- an open rest has neither
-told_again_at : (p end : ℕ) (rest : List ℕ) (f : Fault) (kind : Kind) (offset : ℕ)
+announced_again_at : (p end : ℕ) (rest : List ℕ) (f : Fault) (kind : Kind) (offset : ℕ)
     → RestFault p rest f → StopsBy p rest end kind offset → (f.kind ≡ kind) × (f.offset ≡ offset)
-told_again_at p end rest f Truncated offset h k = absurd (not_open_and_faulty p rest f k.0 h)
-told_again_at p end rest f StreamTooLong offset h k = absurd (not_open_and_faulty p rest f k.0 h)
-told_again_at p end rest f kind offset h k =
+announced_again_at p end rest f Truncated offset h k = absurd (not_open_and_faulty p rest f k.0 h)
+announced_again_at p end rest f StreamTooLong offset h k = absurd (not_open_and_faulty p rest f k.0 h)
+announced_again_at p end rest f kind offset h k =
     let g : Fault = record { kind = kind; offset = offset } in
     let same : f ≡ g = one_fault p rest f g h k.0 in
     (ap (λ (x : Fault). x.kind) same, ap (λ (x : Fault). x.offset) same)
@@ -52,37 +52,37 @@ of_bytes p end rest kind offset a b h = h.0
 pub stops_once : (p end : ℕ) (rest : List ℕ) (kind other : Kind) (m n : ℕ)
     → kind ≢ Truncated → kind ≢ StreamTooLong → StopsBy p rest end kind m → StopsBy p rest end other n → (kind ≡ other) × (m ≡ n)
 stops_once p end rest kind other m n a b h k =
-    told_again_at p end rest (record { kind = kind; offset = m }) other n (of_bytes p end rest kind m a b h) k
+    announced_again_at p end rest (record { kind = kind; offset = m }) other n (of_bytes p end rest kind m a b h) k
 
 pub not_open : (p end : ℕ) (rest : List ℕ) (kind : Kind) (offset : ℕ)
     → kind ≢ Truncated → kind ≢ StreamTooLong → StopsBy p rest end kind offset → IsOpen rest → ⊥
 not_open p end rest kind offset a b h sound =
     not_open_and_faulty p rest (record { kind = kind; offset = offset }) sound (of_bytes p end rest kind offset a b h)
 
-told_by : (s : PacketReader) (f : Fault) (o : Option Fault) (p end : ℕ) (rest : List ℕ) → RestFault p rest f → StandsAt o p end rest s → o ≡ Some f
-told_by s f None p end rest h stands = absurd (not_open_and_faulty p rest f stands.1 h)
-told_by s f (Some g) p end rest h stands =
-    let same = told_again_at p end rest f g.kind g.offset h stands.1 in
+announced_by : (s : PacketReader) (f : Fault) (o : Option Fault) (p end : ℕ) (rest : List ℕ) → RestFault p rest f → StandsAt o p end rest s → o ≡ Some f
+announced_by s f None p end rest h stands = absurd (not_open_and_faulty p rest f stands.1 h)
+announced_by s f (Some g) p end rest h stands =
+    let same = announced_again_at p end rest f g.kind g.offset h stands.1 in
     ap (λ (x : Fault). Some x) (sym (same_fault f g same.0 same.1))
 
 -- an error that the bytes show is reported by each of their readers
-pub told_by_all : (r s : PacketReader) (f : Fault) (start : ℕ) (bytes : List ℕ) (given others : List Given) (rest other_rest : List ℕ)
+pub announced_by_all : (r s : PacketReader) (f : Fault) (start : ℕ) (bytes : List ℕ) (given others : List Given) (rest other_rest : List ℕ)
     → Reads r start bytes given rest → Reads s start bytes others other_rest
     → fault_of r ≡ Some f → f.kind ≢ Truncated → f.kind ≢ StreamTooLong → fault_of s ≡ Some f
-told_by_all r s f start bytes given others rest other_rest h k told a b =
+announced_by_all r s f start bytes given others rest other_rest h k announced a b =
     let same = (same_split r s start bytes given others rest other_rest h k).rest_is in
     let p : ℕ = start + length bytes - length rest in
-    let fault = of_bytes p (start + length bytes) rest f.kind f.offset a b (stopped r f start bytes given rest h told) in
-    told_by s f (fault_of s) p (start + length bytes) rest fault
+    let fault = of_bytes p (start + length bytes) rest f.kind f.offset a b (stopped r f start bytes given rest h announced) in
+    announced_by s f (fault_of s) p (start + length bytes) rest fault
     (subst (λ (l : List ℕ). StandsAt (fault_of s) (start + length bytes - length l) (start + length bytes) l s) (sym same) k.state)
 
 -- two errors of one kind are equal
 pub one_by_name : (r s : PacketReader) (f g : Fault) (start : ℕ) (bytes : List ℕ) (given others : List Given) (rest other_rest : List ℕ)
     → Reads r start bytes given rest → Reads s start bytes others other_rest → fault_of r ≡ Some f → fault_of s ≡ Some g → f.kind ≡ g.kind → f ≡ g
-one_by_name r s f g start bytes given others rest other_rest h k told other name =
+one_by_name r s f g start bytes given others rest other_rest h k announced other name =
     let same = (same_split r s start bytes given others rest other_rest h k).rest_is in
     let p : ℕ = start + length bytes - length rest in
-    let a = stopped r f start bytes given rest h told in
+    let a = stopped r f start bytes given rest h announced in
     let b : StopsBy p rest (start + length bytes) g.kind g.offset =
     subst (λ (l : List ℕ). StopsBy (start + length bytes - length l) l (start + length bytes) g.kind g.offset)
     (sym same) (stopped s g start bytes others other_rest k other) in

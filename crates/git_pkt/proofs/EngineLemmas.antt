@@ -20,11 +20,11 @@ AppendsFront-after a b c bs cs whole (front, rest, split, written) =
 pub AppendsFront-longer : (a b : Option (List ℕ)) (bs cs : List ℕ) → AppendsFront a b bs → AppendsFront a b (bs ++ cs)
 AppendsFront-longer a b bs cs (front, rest, split, written) = (front, rest ++ cs, ap (λ l. l ++ cs) split ∙ append_assoc front rest cs, written)
 
--- ---- the next part of a chunk, `&piece[done..done + count]`
+-- ---- the next part of a chunk, `&chunk[done..done + count]`
 
-pub take-next : (done count : ℕ) (piece : List ℕ) → take (done + count) piece ≡ take done piece ++ take (done + count - done) (drop done piece)
-take-next done count piece =
-    let same : done + count - done ≡ count = omega arith in rw (same, take-add done count piece) refl
+pub take-next : (done count : ℕ) (chunk : List ℕ) → take (done + count) chunk ≡ take done chunk ++ take (done + count - done) (drop done chunk)
+take-next done count chunk =
+    let same : done + count - done ≡ count = omega arith in rw (same, take-add done count chunk) refl
 
 -- ---- what was written to a stream
 
@@ -104,13 +104,13 @@ module _ {P : List ℕ → List ℕ → Type 0} where
   -- the result of the run
   pub moves : {S : StreamRelation} {broken : Bool} {reader writer : Flow} → ((came given : List ℕ) → P came given → S (came ∷ []) (given ∷ []))
       → Moved broken P reader writer → Moves broken S (reader ∷ []) (writer ∷ [])
-  moves says so_far =
+  moves conveys so_far =
       record {
         used = so_far.came ∷ [];
         given = so_far.given ∷ [];
         read = (so_far.read, tt);
         written = (so_far.written, tt);
-        related = says so_far.came so_far.given so_far.stands;
+        related = conveys so_far.came so_far.given so_far.stands;
       }
 
 -- ---- what `?` returns is the error that occurred
@@ -127,8 +127,8 @@ holds_at_fault r fault Q Until met until =
     subst (λ x. MatchResult x Q Until) (sym is) (subst Until (sym same) until)
 
 -- one more read returned some bytes
-pub brings_more : (count n : ℕ) (came piece : List ℕ) → count ≤ length came → n ≤ length piece → 0 < n → count + 1 ≤ length (came ++ take n piece)
-brings_more count n came piece so_far within some = omega (arith, so_far, some, length-append came (take n piece), length-take-le n piece within)
+pub brings_more : (count n : ℕ) (came chunk : List ℕ) → count ≤ length came → n ≤ length chunk → 0 < n → count + 1 ≤ length (came ++ take n chunk)
+brings_more count n came chunk so_far within some = omega (arith, so_far, some, length-append came (take n chunk), length-take-le n chunk within)
 
 -- an error that the bytes of a chunk show is reported in time
 pub timely : (kind : Kind) (ended : Bool) (unused : List ℕ) → (kind ≡ Truncated → ⊥) → (kind ≡ StreamTooLong → 0 < length unused)

@@ -89,8 +89,8 @@ pub overwritten : (out four escaped escape : List ℕ) (at n : ℕ)
     → take (at + n) (take at out ++ four ++ drop (at + length four) out) ≡ escaped ++ escape
 overwritten out four escaped escape at n within fits e f =
     let long : length (take at out) ≡ at = length-take-le at out within in
-    let room : at + n ≤ length (take at out ++ four) = omega (arith, length-append (take at out) four) in
-    take-append-le (at + n) (take at out ++ four) (drop (at + length four) out) room
+    let space : at + n ≤ length (take at out ++ four) = omega (arith, length-append (take at out) four) in
+    take-append-le (at + n) (take at out ++ four) (drop (at + length four) out) space
     ∙ ap (λ (k : ℕ). take (k + n) (take at out ++ four)) (sym long) ∙ take-append-add (take at out) four n
     ∙ ap (λ (l : List ℕ). l ++ take n four) e ∙ ap (λ (l : List ℕ). escaped ++ l) f
 

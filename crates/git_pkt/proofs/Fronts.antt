@@ -16,22 +16,22 @@ same_number : (bytes s : List ℕ) (p : Pkt) → Spells p s → StartsWith bytes
 same_number bytes s p spells starts =
     ap digits_value (parts bytes s starts) ∙ digits_value-append s (drop (length s) bytes) spells.digits.four
 
-long_as_told : (p : Pkt) (s : List ℕ) → Spells p s → length s ≡ max (digits_value s) 4
-long_as_told p s spells = omega (arith, field_length p s spells)
+long_as_announced : (p : Pkt) (s : List ℕ) → Spells p s → length s ≡ max (digits_value s) 4
+long_as_announced p s spells = omega (arith, field_length p s spells)
 
 -- its length is the number in its digits, or four if that is less
 pub front_is : (bytes s : List ℕ) (p : Pkt) (field : ℕ) → digits_value bytes ≡ field → Spells p s → StartsWith bytes s
     → take (max field 4) bytes ≡ s
 front_is bytes s p field number spells starts =
     let long : max field 4 ≡ length s =
-    ap (λ (n : ℕ). max n 4) (sym number ∙ same_number bytes s p spells starts) ∙ sym (long_as_told p s spells) in
+    ap (λ (n : ℕ). max n 4) (sym number ∙ same_number bytes s p spells starts) ∙ sym (long_as_announced p s spells) in
     ap (λ (n : ℕ). take n bytes) long ∙ starts
 
 pub front_within : (bytes : List ℕ) (field : ℕ) → digits_value bytes ≡ field → HasFront bytes → max field 4 ≤ length bytes
 front_within bytes field number h =
     let long : max field 4 ≡ length h.spelling =
     ap (λ (n : ℕ). max n 4) (sym number ∙ same_number bytes h.spelling h.packet h.spells h.starts)
-    ∙ sym (long_as_told h.packet h.spelling h.spells) in
+    ∙ sym (long_as_announced h.packet h.spelling h.spells) in
     omega (arith, long, starts_with_length bytes h.spelling h.starts)
 
 pub front_has_digits : (bytes : List ℕ) (k : ℕ) → HasFront bytes → FirstBadDigit bytes k → ⊥

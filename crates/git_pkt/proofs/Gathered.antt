@@ -5,7 +5,7 @@ use Rattle.std.proofs.lemmas.List.{get_or_append_left, length-take-le, take-appe
 use Rattle.git_pkt.specs.Digits.{HasDigits, digits_value}
 use Rattle.git_pkt.specs.Splits.{NoneBegins}
 use Rattle.git_pkt.specs.Faults.{FirstBadDigit, IsOpen, ShowsAtEnd, StopsBy}
-use Rattle.git_pkt.specs.Machine.HeldPacket.{IsGathering, IsLengthField, IsWhole, TellsField}
+use Rattle.git_pkt.specs.Machine.HeldPacket.{IsGathering, IsLengthField, IsWhole, AnnouncesField}
 use Rattle.git_pkt.specs.declared.fault.Kind.{Kind}
 use Rattle.git_pkt.specs.declared.fault.Kind.TheVariants.{BadDigit, BadLength, TooLong}
 use Rattle.git_pkt.proofs.Spelling.{digits_value-append, HasDigits-append, none_begins_bad, none_begins_refused, none_begins_partial}
@@ -117,21 +117,21 @@ shows_at_four rest h four n less = record {
 
 -- four digits with a number that no packet has
 pub field_ends : (rest : List ℕ) (field : ℕ) (kind : Kind) (p end offset : ℕ)
-    → HasDigits rest → digits_value rest ≡ field → TellsField field (Some kind) → length rest ≡ 4 → offset ≡ p → EndsWith rest kind p end offset
-field_ends rest field BadLength p end offset h number tells four at = record {
-  none = none_begins_refused rest (λ ok. ok.0 (number ∙ tells));
-  by = ((h, number ∙ tells, at), shows_at_four rest h four);
+    → HasDigits rest → digits_value rest ≡ field → AnnouncesField field (Some kind) → length rest ≡ 4 → offset ≡ p → EndsWith rest kind p end offset
+field_ends rest field BadLength p end offset h number announces four at = record {
+  none = none_begins_refused rest (λ ok. ok.0 (number ∙ announces));
+  by = ((h, number ∙ announces, at), shows_at_four rest h four);
 }
-field_ends rest field TooLong p end offset h number tells four at = record {
+field_ends rest field TooLong p end offset h number announces four at = record {
   none = none_begins_refused rest (λ ok. omega (arith, ok.1));
   by = ((h, omega arith, at), shows_at_four rest h four);
 }
-field_ends rest field kind p end offset h number tells four at = absurd tells
+field_ends rest field kind p end offset h number announces four at = absurd announces
 
 -- a number without an error is allowed
-pub allowed_unrefused : (field : ℕ) (o : Option Kind) → TellsField field o → ((kind : Kind) → o ≡ Some kind → ⊥) → IsLengthField field
-allowed_unrefused field None tells none = tells
-allowed_unrefused field (Some kind) tells none = absurd (none kind refl)
+pub allowed_unrefused : (field : ℕ) (o : Option Kind) → AnnouncesField field o → ((kind : Kind) → o ≡ Some kind → ⊥) → IsLengthField field
+allowed_unrefused field None announces none = announces
+allowed_unrefused field (Some kind) announces none = absurd (none kind refl)
 
 pub open_nothing : IsOpen []
 open_nothing = record {

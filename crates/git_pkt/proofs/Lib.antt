@@ -15,7 +15,7 @@ pub mod BandPasses
 pub mod BandSteps
 pub mod BandFeeds
 pub mod BandCalls
-pub mod Pieces
+pub mod Chunks
 pub mod Written
 pub mod Fronts
 pub mod Escapes

@@ -51,7 +51,7 @@ pub stopped_after : (old mid new : PacketReader) (before u : List ℕ) (kind : K
     → EndsWith (before ++ u) kind (position_of mid - length (before ++ u)) (position_of mid) offset → Moves old u progress new
 stopped_after old mid new before u kind offset progress e s moved ends =
     rw s.progress_is (moves_from old new before u _ e (s.position ∙ moved) (record {
-      told = s.told;
+      announced = s.announced;
       closed = s.closed;
       none = ends.none;
       by = rw s.position ends.by;

@@ -4,8 +4,8 @@ use Rattle.std.proofs.Common.{refl, sym, ap, ◌∙◌, subst}
 use Rattle.std.proofs.lemmas.Result.{err_from_is_err_and}
 use Rattle.std.proofs.KnownBytes.{Appends-nil, Appends-trans}
 use Rattle.git_pkt.specs.declared.fault.RunFault.{RunFault}
-use Rattle.git_pkt.specs.declared.told.Told.{Told}
-use Rattle.git_pkt.specs.Machine.Told.{inner_of, has_failed, ReadsNothing}
+use Rattle.git_pkt.specs.declared.recorded.Recorded.{Recorded}
+use Rattle.git_pkt.specs.Machine.Recorded.{inner_of, has_failed, ReadsNothing}
 use Rattle.git_pkt.specs.Machine.Sends.{Sends, Puts}
 use Rattle.git_pkt.proofs.EngineLemmas.{AppendsFront-after, AppendsFront-longer}
 
@@ -17,12 +17,12 @@ on_ok : {T E P : Type 0} (r : Result T E) → P → OnOk r P
 on_ok (Ok x) p = p
 on_ok (Err e) p = tt
 
-reads_then : {W : Type 0} {a b c : Told W} → ReadsNothing a b → ReadsNothing b c → ReadsNothing a c
+reads_then : {W : Type 0} {a b c : Recorded W} → ReadsNothing a b → ReadsNothing b c → ReadsNothing a c
 reads_then one two = record { reads = two.reads ∙ one.reads; ended = two.ended ∙ one.ended; wasted = two.wasted ∙ one.wasted }
 
 module _ {W : Type 0} {contents : W → Option (List ℕ)} where
   -- nothing to send
-  pub sends_nothing : {writer : Told W} → Sends {T = Unit {0}} contents writer [] (Ok tt) writer
+  pub sends_nothing : {writer : Recorded W} → Sends {T = Unit {0}} contents writer [] (Ok tt) writer
   sends_nothing {writer} = record {
     ok = Appends-nil (contents (inner_of writer));
     err = tt;
@@ -32,7 +32,7 @@ module _ {W : Type 0} {contents : W → Option (List ℕ)} where
   }
 
   -- bytes that were sent, and then more
-  pub sends_then : {S T : Type 0} {a b c : Told W} {u v : List ℕ} {x : S} {result : Result T RunFault} → Sends contents a u (Ok x) b
+  pub sends_then : {S T : Type 0} {a b c : Recorded W} {u v : List ℕ} {x : S} {result : Result T RunFault} → Sends contents a u (Ok x) b
       → Sends contents b v result c → Sends contents a (u ++ v) result c
   sends_then {a = a} {b = b} {c = c} {u = u} {v = v} {result = Ok y} one two = record {
     ok = Appends-trans (contents (inner_of a)) (contents (inner_of b)) (contents (inner_of c)) u v one.ok two.ok;
@@ -50,7 +50,7 @@ module _ {W : Type 0} {contents : W → Option (List ℕ)} where
   }
 
   -- the sending failed, and `?` returns the error: no byte after these was sent
-  pub sends_front : {S T : Type 0} {a c : Told W} {u : List ℕ} {met : RunFault} {result : Result T RunFault} (v : List ℕ)
+  pub sends_front : {S T : Type 0} {a c : Recorded W} {u : List ℕ} {met : RunFault} {result : Result T RunFault} (v : List ℕ)
       → Sends {T = S} contents a u (Err met) c → IsErrAnd result (λ e. e ≡ met) → Sends contents a (u ++ v) result c
   sends_front {a = a} {c = c} {u = u} {met = met} {result = result} v front answered =
       let (e, is, same) = err_from_is_err_and result answered in
@@ -65,17 +65,17 @@ module _ {W : Type 0} {contents : W → Option (List ℕ)} where
   -- ---- bytes that wait for the writer
 
   -- the bytes wait with the others
-  pub puts_waiting : {a : Told W} {s u t : List ℕ} → t ≡ s ++ u → Puts {T = Unit {0}} contents a s u (Ok tt) a t
+  pub puts_waiting : {a : Recorded W} {s u t : List ℕ} → t ≡ s ++ u → Puts {T = Unit {0}} contents a s u (Ok tt) a t
   puts_waiting {s = s} {u = u} joined = record { sent = []; rest = s ++ u; all = refl; sends = sends_nothing; waits = joined }
 
   -- all waiting bytes were sent, and then these bytes
-  pub puts_sent : {a b c : Told W} {s u t : List ℕ} {result : Result (Unit {0}) RunFault} → Sends {T = Unit {0}} contents a s (Ok tt) b
+  pub puts_sent : {a b c : Recorded W} {s u t : List ℕ} {result : Result (Unit {0}) RunFault} → Sends {T = Unit {0}} contents a s (Ok tt) b
       → Sends contents b u result c → t ≡ [] → Puts contents a s u result c t
   puts_sent {s = s} {u = u} {result = result} one two none =
       record { sent = s ++ u; rest = []; all = sym (append-nil (s ++ u)); sends = sends_then one two; waits = on_ok result none }
 
   -- the waiting bytes could not be sent
-  pub puts_unsent : {S T : Type 0} {a c : Told W} {s t : List ℕ} {met : RunFault} {result : Result T RunFault} (u : List ℕ)
+  pub puts_unsent : {S T : Type 0} {a c : Recorded W} {s t : List ℕ} {met : RunFault} {result : Result T RunFault} (u : List ℕ)
       → Sends {T = S} contents a s (Err met) c → IsErrAnd result (λ e. e ≡ met) → Puts contents a s u result c t
   puts_unsent {a = a} {c = c} {s = s} {t = t} {met = met} {result = result} u front answered =
       let (e, is, same) = err_from_is_err_and result answered in
@@ -87,7 +87,7 @@ module _ {W : Type 0} {contents : W → Option (List ℕ)} where
         waits = tt;
       })
 
-  pub puts_then : {S T : Type 0} {a b c : Told W} {s t x u v : List ℕ} {y : S} {result : Result T RunFault} → Puts contents a s u (Ok y) b t
+  pub puts_then : {S T : Type 0} {a b c : Recorded W} {s t x u v : List ℕ} {y : S} {result : Result T RunFault} → Puts contents a s u (Ok y) b t
       → Puts contents b t v result c x → Puts contents a s (u ++ v) result c x
   puts_then {s = s} {t = t} {u = u} {v = v} one two = record {
     sent = one.sent ++ two.sent;
@@ -99,7 +99,7 @@ module _ {W : Type 0} {contents : W → Option (List ℕ)} where
   }
 
   -- the sending failed, and `?` returns the error
-  pub puts_front : {S T : Type 0} {a c : Told W} {s t x u : List ℕ} {met : RunFault} {result : Result T RunFault} (v : List ℕ)
+  pub puts_front : {S T : Type 0} {a c : Recorded W} {s t x u : List ℕ} {met : RunFault} {result : Result T RunFault} (v : List ℕ)
       → Puts {T = S} contents a s u (Err met) c t → IsErrAnd result (λ e. e ≡ met) → Puts contents a s (u ++ v) result c x
   puts_front {a = a} {c = c} {s = s} {x = x} {u = u} {met = met} {result = result} v front answered =
       let (e, is, same) = err_from_is_err_and result answered in
@@ -112,13 +112,13 @@ module _ {W : Type 0} {contents : W → Option (List ℕ)} where
       })
 
   -- nothing waited before, and at the end all waiting bytes are sent
-  pub sends_all : {S T : Type 0} {a b c : Told W} {u t : List ℕ} {x : S} {result : Result T RunFault} → Puts contents a [] u (Ok x) b t
+  pub sends_all : {S T : Type 0} {a b c : Recorded W} {u t : List ℕ} {x : S} {result : Result T RunFault} → Puts contents a [] u (Ok x) b t
       → Sends contents b t result c → Sends contents a u result c
   sends_all {a = a} {b = b} {c = c} {result = result} puts sends =
       subst (λ (l : List ℕ). Sends contents a l result c) (sym puts.all)
       (sends_then puts.sends (subst (λ (l : List ℕ). Sends contents b l result c) puts.waits sends))
 
-  pub sends_stopped : {S T : Type 0} {a c : Told W} {u t : List ℕ} {met : RunFault} {result : Result T RunFault}
+  pub sends_stopped : {S T : Type 0} {a c : Recorded W} {u t : List ℕ} {met : RunFault} {result : Result T RunFault}
       → Puts {T = S} contents a [] u (Err met) c t → IsErrAnd result (λ e. e ≡ met) → Sends contents a u result c
   sends_stopped {a = a} {c = c} {result = result} puts answered =
       subst (λ (l : List ℕ). Sends contents a l result c) (sym puts.all) (sends_front puts.rest puts.sends answered)

@@ -1,5 +1,5 @@
 -- The state and the calls of the packet reader, the engines and the hold. No definition outside this folder cites them.
-pub mod TellsDigits
+pub mod AnnouncesDigits
 pub mod HeldPacket
 pub mod ReaderState
 pub mod PacketReader
@@ -10,7 +10,7 @@ pub mod BandCalls
 pub mod PassedOut
 pub mod LentHold
 pub mod Calls
-pub mod Told
+pub mod Recorded
 pub mod Sends
 pub mod Stops
 pub mod Retries

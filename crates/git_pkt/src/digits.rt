@@ -1,7 +1,7 @@
 //! The four hexadecimal digits that begin a packet.
 
 ghost use Rattle.std.specs.Prelude.{◌≤◌, length};
-ghost use Rattle.git_pkt.specs.Machine.TellsDigits.{TellsDigits};
+ghost use Rattle.git_pkt.specs.Machine.AnnouncesDigits.{AnnouncesDigits};
 
 use git_names::digit_value;
 
@@ -17,7 +17,7 @@ pub(crate) enum Digits {
 /// Reads four digits.
 pub(crate) fn read_digits(bytes: &[u8]) -> Digits
     requires { 4 ≤ length bytes.now }
-    ensures digits { TellsDigits bytes.now result }
+    ensures digits { AnnouncesDigits bytes.now result }
 {
     let first = digit_value(bytes[0]);
     if first > 15 {

@@ -98,7 +98,7 @@ pub fn parts_join_to_what_passes()
 pub fn band_calls_follow_one_another()
     ensures none { (r : PacketReader) → AreFed r [] r }
     ensures more { (old between new : PacketReader) (call : BandCall) (calls : List BandCall)
-        → FeedsBand old call.piece call.fed between → AreFed between calls new → AreFed old (call ∷ calls) new }
+        → FeedsBand old call.chunk call.fed between → AreFed between calls new → AreFed old (call ∷ calls) new }
 {}
 
 /// Readers of the same bytes returned the same packets and have the same rest, however the bytes came; those that hold all
@@ -118,7 +118,7 @@ pub fn one_answer_however_cut()
 /// Every reader of some bytes reports a fault that the bytes show; the two other faults, for the end of the input and of the
 /// stream's positions, each have only one offset.
 pub fn one_fault_however_cut()
-    ensures told_by_all { (r s : PacketReader) (start : ℕ) (bytes : List ℕ) (given others : List Given) (rest other_rest : List ℕ) (fault : Fault)
+    ensures announced_by_all { (r s : PacketReader) (start : ℕ) (bytes : List ℕ) (given others : List Given) (rest other_rest : List ℕ) (fault : Fault)
         → Reads r start bytes given rest → Reads s start bytes others other_rest
         → fault_of r ≡ Some fault → fault.kind ≢ Truncated → fault.kind ≢ StreamTooLong → fault_of s ≡ Some fault }
     ensures one_by_name { (r s : PacketReader) (start : ℕ) (bytes : List ℕ) (given others : List Given) (rest other_rest : List ℕ) (fault other : Fault)

@@ -13,9 +13,9 @@ mod output;
 mod packet;
 mod progress;
 mod reader;
+mod recorded;
 mod retries;
 mod stops;
-mod told;
 
 pub use band::{BAND_HEAD, Band, close_band, open_band, put_band, split_band};
 pub use calls::{ReadCalls, WriteCalls};
@@ -26,6 +26,6 @@ pub use hold::{Hold, LONGEST_PACKET, append, put_at};
 pub use output::{Discard, Output};
 pub use packet::{Packet, begin, front_packet, put, text};
 pub use reader::{BandFed, BandGot, Fed, Got, PacketReader};
+pub use recorded::Recorded;
 pub use retries::Retries;
 pub use stops::Stops;
-pub use told::Told;

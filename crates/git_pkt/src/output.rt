@@ -1,15 +1,15 @@
 //! Where the bytes of a run go: to a writer, or nowhere.
 ghost use Rattle.std.specs.Prelude.{◌≡◌, ◌||◌, List, ℕ, Option, Bool, None, false, OnOk, OnErr, IfErr, is_err};
 ghost use Rattle.std.specs.Io.KnownBytes.{Appends, Keeps};
-ghost use Rattle.git_pkt.specs.Machine.Told.{inner_of, has_failed};
+ghost use Rattle.git_pkt.specs.Machine.Recorded.{inner_of, has_failed};
 ghost use Rattle.git_pkt.specs.Streams.{AppendsFront};
 
 use crate::engine;
 use crate::fault::RunFault;
-use crate::told::Told;
+use crate::recorded::Recorded;
 use std::io::Write;
 
-/// Takes the output of a run: a [`Told`] writer, or [`Discard`].
+/// Takes the output of a run: a [`Recorded`] writer, or [`Discard`].
 pub trait Output {
     // The bytes that it holds, if they are known.
     ghost contents: { Self → Option (List ℕ) };
@@ -34,10 +34,10 @@ pub trait Output {
         ensures failed { failed self.new ≡ (failed self.old || is_err result) };
 }
 
-impl<W: Write> Output for Told<W> {
-    ghost contents = { λ told. W.contents (inner_of told) };
+impl<W: Write> Output for Recorded<W> {
+    ghost contents = { λ announced. W.contents (inner_of announced) };
 
-    ghost failed = { λ told. has_failed told };
+    ghost failed = { λ announced. has_failed announced };
 
     fn send(&mut self, bytes: &[u8]) -> Result<(), RunFault> {
         engine::send(self, bytes)

@@ -50,15 +50,15 @@ pub(crate) struct BandStep {
 
 impl BandStep {
     /// What a call returns after this progress over the chunk, if no packet is in the hold.
-    pub(crate) fn fed<'a>(self, piece: &'a [u8]) -> BandFed<'a>
+    pub(crate) fn fed<'a>(self, chunk: &'a [u8]) -> BandFed<'a>
         requires part { HasPart self.progress self.used }
-        requires all { self.used ≤ length piece.now }
+        requires all { self.used ≤ length chunk.now }
         ensures used { result.used ≡ self.used }
-        ensures got { HandsOut self.progress self.used piece.now result.got }
+        ensures got { HandsOut self.progress self.used chunk.now result.got }
     {
         let used = self.used;
         let got = match self.progress {
-            BandProgress::Part(part) => BandGot::Part(part.band, &piece[used - part.count..used]),
+            BandProgress::Part(part) => BandGot::Part(part.band, &chunk[used - part.count..used]),
             BandProgress::Failed(fault) => BandGot::Failed(fault),
             _ => BandGot::More,
         };

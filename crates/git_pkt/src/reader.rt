@@ -26,7 +26,7 @@ ghost use Rattle.git_pkt.specs.Splits.{Given};
 ghost use Rattle.git_pkt.specs.declared.fault.Fault.{Fault};
 ghost use Rattle.git_pkt.specs.Faults.{last_position};
 ghost use Rattle.git_pkt.specs.Passed.{band_in, begins_band};
-ghost use Rattle.git_pkt.specs.Machine.HeldPacket.{IsWhole, TellsField};
+ghost use Rattle.git_pkt.specs.Machine.HeldPacket.{IsWhole, AnnouncesField};
 ghost use Rattle.git_pkt.specs.Machine.ReaderState.{IsGathered, IsPassing, gathers_in, held_in, left_in, passes_in};
 ghost use Rattle.git_pkt.specs.declared.fault.Kind.TheVariants.{Truncated};
 
@@ -158,10 +158,10 @@ impl PacketReader {
 
     /// Reads on. It returns after one packet, or when the whole chunk is used, or at the first fault, which it reports with
     /// the byte that shows it. Call it again with the bytes that it did not use.
-    pub fn feed<'a>(&'a mut self, piece: &'a [u8], steps: &mut Steps) -> Fed<'a>
+    pub fn feed<'a>(&'a mut self, chunk: &'a [u8], steps: &mut Steps) -> Fed<'a>
         requires gathers { passes_of self.old ≡ false }
-        ensures* after { sem 𝓛 (Rests the_row self.entry (λ new. Feeds self.old piece.now result new)) }
-        ensures used { result.used ≤ length piece.now }
+        ensures* after { sem 𝓛 (Rests the_row self.entry (λ new. Feeds self.old chunk.now result new)) }
+        ensures used { result.used ≤ length chunk.now }
         ensures cost { TakesAtMost (8 * (result.used + 1)) steps.old steps.new }
     {
         if let State::Failed(fault) = self.state {
@@ -170,7 +170,7 @@ impl PacketReader {
                 got: Got::Failed(fault),
             };
         }
-        let step = self.step(piece, steps);
+        let step = self.step(chunk, steps);
         let _ = self.hold.len();
         match step.progress {
             Progress::Open => Fed {
@@ -194,10 +194,10 @@ impl PacketReader {
     /// Reads on in a section of side bands, as [`feed`](PacketReader::feed) does, except for bytes of the pack and of the
     /// progress: these pass as they come, and the hold has only the first five bytes of their packets. Such a packet with no
     /// byte on its band gives nothing. The call that began a packet reads it on.
-    pub fn feed_band<'a>(&'a mut self, piece: &'a [u8], steps: &mut Steps) -> BandFed<'a>
+    pub fn feed_band<'a>(&'a mut self, chunk: &'a [u8], steps: &mut Steps) -> BandFed<'a>
         requires passes { MayPass self.old }
-        ensures* after { sem 𝓛 (Rests the_row self.entry (λ new. FeedsBand self.old piece.now result new)) }
-        ensures used { result.used ≤ length piece.now }
+        ensures* after { sem 𝓛 (Rests the_row self.entry (λ new. FeedsBand self.old chunk.now result new)) }
+        ensures used { result.used ≤ length chunk.now }
         ensures cost { TakesAtMost (8 * (result.used + 1)) steps.old steps.new }
     {
         if let State::Failed(fault) = self.state {
@@ -206,7 +206,7 @@ impl PacketReader {
                 got: BandGot::Failed(fault),
             };
         }
-        let step = self.band_steps(piece, steps);
+        let step = self.band_steps(chunk, steps);
         match step.progress {
             BandProgress::Whole => {
                 let offset = self.position - self.hold.len() as u64;
@@ -215,7 +215,7 @@ impl PacketReader {
                     got: BandGot::Packet(self.packet(), offset),
                 }
             }
-            _ => step.fed(piece),
+            _ => step.fed(chunk),
         }
     }
 
@@ -227,7 +227,7 @@ impl PacketReader {
         ensures gathers { passes_of self.new ≡ false }
         ensures passes { MayPass self.new }
         ensures between { OnOk result ((self.new ≡ self.old) × (fault_of self.old ≡ None) × (is_open self.old ≡ false)) }
-        ensures told { IfErr result (λ f. fault_of self.new ≡ Some f) }
+        ensures announced { IfErr result (λ f. fault_of self.new ≡ Some f) }
         ensures repeats { (f : Fault) → fault_of self.old ≡ Some f → (result ≡ Err f) × (self.new ≡ self.old) }
         ensures truncated { fault_of self.old ≡ None → IfErr result (λ f.
             (is_open self.old ≡ true) × (f.kind ≡ Truncated) × (f.offset + open_length self.old ≡ position_of self.old)) }
@@ -293,19 +293,19 @@ impl PacketReader {
     }
 
     /// Steps over the chunk, up to the first that gives something.
-    fn band_steps(&mut self, piece: &[u8], steps: &mut Steps) -> BandStep
+    fn band_steps(&mut self, chunk: &[u8], steps: &mut Steps) -> BandStep
         requires sound { fault_of self.old ≡ None }
         requires passes { MayPass self.old }
-        ensures used { result.used ≤ length piece.now }
+        ensures used { result.used ≤ length chunk.now }
         ensures some { result.progress ≢ BandProgress.Empty }
-        ensures moves { BandMoves self.old piece.now result.used result.progress self.new }
+        ensures moves { BandMoves self.old chunk.now result.used result.progress self.new }
         ensures keeps { result.used ≡ 0 → held_of self.new ≡ held_of self.old }
         ensures cost { TakesAtMost (8 * (result.used + 1)) steps.old steps.new }
     {
         let mut used = 0;
-        while used < piece.len() {
+        while used < chunk.len() {
             steps.tick(1);
-            let step = self.next_band(&piece[used..], steps);
+            let step = self.next_band(&chunk[used..], steps);
             used += step.used;
             match step.progress {
                 BandProgress::Empty => {}
@@ -319,44 +319,44 @@ impl PacketReader {
     }
 
     /// One step: at once, if the chunk has all of a packet whose bytes pass.
-    fn next_band(&mut self, piece: &[u8], steps: &mut Steps) -> BandStep
+    fn next_band(&mut self, chunk: &[u8], steps: &mut Steps) -> BandStep
         requires sound { fault_of self.old ≡ None }
         requires passes { MayPass self.old }
-        ensures used { result.used ≤ length piece.now }
-        ensures moves { BandMoves self.old piece.now result.used result.progress self.new }
+        ensures used { result.used ≤ length chunk.now }
+        ensures moves { BandMoves self.old chunk.now result.used result.progress self.new }
         ensures keeps { result.used ≡ 0 → held_of self.new ≡ held_of self.old }
         ensures cost { TakesAtMost (6 * result.used + 1) steps.old steps.new }
     {
         if !self.is_open() {
-            if let Some(part) = self.pass_at_once(piece, steps) {
+            if let Some(part) = self.pass_at_once(chunk, steps) {
                 return BandStep {
                     used: part.count + 5,
                     progress: BandProgress::Part(part),
                 };
             }
         }
-        self.band_step(piece, steps)
+        self.band_step(chunk, steps)
     }
 
     /// The bytes that pass of the packet that the chunk begins with, if the chunk has all of it and some of its bytes pass.
-    fn pass_at_once(&mut self, piece: &[u8], steps: &mut Steps) -> Option<Passed>
+    fn pass_at_once(&mut self, chunk: &[u8], steps: &mut Steps) -> Option<Passed>
         requires sound { fault_of self.old ≡ None }
         requires between { is_open self.old ≡ false }
-        ensures within { IfSome result (λ part. part.count + 5 ≤ length piece.now) }
+        ensures within { IfSome result (λ part. part.count + 5 ≤ length chunk.now) }
         ensures moves { MatchOption result (self.new ≡ self.old)
-            (λ part. BandMoves self.old piece.now (part.count + 5) (BandProgress.Part part) self.new) }
+            (λ part. BandMoves self.old chunk.now (part.count + 5) (BandProgress.Part part) self.new) }
         ensures cost { MatchOption result (steps.new ≡ steps.old) (λ part. TakesAtMost 1 steps.old steps.new) }
     {
-        if piece.len() < 6 {
+        if chunk.len() < 6 {
             return None;
         }
-        let Some(band) = band_of(piece) else {
+        let Some(band) = band_of(chunk) else {
             return None;
         };
-        let Digits::Number(field) = read_digits(piece) else {
+        let Digits::Number(field) = read_digits(chunk) else {
             return None;
         };
-        let most = piece
+        let most = chunk
             .len()
             .min((LAST_POSITION - self.position) as usize)
             .min(LONGEST_PACKET);
@@ -374,20 +374,20 @@ impl PacketReader {
 
     /// Reads one packet, or bytes of one that pass, or the whole chunk, or the chunk up to the stream's last position. The
     /// first five bytes of a packet are gathered: they show whether its bytes pass.
-    fn band_step(&mut self, piece: &[u8], steps: &mut Steps) -> BandStep
+    fn band_step(&mut self, chunk: &[u8], steps: &mut Steps) -> BandStep
         requires sound { fault_of self.old ≡ None }
         requires passes { MayPass self.old }
-        ensures used { result.used ≤ length piece.now }
-        ensures moves { BandMoves self.old piece.now result.used result.progress self.new }
+        ensures used { result.used ≤ length chunk.now }
+        ensures moves { BandMoves self.old chunk.now result.used result.progress self.new }
         ensures keeps { result.used ≡ 0 → held_of self.new ≡ held_of self.old }
         ensures cost { TakesAtMost (6 * result.used + 1) steps.old steps.new }
     {
         if let State::Passing(left) = self.state {
-            return self.pass(left, piece);
+            return self.pass(left, chunk);
         }
         let lacks = 5 - self.gathered().min(5);
-        let front = lacks.min(piece.len());
-        let first = self.step(&piece[..front], steps);
+        let front = lacks.min(chunk.len());
+        let first = self.step(&chunk[..front], steps);
         let _ = self.hold.len();
         match first.progress {
             Progress::Failed(fault) => BandStep {
@@ -413,7 +413,7 @@ impl PacketReader {
                         progress: BandProgress::Open,
                     };
                 }
-                let next = self.after_five(&piece[front..], steps);
+                let next = self.after_five(&chunk[front..], steps);
                 BandStep {
                     used: front + next.used,
                     progress: next.progress,
@@ -423,21 +423,21 @@ impl PacketReader {
     }
 
     /// Goes on after the first five bytes of a packet.
-    fn after_five(&mut self, piece: &[u8], steps: &mut Steps) -> BandStep
+    fn after_five(&mut self, chunk: &[u8], steps: &mut Steps) -> BandStep
         requires sound { fault_of self.old ≡ None }
         requires gathers { passes_of self.old ≡ false }
         requires five { 5 ≤ held_in self.old.state }
         requires first { begins_band (drop 4 (rest_of self.old)) ≡ true → held_in self.old.state ≡ 5 }
-        ensures used { result.used ≤ length piece.now }
-        ensures moves { BandMoves self.old piece.now result.used result.progress self.new }
+        ensures used { result.used ≤ length chunk.now }
+        ensures moves { BandMoves self.old chunk.now result.used result.progress self.new }
         ensures keeps { begins_band (drop 4 (rest_of self.old)) ≡ false → result.used ≡ 0 → held_of self.new ≡ held_of self.old }
         ensures cost { TakesAtMost (6 * result.used + 1) steps.old steps.new }
     {
         if self.band().is_some() {
             let left = self.begin_passing(steps);
-            return self.pass(left, piece);
+            return self.pass(left, chunk);
         }
-        let step = self.step(piece, steps);
+        let step = self.step(chunk, steps);
         let _ = self.hold.len();
         match step.progress {
             Progress::Open => BandStep {
@@ -482,16 +482,16 @@ impl PacketReader {
     }
 
     /// Passes bytes of the open packet: as many as are still to come, or as the chunk or the stream has.
-    fn pass(&mut self, left: usize, piece: &[u8]) -> BandStep
+    fn pass(&mut self, left: usize, chunk: &[u8]) -> BandStep
         requires passing { self.old.state ≡ State.Passing left }
-        ensures used { result.used ≤ length piece.now }
-        ensures moves { BandMoves self.old piece.now result.used result.progress self.new }
+        ensures used { result.used ≤ length chunk.now }
+        ensures moves { BandMoves self.old chunk.now result.used result.progress self.new }
         ensures held { held_of self.new ≡ held_of self.old }
     {
         let Some(band) = self.band() else {
             unreachable!()
         };
-        let most = left.min(piece.len());
+        let most = left.min(chunk.len());
         if most == 0 {
             return BandStep {
                 used: 0,
@@ -522,21 +522,21 @@ impl PacketReader {
     }
 
     /// Reads one packet, or the whole chunk, or the chunk up to the stream's last position.
-    fn step(&mut self, piece: &[u8], steps: &mut Steps) -> Step
+    fn step(&mut self, chunk: &[u8], steps: &mut Steps) -> Step
         requires sound { fault_of self.old ≡ None }
         requires gathers { passes_of self.old ≡ false }
         ensures cost { TakesAtMost (6 * result.used) steps.old steps.new }
-        ensures used { result.used ≤ length piece.now }
-        ensures all { result.progress ≡ Progress.Open → result.used ≡ length piece.now }
-        ensures moves { Moves self.old (take result.used piece.now) result.progress self.new }
-        ensures shown { IsShown result.progress result.used piece.now }
+        ensures used { result.used ≤ length chunk.now }
+        ensures all { result.progress ≡ Progress.Open → result.used ≡ length chunk.now }
+        ensures moves { Moves self.old (take result.used chunk.now) result.progress self.new }
+        ensures shown { IsShown result.progress result.used chunk.now }
         ensures keeps { result.used ≡ 0 → held_of self.new ≡ held_of self.old }
     {
-        let room = (LAST_POSITION - self.position) as usize;
-        if piece.len() <= room {
-            return self.gather(piece, steps);
+        let space = (LAST_POSITION - self.position) as usize;
+        if chunk.len() <= space {
+            return self.gather(chunk, steps);
         }
-        let step = self.gather(&piece[..room], steps);
+        let step = self.gather(&chunk[..space], steps);
         match step.progress {
             Progress::Open => {
                 let fault = self.stop(Kind::StreamTooLong, LAST_POSITION);
@@ -550,24 +550,24 @@ impl PacketReader {
     }
 
     /// Reads one packet, or the whole chunk, which ends within the stream's positions.
-    fn gather(&mut self, piece: &[u8], steps: &mut Steps) -> Step
+    fn gather(&mut self, chunk: &[u8], steps: &mut Steps) -> Step
         requires sound { fault_of self.old ≡ None }
         requires gathers { passes_of self.old ≡ false }
-        requires room { position_of self.old + length piece.now ≤ last_position }
+        requires space { position_of self.old + length chunk.now ≤ last_position }
         ensures cost { TakesAtMost (6 * result.used) steps.old steps.new }
-        ensures used { result.used ≤ length piece.now }
-        ensures all { result.progress ≡ Progress.Open → result.used ≡ length piece.now }
-        ensures moves { Moves self.old (take result.used piece.now) result.progress self.new }
+        ensures used { result.used ≤ length chunk.now }
+        ensures all { result.progress ≡ Progress.Open → result.used ≡ length chunk.now }
+        ensures moves { Moves self.old (take result.used chunk.now) result.progress self.new }
         ensures kind { IsOfPacket result.progress }
         ensures keeps { result.used ≡ 0 → held_of self.new ≡ held_of self.old }
     {
-        if piece.len() >= 4 && !self.is_open() {
-            return self.begin(piece, steps);
+        if chunk.len() >= 4 && !self.is_open() {
+            return self.begin(chunk, steps);
         }
-        for (used, byte) in piece.iter().enumerate() {
+        for (used, byte) in chunk.iter().enumerate() {
             steps.tick(1);
             if self.gathered() >= 4 {
-                let step = self.gather_body(&piece[used..], steps);
+                let step = self.gather_body(&chunk[used..], steps);
                 return Step {
                     used: used + step.used,
                     progress: step.progress,
@@ -584,14 +584,14 @@ impl PacketReader {
             }
         }
         Step {
-            used: piece.len(),
+            used: chunk.len(),
             progress: Progress::Open,
         }
     }
 
     /// Ends the reading with a fault at this offset.
     fn stop(&mut self, kind: Kind, offset: u64) -> Fault
-        ensures told { IsStopped self.old kind offset (Progress.Failed result) self.new }
+        ensures announced { IsStopped self.old kind offset (Progress.Failed result) self.new }
         ensures held { held_of self.new ≡ held_of self.old }
     {
         let fault = Fault { kind, offset };
@@ -629,7 +629,7 @@ impl PacketReader {
         requires sound { fault_of self.old ≡ None }
         requires gathers { passes_of self.old ≡ false }
         requires digits { held_in self.old.state < 4 }
-        requires room { position_of self.old < last_position }
+        requires space { position_of self.old < last_position }
         ensures cost { TakesAtMost 5 steps.old steps.new }
         ensures moves { Moves self.old (byte ∷ []) result self.new }
         ensures kind { IsOfPacket result }
@@ -662,21 +662,21 @@ impl PacketReader {
     }
 
     /// Reads bytes after the four digits: as many as the packet lacks or the chunk has.
-    fn gather_body(&mut self, piece: &[u8], steps: &mut Steps) -> Step
+    fn gather_body(&mut self, chunk: &[u8], steps: &mut Steps) -> Step
         requires gathers { passes_of self.old ≡ false }
         requires digits { 4 ≤ held_in self.old.state }
-        requires room { position_of self.old + length piece.now ≤ last_position }
+        requires space { position_of self.old + length chunk.now ≤ last_position }
         ensures cost { TakesAtMost (2 * result.used + 3) steps.old steps.new }
-        ensures used { result.used ≤ length piece.now }
-        ensures all { result.progress ≡ Progress.Open → result.used ≡ length piece.now }
-        ensures moves { Moves self.old (take result.used piece.now) result.progress self.new }
+        ensures used { result.used ≤ length chunk.now }
+        ensures all { result.progress ≡ Progress.Open → result.used ≡ length chunk.now }
+        ensures moves { Moves self.old (take result.used chunk.now) result.progress self.new }
         ensures kind { IsOfPacket result.progress }
-        ensures some { 0 < length piece.now → 0 < result.used }
+        ensures some { 0 < length chunk.now → 0 < result.used }
     {
         let count = self.gathered();
-        let used = (self.field - count).min(piece.len());
+        let used = (self.field - count).min(chunk.len());
         self.state = State::Between;
-        place(&mut self.hold, count, &piece[..used], steps);
+        place(&mut self.hold, count, &chunk[..used], steps);
         self.position += used as u64;
         if count + used < self.field {
             self.state = State::Gathering(count + used);
@@ -694,20 +694,20 @@ impl PacketReader {
     }
 
     /// Reads a packet that begins where the chunk does. The chunk has its four digits.
-    fn begin(&mut self, piece: &[u8], steps: &mut Steps) -> Step
+    fn begin(&mut self, chunk: &[u8], steps: &mut Steps) -> Step
         requires sound { fault_of self.old ≡ None }
         requires between { is_open self.old ≡ false }
-        requires digits { 4 ≤ length piece.now }
-        requires room { position_of self.old + length piece.now ≤ last_position }
+        requires digits { 4 ≤ length chunk.now }
+        requires space { position_of self.old + length chunk.now ≤ last_position }
         ensures cost { TakesAtMost (2 * result.used + 3) steps.old steps.new }
-        ensures used { result.used ≤ length piece.now }
-        ensures all { result.progress ≡ Progress.Open → result.used ≡ length piece.now }
-        ensures moves { Moves self.old (take result.used piece.now) result.progress self.new }
+        ensures used { result.used ≤ length chunk.now }
+        ensures all { result.progress ≡ Progress.Open → result.used ≡ length chunk.now }
+        ensures moves { Moves self.old (take result.used chunk.now) result.progress self.new }
         ensures kind { IsOfPacket result.progress }
         ensures some { 0 < result.used }
     {
         let start = self.position;
-        let field = match read_digits(piece) {
+        let field = match read_digits(chunk) {
             Digits::Number(field) => field,
             Digits::Bad(at) => {
                 self.position += at as u64 + 1;
@@ -726,8 +726,8 @@ impl PacketReader {
                 progress: Progress::Failed(fault),
             };
         }
-        let used = field.max(4).min(piece.len());
-        place(&mut self.hold, 0, &piece[..used], steps);
+        let used = field.max(4).min(chunk.len());
+        place(&mut self.hold, 0, &chunk[..used], steps);
         self.position += used as u64;
         self.field = field;
         if used < field {
@@ -748,7 +748,7 @@ impl PacketReader {
 
 /// What is wrong with the number in a packet's four digits.
 fn field_fault(field: usize) -> Option<Kind>
-    ensures field { TellsField field result }
+    ensures field { AnnouncesField field result }
 {
     match field {
         3 => Some(Kind::BadLength),

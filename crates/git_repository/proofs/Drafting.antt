@@ -11,26 +11,27 @@ use Rattle.git_server.specs.Repository.{Entry, IsNamed, IsOfFormat, bytes_of, co
 use Rattle.git_server.specs.Objects.{AreRising, object_of, precedes}
 use Rattle.git_server.specs.Lists.{AreOfFormat, Lists}
 use Rattle.git_repository.specs.Packs.{no_packs}
-use Rattle.git_repository.specs.RepositoryLines.{Said, reference, unborn, object, ready, boundary}
-use Rattle.git_repository.specs.RepositoryText.{MayStand, NamesRise, counts_in, first_of, lists_said, names_in, objects_in, unborn_in}
+use Rattle.git_repository.specs.RepositoryLines.{LineContent, reference, unborn, object, ready, boundary}
+use Rattle.git_repository.specs.RepositoryText.{MayStand, NamesRise, counts_in, first_of, lists_of_contents, names_in, objects_in, unborn_in}
 use Rattle.git_repository.specs.RepositoryText.{count_in, name_in, object_in}
-use Rattle.git_repository.specs.Drafts.{ComesLast, ComesLastObject, Holds, IsFit, MayFollow, head_names, names_of, with_said}
+use Rattle.git_repository.specs.Drafts.{ComesLast, ComesLastObject, Holds, IsFit, MayFollow, head_names, names_of, with_content}
 use Rattle.git_repository.proofs.LastNames.{head_comes_alone, no_refs_there}
 use Rattle.git_server.proofs.Rising.{last_rises, rising_more}
 
 -- what holds of a part of what lines contain, with one more: what held, or what holds with what that line contains of it
-module _ {X : Type 0} (P : List X → Type 0) (Q : X → Type 0) (part : Said → Option X) (said : List Said) (next : Said) where
-  more : P (filter_map part said) → IfSome (part next) Q → ((x : X) → Q x → P (filter_map part said ++ x ∷ [])) → P (filter_map part (said ++ next ∷ []))
-  more h q one = rw (filter_map-append part said (next ∷ [])) (by_part (part next) q)
+module _ {X : Type 0} (P : List X → Type 0) (Q : X → Type 0) (part : LineContent → Option X) (content : List LineContent) (next : LineContent) where
+  more : P (filter_map part content) → IfSome (part next) Q → ((x : X) → Q x → P (filter_map part content ++ x ∷ []))
+      → P (filter_map part (content ++ next ∷ []))
+  more h q one = rw (filter_map-append part content (next ∷ [])) (by_part (part next) q)
     where
-      by_part : (o : Option X) → IfSome o Q → P (filter_map part said ++ cons_option o [])
-      by_part None q = rw (append-nil (filter_map part said)) h
+      by_part : (o : Option X) → IfSome o Q → P (filter_map part content ++ cons_option o [])
+      by_part None q = rw (append-nil (filter_map part content)) h
       by_part (Some x) q = one x q
 
-  last_of : P (filter_map part (said ++ next ∷ [])) → ((x : X) → P (filter_map part said ++ x ∷ []) → Q x) → IfSome (part next) Q
-  last_of h one = by_part (part next) (rw (filter_map-append part said (next ∷ [])) at h)
+  last_of : P (filter_map part (content ++ next ∷ [])) → ((x : X) → P (filter_map part content ++ x ∷ []) → Q x) → IfSome (part next) Q
+  last_of h one = by_part (part next) (rw (filter_map-append part content (next ∷ [])) at h)
     where
-      by_part : (o : Option X) → P (filter_map part said ++ cons_option o []) → IfSome o Q
+      by_part : (o : Option X) → P (filter_map part content ++ cons_option o []) → IfSome o Q
       by_part None h = tt
       by_part (Some x) h = one x h
 
@@ -51,48 +52,48 @@ no_head_there : (head : Option (List ℕ)) (names : List (List ℕ)) → head_na
 no_head_there None names e = refl
 no_head_there (Some target) names e = absurd (cc)
 
-module _ (said : List Said) (old : Lists) (h : Holds said old) where
-  no_counts : old.ready_after ≡ None → counts_in said ≡ []
-  no_counts none = first_is_none (counts_in said) (sym (ap (λ (l : Lists). l.ready_after) h.lists_are) ∙ none)
+module _ (content : List LineContent) (old : Lists) (h : Holds content old) where
+  no_counts : old.ready_after ≡ None → counts_in content ≡ []
+  no_counts none = first_is_none (counts_in content) (sym (ap (λ (l : Lists). l.ready_after) h.lists_are) ∙ none)
 
-  objects_said : old.objects ≡ objects_in said
-  objects_said = ap (λ (l : Lists). l.objects) h.lists_are
+  objects_stated : old.objects ≡ objects_in content
+  objects_stated = ap (λ (l : Lists). l.objects) h.lists_are
 
   -- `HEAD` comes last where there is no name
   alone : ComesLast (names_of old) (codes "HEAD") → names_of old ≡ []
   alone = head_comes_alone old.unborn_head old.refs h.named
 
-  no_heads : ComesLast (names_of old) (codes "HEAD") → unborn_in said ≡ []
-  no_heads last = first_is_none (unborn_in said)
+  no_heads : ComesLast (names_of old) (codes "HEAD") → unborn_in content ≡ []
+  no_heads last = first_is_none (unborn_in content)
       (sym (ap (λ (l : Lists). l.unborn_head) h.lists_are) ∙ no_head_there old.unborn_head (map (λ (e : Entry). e.name) old.refs) (alone last))
 
   -- a line that may follow them may be in one text with them
-  pub stands_more : (next : Said) → MayFollow old next → MayStand (said ++ next ∷ [])
+  pub stands_more : (next : LineContent) → MayFollow old next → MayStand (content ++ next ∷ [])
   stands_more next last = record {
-    rising_names = more NamesRise (ComesLast (names_of old)) name_in said next h.may_stand.rising_names last.name_last
-        (λ name behind. rising_more (λ a b. comes_before a b ≡ true) (names_in said) name h.may_stand.rising_names
+    rising_names = more NamesRise (ComesLast (names_of old)) name_in content next h.may_stand.rising_names last.name_last
+        (λ name behind. rising_more (λ a b. comes_before a b ≡ true) (names_in content) name h.may_stand.rising_names
         (subst (λ (xs : List (List ℕ)). ComesLast xs name) (sym h.names_are) behind));
-    rising_objects = more AreRising (λ sized. ComesLastObject old.objects sized.0) object_in said next h.may_stand.rising_objects last.object_last
-        (λ sized behind. rising_more (λ a b. precedes a.0 b.0 ≡ true) (objects_in said) sized h.may_stand.rising_objects
-        (subst (λ (xs : List (ObjectName × ℕ)). ComesLastObject xs sized.0) objects_said behind));
-    one_count = more (λ xs. length xs ≤ 1) (λ _. old.ready_after ≡ None) count_in said next h.may_stand.one_count last.first_count
-        (λ count none. only_count (counts_in said) count (no_counts none));
+    rising_objects = more AreRising (λ sized. ComesLastObject old.objects sized.0) object_in content next h.may_stand.rising_objects last.object_last
+        (λ sized behind. rising_more (λ a b. precedes a.0 b.0 ≡ true) (objects_in content) sized h.may_stand.rising_objects
+        (subst (λ (xs : List (ObjectName × ℕ)). ComesLastObject xs sized.0) objects_stated behind));
+    one_count = more (λ xs. length xs ≤ 1) (λ _. old.ready_after ≡ None) count_in content next h.may_stand.one_count last.first_count
+        (λ count none. only_count (counts_in content) count (no_counts none));
   }
 
   -- and one that may be in one text with them may follow them
-  pub follows : (next : Said) → MayStand (said ++ next ∷ []) → MayFollow old next
+  pub follows : (next : LineContent) → MayStand (content ++ next ∷ []) → MayFollow old next
   follows next may = record {
-    name_last = last_of NamesRise (ComesLast (names_of old)) name_in said next may.rising_names
+    name_last = last_of NamesRise (ComesLast (names_of old)) name_in content next may.rising_names
         (λ name rises. subst (λ (xs : List (List ℕ)). ComesLast xs name) h.names_are
-        (last_rises (λ a b. comes_before a b ≡ true) (names_in said) name rises));
-    object_last = last_of AreRising (λ sized. ComesLastObject old.objects sized.0) object_in said next may.rising_objects
-        (λ sized rises. subst (λ (xs : List (ObjectName × ℕ)). ComesLastObject xs sized.0) (sym objects_said)
-        (last_rises (λ a b. precedes a.0 b.0 ≡ true) (objects_in said) sized rises));
-    first_count = last_of (λ xs. length xs ≤ 1) (λ _. old.ready_after ≡ None) count_in said next may.one_count
-        (λ count one. ap (λ (l : Lists). l.ready_after) h.lists_are ∙ none_before (counts_in said) count one);
+        (last_rises (λ a b. comes_before a b ≡ true) (names_in content) name rises));
+    object_last = last_of AreRising (λ sized. ComesLastObject old.objects sized.0) object_in content next may.rising_objects
+        (λ sized rises. subst (λ (xs : List (ObjectName × ℕ)). ComesLastObject xs sized.0) (sym objects_stated)
+        (last_rises (λ a b. precedes a.0 b.0 ≡ true) (objects_in content) sized rises));
+    first_count = last_of (λ xs. length xs ≤ 1) (λ _. old.ready_after ≡ None) count_in content next may.one_count
+        (λ count one. ap (λ (l : Lists). l.ready_after) h.lists_are ∙ none_before (counts_in content) count one);
   }
 
-  names_with : (next : Said) → MayFollow old next → names_in said ++ names_in (next ∷ []) ≡ names_of (with_said old next)
+  names_with : (next : LineContent) → MayFollow old next → names_in content ++ names_in (next ∷ []) ≡ names_of (with_content old next)
   names_with (reference entry) last =
       ap (λ (xs : List (List ℕ)). xs ++ entry.name ∷ []) h.names_are
       ∙ append_assoc (head_names (is_some old.unborn_head)) (map (λ (e : Entry). e.name) old.refs) (entry.name ∷ [])
@@ -101,19 +102,19 @@ module _ (said : List Said) (old : Lists) (h : Holds said old) where
       ap (λ (xs : List (List ℕ)). xs ++ codes "HEAD" ∷ []) (h.names_are ∙ alone last.name_last)
       ∙ ap (λ (refs : List Entry). codes "HEAD" ∷ map (λ (e : Entry). e.name) refs)
       (sym (no_refs_there (head_names (is_some old.unborn_head)) old.refs (alone last.name_last)))
-  names_with (object id size) last = append-nil (names_in said) ∙ h.names_are
-  names_with (ready count) last = append-nil (names_in said) ∙ h.names_are
-  names_with (boundary line) last = append-nil (names_in said) ∙ h.names_are
+  names_with (object id size) last = append-nil (names_in content) ∙ h.names_are
+  names_with (ready count) last = append-nil (names_in content) ∙ h.names_are
+  names_with (boundary line) last = append-nil (names_in content) ∙ h.names_are
 
-  said_with : (next : Said) → MayFollow old next
-      → with_said (lists_said old.format said no_packs) next ≡ lists_said old.format (said ++ next ∷ []) no_packs
-  said_with (reference entry) last = simp (filter_map-append, append-nil)
-  said_with (unborn target) last = let none = no_heads last.name_last in simp (filter_map-append, append-nil, none)
-  said_with (object id size) last = simp (filter_map-append, append-nil)
-  said_with (ready count) last = let none = no_counts last.first_count in simp (filter_map-append, append-nil, none)
-  said_with (boundary line) last = simp (filter_map-append, append-nil)
+  stated_with : (next : LineContent) → MayFollow old next
+      → with_content (lists_of_contents old.format content no_packs) next ≡ lists_of_contents old.format (content ++ next ∷ []) no_packs
+  stated_with (reference entry) last = simp (filter_map-append, append-nil)
+  stated_with (unborn target) last = let none = no_heads last.name_last in simp (filter_map-append, append-nil, none)
+  stated_with (object id size) last = simp (filter_map-append, append-nil)
+  stated_with (ready count) last = let none = no_counts last.first_count in simp (filter_map-append, append-nil, none)
+  stated_with (boundary line) last = simp (filter_map-append, append-nil)
 
-  pub same_format : (next : Said) → (with_said old next).format ≡ old.format
+  pub same_format : (next : LineContent) → (with_content old next).format ≡ old.format
   same_format (reference entry) = refl
   same_format (unborn target) = refl
   same_format (object id size) = refl
@@ -121,17 +122,17 @@ module _ (said : List Said) (old : Lists) (h : Holds said old) where
   same_format (boundary line) = refl
 
   -- so they hold with it
-  holds_with : (next : Said) → MayFollow old next → All (λ ref. IsNamed ref.name ref.target) (with_said old next).refs
-      → AreOfFormat (with_said old next) → Holds (said ++ next ∷ []) (with_said old next)
+  holds_with : (next : LineContent) → MayFollow old next → All (λ ref. IsNamed ref.name ref.target) (with_content old next).refs
+      → AreOfFormat (with_content old next) → Holds (content ++ next ∷ []) (with_content old next)
   holds_with next last named of_format = record {
-    lists_are = rw (same_format next) (ap (λ (l : Lists). with_said l next) h.lists_are ∙ said_with next last);
-    names_are = filter_map-append name_in said (next ∷ []) ∙ names_with next last;
+    lists_are = rw (same_format next) (ap (λ (l : Lists). with_content l next) h.lists_are ∙ stated_with next last);
+    names_are = filter_map-append name_in content (next ∷ []) ∙ names_with next last;
     may_stand = stands_more next last;
     named = named;
     of_format = of_format;
   }
 
-  pub holds_more : (next : Said) → IsFit old.format next → MayFollow old next → Holds (said ++ next ∷ []) (with_said old next)
+  pub holds_more : (next : LineContent) → IsFit old.format next → MayFollow old next → Holds (content ++ next ∷ []) (with_content old next)
   holds_more (reference entry) fit last =
       holds_with (reference entry) last (All-push (λ ref. IsNamed ref.name ref.target) old.refs entry h.named fit.1) (record {
         by_refs = All-push (IsOfFormat old.format) old.refs entry h.of_format.by_refs fit.0;

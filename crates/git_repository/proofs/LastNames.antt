@@ -84,10 +84,10 @@ head_comes_alone head (ref ∷ refs) named last =
     (named (length (ref ∷ refs) - 1) ref (omega arith)).by_name before)
 
 -- what an unborn `HEAD` points to, where it is the first one
-pub unborn_told : (refs : List Entry) (target copied : List ℕ) → refs ≡ [] → copied ≡ target → IsRefName target → ForSome (Some copied) (IsUnbornHead refs)
-unborn_told refs target copied empty same named other is =
-    let told : target ≡ other = let found : copied ≡ other = cc in sym same ∙ found in
-    record { named = subst IsRefName told named; no_head = subst (All (λ ref. ref.name ≢ codes "HEAD")) (sym empty) (All-nil _) }
+pub unborn_announced : (refs : List Entry) (target copied : List ℕ) → refs ≡ [] → copied ≡ target → IsRefName target → ForSome (Some copied) (IsUnbornHead refs)
+unborn_announced refs target copied empty same named other is =
+    let announced : target ≡ other = let found : copied ≡ other = cc in sym same ∙ found in
+    record { named = subst IsRefName announced named; no_head = subst (All (λ ref. ref.name ≢ codes "HEAD")) (sym empty) (All-nil _) }
 
 some_names : (head : Option (List ℕ)) (target : List ℕ) (names : List (List ℕ)) → head ≡ Some target → head_names (is_some head) ++ names ≡ [] → ⊥
 some_names None target names is none = cc

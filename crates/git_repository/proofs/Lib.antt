@@ -1,6 +1,6 @@
-pub mod Saying
+pub mod LineContents
 pub mod Drafting
-pub mod TextPieces
+pub mod TextChunks
 pub mod Reading
 pub mod Progressing
 pub mod TextLaws

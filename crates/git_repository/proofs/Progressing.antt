@@ -13,12 +13,12 @@ use Rattle.git_repository.specs.RepositoryLines.{lines_of}
 use Rattle.git_repository.specs.declared.text_faults.TextFault.{TextFault}
 use Rattle.git_repository.specs.declared.drafts.Draft.{Draft}
 use Rattle.git_repository.specs.Machine.DraftLists.{drafted}
-use Rattle.git_repository.specs.LinesTold.{AreTold}
+use Rattle.git_repository.specs.LinesAnnounced.{AreAnnounced}
 use Rattle.git_repository.specs.Machine.RepositoryProgress.{HasFailed, HasRead, HasReadTo, IsBegun, IsLinesFault, IsTooLong, Stands}
 use Rattle.git_repository.specs.declared.repository_progress.Progress.{Progress}
 use Rattle.git_repository.specs.declared.repository_progress.Progress.TheVariants.{Start, Lines, Failed}
 use Rattle.git_repository.proofs.Reading.{fault_stays, too_long_fault, too_long_on}
-use Rattle.git_repository.proofs.TextPieces.{by_line, by_line_end, first_part, last_among, none_at_all, parts_behind, parts_joined, text_ends}
+use Rattle.git_repository.proofs.TextChunks.{by_line, by_line_end, first_part, last_among, none_at_all, parts_behind, parts_joined, text_ends}
 
 begun_self : (progress : Progress) (line : List ℕ) → IsBegun progress line line
 begun_self Start line = refl
@@ -38,20 +38,20 @@ some_lines text e = let some = first_part (text_of text) in none_at_all some.fir
 pub record ReadsOn (text : List ℕ) (lines : List (List ℕ)) (line : List ℕ) (rest : Option (List ℕ)) (lists : Lists) : Type 0 where
   pub more : List (List ℕ)
   pub whole : parts_of 10 text ≡ more ++ line ∷ parts_left 10 rest
-  pub told : AreTold (lines ++ more) lists
+  pub announced : AreAnnounced (lines ++ more) lists
 
 pub at_first : (text : List ℕ) (lines : List (List ℕ)) (line : List ℕ) (rest : Option (List ℕ)) (lists : Lists)
-    → parts_of 10 text ≡ line ∷ parts_left 10 rest → AreTold lines lists → ReadsOn text lines line rest lists
+    → parts_of 10 text ≡ line ∷ parts_left 10 rest → AreAnnounced lines lists → ReadsOn text lines line rest lists
 at_first text lines line rest lists cut h =
-    record { more = []; whole = cut; told = subst (λ (ls : List (List ℕ)). AreTold ls lists) (sym (append-nil lines)) h }
+    record { more = []; whole = cut; announced = subst (λ (ls : List (List ℕ)). AreAnnounced ls lists) (sym (append-nil lines)) h }
 
 pub reads_line : (text : List ℕ) (lines : List (List ℕ)) (line left next : List ℕ) (rest : Option (List ℕ)) (old new : Lists)
     → ReadsOn text lines line (Some left) old → parts_of 10 left ≡ next ∷ parts_left 10 rest
-    → ((ls : List (List ℕ)) → AreTold ls old → AreTold (ls ++ line ∷ []) new) → ReadsOn text lines next rest new
+    → ((ls : List (List ℕ)) → AreAnnounced ls old → AreAnnounced (ls ++ line ∷ []) new) → ReadsOn text lines next rest new
 reads_line text lines line left next rest old new h cut step = record {
   more = h.more ++ line ∷ [];
   whole = h.whole ∙ ap (λ (ls : List (List ℕ)). h.more ++ line ∷ ls) cut ∙ sym (append_assoc h.more (line ∷ []) (next ∷ parts_left 10 rest));
-  told = subst (λ (ls : List (List ℕ)). AreTold ls new) (append_assoc lines h.more (line ∷ [])) (step (lines ++ h.more) h.told);
+  announced = subst (λ (ls : List (List ℕ)). AreAnnounced ls new) (append_assoc lines h.more (line ∷ [])) (step (lines ++ h.more) h.announced);
 }
 
 pub cut_within : (text before : List ℕ) (rest : Option (List ℕ)) → IsCutAt 10 text before rest → length before ≤ length text
@@ -125,17 +125,17 @@ module _ (refuses : ℕ → Type 0) where
       let some = first_part text in
       failed_behind fault held lines some.first some.others (lines ++ parts_of 10 text) h (ap (λ (ls : List (List ℕ)). lines ++ ls) some.is)
 
-  pub failed_stays : (progress : Progress) (held text piece : List ℕ) → HasFailed progress → Stands refuses progress held (parts_of 10 text)
-      → Stands refuses progress held (parts_of 10 (text ++ piece))
-  failed_stays Start held text piece f h = absurd f
-  failed_stays (Lines draft) held text piece f h = absurd f
-  failed_stays (Failed fault) held text piece f h =
-      let some = first_part piece in
-      let joined = parts_joined text piece h.ended h.begun some.first some.others h.whole some.is in
+  pub failed_stays : (progress : Progress) (held text chunk : List ℕ) → HasFailed progress → Stands refuses progress held (parts_of 10 text)
+      → Stands refuses progress held (parts_of 10 (text ++ chunk))
+  failed_stays Start held text chunk f h = absurd f
+  failed_stays (Lines draft) held text chunk f h = absurd f
+  failed_stays (Failed fault) held text chunk f h =
+      let some = first_part chunk in
+      let joined = parts_joined text chunk h.ended h.begun some.first some.others h.whole some.is in
       let read : IsLinesFault refuses h.ended fault ⊎ IsTooLong h.ended h.begun fault = h.read in
       elim read [
-        | inl shown ↦ failed_behind fault held h.ended (h.begun ++ some.first) some.others (parts_of 10 (text ++ piece)) shown joined
-        | inr long ↦ long_behind fault held h.ended (h.begun ++ some.first) some.others (parts_of 10 (text ++ piece))
+        | inl shown ↦ failed_behind fault held h.ended (h.begun ++ some.first) some.others (parts_of 10 (text ++ chunk)) shown joined
+        | inr long ↦ long_behind fault held h.ended (h.begun ++ some.first) some.others (parts_of 10 (text ++ chunk))
             (too_long_on h.ended h.begun some.first fault long) joined
       ]
 
@@ -144,18 +144,18 @@ module _ (refuses : ℕ → Type 0) where
   held_of progress held lines f h = h.whole ∙ ap (λ (l : List ℕ). h.ended ++ l ∷ []) (sym (begun_of progress held h.begun f h.is_begun))
 
   -- a chunk at the start of a line
-  pub piece_behind : (progress : Progress) (held text piece : List ℕ) (lines : List (List ℕ)) → parts_of 10 text ≡ lines ++ [] ∷ []
-      → Stands refuses progress held (lines ++ parts_of 10 piece) → Stands refuses progress held (parts_of 10 (text ++ piece))
-  piece_behind progress held text piece lines parts h = subst (Stands refuses progress held) (sym (parts_behind text piece lines parts)) h
+  pub chunk_behind : (progress : Progress) (held text chunk : List ℕ) (lines : List (List ℕ)) → parts_of 10 text ≡ lines ++ [] ∷ []
+      → Stands refuses progress held (lines ++ parts_of 10 chunk) → Stands refuses progress held (parts_of 10 (text ++ chunk))
+  chunk_behind progress held text chunk lines parts h = subst (Stands refuses progress held) (sym (parts_behind text chunk lines parts)) h
 
   -- a chunk in the line that has begun
-  pub piece_within : (progress : Progress) (held text piece line rest : List ℕ) (lines : List (List ℕ)) (begun : List ℕ)
-      → parts_of 10 text ≡ lines ++ begun ∷ [] → parts_of 10 piece ≡ line ∷ parts_of 10 rest
+  pub chunk_within : (progress : Progress) (held text chunk line rest : List ℕ) (lines : List (List ℕ)) (begun : List ℕ)
+      → parts_of 10 text ≡ lines ++ begun ∷ [] → parts_of 10 chunk ≡ line ∷ parts_of 10 rest
       → Stands refuses progress held ((lines ++ (begun ++ line) ∷ []) ++ parts_of 10 rest)
-      → Stands refuses progress held (parts_of 10 (text ++ piece))
-  piece_within progress held text piece line rest lines begun parts cut h =
+      → Stands refuses progress held (parts_of 10 (text ++ chunk))
+  chunk_within progress held text chunk line rest lines begun parts cut h =
       subst (Stands refuses progress held) (append_assoc lines ((begun ++ line) ∷ []) (parts_of 10 rest)
-      ∙ sym (parts_joined text piece lines begun line (parts_of 10 rest) parts cut)) h
+      ∙ sym (parts_joined text chunk lines begun line (parts_of 10 rest) parts cut)) h
 
   -- the end of a text without a whole line
   pub end_at_start : (text held : List ℕ) → Stands refuses Start held (parts_of 10 text) → held ∷ [] ≡ lines_of text
@@ -169,14 +169,14 @@ module _ (refuses : ℕ → Type 0) where
 
   -- the end of a text after a line end
   pub end_behind : (draft : Draft) (text held : List ℕ) → held ≡ [] → Stands refuses (Lines draft) held (parts_of 10 text)
-      → AreTold (lines_of text) (drafted draft)
+      → AreAnnounced (lines_of text) (drafted draft)
   end_behind draft text held empty h =
       let line : held ≡ h.begun = h.is_begun in
-      let read : AreTold h.ended (drafted draft) = h.read in
+      let read : AreAnnounced h.ended (drafted draft) = h.read in
       elim (text_ends text h.ended h.begun h.whole) [
         | by_line is first ↦
             absurd (none_at_all _ _ (sym read.begins.spelled ∙ first (sym line ∙ empty)))
-        | by_line_end is none ↦ subst (λ (ls : List (List ℕ)). AreTold ls (drafted draft)) (sym is) read
+        | by_line_end is none ↦ subst (λ (ls : List (List ℕ)). AreAnnounced ls (drafted draft)) (sym is) read
       ]
 
   -- the end of a text in a line
@@ -209,26 +209,26 @@ module _ (refuses : ℕ → Type 0) where
       ]
 
   pub reads_bad_line : (text : List ℕ) (lines : List (List ℕ)) (line held : List ℕ) (left : List ℕ) (old : Lists) (fault : TextFault)
-      → ReadsOn text lines line (Some left) old → ((ls : List (List ℕ)) → AreTold ls old → IsLinesFault refuses (ls ++ line ∷ []) fault)
+      → ReadsOn text lines line (Some left) old → ((ls : List (List ℕ)) → AreAnnounced ls old → IsLinesFault refuses (ls ++ line ∷ []) fault)
       → Stands refuses (Failed fault) held (lines ++ parts_of 10 text)
   reads_bad_line text lines line held left old fault h step =
       subst (Stands refuses (Failed fault) held) (append_assoc (lines ++ h.more) (line ∷ []) (parts_of 10 left)
       ∙ append_assoc lines h.more (line ∷ parts_of 10 left) ∙ ap (λ (ls : List (List ℕ)). lines ++ ls) (sym h.whole))
-      (failed_text fault held ((lines ++ h.more) ++ line ∷ []) left (step (lines ++ h.more) h.told))
+      (failed_text fault held ((lines ++ h.more) ++ line ∷ []) left (step (lines ++ h.more) h.announced))
 
   pub reads_all : (text : List ℕ) (lines : List (List ℕ)) (line held : List ℕ) (draft : Draft) → ReadsOn text lines line None (drafted draft)
       → (progress : Progress) → ((ls : List (List ℕ)) → HasRead refuses (Lines draft) ls → Stands refuses progress held (ls ++ line ∷ []))
       → Stands refuses progress held (lines ++ parts_of 10 text)
   reads_all text lines line held draft h progress stands =
       subst (Stands refuses progress held) (append_assoc lines h.more (line ∷ []) ∙ ap (λ (ls : List (List ℕ)). lines ++ ls) (sym h.whole))
-      (stands (lines ++ h.more) h.told)
+      (stands (lines ++ h.more) h.announced)
 
   -- a chunk that ends no line
-  pub piece_alone : (progress : Progress) (held text piece line : List ℕ) (lines : List (List ℕ)) (begun : List ℕ) → parts_of 10 text ≡ lines ++ begun ∷ []
-      → parts_of 10 piece ≡ line ∷ [] → held ≡ begun ++ line → HasRead refuses progress lines → Stands refuses progress held (parts_of 10 (text ++ piece))
-  piece_alone progress held text piece line lines begun parts cut is h =
-      begun_behind progress held lines (parts_of 10 (text ++ piece)) h
-      (parts_joined text piece lines begun line [] parts cut ∙ ap (λ (l : List ℕ). lines ++ l ∷ []) (sym is))
+  pub chunk_alone : (progress : Progress) (held text chunk line : List ℕ) (lines : List (List ℕ)) (begun : List ℕ) → parts_of 10 text ≡ lines ++ begun ∷ []
+      → parts_of 10 chunk ≡ line ∷ [] → held ≡ begun ++ line → HasRead refuses progress lines → Stands refuses progress held (parts_of 10 (text ++ chunk))
+  chunk_alone progress held text chunk line lines begun parts cut is h =
+      begun_behind progress held lines (parts_of 10 (text ++ chunk)) h
+      (parts_joined text chunk lines begun line [] parts cut ∙ ap (λ (l : List ℕ). lines ++ l ∷ []) (sym is))
 
   -- a text that has failed at the line that has begun, or before it, stands there
   pub long_stands : (progress : Progress) (held : List ℕ) (lines : List (List ℕ)) (first : List ℕ) (others all : List (List ℕ)) → HasFailed progress

@@ -10,19 +10,20 @@ use Rattle.git_names.specs.declared.object_format.Format.TheVariants.{Sha1, Sha2
 use Rattle.git_msg.specs.Memory.{HasRefused}
 use Rattle.git_server.specs.Lists.{Lists}
 use Rattle.git_repository.specs.Packs.{PackBytes}
-use Rattle.git_repository.specs.RepositoryLines.{Said, reference, unborn, object, ready, boundary}
-use Rattle.git_repository.specs.RepositoryLines.{IsLineOf, SaysNothing, format_line, lines_of, longest_line}
-use Rattle.git_repository.specs.RepositoryText.{Begins, IsRepositoryText, MayStand, SayAll, WantsMemory, list_bytes}
+use Rattle.git_repository.specs.RepositoryLines.{LineContent, reference, unborn, object, ready, boundary}
+use Rattle.git_repository.specs.RepositoryLines.{IsLineOf, HasNoContent, format_line, lines_of, longest_line}
+use Rattle.git_repository.specs.RepositoryText.{Begins, IsRepositoryText, MayStand, HaveContents, WantsMemory, list_bytes}
 use Rattle.git_repository.specs.RepositoryText.{boundaries_in, counts_in, first_of, names_in, objects_in, refs_in, unborn_in}
-use Rattle.git_repository.specs.LinesTold.{AreTold}
+use Rattle.git_repository.specs.LinesAnnounced.{AreAnnounced}
 use Rattle.git_repository.specs.Machine.RepositoryProgress.{IsLinesFault, IsTooLong}
 use Rattle.git_repository.specs.Machine.RepositoryFaults.{IsTextFault}
 use Rattle.git_repository.specs.declared.text_faults.TextFault.{TextFault}
 use Rattle.git_repository.specs.declared.text_faults.TextFault.TheVariants.{Bad, OutOfMemory as OutOfMemoryOfText}
-use Rattle.git_repository.specs.Drafts.{Holds, IsLineFault, MayFollow, empty_lists, head_names, lines_behind, ready_lines, unborn_lines, with_packs, with_said}
+use Rattle.git_repository.specs.Drafts.{Holds, IsLineFault, MayFollow, empty_lists, head_names, lines_behind, ready_lines, unborn_lines, with_packs}
+use Rattle.git_repository.specs.Drafts.{with_content}
 use Rattle.git_repository.specs.declared.text_faults.LineFault.TheVariants.{Refused, OutOfMemory}
 use Rattle.git_repository.proofs.Drafting.{follows, holds_more, same_format, stands_more}
-use Rattle.git_repository.proofs.Saying.{fit_of_says, one_said}
+use Rattle.git_repository.proofs.LineContents.{fit_of_content, one_content}
 
 nothing_stands : MayStand []
 nothing_stands = record {
@@ -40,59 +41,61 @@ nothing_holds format = record {
   of_format = record { by_refs = All-nil _; by_objects = All-nil _; by_boundaries = All-nil _ };
 }
 
-pub started : (format : Format) (line : List ℕ) (lists : Lists) → line ≡ format_line format → lists ≡ empty_lists format → AreTold (line ∷ []) lists
+pub started : (format : Format) (line : List ℕ) (lists : Lists) → line ≡ format_line format → lists ≡ empty_lists format → AreAnnounced (line ∷ []) lists
 started format line lists is empty =
-    let there : AreTold (line ∷ []) (empty_lists format) = record {
-      said = [];
-      begins = record { others = []; spelled = ap (λ (l : List ℕ). l ∷ []) is; say_all = tt; may_stand = nothing_stands };
+    let there : AreAnnounced (line ∷ []) (empty_lists format) = record {
+      content = [];
+      begins = record { others = []; spelled = ap (λ (l : List ℕ). l ∷ []) is; send_each = tt; may_stand = nothing_stands };
       holds = nothing_holds format;
     } in
-    subst (AreTold (line ∷ [])) (sym empty) there
+    subst (AreAnnounced (line ∷ [])) (sym empty) there
 
-say_more : (format : Format) (lines : List (List ℕ)) (said : List Said) (line : List ℕ) (next : Said) → SayAll format lines said → IsLineOf format line next
-    → SayAll format (lines ++ line ∷ []) (said ++ next ∷ [])
-say_more format [] [] line next h is = (is, tt)
-say_more format (l ∷ ls) (s ∷ ss) line next h is = (h.0, say_more format ls ss line next h.1 is)
-say_more format [] (s ∷ ss) line next h is = absurd h
-say_more format (l ∷ ls) [] line next h is = absurd h
+state_more : (format : Format) (lines : List (List ℕ)) (content : List LineContent) (line : List ℕ) (next : LineContent) → HaveContents format lines content
+    → IsLineOf format line next
+    → HaveContents format (lines ++ line ∷ []) (content ++ next ∷ [])
+state_more format [] [] line next h is = (is, tt)
+state_more format (l ∷ ls) (s ∷ ss) line next h is = (h.0, state_more format ls ss line next h.1 is)
+state_more format [] (s ∷ ss) line next h is = absurd h
+state_more format (l ∷ ls) [] line next h is = absurd h
 
-pub stepped : (lines : List (List ℕ)) (old new : Lists) (line : List ℕ) (says : Said) → AreTold lines old → IsLineOf old.format line says
-    → (new ≡ with_said old says) × MayFollow old says → AreTold (lines ++ line ∷ []) new
-stepped lines old new line says h is kept =
-    let held = holds_more h.said old h.holds says (fit_of_says old.format line says is.1) kept.1 in
-    let begins : Begins old.format (lines ++ line ∷ []) (h.said ++ says ∷ []) = record {
+pub stepped : (lines : List (List ℕ)) (old new : Lists) (line : List ℕ) (conveys : LineContent) → AreAnnounced lines old → IsLineOf old.format line conveys
+    → (new ≡ with_content old conveys) × MayFollow old conveys → AreAnnounced (lines ++ line ∷ []) new
+stepped lines old new line conveys h is kept =
+    let held = holds_more h.content old h.holds conveys (fit_of_content old.format line conveys is.1) kept.1 in
+    let begins : Begins old.format (lines ++ line ∷ []) (h.content ++ conveys ∷ []) = record {
       others = h.begins.others ++ line ∷ [];
       spelled = ap (λ (ls : List (List ℕ)). ls ++ line ∷ []) h.begins.spelled;
-      say_all = say_more old.format h.begins.others h.said line says h.begins.say_all is;
+      send_each = state_more old.format h.begins.others h.content line conveys h.begins.send_each is;
       may_stand = held.may_stand;
     } in
-    subst (AreTold (lines ++ line ∷ [])) (sym kept.0) (record {
-      said = h.said ++ says ∷ [];
-      begins = subst (λ (f : Format). Begins f (lines ++ line ∷ []) (h.said ++ says ∷ [])) (sym (same_format h.said old h.holds says)) begins;
+    subst (AreAnnounced (lines ++ line ∷ [])) (sym kept.0) (record {
+      content = h.content ++ conveys ∷ [];
+      begins = subst (λ (f : Format). Begins f (lines ++ line ∷ []) (h.content ++ conveys ∷ [])) (sym (same_format h.content old h.holds conveys)) begins;
       holds = held;
     })
 
-length_all : (format : Format) (lines : List (List ℕ)) (said : List Said) → SayAll format lines said → length lines ≡ length said
+length_all : (format : Format) (lines : List (List ℕ)) (content : List LineContent) → HaveContents format lines content → length lines ≡ length content
 length_all format [] [] h = refl
 length_all format (l ∷ ls) (s ∷ ss) h = let same = length_all format ls ss h.1 in omega (arith, same)
 length_all format [] (s ∷ ss) h = absurd h
 length_all format (l ∷ ls) [] h = absurd h
 
-length_said : (said : List Said) → length said ≡ length (refs_in said) + length (objects_in said) + length (counts_in said) + length (boundaries_in said)
-    + length (unborn_in said)
-length_said [] = refl
-length_said (reference entry ∷ more) = let h = length_said more in omega (arith, h)
-length_said (unborn target ∷ more) = let h = length_said more in omega (arith, h)
-length_said (object id size ∷ more) = let h = length_said more in omega (arith, h)
-length_said (ready count ∷ more) = let h = length_said more in omega (arith, h)
-length_said (boundary line ∷ more) = let h = length_said more in omega (arith, h)
+length_of_contents : (content : List LineContent)
+    → length content ≡ length (refs_in content) + length (objects_in content) + length (counts_in content) + length (boundaries_in content)
+    + length (unborn_in content)
+length_of_contents [] = refl
+length_of_contents (reference entry ∷ more) = let h = length_of_contents more in omega (arith, h)
+length_of_contents (unborn target ∷ more) = let h = length_of_contents more in omega (arith, h)
+length_of_contents (object id size ∷ more) = let h = length_of_contents more in omega (arith, h)
+length_of_contents (ready count ∷ more) = let h = length_of_contents more in omega (arith, h)
+length_of_contents (boundary line ∷ more) = let h = length_of_contents more in omega (arith, h)
 
 length_counts : (counts : List ℕ) → length counts ≤ 1 → length counts ≡ ready_lines (first_of counts)
 length_counts [] h = refl
 length_counts (count ∷ []) h = refl
 length_counts (count ∷ other ∷ counts) h = absurd (omega (arith, h))
 
-length_names : (said : List Said) → length (names_in said) ≡ length (unborn_in said) + length (refs_in said)
+length_names : (content : List LineContent) → length (names_in content) ≡ length (unborn_in content) + length (refs_in content)
 length_names [] = refl
 length_names (reference entry ∷ more) = let h = length_names more in omega (arith, h)
 length_names (unborn target ∷ more) = let h = length_names more in omega (arith, h)
@@ -104,14 +107,14 @@ length_head : (head : Option (List ℕ)) → length (head_names (is_some head)) 
 length_head None = refl
 length_head (Some target) = refl
 
-said_behind : (said : List Said) (lists : Lists) → Holds said lists → lines_behind lists ≡ length said + 1
-said_behind said lists h =
+stated_behind : (content : List LineContent) (lists : Lists) → Holds content lists → lines_behind lists ≡ length content + 1
+stated_behind content lists h =
     let refs : List (List ℕ) = map (λ (entry : Entry). entry.name) lists.refs in
     omega (
       arith,
-      length_said said,
-      length_counts (counts_in said) h.may_stand.one_count,
-      length_names said,
+      length_of_contents content,
+      length_counts (counts_in content) h.may_stand.one_count,
+      length_names content,
       ap length h.names_are,
       length-append (head_names (is_some lists.unborn_head)) refs,
       length_head lists.unborn_head,
@@ -123,11 +126,11 @@ said_behind said lists h =
     )
 
 -- the lists show how many lines contain them
-told_lines : (lines : List (List ℕ)) (lists : Lists) → AreTold lines lists → lines_behind lists ≡ length lines
-told_lines lines lists h =
+announced_lines : (lines : List (List ℕ)) (lists : Lists) → AreAnnounced lines lists → lines_behind lists ≡ length lines
+announced_lines lines lists h =
     let whole = ap length h.begins.spelled in
-    let all = length_all lists.format h.begins.others h.said h.begins.say_all in
-    let behind = said_behind h.said lists h.holds in
+    let all = length_all lists.format h.begins.others h.content h.begins.send_each in
+    let behind = stated_behind h.content lists h.holds in
     omega (arith, whole, all, behind)
 
 format_short : (format : Format) → length (format_line format) ≤ 13
@@ -146,67 +149,69 @@ too_long_at_first lines line long none =
 
 -- after lines that begin a text the number of a line that has become too long is the next one
 pub too_long_behind : (lines : List (List ℕ)) (lists : Lists) (line : List ℕ) (number : ℕ) → number ≡ lines_behind lists + 1 → longest_line < length line
-    → AreTold lines lists → IsTooLong lines line (Bad number)
+    → AreAnnounced lines lists → IsTooLong lines line (Bad number)
 too_long_behind lines lists line number is long h = record {
-  may_go_on = inr (lists.format, h.said, h.begins);
+  may_go_on = inr (lists.format, h.content, h.begins);
   long = long;
-  at_number = ap Bad (is ∙ ap (λ (n : ℕ). n + 1) (told_lines lines lists h));
+  at_number = ap Bad (is ∙ ap (λ (n : ℕ). n + 1) (announced_lines lines lists h));
 }
 
-pub whole_text : (text : List ℕ) (packs : PackBytes) (lists made : Lists) → AreTold (lines_of text) lists → made ≡ with_packs lists packs
+pub whole_text : (text : List ℕ) (packs : PackBytes) (lists made : Lists) → AreAnnounced (lines_of text) lists → made ≡ with_packs lists packs
     → IsRepositoryText text packs made
 whole_text text packs lists made h is = record {
   format = lists.format;
-  said = h.said;
+  content = h.content;
   begins = h.begins;
   lists_are = is ∙ ap (λ (l : Lists). with_packs l packs) h.holds.lists_are;
 }
 
 module _ (refuses : ℕ → Type 0) where
-  refused_at : (lines : List (List ℕ)) (lists : Lists) (line : List ℕ) (number : ℕ) → (h : AreTold lines lists) → number ≡ lines_behind lists + 1
-      → ((more : Said) → IsLineOf lists.format line more → MayStand (h.said ++ more ∷ []) → ⊥) → IsLinesFault refuses (lines ++ line ∷ []) (Bad number)
+  refused_at : (lines : List (List ℕ)) (lists : Lists) (line : List ℕ) (number : ℕ) → (h : AreAnnounced lines lists) → number ≡ lines_behind lists + 1
+      → ((more : LineContent) → IsLineOf lists.format line more → MayStand (h.content ++ more ∷ []) → ⊥)
+      → IsLinesFault refuses (lines ++ line ∷ []) (Bad number)
   refused_at lines lists line number h is refused = inr (record {
     format = lists.format;
     before = lines;
     line = line;
     behind = [];
     whole = refl;
-    at_number = is ∙ ap (λ (n : ℕ). n + 1) (told_lines lines lists h);
-    said = h.said;
+    at_number = is ∙ ap (λ (n : ℕ). n + 1) (announced_lines lines lists h);
+    content = h.content;
     begins = h.begins;
     refused = refused;
   })
 
-  pub says_nothing_at : (lines : List (List ℕ)) (lists : Lists) (line : List ℕ) (number : ℕ) → number ≡ lines_behind lists + 1
-      → SaysNothing lists.format line → AreTold lines lists → IsLinesFault refuses (lines ++ line ∷ []) (Bad number)
-  says_nothing_at lines lists line number is nothing h = refused_at lines lists line number h is (λ more is may. nothing more is.1)
+  pub conveys_nothing_at : (lines : List (List ℕ)) (lists : Lists) (line : List ℕ) (number : ℕ) → number ≡ lines_behind lists + 1
+      → HasNoContent lists.format line → AreAnnounced lines lists → IsLinesFault refuses (lines ++ line ∷ []) (Bad number)
+  conveys_nothing_at lines lists line number is nothing h = refused_at lines lists line number h is (λ more is may. nothing more is.1)
 
   -- a line that is longer than a line may be
   pub too_long_at : (lines : List (List ℕ)) (lists : Lists) (line : List ℕ) (number : ℕ) → number ≡ lines_behind lists + 1
-      → longest_line < length line → AreTold lines lists → IsLinesFault refuses (lines ++ line ∷ []) (Bad number)
+      → longest_line < length line → AreAnnounced lines lists → IsLinesFault refuses (lines ++ line ∷ []) (Bad number)
   too_long_at lines lists line number is long h = refused_at lines lists line number h is (λ more also may. absurd (omega (arith, long, also.0)))
 
-  pub may_not_stand_at : (lines : List (List ℕ)) (lists : Lists) (line : List ℕ) (number : ℕ) (says : Said) → number ≡ lines_behind lists + 1
-      → IsLineOf lists.format line says → IsLineFault refuses lists says Refused → AreTold lines lists → IsLinesFault refuses (lines ++ line ∷ []) (Bad number)
-  may_not_stand_at lines lists line number says at is fault h = refused_at lines lists line number h at
-      (λ more also may. fault (follows h.said lists h.holds says
-      (subst (λ (s : Said). MayStand (h.said ++ s ∷ [])) (one_said lists.format line more says also.1 is.1) may)))
+  pub may_not_stand_at : (lines : List (List ℕ)) (lists : Lists) (line : List ℕ) (number : ℕ) (conveys : LineContent) → number ≡ lines_behind lists + 1
+      → IsLineOf lists.format line conveys → IsLineFault refuses lists conveys Refused → AreAnnounced lines lists
+      → IsLinesFault refuses (lines ++ line ∷ []) (Bad number)
+  may_not_stand_at lines lists line number conveys at is fault h = refused_at lines lists line number h at
+      (λ more also may. fault (follows h.content lists h.holds conveys
+      (subst (λ (s : LineContent). MayStand (h.content ++ s ∷ [])) (one_content lists.format line more conveys also.1 is.1) may)))
 
-  pub memory_ran_out_at : (lines : List (List ℕ)) (lists : Lists) (line : List ℕ) (says : Said)
-      → IsLineOf lists.format line says → IsLineFault refuses lists says OutOfMemory → AreTold lines lists → WantsMemory refuses (lines ++ line ∷ [])
-  memory_ran_out_at lines lists line says is fault h = record {
+  pub memory_ran_out_at : (lines : List (List ℕ)) (lists : Lists) (line : List ℕ) (conveys : LineContent)
+      → IsLineOf lists.format line conveys → IsLineFault refuses lists conveys OutOfMemory → AreAnnounced lines lists → WantsMemory refuses (lines ++ line ∷ [])
+  memory_ran_out_at lines lists line conveys is fault h = record {
     format = lists.format;
     before = lines;
     line = line;
     after = [];
     whole = refl;
-    said = h.said;
+    content = h.content;
     begins = h.begins;
-    next = says;
-    says = is;
-    may_stand = stands_more h.said lists h.holds says fault.0;
+    next = conveys;
+    conveys = is;
+    may_stand = stands_more h.content lists h.holds conveys fault.0;
     takes_memory = fault.1;
-    refused = subst (λ (n : ℕ). HasRefused refuses (list_bytes n says)) (told_lines lines lists h) fault.2;
+    refused = subst (λ (n : ℕ). HasRefused refuses (list_bytes n conveys)) (announced_lines lines lists h) fault.2;
   }
 
   -- a line that has become too long is refused, whatever comes after it
@@ -228,7 +233,7 @@ module _ (refuses : ℕ → Type 0) where
           behind = more;
           whole = refl;
           at_number = refl;
-          said = begins.1;
+          content = begins.1;
           begins = begins.2;
           refused = λ next is may. absurd (omega (arith, h.long, is.0));
         })
@@ -250,7 +255,7 @@ module _ (refuses : ℕ → Type 0) where
     behind = h.behind ++ more;
     whole = ap (λ (ls : List (List ℕ)). ls ++ more) h.whole ∙ append_assoc h.before (h.line ∷ h.behind) more;
     at_number = h.at_number;
-    said = h.said;
+    content = h.content;
     begins = h.begins;
     refused = h.refused;
   })
@@ -260,10 +265,10 @@ module _ (refuses : ℕ → Type 0) where
     line = h.line;
     after = h.after ++ more;
     whole = ap (λ (ls : List (List ℕ)). ls ++ more) h.whole ∙ append_assoc h.before (h.line ∷ h.after) more;
-    said = h.said;
+    content = h.content;
     begins = h.begins;
     next = h.next;
-    says = h.says;
+    conveys = h.conveys;
     may_stand = h.may_stand;
     takes_memory = h.takes_memory;
     refused = h.refused;

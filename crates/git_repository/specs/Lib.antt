@@ -2,5 +2,5 @@ pub mod Packs
 pub mod RepositoryLines
 pub mod RepositoryText
 pub mod Drafts
-pub mod LinesTold
+pub mod LinesAnnounced
 pub mod Machine

@@ -17,19 +17,19 @@ use Rattle.git_repository.specs.declared.repository_lines.Item.TheVariants.{Refe
 
 -- the contents of a line about a repository: a reference, the name that an unborn `HEAD` points to, an object with its size, the number of
 -- common objects after which it is ready, a line of its shallow boundary
-pub data Said : Type 0 where
-  reference : Entry → Said
-  unborn : List ℕ → Said
-  object : ObjectName → ℕ → Said
-  ready : ℕ → Said
-  boundary : Boundary → Said
+pub data LineContent : Type 0 where
+  reference : Entry → LineContent
+  unborn : List ℕ → LineContent
+  object : ObjectName → ℕ → LineContent
+  ready : ℕ → LineContent
+  boundary : Boundary → LineContent
 
 -- the entry that a borrowed one shows
 abbrev pub shown_entry : LineEntry → Entry
 shown_entry e = record { name = e.name.now; id = e.id; target = option_copied e.target; peeled = e.peeled }
 
 -- the contents that a borrowed item shows
-abbrev pub shown : Item → Said
+abbrev pub shown : Item → LineContent
 shown (Reference entry) = reference (shown_entry entry)
 shown (Unborn target) = unborn target.now
 shown (Object id size) = object id size
@@ -77,24 +77,24 @@ pub record IsUnbornHeadOf (name : List ℕ) (target : Option (List ℕ)) (peeled
   pub no_peeled : peeled ≡ None
 
 -- the contents of a reference line
-abbrev pub SaysReference : Format → List ℕ → Said → Type 0
-SaysReference format text (reference entry) = IsReferenceLine format text (ref_of entry)
-SaysReference format text (unborn target) = IsReferenceLine format text (unborn_ref target)
-SaysReference format text _ = ⊥
+abbrev pub ReadsReference : Format → List ℕ → LineContent → Type 0
+ReadsReference format text (reference entry) = IsReferenceLine format text (ref_of entry)
+ReadsReference format text (unborn target) = IsReferenceLine format text (unborn_ref target)
+ReadsReference format text _ = ⊥
 
 -- the contents of a line after the first
-abbrev pub Says : Format → List ℕ → Said → Type 0
-Says format line (reference entry) = Follows (codes "ref ") (λ text. IsReferenceLine format text (ref_of entry)) line
-Says format line (unborn target) = Follows (codes "ref ") (λ text. IsReferenceLine format text (unborn_ref target)) line
-Says format line (object id size) = Follows (codes "object ") (IsSizedObject format id size) line
-Says format line (ready count) = Follows (codes "ready ") (IsCount count) line
-Says format line (boundary (Shallow id)) = Follows (codes "shallow ") (λ text. IsObjectName format text id) line
-Says format line (boundary (Unshallow id)) = Follows (codes "unshallow ") (λ text. IsObjectName format text id) line
+abbrev pub HasContent : Format → List ℕ → LineContent → Type 0
+HasContent format line (reference entry) = Follows (codes "ref ") (λ text. IsReferenceLine format text (ref_of entry)) line
+HasContent format line (unborn target) = Follows (codes "ref ") (λ text. IsReferenceLine format text (unborn_ref target)) line
+HasContent format line (object id size) = Follows (codes "object ") (IsSizedObject format id size) line
+HasContent format line (ready count) = Follows (codes "ready ") (IsCount count) line
+HasContent format line (boundary (Shallow id)) = Follows (codes "shallow ") (λ text. IsObjectName format text id) line
+HasContent format line (boundary (Unshallow id)) = Follows (codes "unshallow ") (λ text. IsObjectName format text id) line
 
 -- the line is no longer than a line may be, and has these contents
-abbrev pub IsLineOf : Format → List ℕ → Said → Type 0
-IsLineOf format line said = (length line ≤ longest_line) × Says format line said
+abbrev pub IsLineOf : Format → List ℕ → LineContent → Type 0
+IsLineOf format line content = (length line ≤ longest_line) × HasContent format line content
 
 -- the line contains nothing of a repository of this format
-abbrev pub SaysNothing : Format → List ℕ → Type 0
-SaysNothing format line = (said : Said) → ¬ Says format line said
+abbrev pub HasNoContent : Format → List ℕ → Type 0
+HasNoContent format line = (content : LineContent) → ¬ HasContent format line content

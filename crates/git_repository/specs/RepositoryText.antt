@@ -10,37 +10,37 @@ use Rattle.git_server.specs.Repository.{Entry, comes_before}
 use Rattle.git_server.specs.Objects.{AreRising}
 use Rattle.git_server.specs.Lists.{Lists}
 use Rattle.git_repository.specs.Packs.{PackBytes}
-use Rattle.git_repository.specs.RepositoryLines.{Said, reference, unborn, object, ready, boundary, IsLineOf, format_line, lines_of}
+use Rattle.git_repository.specs.RepositoryLines.{LineContent, reference, unborn, object, ready, boundary, IsLineOf, format_line, lines_of}
 
 -- each line contains the item at its place
-abbrev pub SayAll : Format → List (List ℕ) → List Said → Type 0
-SayAll format [] [] = Unit {0}
-SayAll format (line ∷ lines) (said ∷ more) = IsLineOf format line said × SayAll format lines more
-SayAll format _ _ = ⊥
+abbrev pub HaveContents : Format → List (List ℕ) → List LineContent → Type 0
+HaveContents format [] [] = Unit {0}
+HaveContents format (line ∷ lines) (content ∷ more) = IsLineOf format line content × HaveContents format lines more
+HaveContents format _ _ = ⊥
 
 -- the reference that a line contains, and those of all lines, in order
-abbrev pub ref_in : Said → Option Entry
+abbrev pub ref_in : LineContent → Option Entry
 ref_in (reference entry) = Some entry
-ref_in said = None
+ref_in content = None
 
-abbrev pub refs_in : List Said → List Entry
+abbrev pub refs_in : List LineContent → List Entry
 refs_in = filter_map ref_in
 
 -- the names that unborn `HEAD`s point to
-abbrev pub head_in : Said → Option (List ℕ)
+abbrev pub head_in : LineContent → Option (List ℕ)
 head_in (unborn target) = Some target
-head_in said = None
+head_in content = None
 
-abbrev pub unborn_in : List Said → List (List ℕ)
+abbrev pub unborn_in : List LineContent → List (List ℕ)
 unborn_in = filter_map head_in
 
 -- the names of all these, in order
-abbrev pub name_in : Said → Option (List ℕ)
+abbrev pub name_in : LineContent → Option (List ℕ)
 name_in (reference entry) = Some entry.name
 name_in (unborn target) = Some (codes "HEAD")
-name_in said = None
+name_in content = None
 
-abbrev pub names_in : List Said → List (List ℕ)
+abbrev pub names_in : List LineContent → List (List ℕ)
 names_in = filter_map name_in
 
 -- the names are in their order, and none comes twice
@@ -48,27 +48,27 @@ abbrev pub NamesRise : List (List ℕ) → Type 0
 NamesRise names = AllAdjacentBelow (λ a b. comes_before a b ≡ true) names (length names)
 
 -- the objects with their sizes
-abbrev pub object_in : Said → Option (ObjectName × ℕ)
+abbrev pub object_in : LineContent → Option (ObjectName × ℕ)
 object_in (object id size) = Some (id, size)
-object_in said = None
+object_in content = None
 
-abbrev pub objects_in : List Said → List (ObjectName × ℕ)
+abbrev pub objects_in : List LineContent → List (ObjectName × ℕ)
 objects_in = filter_map object_in
 
 -- the counts of ready lines
-abbrev pub count_in : Said → Option ℕ
+abbrev pub count_in : LineContent → Option ℕ
 count_in (ready count) = Some count
-count_in said = None
+count_in content = None
 
-abbrev pub counts_in : List Said → List ℕ
+abbrev pub counts_in : List LineContent → List ℕ
 counts_in = filter_map count_in
 
 -- the lines of the boundary
-abbrev pub boundary_in : Said → Option Boundary
+abbrev pub boundary_in : LineContent → Option Boundary
 boundary_in (boundary line) = Some line
-boundary_in said = None
+boundary_in content = None
 
-abbrev pub boundaries_in : List Said → List Boundary
+abbrev pub boundaries_in : List LineContent → List Boundary
 boundaries_in = filter_map boundary_in
 
 abbrev pub first_of : {X : Type 0} → List X → Option X
@@ -77,37 +77,37 @@ first_of (x ∷ xs) = Some x
 
 -- lines with these contents may be in one text: references, with an unborn `HEAD` among them, and objects rise strictly, and there is at
 -- most one ready line
-pub record MayStand (said : List Said) : Type 0 where
-  pub rising_names : NamesRise (names_in said)
-  pub rising_objects : AreRising (objects_in said)
-  pub one_count : length (counts_in said) ≤ 1
+pub record MayStand (content : List LineContent) : Type 0 where
+  pub rising_names : NamesRise (names_in content)
+  pub rising_objects : AreRising (objects_in content)
+  pub one_count : length (counts_in content) ≤ 1
 
 -- the repository that they contain, with these packs
-abbrev pub lists_said : Format → List Said → PackBytes → Lists
-lists_said format said packs = record {
+abbrev pub lists_of_contents : Format → List LineContent → PackBytes → Lists
+lists_of_contents format content packs = record {
   format = format;
-  refs = refs_in said;
-  objects = objects_in said;
-  ready_after = first_of (counts_in said);
-  boundaries = boundaries_in said;
+  refs = refs_in content;
+  objects = objects_in content;
+  ready_after = first_of (counts_in content);
+  boundaries = boundaries_in content;
   pack = packs.pack;
-  unborn_head = first_of (unborn_in said);
+  unborn_head = first_of (unborn_in content);
   filtered = packs.filtered;
 }
 
 -- lines that begin a text: a format, and the contents of the others
-pub record Begins (format : Format) (lines : List (List ℕ)) (said : List Said) : Type 0 where
+pub record Begins (format : Format) (lines : List (List ℕ)) (content : List LineContent) : Type 0 where
   pub others : List (List ℕ)
   pub spelled : lines ≡ format_line format ∷ others
-  pub say_all : SayAll format others said
-  pub may_stand : MayStand said
+  pub send_each : HaveContents format others content
+  pub may_stand : MayStand content
 
 -- the text is this repository, except for its packs
 pub record IsRepositoryText (text : List ℕ) (packs : PackBytes) (lists : Lists) : Type 0 where
   pub format : Format
-  pub said : List Said
-  pub begins : Begins format (lines_of text) said
-  pub lists_are : lists ≡ lists_said format said packs
+  pub content : List LineContent
+  pub begins : Begins format (lines_of text) content
+  pub lists_are : lists ≡ lists_of_contents format content packs
 
 -- the first line names no format
 pub record HasNoFormat (lines : List (List ℕ)) (number : ℕ) : Type 0 where
@@ -125,16 +125,16 @@ pub record HasBadLine (lines : List (List ℕ)) (number : ℕ) : Type 0 where
   pub behind : List (List ℕ)
   pub whole : lines ≡ before ++ line ∷ behind
   pub at_number : number ≡ length before + 1
-  pub said : List Said
-  pub begins : Begins format before said
-  pub refused : (next : Said) → IsLineOf format line next → ¬ MayStand (said ++ next ∷ [])
+  pub content : List LineContent
+  pub begins : Begins format before content
+  pub refused : (next : LineContent) → IsLineOf format line next → ¬ MayStand (content ++ next ∷ [])
 
 -- the first bad line is the one with this number, counted from 1
 abbrev pub IsFirstBad : List ℕ → ℕ → Type 0
 IsFirstBad text number = HasNoFormat (lines_of text) number ⊎ HasBadLine (lines_of text) number
 
 -- the contents of a line are stored in memory
-abbrev pub TakesMemory : Said → Type 0
+abbrev pub TakesMemory : LineContent → Type 0
 TakesMemory (reference entry) = Unit {0}
 TakesMemory (unborn target) = Unit {0}
 TakesMemory (object id size) = Unit {0}
@@ -143,7 +143,7 @@ TakesMemory (boundary line) = Unit {0}
 
 -- the maximum number of bytes of a list that stores the contents of a line after so many lines. Of these the first names the format. The list of the
 -- references, of the objects or of the boundaries has at most one item for each of the lines after the first; each name has a list of its own
-abbrev pub list_bytes : ℕ → Said → ℕ
+abbrev pub list_bytes : ℕ → LineContent → ℕ
 list_bytes before (reference entry) = 152 * before + (length entry.name + name_bytes entry.target)
 list_bytes before (unborn target) = length target
 list_bytes before (object id size) = 48 * before
@@ -157,10 +157,10 @@ pub record WantsMemory (refuses : ℕ → Type 0) (lines : List (List ℕ)) : Ty
   pub line : List ℕ
   pub after : List (List ℕ)
   pub whole : lines ≡ before ++ line ∷ after
-  pub said : List Said
-  pub begins : Begins format before said
-  pub next : Said
-  pub says : IsLineOf format line next
-  pub may_stand : MayStand (said ++ next ∷ [])
+  pub content : List LineContent
+  pub begins : Begins format before content
+  pub next : LineContent
+  pub conveys : IsLineOf format line next
+  pub may_stand : MayStand (content ++ next ∷ [])
   pub takes_memory : TakesMemory next
   pub refused : HasRefused refuses (list_bytes (length before) next)

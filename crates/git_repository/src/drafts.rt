@@ -32,7 +32,7 @@ pub(crate) struct Draft {
 
 impl Draft {
     ghost use Rattle.git_repository.specs.Machine.DraftLists.{drafted};
-    ghost use Rattle.git_repository.specs.LinesTold.{AreTold};
+    ghost use Rattle.git_repository.specs.LinesAnnounced.{AreAnnounced};
     ghost use Rattle.git_repository.specs.Packs.{packs_of};
     ghost use Rattle.git_repository.specs.Machine.RepositoryProgress.{IsLinesFault};
 
@@ -78,8 +78,8 @@ impl Draft {
         memory: M,
         line: &[u8],
     ) -> Result<(), TextFault>
-        ensures { (lines : List (List ℕ)) → AreTold lines (drafted self.old)
-            → MatchResult result (λ _. AreTold (lines ++ line.now ∷ []) (drafted self.new)) (IsLinesFault M.refuses (lines ++ line.now ∷ [])) }
+        ensures { (lines : List (List ℕ)) → AreAnnounced lines (drafted self.old)
+            → MatchResult result (λ _. AreAnnounced (lines ++ line.now ∷ []) (drafted self.new)) (IsLinesFault M.refuses (lines ++ line.now ∷ [])) }
     {
         let line_number = self.next_line();
         if line.len() > LONGEST_LINE {

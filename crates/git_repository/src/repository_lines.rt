@@ -3,8 +3,8 @@
 ghost use Rattle.std.specs.Prelude.{◌≡◌, ◌≢◌, ℕ, List, MatchOption};
 ghost use Rattle.git_names.specs.declared.object_format.Format.{Format};
 ghost use Rattle.git_names.specs.ObjectName.{IsNoObjectName, IsObjectName, ObjectName};
-ghost use Rattle.git_repository.specs.RepositoryLines.{IsCount, IsSizedObject, Says, SaysNothing, IsUnbornHeadOf, SaysReference, format_line, shown};
-ghost use Rattle.git_repository.specs.RepositoryLines.{Said};
+ghost use Rattle.git_repository.specs.RepositoryLines.{IsCount, IsSizedObject, HasContent, HasNoContent, IsUnbornHeadOf, ReadsReference, format_line, shown};
+ghost use Rattle.git_repository.specs.RepositoryLines.{LineContent};
 ghost use Rattle.std.specs.Option.{option_copied};
 
 use git_msg::{Boundary, Reference, after, is_word, read_number, read_reference};
@@ -47,7 +47,7 @@ pub(crate) fn read_format(line: &[u8]) -> Option<Format>
 
 /// The contents of a line after the first.
 pub(crate) fn read_item(format: Format, line: &[u8]) -> Option<Item<'_>>
-    ensures { MatchOption result (SaysNothing format line.now) (λ item. Says format line.now (shown item)) }
+    ensures { MatchOption result (HasNoContent format line.now) (λ item. HasContent format line.now (shown item)) }
 {
     if let Some(text) = after(line, b"ref ") {
         return read_reference_line(format, text);
@@ -73,7 +73,7 @@ pub(crate) fn read_item(format: Format, line: &[u8]) -> Option<Item<'_>>
 
 /// A reference line: of a reference with an object, or of an unborn `HEAD`.
 fn read_reference_line(format: Format, text: &[u8]) -> Option<Item<'_>>
-    ensures { MatchOption result ((said : Said) → ¬ SaysReference format text.now said) (λ item. SaysReference format text.now (shown item)) }
+    ensures { MatchOption result ((content : LineContent) → ¬ ReadsReference format text.now content) (λ item. ReadsReference format text.now (shown item)) }
 {
     let reference = match read_reference(format, text, &mut Steps::new()) {
         Ok(reference) => reference,

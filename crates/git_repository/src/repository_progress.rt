@@ -133,24 +133,24 @@ impl Progress {
     }
 
     /// The progress after a chunk of the text, which continues the open line. The line that the chunk leaves open is the open line then.
-    pub(crate) fn with_piece<M: RepoMemory + Copy>(
+    pub(crate) fn with_chunk<M: RepoMemory + Copy>(
         self,
         memory: M,
         begun: &mut Vec<u8>,
-        piece: &[u8],
+        chunk: &[u8],
     ) -> Progress
-        requires room { length begun.old.items + length piece.now ≤ vec_capacity begun.old }
+        requires space { length begun.old.items + length chunk.now ≤ vec_capacity begun.old }
         requires short { length begun.old.items ≤ longest_line }
         ensures short { length begun.new.items ≤ longest_line }
         ensures reads { (text : List ℕ) (lines : List (List ℕ)) → parts_of 10 text ≡ lines ++ begun.old.items ∷ [] → HasRead M.refuses self lines
-            → Stands M.refuses result begun.new.items (parts_of 10 (text ++ piece.now)) }
+            → Stands M.refuses result begun.new.items (parts_of 10 (text ++ chunk.now)) }
     {
         if begun.as_slice().is_empty() {
-            let (progress, left) = self.with_text(memory, piece);
+            let (progress, left) = self.with_text(memory, chunk);
             append(begun, left);
             return progress;
         }
-        let (line, rest) = split_at_first(piece, b'\n');
+        let (line, rest) = split_at_first(chunk, b'\n');
         if line.len() > LONGEST_LINE - begun.len() {
             return self.with_long_line::<M>();
         }

@@ -25,7 +25,7 @@ pub struct RepositoryReader<M: Copy = Global> {
 }
 
 impl<M: RepoMemory + Copy> RepositoryReader<M> {
-    ghost use Rattle.git_repository.specs.Machine.RepositoryReader.{HasRefusedLine, LacksRoom, Reads, Stays, open_bytes};
+    ghost use Rattle.git_repository.specs.Machine.RepositoryReader.{HasRefusedLine, LacksBuffer, Reads, Stays, open_bytes};
     ghost use Rattle.git_repository.specs.RepositoryLines.{longest_line};
     ghost use Rattle.git_msg.specs.Memory.{HasRefused};
 
@@ -44,20 +44,20 @@ impl<M: RepoMemory + Copy> RepositoryReader<M> {
     ///
     /// First it reserves memory for the chunk after the open line: if memory for that runs out, the reader stays unchanged. After a line
     /// that was refused, a chunk is skipped.
-    pub fn feed(&mut self, piece: &[u8]) -> Result<(), AllocError>
+    pub fn feed(&mut self, chunk: &[u8]) -> Result<(), AllocError>
         ensures open { open_bytes self.new ≤ longest_line }
-        ensures fed { OnOk result ((text : List ℕ) → Reads M.refuses self.old text → Reads M.refuses self.new (text ++ piece.now)) }
+        ensures fed { OnOk result ((text : List ℕ) → Reads M.refuses self.old text → Reads M.refuses self.new (text ++ chunk.now)) }
         ensures stays { OnErr result (Stays self.old self.new) }
-        ensures full { OnErr result (LacksRoom self.old (length piece.now)) }
-        ensures memory { OnErr result (HasRefused M.refuses (open_bytes self.old + length piece.now)) }
+        ensures full { OnErr result (LacksBuffer self.old (length chunk.now)) }
+        ensures memory { OnErr result (HasRefused M.refuses (open_bytes self.old + length chunk.now)) }
         ensures passed { HasRefusedLine self.old → IsOk result × (self.new ≡ self.old) }
     {
         if self.progress.has_failed() {
             return Ok(());
         }
-        self.memory.reserve(&mut self.begun, piece.len())?;
+        self.memory.reserve(&mut self.begun, chunk.len())?;
         let progress = mem::replace(&mut self.progress, Progress::Start);
-        self.progress = progress.with_piece(self.memory, &mut self.begun, piece);
+        self.progress = progress.with_chunk(self.memory, &mut self.begun, chunk);
         Ok(())
     }
 

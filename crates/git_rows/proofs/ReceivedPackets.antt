@@ -11,7 +11,7 @@ use Rattle.git_client.specs.Events.{EventValue, Gives, Refuses, offered}
 use Rattle.git_client.specs.Parts.{Terms, nearest}
 use Rattle.git_client.specs.Places.{Place, place_after, version}
 use Rattle.git_client.proofs.Determined.{one_event_list}
-use Rattle.git_client.proofs.EventsHeard.{later_questions}
+use Rattle.git_client.proofs.EventsReceived.{later_questions}
 use Rattle.git_rows.specs.Worked.{at}
 use Rattle.git_rows.specs.WorkedConversations.{offer_bytes, offered_before, terms}
 use Rattle.git_names.specs.Digits.{lower_digit}
@@ -30,7 +30,7 @@ refuses_at t asked before p kind place is refuses = record { place = place; is_p
 -- the line that begins an advertisement
 pub gives_version : (t : Terms) (asked : List Asked) → GivesAt t asked [] (text_line (codes "version 2")) []
 gives_version t asked =
-    gives_at t asked [] (text_line (codes "version 2")) [] version refl (record { no_error = no_error_by (codes "version 2") refl; says = refl })
+    gives_at t asked [] (text_line (codes "version 2")) [] version refl (record { no_error = no_error_by (codes "version 2") refl; conveys = refl })
 
 -- the advertisement without capabilities, and what follows it
 pub offer_then : (asked : List Asked) (more : List Given) (later : List EventValue) → GiveAll terms asked offered_before more later
@@ -70,4 +70,4 @@ unfolding lower_digit
 offer_splits = splits_written 0 (text_line (codes "version 2") ∷ flush ∷ []) [] refl none_begins_nothing
 
 pub whole_offer : IsConversation terms [] offer_bytes (offered ∷ [])
-whole_offer = record { given = offer_packets; splits = offer_splits; gives = offer_then [] [] [] refl; all_flushes = refl; no_end_due = refl }
+whole_offer = record { given = offer_packets; splits = offer_splits; gives = offer_then [] [] [] refl; all_flushes = refl; no_end_expected = refl }

@@ -23,14 +23,14 @@ names_rise k d lt =
 pub whole_text : IsRepositoryText repository_text no_packs (lists_of_size 12)
 whole_text = record {
   format = Sha1;
-  said =
+  content =
       reference (bare_entry (codes "HEAD")) ∷ reference (bare_entry (codes "refs/x")) ∷ object name_a 12 ∷ ready 1 ∷ boundary (Shallow name_a) ∷ [];
   begins = record {
     others =
         (codes "ref " ++ all_a ++ codes " HEAD") ∷ (codes "ref " ++ all_a ++ codes " refs/x") ∷ (codes "object " ++ all_a ++ codes " 12")
         ∷ codes "ready 1" ∷ (codes "shallow " ++ all_a) ∷ [];
     spelled = refl;
-    say_all = (
+    send_each = (
       (omega arith, record { value = all_a ++ codes " HEAD"; spelled = refl; holds = head_line }),
       (
         (omega arith, record { value = all_a ++ codes " refs/x"; spelled = refl; holds = x_line }),

@@ -21,8 +21,8 @@ ghost use Rattle.git_rows.specs.Worked.{asked_with, at, fault_at};
 ghost use Rattle.git_rows.specs.WorkedConversations.{offer_bytes, terms};
 ghost use Rattle.git_rows.specs.WorkedRuns.{bare_state, from_eight, offer_transcript, repo_state, standing, tally_before, with_bundles, without_packs};
 
-use git_both_ends::answer_laws::heard_offer;
-use git_both_ends::play_laws::played_as_told;
+use git_both_ends::answer_laws::received_offer;
+use git_both_ends::play_laws::played_as_answered;
 use std::alloc::Allocator;
 
 /// What streams held before and after a run.
@@ -110,7 +110,7 @@ pub fn nothing_played<A: Allocator + Copy>()
     ensures not_read_of_a_stream { ¬ Played {A = A} 0 terms 0 repo_state [] (Ok tt) (offer_transcript ∷ []) (offer_transcript ∷ [] ∷ []) }
     ensures no_read_fails { ¬ Played {A = A} 0 terms 0 repo_state [] (Err ReadFault) [] ([] ∷ [] ∷ []) }
 {
-    heard_offer();
+    received_offer();
 }
 
 /// Plays of no request and of one for references, over an empty repository, which ended well: exactly this was written.
@@ -123,5 +123,5 @@ pub fn plays_that_ended_well<A: Allocator + Copy>()
         → ¬ Played {A = A} 0 terms 0 bare_state (request ∷ []) (Ok tt) [] (offer_transcript ∷ [] ∷ []) }
     ensures not_with_a_pack { ¬ Played {A = A} 0 terms 0 bare_state [] (Ok tt) [] (offer_transcript ∷ codes "PACK" ∷ []) }
 {
-    played_as_told::<A>();
+    played_as_answered::<A>();
 }

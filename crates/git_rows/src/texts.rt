@@ -4,7 +4,7 @@ ghost use Rattle.std.specs.Prelude.{◌++◌, ◌∷◌, [], codes, false, true}
 ghost use Rattle.git_msg.specs.declared.Boundary.TheVariants.{Shallow, Unshallow};
 ghost use Rattle.git_names.specs.declared.object_format.Format.TheVariants.{Sha1};
 ghost use Rattle.git_repository.specs.Packs.{no_packs};
-ghost use Rattle.git_repository.specs.RepositoryLines.{Says, SaysNothing, boundary, object, ready, reference, unborn};
+ghost use Rattle.git_repository.specs.RepositoryLines.{HasContent, HasNoContent, boundary, object, ready, reference, unborn};
 ghost use Rattle.git_repository.specs.RepositoryText.{IsFirstBad, IsRepositoryText, MayStand};
 ghost use Rattle.git2show_lib.specs.Scripts.{HasBadScriptLine, IsScript};
 ghost use Rattle.git_repository.specs.RepositoryLines.{lines_of};
@@ -14,18 +14,18 @@ ghost use Rattle.git_rows.specs.WorkedTexts.{bare_entry, kept_refs, lists_of_siz
 /// The text of a repository with a line of each kind.
 pub fn repository_of_a_few_lines()
     ensures read { IsRepositoryText repository_text no_packs (lists_of_size 12) }
-    ensures unborn_head { Says Sha1 (codes "ref unborn HEAD symref-target:refs/x") (unborn (codes "refs/x")) }
-    ensures no_longer_shallow { Says Sha1 (codes "unshallow " ++ all_a) (boundary (Unshallow name_a)) }
+    ensures unborn_head { HasContent Sha1 (codes "ref unborn HEAD symref-target:refs/x") (unborn (codes "refs/x")) }
+    ensures no_longer_shallow { HasContent Sha1 (codes "unshallow " ++ all_a) (boundary (Unshallow name_a)) }
     ensures not_of_another_size { ¬ IsRepositoryText repository_text no_packs (lists_of_size 21) }
-    ensures not_shallow { ¬ Says Sha1 (codes "unshallow " ++ all_a) (boundary (Shallow name_a)) }
-    ensures not_ready_at_once { ¬ Says Sha1 (codes "ready 0") (ready 0) }
+    ensures not_shallow { ¬ HasContent Sha1 (codes "unshallow " ++ all_a) (boundary (Shallow name_a)) }
+    ensures not_ready_at_once { ¬ HasContent Sha1 (codes "ready 0") (ready 0) }
 {}
 
 /// Texts with a refused line, each with the number of the first one.
 pub fn repository_lines_refused()
     ensures no_format { IsFirstBad [] 1 }
     ensures no_word { IsFirstBad (codes "format sha1\nx\n") 2 }
-    ensures nothing_said { SaysNothing Sha1 (codes "x") }
+    ensures nothing_stated { HasNoContent Sha1 (codes "x") }
     ensures not_the_format { ¬ IsFirstBad (codes "format sha1\nx\n") 1 }
     ensures not_in_a_whole_text { ¬ IsFirstBad repository_text 2 }
     ensures names_that_fall { ¬ MayStand (reference (bare_entry (codes "refs/x")) ∷ reference (bare_entry (codes "HEAD")) ∷ []) }

@@ -10,7 +10,7 @@ use Rattle.git_pkt.specs.declared.fault.Kind.TheVariants.{NotOurs, UnknownRef}
 use Rattle.git_msg.specs.declared.offers.Offer.{Offer}
 use Rattle.git_msg.specs.declared.arguments.Command.{Command}
 use Rattle.git_msg.specs.declared.arguments.Command.TheVariants.{LsRefs, Fetch, ObjectInfo}
-use Rattle.git_msg.specs.Admission.{AreAdmitted, IsAdmitted, IsToldFor}
+use Rattle.git_msg.specs.Admission.{AreAdmitted, IsAdmitted, IsAnnouncedFor}
 use Rattle.git_msg.specs.Arguments.{Arg, Value, Word, id_value, of_flag, text_value, want, want_ref}
 use Rattle.git_msg.specs.declared.flags.Flag.{Flag}
 use Rattle.git_msg.specs.Asked.{Asked, asked_by, id_in, text_in}
@@ -18,7 +18,7 @@ use Rattle.git_msg.specs.Lines.{Line, arguments_of}
 use Rattle.git_msg.specs.Requests.{AreLines, Asks}
 use Rattle.git_msg.proofs.FoundParts.{All-filter_map}
 use Rattle.git_msg.proofs.LineLaws.{fronts_same, one_list_of_lines}
-use Rattle.git_msg.proofs.PacketFaults.{NotOfPackets, told_of_packets}
+use Rattle.git_msg.proofs.PacketFaults.{NotOfPackets, announced_of_packets}
 use Rattle.git_server.specs.Repository.{Repository, found_ref}
 use Rattle.git_server.specs.Admission.{barred, barred_ref, barred_value, HasAsked}
 
@@ -77,11 +77,11 @@ asked_had repo Fetch args h = (
 
 module _ (offer : Offer) (limit : ℕ) (repo : Repository) where
   -- a fault of the packets that no packet is refused for, but by a repository
-  pub not_told_for : (packets : List Given) (fault : Fault) (kind : Kind) → NotOfPackets kind → NotOfRepository kind
-      → IsToldFor offer limit (barred repo) packets fault → fault.kind ≢ kind
-  not_told_for packets fault kind strange other (inl b) is =
+  pub not_announced_for : (packets : List Given) (fault : Fault) (kind : Kind) → NotOfPackets kind → NotOfRepository kind
+      → IsAnnouncedFor offer limit (barred repo) packets fault → fault.kind ≢ kind
+  not_announced_for packets fault kind strange other (inl b) is =
       not_barred repo b.is_barred.arg kind other (b.is_barred.refuses ∙ ap Some is)
-  not_told_for packets fault kind strange other (inr (unbarred, told)) is = told_of_packets kind strange offer limit packets fault told is
+  not_announced_for packets fault kind strange other (inr (unbarred, announced)) is = announced_of_packets kind strange offer limit packets fault announced is
 
   -- what a whole request asks for, whose lines are admitted
   pub request_had : (left : List Given) (g : Given) (lines : List Line) (q : Asked) (kept : ℕ) → AreLines offer limit [] left lines

@@ -12,7 +12,7 @@ use Rattle.git_msg.specs.WrittenRequest.{format_line}
 use Rattle.git_server.specs.Answers.{advertisement_of, offered_line, spelled}
 use Rattle.git_server.specs.Machine.AdvertisementLines.{advertisement_after, advertisement_from, advertisement_line_after, advertisement_packet, format_on}
 use Rattle.git_server.specs.declared.advertisement.AdvertisementLine.{AdvertisementLine}
-use Rattle.git_server.proofs.Owing.{one_line}
+use Rattle.git_server.proofs.UnsentPackets.{one_line}
 
 -- how long packets are, each with the four bytes before its body
 abbrev lengths : List Pkt → ℕ

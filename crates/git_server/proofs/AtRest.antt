@@ -26,8 +26,8 @@ use Rattle.git_server.specs.declared.outcome.Outcome.TheVariants.{Closed, Flush,
 use Rattle.git_server.specs.declared.server.Server.{Server}
 use Rattle.git_server.proofs.FetchPackets.{broken_fetch_has_none}
 use Rattle.git_server.proofs.Flushes.{flushes-append}
-use Rattle.git_server.proofs.Going.{owes_some}
-use Rattle.git_server.proofs.OneSession.{answers_end, owes_flush}
+use Rattle.git_server.proofs.Going.{some_unsent}
+use Rattle.git_server.proofs.OneSession.{answers_end, flush_unsent}
 use Rattle.git_server.proofs.Sent.{is_whole}
 
 -- ---- packets that begin as a whole one does
@@ -137,15 +137,15 @@ module _ (s : Setting) where
   broken_flushes (fetch q) packets h = broken_fetch_has_none s.repo q packets h
   broken_flushes (object_info q) packets h = absurd h
 
-  told_flushes : (kind : Kind) (left : List Given) (fault : Fault) (tail : List Pkt) → IsTailBy kind s left fault tail → flushes tail ≡ 0
-  told_flushes PackSource left fault tail h = broken_flushes h.asked tail h.breaks
-  told_flushes RemoteError left fault tail h = ap flushes (sym h)
-  told_flushes kind left fault tail h = ap flushes (sym h)
+  announced_flushes : (kind : Kind) (left : List Given) (fault : Fault) (tail : List Pkt) → IsTailBy kind s left fault tail → flushes tail ≡ 0
+  announced_flushes PackSource left fault tail h = broken_flushes h.asked tail h.breaks
+  announced_flushes RemoteError left fault tail h = ap flushes (sym h)
+  announced_flushes kind left fault tail h = ap flushes (sym h)
 
   pub tail_flushes : (left : List Given) (outcome : Outcome) (tail : List Pkt) → IsTail s left outcome tail → flushes tail ≡ 0
   tail_flushes left Flush tail h = ap flushes (sym h)
   tail_flushes left Closed tail h = ap flushes (sym h)
-  tail_flushes left (Refused fault) tail h = told_flushes fault.kind left fault tail h
+  tail_flushes left (Refused fault) tail h = announced_flushes fault.kind left fault tail h
 
 -- ---- what was sent, and used of it
 
@@ -163,12 +163,12 @@ both_nothing : (xs ys : List ℕ) → xs ++ ys ≡ [] → (xs ≡ []) × (ys ≡
 both_nothing [] ys e = (refl, e)
 both_nothing (x ∷ xs) ys e = absurd (cc)
 
-module _ (s : Setting) (qs : List Pkt) (used unused : List ℕ) (said : spelled qs ≡ used ++ unused) (ends : EndsWithFlush qs)
+module _ (s : Setting) (qs : List Pkt) (used unused : List ℕ) (content : spelled qs ≡ used ++ unused) (ends : EndsWithFlush qs)
     (asked : List Asked) (left : List Given) (rest : List ℕ) (stream : Stream s used asked left rest) where
   -- no more requests came than were sent
   pub few_asked : (length asked ≤ flushes qs)
   few_asked =
-      let front = front_of 0 used unused rest stream.packets qs stream.splits.spelled (sym said) in
+      let front = front_of 0 used unused rest stream.packets qs stream.splits.spelled (sym content) in
       omega (
         arith,
         requests_flushes s stream.packets asked left stream.requests,
@@ -179,7 +179,7 @@ module _ (s : Setting) (qs : List Pkt) (used unused : List ℕ) (said : spelled 
   -- where all came, all was used
   pub all_used : flushes qs ≤ length asked → IsAllUsed unused left rest
   all_used many =
-      let front = front_of 0 used unused rest stream.packets qs stream.splits.spelled (sym said) in
+      let front = front_of 0 used unused rest stream.packets qs stream.splits.spelled (sym content) in
       let count = requests_flushes s stream.packets asked left stream.requests in
       let total = ap flushes front.parts ∙ flushes-append (packets_of stream.packets) front.more in
       let none_more : front.more ≡ [] = ends (packets_of stream.packets) front.more front.parts (omega (arith, count, total, many)) in
@@ -221,7 +221,7 @@ ends_in_vain s end (Refused fault) (inr w) = absurd (let (front, last, whole, at
 -- ---- at rest
 
 module _ {R A : Type 0} (state : R → RepoState) (server : Server R A) (s : Setting) (qs : List Pkt) (used unused given : List ℕ)
-    (r : Running state s used false given server) (said : spelled qs ≡ used ++ unused) (ends : EndsWithFlush qs)
+    (r : Running state s used false given server) (content : spelled qs ≡ used ++ unused) (ends : EndsWithFlush qs)
     (enough : (ps : List Pkt) → AllFit ps → given ≡ spelled ps → flushes qs + flushes (advertised s) ≤ flushes ps)
     (in_time : (fault : Fault) → outcome_of server ≡ Some (Refused fault) → fault.kind ≡ StreamTooLong → unused ≢ []) where
   pub record IsAtRest : Type 0 where
@@ -230,28 +230,28 @@ module _ {R A : Type 0} (state : R → RepoState) (server : Server R A) (s : Set
 
   at_rest_by : (o : Option Outcome) → outcome_of server ≡ o → StandsBy o s used false given server → IsAtRest
   at_rest_by None none (_, h) =
-      let (owed, owes) = owes_some server.offer s.repo server.phase in
-      let whole = is_whole s h.asked h.sent owed (h.is_sent owed owes) in
+      let (unsent, has_unsent) = some_unsent server.offer s.repo server.phase in
+      let whole = is_whole s h.asked h.sent unsent (h.is_sent unsent has_unsent) in
       let stream : Stream s used h.asked h.left h.rest = record { packets = h.packets; splits = h.reads.splits; requests = h.requests } in
-      let few = few_asked s qs used unused said ends h.asked h.left h.rest stream in
+      let few = few_asked s qs used unused content ends h.asked h.left h.rest stream in
       let many = enough h.sent h.fit h.given_is in
-      let parts = sym (flushes-append h.sent owed) ∙ ap flushes whole.parts ∙ flushes-append (advertised s) whole.answers in
+      let parts = sym (flushes-append h.sent unsent) ∙ ap flushes whole.parts ∙ flushes-append (advertised s) whole.answers in
       let count = answers_end s.repo h.asked whole.answers whole.answered in
-      let all = all_used s qs used unused said ends h.asked h.left h.rest stream (omega (arith, many, parts, count)) in
+      let all = all_used s qs used unused content ends h.asked h.left h.rest stream (omega (arith, many, parts, count)) in
       record {
         all = all.none_unused;
-        waits = owes_flush server.offer s.repo server.phase owed none owes (omega (arith, few, many, parts, count));
+        waits = flush_unsent server.offer s.repo server.phase unsent none has_unsent (omega (arith, few, many, parts, count));
       }
   at_rest_by (Some outcome) some h =
-      let (owed, owes) = owes_some server.offer s.repo server.phase in
-      let e : IsEnding s used false given outcome owed = h owed owes in
-      let tail = tail_flushes s e.left outcome (e.sent ++ owed) e.parts in
-      let tail_parts = flushes-append e.sent owed in
+      let (unsent, has_unsent) = some_unsent server.offer s.repo server.phase in
+      let e : IsEnding s used false given outcome unsent = h unsent has_unsent in
+      let tail = tail_flushes s e.left outcome (e.sent ++ unsent) e.parts in
+      let tail_parts = flushes-append e.sent unsent in
       let many = enough ((advertised s ++ e.answers) ++ e.sent) e.fit e.given_is in
       let parts = flushes-append (advertised s ++ e.answers) e.sent in
       let answer_parts = flushes-append (advertised s) e.answers in
       let count = answers_end s.repo e.asked e.answers e.answered in
-      let all = all_used s qs used unused said ends e.asked e.left e.rest e.stream (omega (arith, tail, tail_parts, many, parts, answer_parts, count)) in
+      let all = all_used s qs used unused content ends e.asked e.left e.rest e.stream (omega (arith, tail, tail_parts, many, parts, answer_parts, count)) in
       let so : EndsBy s false [] [] (length used) outcome =
       subst (λ (gs : List Given). EndsBy s false gs [] (length used) outcome) all.none_left
       (subst (λ (l : List ℕ). EndsBy s false e.left l (length used) outcome) all.no_rest e.ends) in
@@ -285,8 +285,8 @@ module _ {R A : Type 0} (state : R → RepoState) (server : Server R A) (s : Set
   open_by : (o : Option Outcome) → StandsBy o s [] false [] server → o ≡ None
   open_by None h = refl
   open_by (Some outcome) h =
-      let (owed, owes) = owes_some server.offer s.repo server.phase in
-      let e : IsEnding s [] false [] outcome owed = h owed owes in
+      let (unsent, has_unsent) = some_unsent server.offer s.repo server.phase in
+      let e : IsEnding s [] false [] outcome unsent = h unsent has_unsent in
       let all = all_used s [] [] [] refl (λ front back is none. none_behind front back is) e.asked e.left e.rest e.stream (omega arith) in
       absurd (never_at_once s outcome (subst (λ (gs : List Given). EndsBy s false gs [] 0 outcome) all.none_left
       (subst (λ (l : List ℕ). EndsBy s false e.left l 0 outcome) all.no_rest e.ends)))

@@ -16,11 +16,11 @@ use Rattle.git_server.specs.Packs.{broken}
 use Rattle.git_server.specs.Answers.{AllFit, IsAnswerAs, spelled}
 use Rattle.git_server.specs.Sessions.{Setting, IsAnswering, IsEnding, IsLastAt, IsRequest, advertised}
 use Rattle.git_server.specs.Machine.AnsweredRequest.{IsAnswerFrom, ReadsPack}
-use Rattle.git_server.specs.Machine.Phases.{FlushIsAt, LeftIn, MayBreak, Owes, kept_in, lost_pack, most_owed, outcome_in, owes_in, stored_in}
+use Rattle.git_server.specs.Machine.Phases.{FlushIsAt, LeftIn, MayBreak, AreUnsent, kept_in, lost_pack, most_unsent, outcome_in, has_unsent_in, stored_in}
 use Rattle.git_server.specs.Machine.WrittenPackets.{Writes}
-use Rattle.git_server.specs.Machine.LatePacks.{OwesNoPackIn}
+use Rattle.git_server.specs.Machine.LatePacks.{HasNoPackUnsentIn}
 use Rattle.git_server.specs.Machine.Server.{IsPackLost, Serves, StandsBy, outcome_of}
-use Rattle.git_server.specs.Machine.ServerCalls.{Gives, OwesNow}
+use Rattle.git_server.specs.Machine.ServerCalls.{Gives, AreUnsentNow}
 use Rattle.git_server.specs.declared.answer.Answer.{Answer}
 use Rattle.git_server.specs.declared.answer.Answered.TheVariants.{Broken}
 use Rattle.git_server.specs.declared.outcome.Outcome.{Outcome}
@@ -30,7 +30,7 @@ use Rattle.git_server.specs.declared.server.Server.{Server}
 use Rattle.git_server.proofs.Going.{goes_on}
 use Rattle.git_server.proofs.LatePacks.{unbroken}
 use Rattle.git_server.proofs.Outcomes.{lost_by_pull, none_lost}
-use Rattle.git_server.proofs.Owing.{some_left}
+use Rattle.git_server.proofs.UnsentPackets.{some_left}
 use Rattle.git_server.proofs.Sent.{fit_more, spelled_one}
 
 module _ {R A : Type 0} (state : R → RepoState) (old new : Server R A) (packet : Pkt) (answer : Answer A) (offset : ℕ)
@@ -61,7 +61,7 @@ module _ {R A : Type 0} (state : R → RepoState) (old new : Server R A) (packet
 
     no_rest : h.rest ≡ []
     no_rest =
-        let shut : is_open old.reader ≡ false = old.between (ap owes_in was) in
+        let shut : is_open old.reader ≡ false = old.between (ap has_unsent_in was) in
         none_between old.reader h.rest (sound_rest old.reader 0 used h.packets h.rest h.no_fault h.reads).0 shut
 
     with_one : h.sent ++ packet ∷ [] ≡ advertised s ++ answering.answers ++ (answering.front ++ packet ∷ [])
@@ -70,8 +70,8 @@ module _ {R A : Type 0} (state : R → RepoState) (old new : Server R A) (packet
     given_now : before ++ spelling_of packet ≡ spelled (h.sent ++ packet ∷ [])
     given_now = ap (λ (l : List ℕ). l ++ spelling_of packet) h.given_is ∙ sym (spelled_one h.sent packet)
 
-    ends_broken : (owed : List Pkt) → owed ≡ [] → IsEnding s used over (before ++ spelling_of packet) (lost_pack offset) owed
-    ends_broken owed nothing =
+    ends_broken : (unsent : List Pkt) → unsent ≡ [] → IsEnding s used over (before ++ spelling_of packet) (lost_pack offset) unsent
+    ends_broken unsent nothing =
         let a = answering in
         let asked = subst (λ (qs : List Asked). AreRequests (IsRequest s) h.packets qs h.left) a.whole h.requests in
         let taken = last_request (IsRequest s) h.packets a.earlier a.last
@@ -80,7 +80,7 @@ module _ {R A : Type 0} (state : R → RepoState) (old new : Server R A) (packet
         let asks = taken.is_one.1 in
         let own : asks.last ≡ last =
         last_packet (IsRequest s) h.packets a.earlier a.last taken front asks.front last asks.last packets_are asks.whole in
-        let all : a.front ++ packet ∷ [] ≡ (a.front ++ packet ∷ []) ++ owed =
+        let all : a.front ++ packet ∷ [] ≡ (a.front ++ packet ∷ []) ++ unsent =
         sym (append-nil (a.front ++ packet ∷ [])) ∙ ap (λ (l : List Pkt). (a.front ++ packet ∷ []) ++ l) (sym nothing) in
         record {
           asked = a.earlier;
@@ -103,19 +103,19 @@ module _ {R A : Type 0} (state : R → RepoState) (old new : Server R A) (packet
           fit = subst AllFit with_one (fit_more h.sent packet h.fit writes.fits);
         }
 
-  nothing_owed : OwesNow state new []
-  nothing_owed = subst (λ (p : Phase A). Owes new.offer (state new.repo).answers p []) (sym is) refl
+  nothing_left_unsent : AreUnsentNow state new []
+  nothing_left_unsent = subst (λ (p : Phase A). AreUnsent new.offer (state new.repo).answers p []) (sym is) refl
 
   -- the packet that reports it is sent, and the session has ended
   pub gives_broken : Gives state old new
   gives_broken =
       record {
         packet = packet;
-        owed = inr (record { went_on = went_on; breaks = may_break; lost = lost; nothing = nothing_owed });
+        unsent = inr (record { went_on = went_on; breaks = may_break; lost = lost; nothing = nothing_left_unsent });
         less = omega (
           arith,
-          ap (most_owed new.offer (state new.repo).answers) is,
-          ap (most_owed old.offer (state old.repo).answers) was,
+          ap (most_unsent new.offer (state new.repo).answers) is,
+          ap (most_unsent old.offer (state old.repo).answers) was,
           some_left (state old.repo).answers answer,
         );
         held = writes.held;
@@ -123,7 +123,7 @@ module _ {R A : Type 0} (state : R → RepoState) (old new : Server R A) (packet
         credit = ap (λ (n : ℕ). 56 * n) (shut_counts_none new.reader writes.between);
         outcome = lost_by_pull (outcome_of old) (outcome_of new) went_on lost;
         unread = λ none. absurd (unbroken (state old.repo).answers answer (packet ∷ [])
-            (subst (λ (p : Phase A). OwesNoPackIn (state old.repo).answers p) was none) breaks);
+            (subst (λ (p : Phase A). HasNoPackUnsentIn (state old.repo).answers p) was none) breaks);
         goes = λ s so_far over before r.
             let (not_over, h) = goes_on state old s so_far over before went_on r in
             let unfailed : (state old.repo).failures ≡ s.failures = r.failures.same (λ l. none_lost (subst IsPackLost went_on l)) in
@@ -137,8 +137,9 @@ module _ {R A : Type 0} (state : R → RepoState) (old new : Server R A) (packet
               covered = omega (arith, ap stored_in is);
               fits = writes.holds;
               stands = subst (λ (o : Option Outcome). StandsBy o s (so_far ++ []) over (before ++ spelling_of packet) new) (sym (ap outcome_in is))
-                  (λ owed owes. subst (λ (l : List ℕ). IsEnding s l over (before ++ spelling_of packet) (lost_pack offset) owed) (sym (append-nil so_far))
-                  (ends_broken s so_far over before r.repo not_over h owed
-                  (subst (λ (p : Phase A). Owes new.offer s.repo p owed) is owes)));
+                  (λ unsent has_unsent. subst (λ (l : List ℕ). IsEnding s l over (before ++ spelling_of packet) (lost_pack offset) unsent)
+                  (sym (append-nil so_far))
+                  (ends_broken s so_far over before r.repo not_over h unsent
+                  (subst (λ (p : Phase A). AreUnsent new.offer s.repo p unsent) is has_unsent)));
             };
       }

@@ -25,30 +25,30 @@ use Rattle.git_server.proofs.SessionLaws.{all_answered, ending, every_moment, go
 -- whether the input ended, where it had or not before the calls
 ended : Bool → List Call → Bool
 ended over [] = over
-ended over (feed piece used ∷ calls) = ended over calls
+ended over (feed chunk used ∷ calls) = ended over calls
 ended over (pull answer ∷ calls) = ended over calls
 ended over (close ∷ calls) = ended true calls
 
 stays_ended : (calls : List Call) → ended true calls ≡ true
 unfolding ended
 stays_ended [] = refl
-stays_ended (feed piece used ∷ calls) = stays_ended calls
+stays_ended (feed chunk used ∷ calls) = stays_ended calls
 stays_ended (pull answer ∷ calls) = stays_ended calls
 stays_ended (close ∷ calls) = stays_ended calls
 
 ended_by : (calls : List Call) → ended false calls ≡ closes calls
 unfolding ended
 ended_by [] = refl
-ended_by (feed piece used ∷ calls) = ended_by calls
+ended_by (feed chunk used ∷ calls) = ended_by calls
 ended_by (pull answer ∷ calls) = ended_by calls
 ended_by (close ∷ calls) = stays_ended calls
 
 -- what is refused as it was read is malformed
-malformed_by : (s : Setting) (used : List ℕ) (over : Bool) (given : List ℕ) (owed : List Pkt) (fault : Fault) → IsOfTheBytes (Refused fault)
-    → (h : IsEnding s used over given (Refused fault) owed) → IsRefused s over h.left h.rest (length used) fault → FirstMalformed s used over fault
-malformed_by s used over given owed fault of_bytes h (inl refused) =
+malformed_by : (s : Setting) (used : List ℕ) (over : Bool) (given : List ℕ) (unsent : List Pkt) (fault : Fault) → IsOfTheBytes (Refused fault)
+    → (h : IsEnding s used over given (Refused fault) unsent) → IsRefused s over h.left h.rest (length used) fault → FirstMalformed s used over fault
+malformed_by s used over given unsent fault of_bytes h (inl refused) =
     record { asked = h.asked; left = h.left; rest = h.rest; stream = h.stream; refused = refused; of_the_bytes = of_bytes }
-malformed_by s used over given owed fault of_bytes h (inr lost) = absurd (of_bytes.by_pack lost.name)
+malformed_by s used over given unsent fault of_bytes h (inr lost) = absurd (of_bytes.by_pack lost.name)
 
 module _ {R A : Type 0} (state : R → RepoState) (refuses : ℕ → Type 0) where
   regroup : (s : Setting) (a b c : List ℕ) (over : Bool) (d e f : List ℕ) (server : Server R A) → Running state s ((a ++ b) ++ c) over ((d ++ e) ++ f) server
@@ -65,9 +65,9 @@ module _ {R A : Type 0} (state : R → RepoState) (refuses : ℕ → Type 0) whe
   goes_by s [] before old after new (counter, same) so_far over given r =
       subst (λ (u : List ℕ). Running state s u over (given ++ []) new) (sym (append-nil so_far))
       (subst (λ (w : List ℕ). Running state s so_far over w new) (sym (append-nil given)) (subst (Running state s so_far over given) (sym same) r))
-  goes_by s (feed piece used ∷ calls) before old after new (next, between, made, more) so_far over given r =
-      regroup s so_far (take used piece) (used_in calls) (ended over calls) given [] (given_in calls) new
-      (goes_by s calls next between after new more (so_far ++ take used piece) over (given ++ []) (made.goes s so_far over given r))
+  goes_by s (feed chunk used ∷ calls) before old after new (next, between, made, more) so_far over given r =
+      regroup s so_far (take used chunk) (used_in calls) (ended over calls) given [] (given_in calls) new
+      (goes_by s calls next between after new more (so_far ++ take used chunk) over (given ++ []) (made.goes s so_far over given r))
   goes_by s (pull answer ∷ calls) before old after new (next, between, made, more) so_far over given r =
       regroup s so_far [] (used_in calls) (ended over calls) given (given_by answer) (given_in calls) new
       (goes_by s calls next between after new more (so_far ++ []) over (given ++ given_by answer) (made.0.goes s so_far over given r))
@@ -79,8 +79,8 @@ module _ {R A : Type 0} (state : R → RepoState) (refuses : ℕ → Type 0) whe
       → MakesAll (Makes state refuses) calls before old after new → (so_far : List ℕ) (over : Bool) (given : List ℕ) → Running state s so_far over given old
       → EndsByRefusal refuses s.limit old → EndsByRefusal refuses s.limit new
   memory_by s [] before old after new (counter, same) so_far over given r ends = subst (EndsByRefusal refuses s.limit) (sym same) ends
-  memory_by s (feed piece used ∷ calls) before old after new (next, between, made, more) so_far over given r ends =
-      memory_by s calls next between after new more (so_far ++ take used piece) over (given ++ []) (made.goes s so_far over given r)
+  memory_by s (feed chunk used ∷ calls) before old after new (next, between, made, more) so_far over given r ends =
+      memory_by s calls next between after new more (so_far ++ take used chunk) over (given ++ []) (made.goes s so_far over given r)
       (made.memory s so_far over given r ends)
   memory_by s (pull answer ∷ calls) before old after new (next, between, made, more) so_far over given r ends =
       memory_by s calls next between after new more (so_far ++ []) over (given ++ given_by answer) (made.0.goes s so_far over given r)
@@ -92,21 +92,21 @@ module _ {R A : Type 0} (state : R → RepoState) (refuses : ℕ → Type 0) whe
   -- each call is paid
   paid_by : (call : Call) (before : ℕ) (old : Server R A) (after : ℕ) (new : Server R A) → Makes state refuses call before old after new
       → ArePaid (length (used_by call)) (feeds_by call) before after (credit_of (reader_of old)) (credit_of (reader_of new))
-  paid_by (feed piece used) before old after new made =
-      record { rises = made.pays.rises; within = omega (arith, made.pays.within, length-take-le used piece made.within) }
+  paid_by (feed chunk used) before old after new made =
+      record { rises = made.pays.rises; within = omega (arith, made.pays.within, length-take-le used chunk made.within) }
   paid_by (pull answer) before old after new made = record { rises = omega (arith, made.1); within = omega (arith, made.0.credit, made.1) }
   paid_by close before old after new made = record { rises = omega (arith, made.1); within = omega (arith, made.0.credit, made.1) }
 
   module _ (s : Setting) (used : List ℕ) (over : Bool) (given : List ℕ) (server : Server R A) (r : Running state s used over given server) where
     refused_first : (fault : Fault) → outcome_of server ≡ Some (Refused fault) → IsOfTheBytes (Refused fault) → FirstMalformed s used over fault
     refused_first fault some of_bytes =
-        let (owed, h) = ending state server s used over given r (Refused fault) some in
-        malformed_by s used over given owed fault of_bytes h h.ends
+        let (unsent, h) = ending state server s used over given r (Refused fault) some in
+        malformed_by s used over given unsent fault of_bytes h h.ends
 
     malformed_ends : (fault : Fault) (outcome : Outcome) → FirstMalformed s used over fault → outcome_of server ≡ Some outcome → IsOfTheBytes outcome
         → outcome ≡ Refused fault
     malformed_ends fault outcome k some of_bytes =
-        let (owed, h) = ending state server s used over given r outcome some in
+        let (unsent, h) = ending state server s used over given r outcome some in
         one_end s used over h.asked k.asked h.left k.left h.rest k.rest outcome (Refused fault) h.stream k.stream h.ends (inl k.refused) of_bytes k.of_the_bytes
 
     clean : (fault : Fault) → outcome_of server ≡ None → fault.kind ≢ StreamTooLong → FirstMalformed s used over fault → ⊥

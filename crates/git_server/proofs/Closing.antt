@@ -11,7 +11,7 @@ use Rattle.git_msg.specs.Machine.RequestReader.{offer_of, limit_in, kept_so_far}
 use Rattle.git_server.specs.Repository.{RepoState}
 use Rattle.git_server.specs.Answers.{AllFit, spelled}
 use Rattle.git_server.specs.Sessions.{Setting, EndsBy, IsTail}
-use Rattle.git_server.specs.Machine.Phases.{LeftIn, outcome_in, Owes, refused_by}
+use Rattle.git_server.specs.Machine.Phases.{LeftIn, outcome_in, AreUnsent, refused_by}
 use Rattle.git_server.specs.Machine.Server.{IsPackLost, Running, Serves, StandsBy, outcome_of, wants_input}
 use Rattle.git_server.specs.Machine.ServerCalls.{Closes, Keeps}
 use Rattle.git_server.specs.declared.outcome.Outcome.{Outcome}
@@ -21,7 +21,8 @@ use Rattle.git_server.specs.declared.server.Phase.TheVariants.{Between, Within, 
 use Rattle.git_server.specs.declared.server.Server.{Server}
 use Rattle.git_server.proofs.Outcomes.{failures_end, other_lost}
 use Rattle.git_server.proofs.Sent.{all_sent}
-use Rattle.git_server.proofs.Going.{all_sent_of, no_outcome, owes_at, refused_outcome_by, refused_owes_by, serves_of, none_kept_at_end, none_stored_at_end}
+use Rattle.git_server.proofs.Going.{all_sent_of, no_outcome, has_unsent_at, refused_outcome_by, refused_unsent_by, serves_of, none_kept_at_end}
+use Rattle.git_server.proofs.Going.{none_stored_at_end}
 
 none_is_left : {A : Type 0} (phase : Phase A) (left : List Given) → phase ≡ Between → LeftIn phase left → left ≡ []
 none_is_left {A = A} phase left is h = subst (λ (p : Phase A). LeftIn p left) is h
@@ -33,7 +34,7 @@ module _ {R A : Type 0} (state : R → RepoState) (old new : Server R A) where
   ends_here : (s : Setting) (so_far : List ℕ) (over : Bool) (before : List ℕ) (outcome : Outcome) → wants_input old ≡ true → Keeps state old new
       → (r : Running state s so_far over before old) → (h : Serves s so_far before old) → bytes_held new.reader ≤ 65520
       → EndsBy s true h.left h.rest (length so_far) outcome
-      → outcome_of new ≡ Some outcome → ((owed : List Pkt) → Owes new.offer s.repo new.phase owed → IsTail s h.left outcome owed)
+      → outcome_of new ≡ Some outcome → ((unsent : List Pkt) → AreUnsent new.offer s.repo new.phase unsent → IsTail s h.left outcome unsent)
       → ¬ IsPackLost (Some outcome)
       → Running state s so_far true before new
   ends_here s so_far over before outcome wants keeps r h fits ends outcome_is tail other =
@@ -48,7 +49,7 @@ module _ {R A : Type 0} (state : R → RepoState) (old new : Server R A) where
         within = omega (arith, r.within, ap kept_so_far keeps.requests, none_kept_at_end new.phase outcome outcome_is);
         covered = omega (arith, none_stored_at_end new.phase outcome outcome_is);
         fits = fits;
-        stands = subst (λ (o : Option Outcome). StandsBy o s so_far true before new) (sym outcome_is) (λ owed owes. record {
+        stands = subst (λ (o : Option Outcome). StandsBy o s so_far true before new) (sym outcome_is) (λ unsent has_unsent. record {
           asked = h.asked;
           left = h.left;
           rest = h.rest;
@@ -57,7 +58,7 @@ module _ {R A : Type 0} (state : R → RepoState) (old new : Server R A) where
           stream = record { packets = h.packets; splits = h.reads.splits; requests = h.requests };
           ends = ends;
           answered = all.answered;
-          parts = tail owed owes;
+          parts = tail unsent has_unsent;
           given_is = h.given_is ∙ ap spelled (all.sent_is ∙ sym (append-nil _));
           fit = subst AllFit (all.sent_is ∙ sym (append-nil _)) h.fit;
         });
@@ -73,7 +74,8 @@ module _ {R A : Type 0} (state : R → RepoState) (old new : Server R A) where
           refl,
           none_is_left old.phase h.left was h.left_is,
           none_between old.reader h.rest known.0 shut,
-        ) (ap outcome_in is) (λ owed owes. sym (owes_at state old new [] s (Ended Closed) owed is owes)) (λ (fault, closed, lost). let e = closed in cc),
+        ) (ap outcome_in is) (λ unsent has_unsent. sym (has_unsent_at state old new [] s (Ended Closed) unsent is has_unsent))
+            (λ (fault, closed, lost). let e = closed in cc),
         inl (ap outcome_in is),
       )
 
@@ -95,7 +97,8 @@ module _ {R A : Type 0} (state : R → RepoState) (old new : Server R A) where
         at = at;
       }))))
       (ap outcome_in is ∙ refused_outcome_by A fault.kind fault)
-      (λ owed owes. refused_owes_by A new.offer s h.left fault.kind fault owed other (owes_at state old new [] s (refused_by fault.kind fault) owed is owes))
+      (λ unsent has_unsent. refused_unsent_by A new.offer s h.left fault.kind fault unsent other
+      (has_unsent_at state old new [] s (refused_by fault.kind fault) unsent is has_unsent))
       (other_lost fault other)
 
   -- inside a request, between two packets

@@ -80,8 +80,8 @@ module _ (repo : Repository) (q : FetchAsked) (place : AcknowledgmentsPlace) (pa
   )
 
   pub ready_follows : (lines place ≡ []) × (is_ready_for repo q ≡ true) × (packet ≡ text_line (codes "ready")) → IsNextFrom old Delimiter
-  ready_follows (none, ready, told) = subst (λ (from : FetchPlace). IsNextFrom from Delimiter) (sym is) (
-    λ manner later h. subst (λ (p : Pkt). IsNegotiated (is_ready_for repo q) (lines place) manner repo q (p ∷ later)) (sym told)
+  ready_follows (none, ready, announced) = subst (λ (from : FetchPlace). IsNextFrom from Delimiter) (sym is) (
+    λ manner later h. subst (λ (p : Pkt). IsNegotiated (is_ready_for repo q) (lines place) manner repo q (p ∷ later)) (sym announced)
         (negotiates_ready (is_ready_for repo q) manner repo q (lines place) later none ready h),
     omega (arith, ap length none),
   )
@@ -129,13 +129,13 @@ nak_or_acks_have_none : (ids : List ObjectName) → flushes (nak_or_acks ids) �
 nak_or_acks_have_none [] = refl
 nak_or_acks_have_none (id ∷ ids) = acks_have_none ids
 
-acks_by_have_none : (told : Bool) (ids : List ObjectName) → flushes (acks_by told ids) ≡ 0
+acks_by_have_none : (announced : Bool) (ids : List ObjectName) → flushes (acks_by announced ids) ≡ 0
 acks_by_have_none true ids = acks_have_none ids
 acks_by_have_none false ids = nak_or_acks_have_none ids
 
 acknowledgments_have_none : (repo : Repository) (q : FetchAsked) (place : AcknowledgmentsPlace) → flushes (acknowledgments_from repo q place) ≡ 0
 acknowledgments_have_none repo q AcknowledgmentsHeader = nak_or_acks_have_none (common repo.has q.haves)
-acknowledgments_have_none repo q (Have next told) = acks_by_have_none told (common repo.has (drop next q.haves))
+acknowledgments_have_none repo q (Have next announced) = acks_by_have_none announced (common repo.has (drop next q.haves))
 acknowledgments_have_none repo q Through = refl
 
 boundaries_have_none : (boundaries : List Boundary) → flushes (map boundary_packet boundaries ++ delim ∷ []) ≡ 0

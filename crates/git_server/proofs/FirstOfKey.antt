@@ -18,9 +18,10 @@ is_less Equal h = cc
 is_less Greater h = cc
 
 -- first: what is found of the first element of the key n, which the test finds
-module _ {X K V : Type 0} {R : K → K → Ordering} (total : IsTotalOrder R) (key : X → K) (told : X → V) (n : K)
-    (test : X → Bool) (tells : (x : X) → test x ≡ true ↔ key x ≡ n)
-    (first : List X → Option V) (ends : first [] ≡ None) (steps : (x : X) (xs : List X) → first (x ∷ xs) ≡ (if test x then Some (told x) else first xs)) where
+module _ {X K V : Type 0} {R : K → K → Ordering} (total : IsTotalOrder R) (key : X → K) (announced : X → V) (n : K)
+    (test : X → Bool) (announces : (x : X) → test x ≡ true ↔ key x ≡ n)
+    (first : List X → Option V) (ends : first [] ≡ None)
+    (steps : (x : X) (xs : List X) → first (x ∷ xs) ≡ (if test x then Some (announced x) else first xs)) where
   abbrev Rises : List X → Type 0
   Rises xs = AllAdjacentBelow (λ a b. is_lt (R (key a) (key b)) ≡ true) xs (length xs)
 
@@ -41,23 +42,23 @@ module _ {X K V : Type 0} {R : K → K → Ordering} (total : IsTotalOrder R) (k
       rw next at rises
 
   -- the first of the key, where the keys are compared
-  first_is : (x : X) (xs : List X) (found : Option V) → (key x ≡ n → Some (told x) ≡ found) → (key x ≢ n → first xs ≡ found)
+  first_is : (x : X) (xs : List X) (found : Option V) → (key x ≡ n → Some (announced x) ≡ found) → (key x ≢ n → first xs ≡ found)
       → first (x ∷ xs) ≡ found
   first_is x xs found here later =
       steps x xs ∙ elim (cases_Bool (test x)) [
-        | inl same ↦ rw same (here ((tells x).0 same))
-        | inr other ↦ rw other (later (λ same. let is = (tells x).1 same in cc))
+        | inl same ↦ rw same (here ((announces x).0 same))
+        | inr other ↦ rw other (later (λ same. let is = (announces x).1 same in cc))
       ]
 
   pub only_is : (xs : List X) (found : Option V) → Rises xs
-      → MatchOption found (All (λ x. key x ≢ n) xs) (λ v. Any (λ x. (key x ≡ n) × (told x ≡ v)) xs) → first xs ≡ found
+      → MatchOption found (All (λ x. key x ≢ n) xs) (λ v. Any (λ x. (key x ≡ n) × (announced x ≡ v)) xs) → first xs ≡ found
   only_is [] None rising none = ends
   only_is [] (Some v) rising (k, x, within, at, same) = absurd (omega arith)
   only_is (x ∷ xs) None rising none =
       first_is x xs None (λ same. absurd (none 0 x (omega arith) same))
       (λ other. only_is xs None (rest_rises x xs rising) (All-tail (λ y. key y ≢ n) x xs none))
   only_is (x ∷ xs) (Some v) rising (zero, y, within, at, same) =
-      first_is x xs (Some v) (λ here. ap Some (ap told at ∙ same.1)) (λ other. absurd (other (ap key at ∙ same.0)))
+      first_is x xs (Some v) (λ here. ap Some (ap announced at ∙ same.1)) (λ other. absurd (other (ap key at ∙ same.0)))
   only_is (x ∷ xs) (Some v) rising (suc k, y, within, at, same) =
       first_is x xs (Some v) (λ here. absurd (after_first x xs rising k y (omega arith) at (same.0 ∙ sym here)))
       (λ other. only_is xs (Some v) (rest_rises x xs rising) (k, y, omega arith, at, same))

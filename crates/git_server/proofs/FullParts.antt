@@ -22,14 +22,14 @@ use Rattle.git_server.specs.declared.packfile.PackPlace.TheVariants.{Header, Pac
 use Rattle.git_server.specs.declared.packfile.PartRead.{PartRead}
 use Rattle.git_server.specs.declared.packfile.PartRead.TheVariants.{Bytes, End, Failed}
 
-full_part : (gives : ℕ → ℕ → Type 0) (pack room : List ℕ) (offset : ℕ) (part : PartRead) → IsPartRead pack offset room part → IsGiven gives part
-    → IsFullPart gives (part_packet room part)
-full_part gives pack room offset (Bytes count) (some, part) given =
+full_part : (gives : ℕ → ℕ → Type 0) (pack space : List ℕ) (offset : ℕ) (part : PartRead) → IsPartRead pack offset space part → IsGiven gives part
+    → IsFullPart gives (part_packet space part)
+full_part gives pack space offset (Bytes count) (some, part) given =
     let fits = part.fits in
-    let long : length (take count room) ≡ count = grind (arith, common_steps) in
-    inl (take count room, refl, subst (gives 65515) (sym long) given)
-full_part gives pack room offset End h given = inr (inl refl)
-full_part gives pack room offset Failed h given = inr (inr refl)
+    let long : length (take count space) ≡ count = grind (arith, common_steps) in
+    inl (take count space, refl, subst (gives 65515) (sym long) given)
+full_part gives pack space offset End h given = inr (inl refl)
+full_part gives pack space offset Failed h given = inr (inr refl)
 
 -- the packet of a part that was written
 pub written_full : (gives : ℕ → ℕ → ℕ → Type 0) (pack : List ℕ) (offset : ℕ) (place : PackPlace) → place ≡ Pack offset
@@ -38,10 +38,10 @@ pub written_full : (gives : ℕ → ℕ → ℕ → Type 0) (pack : List ℕ) (o
 written_full gives pack offset place was repo_old old part repo_new new h =
     subst (λ (p : PackPlace). FillsPart gives p (IsAtFront new)) (sym was)
     (record {
-      packet = part_packet h.room part;
+      packet = part_packet h.space part;
       fits = h.writes.fits;
       is = h.writes.held;
-      full = full_part (gives offset) pack h.room offset part h.is_read h.given;
+      full = full_part (gives offset) pack h.space offset part h.is_read h.given;
     })
 
 -- what such a packet is may be stated in other words

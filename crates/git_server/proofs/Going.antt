@@ -8,7 +8,7 @@ use Rattle.git_pkt.specs.Machine.PacketReader.{Reads, is_open, fault_of, ShownBy
 use Rattle.git_pkt.specs.declared.fault.Fault.{Fault}
 use Rattle.git_pkt.specs.declared.fault.Kind.{Kind}
 use Rattle.git_pkt.specs.declared.fault.Kind.TheVariants.{PackSource, RemoteError, Truncated, StreamTooLong}
-use Rattle.git_msg.specs.Admission.{IsToldFor}
+use Rattle.git_msg.specs.Admission.{IsAnnouncedFor}
 use Rattle.git_msg.specs.Asked.{Asked}
 use Rattle.git_msg.specs.Machine.HeldRequest.{asked_of, kept_of, stored_of}
 use Rattle.git_msg.specs.Requests.{Asks}
@@ -28,7 +28,7 @@ use Rattle.git_server.specs.FetchAnswers.{negotiates}
 use Rattle.git_server.specs.Answers.{AllFit, IsAnswerAs, error_packet, spelled}
 use Rattle.git_server.specs.Machine.AdvertisementLines.{advertisement_from}
 use Rattle.git_server.specs.Sessions.{Begins, IsTail, IsTailBy, Setting, IsRequest, IsSent, IsAnswering, IsEnding, IsRefused, EndsBy}
-use Rattle.git_server.specs.Machine.Phases.{FlushIsAt, LeftIn, MayBreak, Owes, kept_in, outcome_in, reads_in, phase_after, refused_by, stored_in}
+use Rattle.git_server.specs.Machine.Phases.{FlushIsAt, LeftIn, MayBreak, AreUnsent, kept_in, outcome_in, reads_in, phase_after, refused_by, stored_in}
 use Rattle.git_server.specs.Machine.AnsweredRequest.{IsAnswerFrom, answer_to, kept_with, stored_with, references_from, sizes_from}
 use Rattle.git_msg.specs.Machine.StreamStages.{Brings, IsBrought, IsCovered, IsWithin}
 use Rattle.git_server.specs.Machine.Server.{IsPackLost, Running, Serves, StandsBy, outcome_of, wants_input}
@@ -43,7 +43,7 @@ use Rattle.git_server.specs.declared.server.Phase.{Phase}
 use Rattle.git_server.specs.declared.server.Phase.TheVariants.{Advertising, Between, Within, Answering, Refusing, Ended}
 use Rattle.git_server.specs.declared.server.Server.{Server}
 use Rattle.git_pkt.proofs.KnownRest.{sound_rest, none_between}
-use Rattle.git_server.proofs.Admitted.{NotOfRepository, not_told_for, request_had}
+use Rattle.git_server.proofs.Admitted.{NotOfRepository, not_announced_for, request_had}
 use Rattle.git_server.proofs.Begun.{begins_more, nothing_begins}
 use Rattle.git_msg.proofs.StreamSteps.{stopped_by}
 use Rattle.git_server.proofs.Outcomes.{failures_as, failures_end, other_lost}
@@ -73,11 +73,11 @@ pub refused_outcome_by : (A : Type 0) (kind : Kind) (fault : Fault) → outcome_
 refused_outcome_by A RemoteError fault = refl
 refused_outcome_by A _ fault = refl
 
-pub refused_owes_by : (A : Type 0) (offer : Offer) (s : Setting) (left : List Given) (kind : Kind) (fault : Fault) (owed : List Pkt) → kind ≢ PackSource
-    → Owes {A = A} offer s.repo (refused_by kind fault) owed → IsTailBy kind s left fault owed
-refused_owes_by A offer s left PackSource fault owed other owes = absurd (other refl)
-refused_owes_by A offer s left RemoteError fault owed other owes = sym owes
-refused_owes_by A offer s left kind fault owed other owes = sym owes
+pub refused_unsent_by : (A : Type 0) (offer : Offer) (s : Setting) (left : List Given) (kind : Kind) (fault : Fault) (unsent : List Pkt) → kind ≢ PackSource
+    → AreUnsent {A = A} offer s.repo (refused_by kind fault) unsent → IsTailBy kind s left fault unsent
+refused_unsent_by A offer s left PackSource fault unsent other has_unsent = absurd (other refl)
+refused_unsent_by A offer s left RemoteError fault unsent other has_unsent = sym has_unsent
+refused_unsent_by A offer s left kind fault unsent other has_unsent = sym has_unsent
 
 module _ {A : Type 0} where
   -- a server that waits for bytes is between two requests or within one
@@ -99,15 +99,17 @@ module _ {A : Type 0} where
   pub none_kept : (phase : Phase A) → reads_in phase ≡ true → kept_in phase ≡ 0
   none_kept = waiting (λ (p : Phase A). kept_in p ≡ 0) refl refl
 
-  pub owes_nothing : (offer : Offer) (repo : Repository) (phase : Phase A) → reads_in phase ≡ true → Owes offer repo phase []
-  owes_nothing offer repo = waiting (λ (p : Phase A). Owes offer repo p []) refl refl
+  pub nothing_unsent : (offer : Offer) (repo : Repository) (phase : Phase A) → reads_in phase ≡ true → AreUnsent offer repo phase []
+  nothing_unsent offer repo = waiting (λ (p : Phase A). AreUnsent offer repo p []) refl refl
 
-  pub nothing_owed : (offer : Offer) (repo : Repository) (phase : Phase A) (owed : List Pkt) → reads_in phase ≡ true → Owes offer repo phase owed → owed ≡ []
-  nothing_owed offer repo phase owed = waiting (λ (p : Phase A). Owes offer repo p owed → owed ≡ []) (λ owes. owes) (λ owes. owes) phase
+  pub nothing_left_unsent : (offer : Offer) (repo : Repository) (phase : Phase A) (unsent : List Pkt) → reads_in phase ≡ true
+      → AreUnsent offer repo phase unsent → unsent ≡ []
+  nothing_left_unsent offer repo phase unsent =
+      waiting (λ (p : Phase A). AreUnsent offer repo p unsent → unsent ≡ []) (λ has_unsent. has_unsent) (λ has_unsent. has_unsent) phase
 
   -- nor does an answer break off then
-  pub none_breaks : (repo : Repository) (phase : Phase A) (owed : List Pkt) → reads_in phase ≡ true → MayBreak repo phase owed → ⊥
-  none_breaks repo phase owed = waiting (λ (p : Phase A). MayBreak repo p owed → ⊥) (λ breaks. breaks) (λ breaks. breaks) phase
+  pub none_breaks : (repo : Repository) (phase : Phase A) (unsent : List Pkt) → reads_in phase ≡ true → MayBreak repo phase unsent → ⊥
+  none_breaks repo phase unsent = waiting (λ (p : Phase A). MayBreak repo p unsent → ⊥) (λ breaks. breaks) (λ breaks. breaks) phase
 
   -- nor does a server keep a request whose session ended
   pub none_kept_at_end : (phase : Phase A) (outcome : Outcome) → outcome_in phase ≡ Some outcome → kept_in phase ≡ 0
@@ -145,31 +147,31 @@ module _ {A : Type 0} where
       omega (arith, h, none_kept_at_end (refused_by fault.kind fault) (Refused fault) (refused_outcome_by A fault.kind fault))
 
 -- in each phase some packets make an end
-pub owes_some : {A : Type 0} (offer : Offer) (repo : Repository) (phase : Phase A) → (owed : List Pkt) × Owes offer repo phase owed
-owes_some offer repo (Advertising line) = (advertisement_from offer line, refl)
-owes_some offer repo (Answering (References request place) offset) = (references_from request.asked repo place, refl)
-owes_some offer repo (Answering (Fetching request place) offset) = some_fetch repo request.asked place
-owes_some offer repo (Answering (Sizes request place) offset) = (sizes_from request.asked repo place, refl)
-owes_some offer repo (Refusing fault) = (error_packet fault ∷ [], refl)
-owes_some offer repo Between = ([], refl)
-owes_some offer repo Within = ([], refl)
-owes_some offer repo (Ended outcome) = ([], refl)
+pub some_unsent : {A : Type 0} (offer : Offer) (repo : Repository) (phase : Phase A) → (unsent : List Pkt) × AreUnsent offer repo phase unsent
+some_unsent offer repo (Advertising line) = (advertisement_from offer line, refl)
+some_unsent offer repo (Answering (References request place) offset) = (references_from request.asked repo place, refl)
+some_unsent offer repo (Answering (Fetching request place) offset) = some_fetch repo request.asked place
+some_unsent offer repo (Answering (Sizes request place) offset) = (sizes_from request.asked repo place, refl)
+some_unsent offer repo (Refusing fault) = (error_packet fault ∷ [], refl)
+some_unsent offer repo Between = ([], refl)
+some_unsent offer repo Within = ([], refl)
+some_unsent offer repo (Ended outcome) = ([], refl)
 
 one_more : {X : Type 0} (xs : List X) (x : X) → xs ++ x ∷ [] ≢ []
 one_more [] x e = cc
 one_more (y ∷ ys) x e = cc
 
 -- no packet of a request is refused by a kind of fault that is neither a packet's nor a repository's
-not_told : {A : Type 0} (kind : Kind) (strange : NotOfPackets kind) → NotOfRepository kind → (offset : ℕ) (packets : List Given) (brought : ReadGot A)
+not_announced : {A : Type 0} (kind : Kind) (strange : NotOfPackets kind) → NotOfRepository kind → (offset : ℕ) (packets : List Given) (brought : ReadGot A)
     (requests : RequestReader A) (repo : Repository) → IsBrought (barred repo) packets brought requests
     → (fault : Fault) → outcome_in (phase_after offset brought) ≡ Some (Refused fault) → fault.kind ≡ kind → ⊥
-not_told kind strange other offset packets More requests repo h fault ended is = cc
-not_told kind strange other offset packets (Whole request) requests repo h fault ended is = cc
-not_told kind strange other offset packets Stop requests repo h fault ended is = cc
-not_told {A = A} kind strange other offset packets (RefusedPacket f) requests repo h fault ended is =
+not_announced kind strange other offset packets More requests repo h fault ended is = cc
+not_announced kind strange other offset packets (Whole request) requests repo h fault ended is = cc
+not_announced kind strange other offset packets Stop requests repo h fault ended is = cc
+not_announced {A = A} kind strange other offset packets (RefusedPacket f) requests repo h fault ended is =
     let same : Some (Refused f) ≡ Some (Refused fault) = sym (refused_outcome_by A f.kind f) ∙ ended in
     let one : f ≡ fault = cc in
-    not_told_for (offer_of requests) (limit_in requests) repo packets f kind strange other h (ap (λ (x : Fault). x.kind) one ∙ is)
+    not_announced_for (offer_of requests) (limit_in requests) repo packets f kind strange other h (ap (λ (x : Fault). x.kind) one ∙ is)
 
 -- a repository refuses no argument by these names
 pack_source_other : NotOfRepository PackSource
@@ -201,7 +203,7 @@ module _ {R A : Type 0} (state : R → RepoState) (old new : Server R A) (u : Li
 
   pub all_sent_of : (s : Setting) (so_far before : List ℕ) → wants_input old ≡ true → (h : Serves s so_far before old) → IsSent s h.asked h.sent []
   all_sent_of s so_far before wants h =
-      h.is_sent [] (owes_nothing old.offer s.repo old.phase wants)
+      h.is_sent [] (nothing_unsent old.offer s.repo old.phase wants)
 
   -- no packet came of the bytes
   pub goes_open : wants_input old ≡ true
@@ -235,9 +237,10 @@ module _ {R A : Type 0} (state : R → RepoState) (old new : Server R A) (u : Li
                 begins = h.begins;
                 left_is = subst (λ (p : Phase A). LeftIn p h.left) (sym same_phase) h.left_is;
                 flush_at = subst (λ (p : Phase A). FlushIsAt p h.packets) (sym same_phase) h.flush_at;
-                is_sent = λ owed owes. subst (λ (l : List Pkt). IsSent s h.asked h.sent l)
-                    (sym (nothing_owed new.offer s.repo new.phase owed (ap reads_in same_phase ∙ wants) owes)) (all_sent_of s so_far before wants h);
-                breaks = λ owed breaks. absurd (none_breaks s.repo new.phase owed (ap reads_in same_phase ∙ wants) breaks);
+                is_sent = λ unsent has_unsent. subst (λ (l : List Pkt). IsSent s h.asked h.sent l)
+                    (sym (nothing_left_unsent new.offer s.repo new.phase unsent (ap reads_in same_phase ∙ wants) has_unsent))
+                    (all_sent_of s so_far before wants h);
+                breaks = λ unsent breaks. absurd (none_breaks s.repo new.phase unsent (ap reads_in same_phase ∙ wants) breaks);
                 given_is = append-nil before ∙ h.given_is;
                 fit = h.fit;
               },
@@ -248,9 +251,9 @@ module _ {R A : Type 0} (state : R → RepoState) (old new : Server R A) (u : Li
   ended_at : (s : Setting) (so_far : List ℕ) (over : Bool) (before : List ℕ) (left : List Given) (packets : List Given) (rest : List ℕ) (outcome : Outcome)
       → wants_input old ≡ true → (h : Serves s so_far before old)
       → Reads new.reader 0 (so_far ++ u) packets rest → AreRequests (IsRequest s) packets h.asked left
-      → EndsBy s over left rest (length (so_far ++ u)) outcome → (owed : List Pkt) → IsTail s left outcome owed
-      → IsEnding s (so_far ++ u) over (before ++ []) outcome owed
-  ended_at s so_far over before left packets rest outcome wants h stream requests ends owed tail =
+      → EndsBy s over left rest (length (so_far ++ u)) outcome → (unsent : List Pkt) → IsTail s left outcome unsent
+      → IsEnding s (so_far ++ u) over (before ++ []) outcome unsent
+  ended_at s so_far over before left packets rest outcome wants h stream requests ends unsent tail =
       let all = all_sent s h.asked h.sent (all_sent_of s so_far before wants h) in
       record {
         asked = h.asked;
@@ -273,8 +276,9 @@ module _ {R A : Type 0} (state : R → RepoState) (old new : Server R A) (u : Li
       none_between new.reader rest (sound_rest new.reader 0 bytes packets rest sound stream).0 shut
 
   -- what is pending, in the phase that was reached
-  pub owes_at : (s : Setting) (phase : Phase A) (owed : List Pkt) → new.phase ≡ phase → Owes new.offer s.repo new.phase owed → Owes new.offer s.repo phase owed
-  owes_at s phase owed is owes = subst (λ (p : Phase A). Owes new.offer s.repo p owed) is owes
+  pub has_unsent_at : (s : Setting) (phase : Phase A) (unsent : List Pkt) → new.phase ≡ phase → AreUnsent new.offer s.repo new.phase unsent
+      → AreUnsent new.offer s.repo phase unsent
+  has_unsent_at s phase unsent is has_unsent = subst (λ (p : Phase A). AreUnsent new.offer s.repo p unsent) is has_unsent
 
   -- with one packet more, the packets are the same requests and more is left
   with_packet : (s : Setting) (so_far before : List ℕ) (h : Serves s so_far before old) (g : Given)
@@ -287,8 +291,8 @@ module _ {R A : Type 0} (state : R → RepoState) (old new : Server R A) (u : Li
       → Reads new.reader 0 (so_far ++ u) packets rest → fault_of new.reader ≡ None
       → AreRequests (IsRequest s) packets asked left → Takes left new.requests → Begins s left → new.phase ≡ phase
       → LeftIn phase left → FlushIsAt phase packets
-      → ((owed : List Pkt) → Owes new.offer s.repo phase owed → IsSent s asked sent owed)
-      → ((owed : List Pkt) → MayBreak s.repo phase owed → IsAnswering broken s asked sent owed) → before ≡ spelled sent → AllFit sent
+      → ((unsent : List Pkt) → AreUnsent new.offer s.repo phase unsent → IsSent s asked sent unsent)
+      → ((unsent : List Pkt) → MayBreak s.repo phase unsent → IsAnswering broken s asked sent unsent) → before ≡ spelled sent → AllFit sent
       → Serves s (so_far ++ u) (before ++ []) new
   packet_serves s so_far before asked packets left rest sent phase stream sound requests takes begins phase_is left_is flush_at is_sent breaks given fit =
       record {
@@ -304,8 +308,8 @@ module _ {R A : Type 0} (state : R → RepoState) (old new : Server R A) (u : Li
         begins = begins;
         left_is = subst (λ (p : Phase A). LeftIn p left) (sym phase_is) left_is;
         flush_at = subst (λ (p : Phase A). FlushIsAt p packets) (sym phase_is) flush_at;
-        is_sent = λ owed owes. is_sent owed (subst (λ (p : Phase A). Owes new.offer s.repo p owed) phase_is owes);
-        breaks = λ owed may. breaks owed (subst (λ (p : Phase A). MayBreak s.repo p owed) phase_is may);
+        is_sent = λ unsent has_unsent. is_sent unsent (subst (λ (p : Phase A). AreUnsent new.offer s.repo p unsent) phase_is has_unsent);
+        breaks = λ unsent may. breaks unsent (subst (λ (p : Phase A). MayBreak s.repo p unsent) phase_is may);
         given_is = append-nil before ∙ given;
         fit = fit;
       }
@@ -322,8 +326,8 @@ module _ {R A : Type 0} (state : R → RepoState) (old new : Server R A) (u : Li
         not_over,
         packet_serves s so_far before h.asked (h.packets ++ g ∷ []) (h.left ++ g ∷ []) rest h.sent Within stream sound
             (with_packet s so_far before h g) takes begun phase_is (one_more h.left g) tt
-            (λ owed owes. subst (λ (l : List Pkt). IsSent s h.asked h.sent l) (sym owes) (all_sent_of s so_far before wants h))
-            (λ owed breaks. absurd breaks) h.given_is h.fit,
+            (λ unsent has_unsent. subst (λ (l : List Pkt). IsSent s h.asked h.sent l) (sym has_unsent) (all_sent_of s so_far before wants h))
+            (λ unsent breaks. absurd breaks) h.given_is h.fit,
       )
   packet_stands s so_far over before g (Whole request) wants not_over h rest stream sound shut offer limit brings phase_is =
       let (takes, asks, of_format) = brings.brings h.left h.takes in
@@ -336,26 +340,33 @@ module _ {R A : Type 0} (state : R → RepoState) (old new : Server R A) (u : Li
             (h.packets ++ g ∷ []) [] rest h.sent (Answering (answer_to request) g.offset) stream sound
             (one_more_request (IsRequest s) (h.packets ++ g ∷ []) h.asked (h.left ++ g ∷ []) (asked_of request) (with_packet s so_far before h g)
             (kept_of request, asks_here, had)) takes (nothing_begins s) phase_is refl (h.packets, g, refl, refl)
-            (λ owed owes. inr (one_more_asked whole s h.asked h.sent owed (asked_of request) (all_sent_of s so_far before wants h)
-            (whole_answer whole s.repo request owed owes)))
-            (λ owed breaks. one_more_asked broken s h.asked h.sent owed (asked_of request) (all_sent_of s so_far before wants h)
-            (whole_answer broken s.repo request owed breaks)) h.given_is h.fit,
+            (λ unsent has_unsent. inr (one_more_asked whole s h.asked h.sent unsent (asked_of request) (all_sent_of s so_far before wants h)
+            (whole_answer whole s.repo request unsent has_unsent)))
+            (λ unsent breaks. one_more_asked broken s h.asked h.sent unsent (asked_of request) (all_sent_of s so_far before wants h)
+            (whole_answer broken s.repo request unsent breaks)) h.given_is h.fit,
       )
   packet_stands s so_far over before g Stop wants not_over h rest stream sound shut offer limit brings phase_is =
-      λ owed owes. ended_at s so_far over before (h.left ++ g ∷ []) (h.packets ++ g ∷ []) rest Flush wants h stream
+      λ unsent has_unsent. ended_at s so_far over before (h.left ++ g ∷ []) (h.packets ++ g ∷ []) rest Flush wants h stream
       (with_packet s so_far before h g)
-      ((brings.brings h.left h.takes).1, no_rest _ _ rest sound shut stream) owed (sym (owes_at s (Ended Flush) owed phase_is owes))
+      ((brings.brings h.left h.takes).1, no_rest _ _ rest sound shut stream) unsent (sym (has_unsent_at s (Ended Flush) unsent phase_is has_unsent))
   packet_stands s so_far over before g (RefusedPacket fault) wants not_over h rest stream sound shut offer limit brings phase_is =
-      let told : IsToldFor s.offer s.limit (barred s.repo) (h.left ++ g ∷ []) fault =
-      subst (λ (n : ℕ). IsToldFor s.offer n (barred s.repo) (h.left ++ g ∷ []) fault) limit
-      (subst (λ (o : Offer). IsToldFor o (limit_in new.requests) (barred s.repo) (h.left ++ g ∷ []) fault) offer (brings.brings h.left h.takes)) in
+      let announced : IsAnnouncedFor s.offer s.limit (barred s.repo) (h.left ++ g ∷ []) fault =
+      subst (λ (n : ℕ). IsAnnouncedFor s.offer n (barred s.repo) (h.left ++ g ∷ []) fault) limit
+      (subst (λ (o : Offer). IsAnnouncedFor o (limit_in new.requests) (barred s.repo) (h.left ++ g ∷ []) fault) offer (brings.brings h.left h.takes)) in
       subst (λ (o : Option Outcome). StandsBy o s (so_far ++ u) over (before ++ []) new) (sym (refused_outcome_by A fault.kind fault))
-      (λ owed owes. ended_at s so_far over before (h.left ++ g ∷ []) (h.packets ++ g ∷ []) rest (Refused fault) wants h stream
+      (λ unsent has_unsent. ended_at s so_far over before (h.left ++ g ∷ []) (h.packets ++ g ∷ []) rest (Refused fault) wants h stream
       (with_packet s so_far before h g)
-      (inl (inl (record { front = h.left; last = g; whole = refl; begins = h.begins; told = told; no_rest = no_rest _ _ rest sound shut stream }))) owed
-      (refused_owes_by A new.offer s (h.left ++ g ∷ []) fault.kind fault owed
-      (not_told_for s.offer s.limit s.repo (h.left ++ g ∷ []) fault PackSource tt pack_source_other told)
-      (owes_at s (refused_by fault.kind fault) owed phase_is owes)))
+      (inl (inl (record {
+        front = h.left;
+        last = g;
+        whole = refl;
+        begins = h.begins;
+        announced = announced;
+        no_rest = no_rest _ _ rest sound shut stream;
+      }))) unsent
+      (refused_unsent_by A new.offer s (h.left ++ g ∷ []) fault.kind fault unsent
+      (not_announced_for s.offer s.limit s.repo (h.left ++ g ∷ []) fault PackSource tt pack_source_other announced)
+      (has_unsent_at s (refused_by fault.kind fault) unsent phase_is has_unsent)))
 
   -- a packet came of the bytes
   pub goes_packet : (g : Given) (brought : ReadGot A) → IsCovered brought → wants_input old ≡ true → ReadsFor state old u (g ∷ []) new
@@ -375,7 +386,7 @@ module _ {R A : Type 0} (state : R → RepoState) (old new : Server R A) (u : Li
         limit = limit;
         repo = ap (λ (x : RepoState). x.answers) reads.repo ∙ r.repo;
         failures = failures_end (outcome_of old) (outcome_of new) s.failures _ _ open_ended (ap (λ (x : RepoState). x.failures) reads.repo)
-            (λ (fault, is, name). not_told PackSource tt pack_source_other g.offset (h.left ++ g ∷ []) brought new.requests (state old.repo).answers
+            (λ (fault, is, name). not_announced PackSource tt pack_source_other g.offset (h.left ++ g ∷ []) brought new.requests (state old.repo).answers
             (brings.brings h.left h.takes) fault (sym (ap outcome_in phase_is) ∙ is) name) r.failures;
         within = omega (arith, kept_behind g.offset brought new.requests (brings.within kept), limit, ap kept_in phase_is);
         covered = omega (arith, covered_after g.offset brought covered, ap stored_in phase_is, ap kept_in phase_is);
@@ -392,19 +403,19 @@ module _ {R A : Type 0} (state : R → RepoState) (old new : Server R A) (u : Li
       → StandsBy (outcome_of new) s (so_far ++ u) over (before ++ []) new
   ends_refused s so_far over before left packets rest fault wants h stream requests refused other phase_is =
       subst (λ (o : Option Outcome). StandsBy o s (so_far ++ u) over (before ++ []) new) (sym (ap outcome_in phase_is ∙ refused_outcome_by A fault.kind fault))
-      (λ owed owes. ended_at s so_far over before left packets rest (Refused fault) wants h stream requests refused owed
-      (refused_owes_by A new.offer s left fault.kind fault owed other (owes_at s (refused_by fault.kind fault) owed phase_is owes)))
+      (λ unsent has_unsent. ended_at s so_far over before left packets rest (Refused fault) wants h stream requests refused unsent
+      (refused_unsent_by A new.offer s left fault.kind fault unsent other (has_unsent_at s (refused_by fault.kind fault) unsent phase_is has_unsent)))
 
   -- the bytes were refused
   pub goes_refused : (fault : Fault) → wants_input old ≡ true → ReadsFor state old u [] new
       → new.requests ≡ old.requests
       → fault_of new.reader ≡ Some fault → (fault_of old.reader ≡ None → fault.kind ≢ Truncated)
       → new.phase ≡ refused_by fault.kind fault → Goes state u [] old new
-  goes_refused fault wants reads same_requests told not_the_end phase_is s so_far over before r =
+  goes_refused fault wants reads same_requests announced not_the_end phase_is s so_far over before r =
       let (not_over, h) = stands_of s so_far over before wants r in
       let (rest, later) = reads.reads 0 so_far h.packets h.rest h.reads in
       let stream = subst (λ (l : List Given). Reads new.reader 0 (so_far ++ u) l rest) (append-nil h.packets) later in
-      let stops = stopped_by new.reader (so_far ++ u) h.packets rest fault told stream in
+      let stops = stopped_by new.reader (so_far ++ u) h.packets rest fault announced stream in
       let other = no_pack_in_bytes _ rest _ fault.kind fault.offset stops in
       let ended = ap outcome_in phase_is ∙ refused_outcome_by A fault.kind fault in
       record {
@@ -432,9 +443,9 @@ module _ {R A : Type 0} (state : R → RepoState) (old new : Server R A) (u : Li
             })))) other phase_is;
       }
 
-module _ {R A : Type 0} (state : R → RepoState) (old : Server R A) (used : ℕ) (piece : List ℕ) where
+module _ {R A : Type 0} (state : R → RepoState) (old : Server R A) (used : ℕ) (chunk : List ℕ) where
   -- the session went on
-  pub open_in_time : StopsInTime state old used piece (outcome_in old.phase)
+  pub open_in_time : StopsInTime state old used chunk (outcome_in old.phase)
   open_in_time s so_far over before r wants fault ended too_long =
       let none : outcome_in old.phase ≡ None = no_outcome old.phase wants in
       absurd (cc)
@@ -442,15 +453,15 @@ module _ {R A : Type 0} (state : R → RepoState) (old : Server R A) (used : ℕ
   -- a packet was judged
   pub packet_in_time : (g : Given) (brought : ReadGot A) (requests : RequestReader A) (phase : Phase A)
       → Brings (barred (state old.repo).answers) old.requests g brought requests → phase ≡ phase_after g.offset brought
-      → StopsInTime state old used piece (outcome_in phase)
+      → StopsInTime state old used chunk (outcome_in phase)
   packet_in_time g brought requests phase brings phase_is s so_far over before r wants fault ended too_long =
       let h = serves_of state old old [] s so_far over before wants r in
-      absurd (not_told StreamTooLong tt too_long_other g.offset (h.left ++ g ∷ []) brought requests (state old.repo).answers (brings.brings h.left h.takes)
+      absurd (not_announced StreamTooLong tt too_long_other g.offset (h.left ++ g ∷ []) brought requests (state old.repo).answers (brings.brings h.left h.takes)
       fault (sym (ap outcome_in phase_is) ∙ ended) too_long)
 
   -- the bytes were refused
-  pub fault_in_time : (fault : Fault) (phase : Phase A) → phase ≡ refused_by fault.kind fault → (fault_of old.reader ≡ None → ShownByFeed fault used piece)
-      → StopsInTime state old used piece (outcome_in phase)
+  pub fault_in_time : (fault : Fault) (phase : Phase A) → phase ≡ refused_by fault.kind fault → (fault_of old.reader ≡ None → ShownByFeed fault used chunk)
+      → StopsInTime state old used chunk (outcome_in phase)
   fault_in_time fault phase phase_is shown s so_far over before r wants other ended too_long =
       let h = serves_of state old old [] s so_far over before wants r in
       let same : Some (Refused fault) ≡ Some (Refused other) = sym (refused_outcome_by A fault.kind fault) ∙ sym (ap outcome_in phase_is) ∙ ended in

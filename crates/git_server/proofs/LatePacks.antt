@@ -11,11 +11,11 @@ use Rattle.git_server.specs.FetchAnswers.{IsNegotiated, is_ready_for}
 use Rattle.git_server.specs.Packs.{Manner, whole, broken}
 use Rattle.git_server.specs.Machine.AnsweredRequest.{IsAnswerFrom}
 use Rattle.git_server.specs.Machine.FetchPlaces.{IsFetchFrom, acknowledgments_from}
-use Rattle.git_server.specs.Machine.LatePacks.{HasNoPack, HasNoPackFrom, OwesNoPackIn, setting_with, state_with, with_packs}
+use Rattle.git_server.specs.Machine.LatePacks.{HasNoPack, HasNoPackFrom, HasNoPackUnsentIn, setting_with, state_with, with_packs}
 use Rattle.git_server.specs.Machine.LateRepo.{SettlesPacks}
 use Rattle.git_pkt.specs.Machine.PacketReader.{bytes_held}
 use Rattle.git_msg.specs.Machine.RequestReader.{kept_so_far, limit_in, offer_of}
-use Rattle.git_server.specs.Machine.Phases.{MayBreak, Owes, kept_in, outcome_in, stored_in}
+use Rattle.git_server.specs.Machine.Phases.{MayBreak, AreUnsent, kept_in, outcome_in, stored_in}
 use Rattle.git_server.specs.Machine.Server.{HasFailed, Running, StandsBy, outcome_of}
 use Rattle.git_server.specs.Machine.ServerCalls.{Keeps, RunsUnread}
 use Rattle.git_server.specs.Sessions.{Setting}
@@ -46,7 +46,7 @@ unbroken_negotiated false lines repo q later none h = h
 module _ (repo : Repository) (packs : FetchAsked → List ℕ) where
   lines_same : (q : FetchAsked) (place : AcknowledgmentsPlace) → acknowledgments_from (with_packs packs repo) q place ≡ acknowledgments_from repo q place
   lines_same q Header = refl
-  lines_same q (Have next told) = refl
+  lines_same q (Have next announced) = refl
   lines_same q Through = refl
 
   fetch_known : (manner : Manner) (q : FetchAsked) (place : FetchPlace) (later : List Pkt) → HasNoPackFrom repo q place
@@ -90,25 +90,26 @@ module _ (repo : Repository) (packs : FetchAsked → List ℕ) where
     answer_any whole (Sizes request (Object next)) later none h = h
     answer_any broken (Sizes request place) later none h = h
 
-    pub owes_known : (offer : Offer) (phase : Phase A) (later : List Pkt) → OwesNoPackIn repo phase → Owes offer (with_packs packs repo) phase later
-        → Owes offer repo phase later
-    owes_known offer (Answering answer offset) later none h = answer_known whole answer later none h
-    owes_known offer (Advertising line) later none h = h
-    owes_known offer Between later none h = h
-    owes_known offer Within later none h = h
-    owes_known offer (Refusing fault) later none h = h
-    owes_known offer (Ended outcome) later none h = h
+    pub has_unsent_known : (offer : Offer) (phase : Phase A) (later : List Pkt) → HasNoPackUnsentIn repo phase
+        → AreUnsent offer (with_packs packs repo) phase later
+        → AreUnsent offer repo phase later
+    has_unsent_known offer (Answering answer offset) later none h = answer_known whole answer later none h
+    has_unsent_known offer (Advertising line) later none h = h
+    has_unsent_known offer Between later none h = h
+    has_unsent_known offer Within later none h = h
+    has_unsent_known offer (Refusing fault) later none h = h
+    has_unsent_known offer (Ended outcome) later none h = h
 
-    pub owes_any : (offer : Offer) (phase : Phase A) (later : List Pkt) → OwesNoPackIn repo phase → Owes offer repo phase later
-        → Owes offer (with_packs packs repo) phase later
-    owes_any offer (Answering answer offset) later none h = answer_any whole answer later none h
-    owes_any offer (Advertising line) later none h = h
-    owes_any offer Between later none h = h
-    owes_any offer Within later none h = h
-    owes_any offer (Refusing fault) later none h = h
-    owes_any offer (Ended outcome) later none h = h
+    pub any_unsent : (offer : Offer) (phase : Phase A) (later : List Pkt) → HasNoPackUnsentIn repo phase → AreUnsent offer repo phase later
+        → AreUnsent offer (with_packs packs repo) phase later
+    any_unsent offer (Answering answer offset) later none h = answer_any whole answer later none h
+    any_unsent offer (Advertising line) later none h = h
+    any_unsent offer Between later none h = h
+    any_unsent offer Within later none h = h
+    any_unsent offer (Refusing fault) later none h = h
+    any_unsent offer (Ended outcome) later none h = h
 
-    pub breaks_known : (phase : Phase A) (later : List Pkt) → OwesNoPackIn repo phase → MayBreak (with_packs packs repo) phase later
+    pub breaks_known : (phase : Phase A) (later : List Pkt) → HasNoPackUnsentIn repo phase → MayBreak (with_packs packs repo) phase later
         → MayBreak repo phase later
     breaks_known (Answering answer offset) later none h = answer_known broken answer later none h
     breaks_known (Advertising line) later none h = h
@@ -117,7 +118,7 @@ module _ (repo : Repository) (packs : FetchAsked → List ℕ) where
     breaks_known (Refusing fault) later none h = h
     breaks_known (Ended outcome) later none h = h
 
-    pub breaks_any : (phase : Phase A) (later : List Pkt) → OwesNoPackIn repo phase → MayBreak repo phase later
+    pub breaks_any : (phase : Phase A) (later : List Pkt) → HasNoPackUnsentIn repo phase → MayBreak repo phase later
         → MayBreak (with_packs packs repo) phase later
     breaks_any (Answering answer offset) later none h = answer_any broken answer later none h
     breaks_any (Advertising line) later none h = h
@@ -175,13 +176,13 @@ module _ {R A : Type 0} (state : R → RepoState) (old new : Server R A) (reader
       begins = h.begins;
       left_is = rw phase h.left_is;
       flush_at = rw phase h.flush_at;
-      is_sent = λ owed owes. h.is_sent owed (rw (offer, phase) at owes);
-      breaks = λ owed may. h.breaks owed (rw phase at may);
+      is_sent = λ unsent has_unsent. h.is_sent unsent (rw (offer, phase) at has_unsent);
+      breaks = λ unsent may. h.breaks unsent (rw phase at may);
       given_is = h.given_is;
       fit = h.fit;
     },
   )
-  stands_on (Some outcome) s used over given h = λ owed owes. h owed (rw (offer, phase) at owes)
+  stands_on (Some outcome) s used over given h = λ unsent has_unsent. h unsent (rw (offer, phase) at has_unsent)
 
   pub settled_runs : SettlesPacks (state old.repo) (state new.repo)
       → (s : Setting) (used : List ℕ) (over : Bool) (given : List ℕ) → RunsUnread state s used over given old

@@ -19,7 +19,7 @@ pub mod WrittenHolds
 pub mod LatePacks
 pub mod Giving
 pub mod Breaking
-pub mod Owing
+pub mod UnsentPackets
 pub mod Advertisements
 pub mod SessionLaws
 pub mod Flushes
@@ -32,7 +32,7 @@ pub mod WantedLines
 pub mod OneSession
 pub mod TooLong
 pub mod Machines
-pub mod OwedLemmas
+pub mod UnsentLemmas
 pub mod RunLemmas
 pub mod OneOutcome
 pub mod OneOutput

@@ -14,9 +14,9 @@ use Rattle.git_server.specs.declared.ls_refs.ReferencesPlace.{ReferencesPlace}
 use Rattle.git_server.proofs.Skipped.{alike_answers}
 
 module _ (repo : Repository) (old new : Kept LsRefsAsked) (place after : ReferencesPlace) (packet : Pkt) (orders : OrdersPrefixes old new)
-    (owed : references_from new.asked repo place ≡ packet ∷ references_from new.asked repo after) where
+    (unsent : references_from new.asked repo place ≡ packet ∷ references_from new.asked repo after) where
   one_listed : references_from old.asked repo place ≡ packet ∷ references_from new.asked repo after
-  one_listed = sym (alike_answers old new repo place orders) ∙ owed
+  one_listed = sym (alike_answers old new repo place orders) ∙ unsent
 
   listed_later : (manner : Manner) (later : List Pkt) → AreReferencesFrom manner new.asked repo after later
       → AreReferencesFrom manner old.asked repo place (packet ∷ later)

@@ -9,7 +9,7 @@ use Rattle.git_pkt.specs.declared.fault.Kind.TheVariants.{StreamTooLong, Truncat
 use Rattle.git_pkt.proofs.Cuttings.{one_offset, stops_once, not_open}
 use Rattle.git_pkt.proofs.Streams.{one_split}
 use Rattle.git_msg.specs.declared.offers.Offer.{Offer}
-use Rattle.git_msg.specs.Admission.{IsToldFor}
+use Rattle.git_msg.specs.Admission.{IsAnnouncedFor}
 use Rattle.git_msg.specs.Asked.{Asked}
 use Rattle.git_msg.specs.Lines.{Line, commands_of, HasFault}
 use Rattle.git_msg.specs.Requests.{AreLines, Asks, IsStop}
@@ -81,12 +81,12 @@ module _ (s : Setting) where
       cc
 
   -- a whole request is not refused at its last packet
-  not_told_whole : (left : List Given) (q : Asked) (kept : ℕ) (fault : Fault) → Asks s.offer s.limit left q kept
-      → IsToldFor s.offer s.limit (barred s.repo) left fault → ⊥
-  not_told_whole left q kept fault asks (inl b) =
+  not_announced_whole : (left : List Given) (q : Asked) (kept : ℕ) (fault : Fault) → Asks s.offer s.limit left q kept
+      → IsAnnouncedFor s.offer s.limit (barred s.repo) left fault → ⊥
+  not_announced_whole left q kept fault asks (inl b) =
       no_flush_barred s.offer s.limit (barred s.repo) left asks.front asks.last fault.kind fault.offset asks.whole asks.ends b
-  not_told_whole left q kept fault asks (inr (unbarred, inl first)) = no_fault_in_request s.offer s.limit left q kept fault.kind fault.offset asks first
-  not_told_whole left q kept fault asks (inr (unbarred, inr w)) =
+  not_announced_whole left q kept fault asks (inr (unbarred, inl first)) = no_fault_in_request s.offer s.limit left q kept fault.kind fault.offset asks first
+  not_announced_whole left q kept fault asks (inr (unbarred, inr w)) =
       let same : w.last ≡ asks.last = last_same w.front asks.front w.last asks.last (sym w.whole ∙ asks.whole) in
       flush_is_no_line s.offer s.limit w.lines w.last.packet _ w.is_line (ap (λ (g : Given). g.packet) same ∙ asks.ends)
 
@@ -97,7 +97,7 @@ module _ (s : Setting) where
       at : (more ≡ []) ⊎ ((others : List Given) × (r.front ≡ asks.front ++ asks.last ∷ others)) → ⊥
       at (inl none) =
           let all : left ≡ front = e ∙ ap (λ (gs : List Given). front ++ gs) none ∙ append-nil front in
-          not_told_whole left q kept fault (subst (λ (gs : List Given). Asks s.offer s.limit gs q kept) (sym all) asks) r.told
+          not_announced_whole left q kept fault (subst (λ (gs : List Given). Asks s.offer s.limit gs q kept) (sym all) asks) r.announced
       at (inr (others, inside)) = flush_inside asks.front others r.front asks.last (begun_has_no_flush s r.front r.begins) asks.ends inside
 
   pub none_at_end : (over : Bool) (left : List Given) (rest : List ℕ) (end : ℕ) (outcome : Outcome) → ¬ WantsPack outcome
@@ -110,9 +110,9 @@ module _ (s : Setting) where
   none_at_end over left rest end (Refused fault) has_pack (inr r) = absurd (has_pack r.name)
 
   -- a flush alone is no fault
-  stop_or_told : (left : List Given) (fault : Fault) → IsStop left → IsToldFor s.offer s.limit (barred s.repo) left fault → ⊥
-  stop_or_told left fault stop (inl b) = no_flush_barred s.offer s.limit (barred s.repo) left [] stop.last fault.kind fault.offset stop.alone stop.ends b
-  stop_or_told left fault stop (inr (unbarred, inl first)) =
+  stop_or_announced : (left : List Given) (fault : Fault) → IsStop left → IsAnnouncedFor s.offer s.limit (barred s.repo) left fault → ⊥
+  stop_or_announced left fault stop (inl b) = no_flush_barred s.offer s.limit (barred s.repo) left [] stop.last fault.kind fault.offset stop.alone stop.ends b
+  stop_or_announced left fault stop (inr (unbarred, inl first)) =
       let here = sym first.whole ∙ stop.alone in
       let lines : first.lines ≡ [] = no_lines_alone s.offer s.limit first.front first.back first.bad stop.last first.lines here first.taken in
       let packet : first.bad.packet ≡ flush = ap (λ (g : Given). g.packet) (alone first.front first.back first.bad stop.last here).1 ∙ stop.ends in
@@ -120,40 +120,40 @@ module _ (s : Setting) where
       subst (λ (ls : List Line). HasFault s.offer s.limit ls flush fault.kind) lines
       (subst (λ (p : Pkt). HasFault s.offer s.limit first.lines p fault.kind) packet first.fault) in
       refused.0 refl
-  stop_or_told left fault stop (inr (unbarred, inr w)) =
+  stop_or_announced left fault stop (inr (unbarred, inr w)) =
       let same : w.last ≡ stop.last = last_same w.front [] w.last stop.last (sym w.whole ∙ stop.alone) in
       flush_is_no_line s.offer s.limit w.lines w.last.packet _ w.is_line (ap (λ (g : Given). g.packet) same ∙ stop.ends)
 
   stop_or_begun : (left : List Given) → IsStop left → NoFlush left → ⊥
   stop_or_begun left stop none = let it = subst NoFlush stop.alone none in it.0 stop.ends
 
-  told_once : (left : List Given) (f g : Fault) → ¬ WantsMemory (Refused f) → ¬ WantsMemory (Refused g)
-      → IsToldFor s.offer s.limit (barred s.repo) left f → IsToldFor s.offer s.limit (barred s.repo) left g → f ≡ g
-  told_once left f g a b (inl h) (inl k) =
+  announced_once : (left : List Given) (f g : Fault) → ¬ WantsMemory (Refused f) → ¬ WantsMemory (Refused g)
+      → IsAnnouncedFor s.offer s.limit (barred s.repo) left f → IsAnnouncedFor s.offer s.limit (barred s.repo) left g → f ≡ g
+  announced_once left f g a b (inl h) (inl k) =
       let same = one_barred s.offer s.limit (barred s.repo) left f.kind g.kind f.offset g.offset h k in same_fault f g same.0 same.1
-  told_once left f g a b (inl h) (inr (unbarred, k)) = absurd (unbarred f.kind f.offset h)
-  told_once left f g a b (inr (unbarred, h)) (inl k) = absurd (unbarred g.kind g.offset k)
-  told_once left f g a b (inr (none, inl h)) (inr (clear, inl k)) =
+  announced_once left f g a b (inl h) (inr (unbarred, k)) = absurd (unbarred f.kind f.offset h)
+  announced_once left f g a b (inr (unbarred, h)) (inl k) = absurd (unbarred g.kind g.offset k)
+  announced_once left f g a b (inr (none, inl h)) (inr (clear, inl k)) =
       let same = one_first_fault s.offer s.limit left f.kind g.kind f.offset g.offset h k in same_fault f g same.0 same.1
-  told_once left f g a b (inr (none, inr w)) (inr (clear, k)) = absurd (a w.name)
-  told_once left f g a b (inr (none, inl h)) (inr (clear, inr w)) = absurd (b w.name)
+  announced_once left f g a b (inr (none, inr w)) (inr (clear, k)) = absurd (a w.name)
+  announced_once left f g a b (inr (none, inl h)) (inr (clear, inr w)) = absurd (b w.name)
 
-  told_in_lines : (left : List Given) (f : Fault) → ¬ WantsMemory (Refused f) → IsToldFor s.offer s.limit (barred s.repo) left f → Begins s left → ⊥
-  told_in_lines left f a (inl h) begins =
+  announced_in_lines : (left : List Given) (f : Fault) → ¬ WantsMemory (Refused f) → IsAnnouncedFor s.offer s.limit (barred s.repo) left f → Begins s left → ⊥
+  announced_in_lines left f a (inl h) begins =
       admitted_unbarred s.offer s.limit (barred s.repo) left begins.lines begins.taken begins.admitted f.kind f.offset h
-  told_in_lines left f a (inr (unbarred, inl h)) begins = no_fault_in_lines s.offer s.limit left begins.lines f.kind f.offset begins.taken h
-  told_in_lines left f a (inr (unbarred, inr w)) begins = a w.name
+  announced_in_lines left f a (inr (unbarred, inl h)) begins = no_fault_in_lines s.offer s.limit left begins.lines f.kind f.offset begins.taken h
+  announced_in_lines left f a (inr (unbarred, inr w)) begins = a w.name
 
   over_or_not : (over : Bool) → over ≡ true → over ≡ false → ⊥
   over_or_not over h k = cc
 
   refused_once : (over : Bool) (left : List Given) (rest : List ℕ) (end : ℕ) (f g : Fault) → ¬ WantsMemory (Refused f) → ¬ WantsMemory (Refused g)
       → IsRefusedAsRead s over left rest end f → IsRefusedAsRead s over left rest end g → f ≡ g
-  refused_once over left rest end f g a b (inl h) (inl k) = told_once left f g a b h.told k.told
-  refused_once over left rest end f g a b (inl h) (inr (inl k)) = absurd (told_in_lines left f a h.told k.begins)
-  refused_once over left rest end f g a b (inl h) (inr (inr k)) = absurd (told_in_lines left f a h.told k.begins)
-  refused_once over left rest end f g a b (inr (inl h)) (inl k) = absurd (told_in_lines left g b k.told h.begins)
-  refused_once over left rest end f g a b (inr (inr h)) (inl k) = absurd (told_in_lines left g b k.told h.begins)
+  refused_once over left rest end f g a b (inl h) (inl k) = announced_once left f g a b h.announced k.announced
+  refused_once over left rest end f g a b (inl h) (inr (inl k)) = absurd (announced_in_lines left f a h.announced k.begins)
+  refused_once over left rest end f g a b (inl h) (inr (inr k)) = absurd (announced_in_lines left f a h.announced k.begins)
+  refused_once over left rest end f g a b (inr (inl h)) (inl k) = absurd (announced_in_lines left g b k.announced h.begins)
+  refused_once over left rest end f g a b (inr (inr h)) (inl k) = absurd (announced_in_lines left g b k.announced h.begins)
   refused_once over left rest end f g a b (inr (inl h)) (inr (inl k)) =
       let same = bytes_once
       (end - length rest) end rest f.kind g.kind f.offset g.offset h.not_the_end k.not_the_end h.stops k.stops in same_fault f g same.0 same.1
@@ -162,7 +162,7 @@ module _ (s : Setting) where
   refused_once over left rest end f g a b (inr (inr h)) (inr (inr k)) = same_fault f g (h.name ∙ sym k.name) (omega (arith, h.at, k.at))
 
   stop_or_refused : (over : Bool) (left : List Given) (rest : List ℕ) (end : ℕ) (f : Fault) → IsStop left → IsRefusedAsRead s over left rest end f → ⊥
-  stop_or_refused over left rest end f stop (inl h) = stop_or_told left f stop h.told
+  stop_or_refused over left rest end f stop (inl h) = stop_or_announced left f stop h.announced
   stop_or_refused over left rest end f stop (inr (inl h)) = stop_or_begun left stop (begun_has_no_flush s left h.begins)
   stop_or_refused over left rest end f stop (inr (inr h)) = stop_or_begun left stop (begun_has_no_flush s left h.begins)
 
@@ -226,7 +226,7 @@ module _ (s : Setting) where
   -- further byte
   refused_later : (left : List Given) (rest : List ℕ) (end : ℕ) (fault : Fault) → Begins s left → IsOpen rest → ¬ WantsMemory (Refused fault)
       → IsRefusedAsRead s false left rest end fault → fault.kind ≢ StreamTooLong → ⊥
-  refused_later left rest end fault begins unrefused memory (inl h) other = told_in_lines left fault memory h.told begins
+  refused_later left rest end fault begins unrefused memory (inl h) other = announced_in_lines left fault memory h.announced begins
   refused_later left rest end fault begins unrefused memory (inr (inl h)) other =
       not_open (end - length rest) end rest fault.kind fault.offset h.not_the_end other h.stops unrefused
   refused_later left rest end fault begins unrefused memory (inr (inr h)) other = over_or_not false h.ended refl

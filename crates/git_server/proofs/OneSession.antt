@@ -23,7 +23,7 @@ use Rattle.git_server.specs.Answers.{unborn_packets, IsAnswer}
 use Rattle.git_server.specs.Machine.AdvertisementLines.{format_on, advertisement_from}
 use Rattle.git_server.specs.declared.advertisement.AdvertisementLine.TheVariants.{Version, Agent, LsRefs, Fetch, ServerOption, ObjectFormat, ObjectInfo, End}
 use Rattle.git_server.specs.Sessions.{Setting, IsRequest, AreAnswers, IsAnswered, advertised}
-use Rattle.git_server.specs.Machine.Phases.{outcome_in, Owes, reads_in}
+use Rattle.git_server.specs.Machine.Phases.{outcome_in, AreUnsent, reads_in}
 use Rattle.git_server.specs.Machine.Server.{Running, outcome_of, wants_input}
 use Rattle.git_server.specs.declared.advertisement.AdvertisementLine.{AdvertisementLine}
 use Rattle.git_server.specs.declared.answer.Answer.TheVariants.{References, Fetching, Sizes}
@@ -38,7 +38,7 @@ use Rattle.git_server.proofs.Flushes.{flushes-append}
 use Rattle.git_server.proofs.FetchPackets.{fetch_ends_once, fetch_ends_later}
 use Rattle.git_server.proofs.Begun.{begun_has_no_flush}
 use Rattle.git_server.proofs.Sent.{is_whole}
-use Rattle.git_server.proofs.Going.{goes_on, no_outcome, owes_nothing, owes_some}
+use Rattle.git_server.proofs.Going.{goes_on, no_outcome, nothing_unsent, some_unsent}
 
 module _ (s : Setting) where
   pub no_request : (left : List Given) → NoFlush left → NoRequest (IsRequest s) left
@@ -107,44 +107,45 @@ one_spelling (p ∷ ps) (q ∷ qs) h k e =
     ap (λ (x : Pkt). x ∷ ps) same.packet ∙ ap (λ (xs : List Pkt). q ∷ xs) (one_spelling ps qs h.1 k.1 same.rest)
 
 -- where something is pending, a flush is
-info_owes : (b : Bool) → flushes (offered_line b (codes "object-info") ++ flush ∷ []) ≡ 1
-info_owes true = refl
-info_owes false = refl
+info_is_unsent : (b : Bool) → flushes (offered_line b (codes "object-info") ++ flush ∷ []) ≡ 1
+info_is_unsent true = refl
+info_is_unsent false = refl
 
-option_owes : (offer : Offer) (b : Bool) → flushes (offered_line b (codes "server-option") ++ format_on offer) ≡ 1
-option_owes offer true = info_owes offer.object_info
-option_owes offer false = info_owes offer.object_info
+option_is_unsent : (offer : Offer) (b : Bool) → flushes (offered_line b (codes "server-option") ++ format_on offer) ≡ 1
+option_is_unsent offer true = info_is_unsent offer.object_info
+option_is_unsent offer false = info_is_unsent offer.object_info
 
-pub line_owes : (offer : Offer) (line : AdvertisementLine) → flushes (advertisement_from offer line) ≡ 1
-line_owes offer End = refl
-line_owes offer ObjectInfo = refl
-line_owes offer ObjectFormat = info_owes offer.object_info
-line_owes offer ServerOption = info_owes offer.object_info
-line_owes offer Fetch = option_owes offer offer.server_option
-line_owes offer LsRefs = option_owes offer offer.server_option
-line_owes offer Agent = option_owes offer offer.server_option
-line_owes offer Version = option_owes offer offer.server_option
+pub line_is_unsent : (offer : Offer) (line : AdvertisementLine) → flushes (advertisement_from offer line) ≡ 1
+line_is_unsent offer End = refl
+line_is_unsent offer ObjectInfo = refl
+line_is_unsent offer ObjectFormat = info_is_unsent offer.object_info
+line_is_unsent offer ServerOption = info_is_unsent offer.object_info
+line_is_unsent offer Fetch = option_is_unsent offer offer.server_option
+line_is_unsent offer LsRefs = option_is_unsent offer offer.server_option
+line_is_unsent offer Agent = option_is_unsent offer offer.server_option
+line_is_unsent offer Version = option_is_unsent offer offer.server_option
 
-pub owes_flush : {A : Type 0} (offer : Offer) (repo : Repository) (phase : Phase A) (owed : List Pkt) → outcome_in phase ≡ None → Owes offer repo phase owed
-    → flushes owed ≡ 0 → reads_in phase ≡ true
-owes_flush offer repo Between owed none owes zero = refl
-owes_flush offer repo Within owed none owes zero = refl
-owes_flush offer repo (Advertising line) owed none owes zero = absurd (omega (arith, zero, ap flushes owes, line_owes offer line))
-owes_flush offer repo (Answering (References request place) offset) owed none owes zero =
-    absurd (omega (arith, zero, ap flushes owes, references_end request.asked repo place))
-owes_flush offer repo (Answering (Fetching request place) offset) owed none owes zero =
-    absurd (omega (arith, zero, fetch_ends_later repo request.asked place owed owes))
-owes_flush offer repo (Answering (Sizes request place) offset) owed none owes zero =
-    absurd (omega (arith, zero, ap flushes owes, sizes_end request.asked repo place))
-owes_flush offer repo (Refusing fault) owed none owes zero = absurd (cc)
-owes_flush offer repo (Ended outcome) owed none owes zero = absurd (cc)
+pub flush_unsent : {A : Type 0} (offer : Offer) (repo : Repository) (phase : Phase A) (unsent : List Pkt) → outcome_in phase ≡ None
+    → AreUnsent offer repo phase unsent
+    → flushes unsent ≡ 0 → reads_in phase ≡ true
+flush_unsent offer repo Between unsent none has_unsent zero = refl
+flush_unsent offer repo Within unsent none has_unsent zero = refl
+flush_unsent offer repo (Advertising line) unsent none has_unsent zero = absurd (omega (arith, zero, ap flushes has_unsent, line_is_unsent offer line))
+flush_unsent offer repo (Answering (References request place) offset) unsent none has_unsent zero =
+    absurd (omega (arith, zero, ap flushes has_unsent, references_end request.asked repo place))
+flush_unsent offer repo (Answering (Fetching request place) offset) unsent none has_unsent zero =
+    absurd (omega (arith, zero, fetch_ends_later repo request.asked place unsent has_unsent))
+flush_unsent offer repo (Answering (Sizes request place) offset) unsent none has_unsent zero =
+    absurd (omega (arith, zero, ap flushes has_unsent, sizes_end request.asked repo place))
+flush_unsent offer repo (Refusing fault) unsent none has_unsent zero = absurd (cc)
+flush_unsent offer repo (Ended outcome) unsent none has_unsent zero = absurd (cc)
 
 -- so a server waits for bytes exactly where it has no outcome and nothing is pending
-pub waits_where_none_owed : {A : Type 0} (offer : Offer) (repo : Repository) (phase : Phase A)
-    → IsTrue (reads_in phase) ↔ ((outcome_in phase ≡ None) × Owes offer repo phase [])
-waits_where_none_owed offer repo phase = (
-  λ reads. (no_outcome phase reads, owes_nothing offer repo phase reads),
-  λ h. owes_flush offer repo phase [] h.0 h.1 refl,
+pub waits_where_none_unsent : {A : Type 0} (offer : Offer) (repo : Repository) (phase : Phase A)
+    → IsTrue (reads_in phase) ↔ ((outcome_in phase ≡ None) × AreUnsent offer repo phase [])
+waits_where_none_unsent offer repo phase = (
+  λ reads. (no_outcome phase reads, nothing_unsent offer repo phase reads),
+  λ h. flush_unsent offer repo phase [] h.0 h.1 refl,
 )
 
 module _ {R A : Type 0} (state : R → RepoState) (server : Server R A) (s : Setting) (used : List ℕ)
@@ -159,12 +160,12 @@ module _ {R A : Type 0} (state : R → RepoState) (server : Server R A) (s : Set
       (one_list s all.stream.packets h.asked all.asked h.left all.left (no_request s h.left (begun_has_no_flush s h.left h.begins))
       (no_request s all.left (begun_has_no_flush s all.left all.begins))
       (subst (λ (gs : List Given). AreRequests (IsRequest s) gs h.asked h.left) split.packets h.requests) all.stream.requests).0 in
-      let (owed, owes) = owes_some server.offer s.repo server.phase in
-      let whole = is_whole s h.asked h.sent owed (h.is_sent owed owes) in
+      let (unsent, has_unsent) = some_unsent server.offer s.repo server.phase in
+      let whole = is_whole s h.asked h.sent unsent (h.is_sent unsent has_unsent) in
       let sent : h.sent ≡ advertised s ++ all.answers = one_spelling h.sent (advertised s ++ all.answers) h.fit all.fit (sym h.given_is ∙ all.given_is) in
       let both = ap flushes whole.parts in
-      let split_both = flushes-append h.sent owed in
+      let split_both = flushes-append h.sent unsent in
       let split_whole = flushes-append (advertised s) whole.answers in
       let split_all = ap flushes sent ∙ flushes-append (advertised s) all.answers in
       let same = answers_end s.repo h.asked whole.answers whole.answered ∙ ap length asked ∙ sym (answers_end s.repo all.asked all.answers all.answered) in
-      owes_flush server.offer s.repo server.phase owed none owes (omega (arith, both, split_both, split_whole, split_all, same))
+      flush_unsent server.offer s.repo server.phase unsent none has_unsent (omega (arith, both, split_both, split_whole, split_all, same))

@@ -4,7 +4,7 @@ use Rattle.git_pkt.specs.Packets.{Pkt}
 use Rattle.git_msg.specs.declared.offers.Offer.{Offer}
 use Rattle.git_server.specs.Repository.{RepoState}
 use Rattle.git_server.specs.Sessions.{Setting, advertised}
-use Rattle.git_server.specs.Machine.Phases.{FlushIsAt, LeftIn, kept_in, outcome_in, MayBreak, Owes, stored_in}
+use Rattle.git_server.specs.Machine.Phases.{FlushIsAt, LeftIn, kept_in, outcome_in, MayBreak, AreUnsent, stored_in}
 use Rattle.git_server.specs.Machine.Server.{IsFresh, IsPackLost, Running, StandsBy}
 use Rattle.git_server.specs.declared.outcome.Outcome.{Outcome}
 use Rattle.git_server.specs.declared.server.Server.{Server}
@@ -17,12 +17,12 @@ module _ {R A : Type 0} (state : R → RepoState) (s : Setting) (repo : R) (phas
   -- nothing was used and nothing sent, and the advertisement is pending, if there is one
   pub opens : IsFresh repo s.offer s.limit phase server
       → (state repo).answers ≡ s.repo → outcome_in phase ≡ None → LeftIn phase [] → FlushIsAt phase [] → kept_in phase ≡ 0 → stored_in phase ≡ 0
-      → ((owed : List Pkt) → Owes s.offer s.repo phase owed → owed ≡ advertised s)
-      → ((owed : List Pkt) → MayBreak s.repo phase owed → ⊥) → (state repo).failures ≡ s.failures → Running state s [] false [] server
-  opens fresh same none left flush kept stored owed whole failures =
-      let owed_now : (l : List Pkt) → Owes server.offer s.repo server.phase l → l ≡ advertised s =
-      λ l owes. owed l (subst (λ (p : Phase A). Owes s.offer s.repo p l) fresh.phase_is
-      (subst (λ (o : Offer). Owes o s.repo server.phase l) fresh.offer_is owes)) in
+      → ((unsent : List Pkt) → AreUnsent s.offer s.repo phase unsent → unsent ≡ advertised s)
+      → ((unsent : List Pkt) → MayBreak s.repo phase unsent → ⊥) → (state repo).failures ≡ s.failures → Running state s [] false [] server
+  opens fresh same none left flush kept stored unsent whole failures =
+      let unsent_now : (l : List Pkt) → AreUnsent server.offer s.repo server.phase l → l ≡ advertised s =
+      λ l has_unsent. unsent l (subst (λ (p : Phase A). AreUnsent s.offer s.repo p l) fresh.phase_is
+      (subst (λ (o : Offer). AreUnsent o s.repo server.phase l) fresh.offer_is has_unsent)) in
       record {
         offer = fresh.offer_is;
         reads_for = fresh.reads_for;
@@ -50,7 +50,7 @@ module _ {R A : Type 0} (state : R → RepoState) (s : Setting) (repo : R) (phas
             begins = nothing_begins s;
             left_is = subst (λ (p : Phase A). LeftIn p []) (sym fresh.phase_is) left;
             flush_at = subst (λ (p : Phase A). FlushIsAt p []) (sym fresh.phase_is) flush;
-            is_sent = λ l owes. inl (record { none = refl; parts = owed_now l owes });
+            is_sent = λ l has_unsent. inl (record { none = refl; parts = unsent_now l has_unsent });
             breaks = λ l breaks. absurd (whole l (subst (λ (p : Phase A). MayBreak s.repo p l) fresh.phase_is breaks));
             given_is = refl;
             fit = tt;

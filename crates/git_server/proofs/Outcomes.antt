@@ -34,9 +34,9 @@ not_both fault other same name too_long =
 -- no pull reports a stream that is too long
 pub too_long_before : (old now : Option Outcome) (fault : Fault) → IsAfterPull old now → now ≡ Some (Refused fault) → fault.kind ≡ StreamTooLong
     → old ≡ Some (Refused fault)
-too_long_before (Some outcome) now fault after told too_long = sym after ∙ told
-too_long_before None now fault (inl after) told too_long = absurd (cc)
-too_long_before None now fault (inr (other, is, name)) told too_long = absurd (not_both other fault (sym is ∙ told) name too_long)
+too_long_before (Some outcome) now fault after announced too_long = sym after ∙ announced
+too_long_before None now fault (inl after) announced too_long = absurd (cc)
+too_long_before None now fault (inr (other, is, name)) announced too_long = absurd (not_both other fault (sym is ∙ announced) name too_long)
 
 -- a session that goes on, or ended by another fault, has its packs
 pub none_lost : IsPackLost None → ⊥

@@ -57,14 +57,14 @@ place_after place offset (Bytes count) = Pack (offset + count)
 place_after place offset End = place
 place_after place offset Failed = place
 
-part_is_next : (pack room : List ℕ) (offset : ℕ) → length room ≡ 65515 → (part : PartRead) → IsPartRead pack offset room part
+part_is_next : (pack space : List ℕ) (offset : ℕ) → length space ≡ 65515 → (part : PartRead) → IsPartRead pack offset space part
     → IsNext (λ manner place later. IsPackfileFrom manner pack place later) (most_packets pack) (Pack offset) (answered_by part)
-    (place_after (Pack offset) offset part) (part_packet room part)
-part_is_next pack room offset full (Bytes count) (some, part) =
-    (after_part pack room offset count part some (omega (arith, part.fits, full)), omega (arith, part.within, some))
-part_is_next pack room offset full End none =
+    (place_after (Pack offset) offset part) (part_packet space part)
+part_is_next pack space offset full (Bytes count) (some, part) =
+    (after_part pack space offset count part some (omega (arith, part.fits, full)), omega (arith, part.within, some))
+part_is_next pack space offset full End none =
     record { bands = []; are_bands = drop_of_length-le pack none; packets_are = refl }
-part_is_next pack room offset full Failed h =
+part_is_next pack space offset full Failed h =
     record { front = []; back = drop offset pack; bands = []; cut = refl; are_bands = refl; packets_are = refl }
 
 -- the packet of a part is the next of those that end the section
@@ -74,7 +74,7 @@ pub part_written : (gives : ℕ → ℕ → Type 0) (pack : List ℕ) (offset : 
     → WritesPack pack repo_old place old (answered_by part) repo_new (place_after place offset part) new
 part_written gives pack offset place was repo_old old part repo_new new h =
     subst (λ (p : PackPlace). WritesPack pack repo_old p old (answered_by part) repo_new (place_after p offset part) new) (sym was)
-    (record { packet = part_packet h.room part; writes = h.writes; is_next = part_is_next pack h.room offset h.full part h.is_read; reads = h.reads })
+    (record { packet = part_packet h.space part; writes = h.writes; is_next = part_is_next pack h.space offset h.full part h.is_read; reads = h.reads })
 
 -- some packets always end a pack: each byte in a packet of its own
 single : List ℕ → List Pkt

@@ -86,10 +86,10 @@ module _ {R A : Type 0} (state : R → RepoState) (refuses : ℕ → Type 0) (ol
 
   pub memory_after_bytes : (u : List ℕ) (reader : PacketReader) (fault : Fault) → ReadsOn old.reader u [] reader → fault_of reader ≡ Some fault
       → phase ≡ refused_by fault.kind fault → MayFollow
-  memory_after_bytes u reader fault reads told is s so_far over before r ends =
+  memory_after_bytes u reader fault reads announced is s so_far over before r ends =
       let (not_over, h) = goes_on state old s so_far over before (no_outcome old.phase wants) r in
       let (rest, later) = reads 0 so_far h.packets h.rest h.reads in
-      let stops = stopped_by reader (so_far ++ u) (h.packets ++ []) rest fault told later in
+      let stops = stopped_by reader (so_far ++ u) (h.packets ++ []) rest fault announced later in
       after_fault A refuses s.limit phase fault is (λ name. absurd (of_bytes _ rest _ fault.kind fault.offset stops name))
 
 -- ---- before the first byte
@@ -129,7 +129,7 @@ module _ {R A : Type 0} (state : R → RepoState) (refuses : ℕ → Type 0) (s 
   explained_at (Some Flush) is = tt
   explained_at (Some Closed) is = tt
   explained_at (Some (Refused fault)) is = λ name.
-      let (owed, h) = ending state server s [] false [] r (Refused fault) is in
+      let (unsent, h) = ending state server s [] false [] r (Refused fault) is in
       let none = nothing_left _ h.stream.packets h.asked h.left (no_packets 0 h.stream.packets h.rest h.stream.splits.spelled) h.stream.requests in
       absurd (not_by_nothing s false h.left h.rest _ fault none name h.ends)
 

@@ -41,10 +41,10 @@ module _ {R A : Type 0} (state : R → RepoState) (old new : Server R A) (ended 
       → Moves (is_broken answer) (Served state s before given answer ended turns new) (reader ∷ []) (writer ∷ [])
 
   module _ (s : Setting) (before given : List ℕ) (r : Running state s before false given old) where
-    stands_by : (over : Bool) (used said : List ℕ) → RunReaches over (ServerReaches state) (Closes state) old used said new
-        → Running state s (before ++ used) over (given ++ said) new
-    stands_by false used said went = went s before false given r
-    stands_by true used said went =
+    stands_by : (over : Bool) (used content : List ℕ) → RunReaches over (ServerReaches state) (Closes state) old used content new
+        → Running state s (before ++ used) over (given ++ content) new
+    stands_by false used content went = went s before false given r
+    stands_by true used content went =
         let first : Running state s (before ++ used) false (given ++ went.given_before) went.fed = went.before s before false given r in
         let closed : Running state s (before ++ used) true (given ++ went.given_before) went.closed =
         (went.closes s (before ++ used) false (given ++ went.given_before) first).0 in
@@ -55,8 +55,8 @@ module _ {R A : Type 0} (state : R → RepoState) (old new : Server R A) (ended 
         (subst (λ (l : List ℕ). Running state s l true ((given ++ went.given_before) ++ went.given_after) new) (append-nil (before ++ used)) after)
 
     moved_so : (broken : Bool) (result : Result (Unit {0}) RunFault) (answer : Result Outcome RunFault) {reader writer : Flow}
-        → ((used unused : List ℕ) (over : Bool) (said : List ℕ) → Running state s (before ++ used) over (given ++ said) new
-        → EndsRun result run_states turns used unused over → EndsSession s answer turns before used unused over (given ++ said))
+        → ((used unused : List ℕ) (over : Bool) (content : List ℕ) → Running state s (before ++ used) over (given ++ content) new
+        → EndsRun result run_states turns used unused over → EndsSession s answer turns before used unused over (given ++ content))
         → Moves broken (Ran (ServerReaches state) (Closes state) old new run_states result ended turns) (reader ∷ []) (writer ∷ [])
         → Moves broken (Served state s before given answer ended turns new) (reader ∷ []) (writer ∷ [])
     moved_so broken result answer ends ran =
@@ -71,9 +71,9 @@ module _ {R A : Type 0} (state : R → RepoState) (old new : Server R A) (ended 
             used = x.used;
             unused = x.unused;
             over = x.closed;
-            said = x.given;
-            heard = x.received;
-            told = x.sent;
+            content = x.given;
+            arrived = x.received;
+            announced = x.sent;
             stands = stands;
             whole = x.whole;
             ends = ends x.used x.unused x.closed x.given stands x.ends;
@@ -81,26 +81,26 @@ module _ {R A : Type 0} (state : R → RepoState) (old new : Server R A) (ended 
         }
 
     -- if it needs input, all answers were sent
-    waits : (used unused : List ℕ) (over : Bool) (said : List ℕ) → Running state s (before ++ used) over (given ++ said) new
-        → IsWaiting run_states unused over → Waits s (before ++ used) unused over (given ++ said)
-    waits used unused over said stands rests = record {
+    waits : (used unused : List ℕ) (over : Bool) (content : List ℕ) → Running state s (before ++ used) over (given ++ content) new
+        → IsWaiting run_states unused over → Waits s (before ++ used) unused over (given ++ content)
+    waits used unused over content stands rests = record {
       all = rests.all;
       goes_on = rests.still_open;
-      answered = all_answered state new s (before ++ used) over (given ++ said) stands rests.needs_input;
+      answered = all_answered state new s (before ++ used) over (given ++ content) stands rests.needs_input;
     }
 
     -- the session ended so
-    whole : (outcome : Outcome) → turn_in new.phase ≡ Finished outcome → (used unused : List ℕ) (over : Bool) (said : List ℕ)
-        → Running state s (before ++ used) over (given ++ said) new → RunHasFinished run_states unused
-        → IsWholeRun s outcome before used unused over (given ++ said)
-    whole outcome turn used unused over said stands rests =
-        let tells = (ends_now state new outcome turn).tells in
-        let session : IsSession s (before ++ used) over (given ++ said) outcome = tells.3 s (before ++ used) over (given ++ said) stands in
+    whole : (outcome : Outcome) → turn_in new.phase ≡ Finished outcome → (used unused : List ℕ) (over : Bool) (content : List ℕ)
+        → Running state s (before ++ used) over (given ++ content) new → RunHasFinished run_states unused
+        → IsWholeRun s outcome before used unused over (given ++ content)
+    whole outcome turn used unused over content stands rests =
+        let announces = (ends_now state new outcome turn).announces in
+        let session : IsSession s (before ++ used) over (given ++ content) outcome = announces.3 s (before ++ used) over (given ++ content) stands in
         let here : IsOfASession state old = record { s = s; used = before; over = false; given = given; running = r } in
         record {
           session = session;
           in_time = λ fault is too_long.
-              elim (rests.short (here, (fault, tells.0 ∙ ap Some is, too_long))) [
+              elim (rests.short (here, (fault, announces.0 ∙ ap Some is, too_long))) [
                 | inl more ↦ inl more
                 | inr early ↦ inr (used_before early)
               ];
@@ -108,7 +108,7 @@ module _ {R A : Type 0} (state : R → RepoState) (old new : Server R A) (ended 
       where
         used_before : IsTooLong (outcome_of old) → length before ≡ last_position
         used_before (fault, is, name) =
-            let (owed, end) = ending state old s before false given r (Refused fault) is in
+            let (unsent, end) = ending state old s before false given r (Refused fault) is in
             (refused_too_long s false end.left end.rest (length before) fault end.ends name).1
 
   -- the session ended
@@ -121,10 +121,10 @@ module _ {R A : Type 0} (state : R → RepoState) (old new : Server R A) (ended 
   breaks ReadFault ran s before given r = moved_so s before given r false (Err ReadFault) (Err ReadFault) (waits s before given r) ran
   breaks WriteFault ran s before given r =
       moved_so s before given r true (Err WriteFault) (Err WriteFault)
-      (λ used unused over said stands ends. every_moment state new s (before ++ used) over (given ++ said) stands) ran
+      (λ used unused over content stands ends. every_moment state new s (before ++ used) over (given ++ content) stands) ran
   breaks ReadLimit ran s before given r =
       moved_so s before given r false (Err ReadLimit) (Err ReadLimit)
-      (λ used unused over said stands ends. (waits s before given r used unused over said stands ends.0, ends.1)) ran
+      (λ used unused over content stands ends. (waits s before given r used unused over content stands ends.0, ends.1)) ran
   breaks (RefusedRun fault) ran s before given r = absurd ran.related.ends
 
   pub waits_after : (fault : RunFault) {reader writer : Flow} → RanSo (Err fault) reader writer → fault ≢ WriteFault → wants_input new ≡ true

@@ -28,9 +28,9 @@ answers_more repo (p ∷ ps) packets q answer (first, more, parts, is_first, res
     (first, more ++ answer, ap (λ (l : List Pkt). l ++ answer) parts ∙ append_assoc first more answer, is_first, answers_more repo ps more q answer rest is)
 
 -- one packet of the pending answer was sent
-pub answering_one : (manner : Manner) (s : Setting) (asked : List Asked) (sent owed : List Pkt) (packet : Pkt)
-    → IsAnswering manner s asked sent (packet ∷ owed) → IsAnswering manner s asked (sent ++ packet ∷ []) owed
-answering_one manner s asked sent owed packet h =
+pub answering_one : (manner : Manner) (s : Setting) (asked : List Asked) (sent unsent : List Pkt) (packet : Pkt)
+    → IsAnswering manner s asked sent (packet ∷ unsent) → IsAnswering manner s asked (sent ++ packet ∷ []) unsent
+answering_one manner s asked sent unsent packet h =
     record {
       earlier = h.earlier;
       last = h.last;
@@ -38,36 +38,36 @@ answering_one manner s asked sent owed packet h =
       front = h.front ++ packet ∷ [];
       whole = h.whole;
       answered = h.answered;
-      answer = subst (IsAnswerAs manner s.repo h.last) (sym (append_assoc h.front (packet ∷ []) owed)) h.answer;
+      answer = subst (IsAnswerAs manner s.repo h.last) (sym (append_assoc h.front (packet ∷ []) unsent)) h.answer;
       sent_is = ap (λ (l : List Pkt). l ++ packet ∷ []) h.sent_is ∙ append_assoc (advertised s ++ h.answers) h.front (packet ∷ []);
     }
 
 -- one pending packet was sent
-pub sent_one : (s : Setting) (asked : List Asked) (sent owed : List Pkt) (packet : Pkt)
-    → IsSent s asked sent (packet ∷ owed) → IsSent s asked (sent ++ packet ∷ []) owed
-sent_one s asked sent owed packet (inl h) = inl (record { none = h.none; parts = append_assoc sent (packet ∷ []) owed ∙ h.parts })
-sent_one s asked sent owed packet (inr h) = inr (answering_one whole s asked sent owed packet h)
+pub sent_one : (s : Setting) (asked : List Asked) (sent unsent : List Pkt) (packet : Pkt)
+    → IsSent s asked sent (packet ∷ unsent) → IsSent s asked (sent ++ packet ∷ []) unsent
+sent_one s asked sent unsent packet (inl h) = inl (record { none = h.none; parts = append_assoc sent (packet ∷ []) unsent ∙ h.parts })
+sent_one s asked sent unsent packet (inr h) = inr (answering_one whole s asked sent unsent packet h)
 
 -- what was sent and what is pending are the advertisement and an answer to each request
-pub record IsWhole (s : Setting) (asked : List Asked) (sent owed : List Pkt) : Type 0 where
+pub record IsWhole (s : Setting) (asked : List Asked) (sent unsent : List Pkt) : Type 0 where
   pub answers : List Pkt
   pub answered : AreAnswers s.repo asked answers
-  pub parts : sent ++ owed ≡ advertised s ++ answers
+  pub parts : sent ++ unsent ≡ advertised s ++ answers
 
-pub is_whole : (s : Setting) (asked : List Asked) (sent owed : List Pkt) → IsSent s asked sent owed → IsWhole s asked sent owed
-is_whole s asked sent owed (inl h) =
+pub is_whole : (s : Setting) (asked : List Asked) (sent unsent : List Pkt) → IsSent s asked sent unsent → IsWhole s asked sent unsent
+is_whole s asked sent unsent (inl h) =
     record {
       answers = [];
       answered = subst (λ (qs : List Asked). AreAnswers s.repo qs []) (sym h.none) refl;
       parts = h.parts ∙ sym (append-nil (advertised s));
     }
-is_whole s asked sent owed (inr h) =
+is_whole s asked sent unsent (inr h) =
     record {
-      answers = h.answers ++ (h.front ++ owed);
-      answered = subst (λ (qs : List Asked). AreAnswers s.repo qs (h.answers ++ (h.front ++ owed)))
-          (sym h.whole) (answers_more s.repo h.earlier h.answers h.last (h.front ++ owed) h.answered h.answer);
-      parts = ap (λ (l : List Pkt). l ++ owed) h.sent_is ∙ append_assoc (advertised s ++ h.answers) h.front owed
-          ∙ append_assoc (advertised s) h.answers (h.front ++ owed);
+      answers = h.answers ++ (h.front ++ unsent);
+      answered = subst (λ (qs : List Asked). AreAnswers s.repo qs (h.answers ++ (h.front ++ unsent)))
+          (sym h.whole) (answers_more s.repo h.earlier h.answers h.last (h.front ++ unsent) h.answered h.answer);
+      parts = ap (λ (l : List Pkt). l ++ unsent) h.sent_is ∙ append_assoc (advertised s ++ h.answers) h.front unsent
+          ∙ append_assoc (advertised s) h.answers (h.front ++ unsent);
     }
 
 -- all was sent: the advertisement, and an answer to each request
@@ -82,9 +82,9 @@ all_sent s asked sent h =
     record { answers = whole.answers; answered = whole.answered; sent_is = sym (append-nil sent) ∙ whole.parts }
 
 -- a further request was asked, and its answer is pending
-pub one_more_asked : (manner : Manner) (s : Setting) (asked : List Asked) (sent owed : List Pkt) (q : Asked) → IsSent s asked sent []
-    → IsAnswerAs manner s.repo q owed → IsAnswering manner s (asked ++ q ∷ []) sent owed
-one_more_asked manner s asked sent owed q before is =
+pub one_more_asked : (manner : Manner) (s : Setting) (asked : List Asked) (sent unsent : List Pkt) (q : Asked) → IsSent s asked sent []
+    → IsAnswerAs manner s.repo q unsent → IsAnswering manner s (asked ++ q ∷ []) sent unsent
+one_more_asked manner s asked sent unsent q before is =
     let all = all_sent s asked sent before in
     record {
       earlier = asked;

@@ -6,12 +6,12 @@ use Rattle.git_pkt.specs.declared.fault.Fault.{Fault}
 use Rattle.git_pkt.specs.declared.fault.Kind.{Kind}
 use Rattle.git_pkt.specs.declared.fault.Kind.TheVariants.{PackSource, StreamTooLong, Truncated}
 use Rattle.git_server.specs.Sessions.{Setting, IsRefused}
-use Rattle.git_server.proofs.Admitted.{not_told_for}
+use Rattle.git_server.proofs.Admitted.{not_announced_for}
 
 pub refused_too_long : (s : Setting) (over : Bool) (left : List Given) (rest : List ℕ) (end : ℕ) (fault : Fault) → IsRefused s over left rest end fault
     → fault.kind ≡ StreamTooLong → (over ≡ false) × (end ≡ last_position)
 refused_too_long s over left rest end fault (inl (inl r)) is =
-    absurd (not_told_for s.offer s.limit s.repo left fault StreamTooLong tt (record { not_ours = λ e. cc; not_unknown = λ e. cc }) r.told is)
+    absurd (not_announced_for s.offer s.limit s.repo left fault StreamTooLong tt (record { not_ours = λ e. cc; not_unknown = λ e. cc }) r.announced is)
 refused_too_long s over left rest end fault (inl (inr (inl r))) is =
     let stops : StopsBy (end - length rest) rest end StreamTooLong fault.offset =
     subst (λ (k : Kind). StopsBy (end - length rest) rest end k fault.offset) is r.stops in

@@ -37,9 +37,9 @@ module _ (repo : Repository) (sound : IsSound repo) (names : List (List ℕ)) (a
       let none : filter_map (wanted_packet repo) (name ∷ drop (at + 1) names) ≡ lines_from repo names (at + 1) = rw absent refl in
       sym (lines_here ∙ none)
 
-  pub told : (id : ObjectName) → IsFound repo.refs name (Some id)
+  pub announced : (id : ObjectName) → IsFound repo.refs name (Some id)
       → lines_from repo names at ≡ text_line (hex_of id ++ 32 ∷ name) ∷ lines_from repo names (at + 1)
-  told id is =
+  announced id is =
       let there = found_is repo.refs name (Some id) sound.rising is in
       let one : filter_map (wanted_packet repo) (name ∷ drop (at + 1) names) ≡ text_line (hex_of id ++ 32 ∷ name) ∷ lines_from repo names (at + 1) =
       rw there refl in

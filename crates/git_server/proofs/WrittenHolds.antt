@@ -26,10 +26,10 @@ use Rattle.git_server.specs.declared.server.Pulled.TheVariants.{Packet}
 use Rattle.git_server.specs.declared.server.Server.{Server}
 
 -- a packet has space for what was read
-pub part_fits : (room : List ℕ) → length room ≡ 65515 → (part : PartRead) → length (body_of (part_packet room part)) ≤ longest_payload
-part_fits room full (Bytes count) = grind (arith, common_steps)
-part_fits room full End = omega arith
-part_fits room full Failed = omega arith
+pub part_fits : (space : List ℕ) → length space ≡ 65515 → (part : PartRead) → length (body_of (part_packet space part)) ≤ longest_payload
+part_fits space full (Bytes count) = grind (arith, common_steps)
+part_fits space full End = omega arith
+part_fits space full Failed = omega arith
 
 begins_by : (reader : PacketReader) (hold : ArrayVec ℕ) (packet : Pkt) (b : Bool) (is : is_open_in reader.state ≡ b) → b ≡ false
     → bytes_held (with_hold_by reader hold b is) ≤ 65520 → StartsWith hold.items (spelling_of packet) → length (body_of packet) ≤ longest_payload
@@ -75,7 +75,7 @@ module _ {R A : Type 0} (state : R → RepoState) (old new : Server R A) (gives 
   pulls_front bytes short is = record {
     goes = subst (λ (l : List ℕ). Goes state [] l old new) (sym is) gives.goes;
     unread = λ none. subst (λ (l : List ℕ). GivesUnread state old l new) (sym is) (gives.unread none);
-    tells = (gives.packet, gives.owed, is, gives.less);
+    announces = (gives.packet, gives.unsent, is, gives.less);
     outcome = gives.outcome;
     fits = short;
     credit = omega (arith, gives.credit);

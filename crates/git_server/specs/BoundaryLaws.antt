@@ -10,36 +10,36 @@ use Rattle.git_msg.specs.Asked.{FetchAsked}
 use Rattle.git_server.specs.Objects.{object_cmp}
 use Rattle.git_server.specs.Repository.{IsUnshallowOf}
 use Rattle.git_server.specs.SameObjects.{is_tied, same_object}
-use Rattle.git_server.specs.ToldBoundary.{boundary_for, is_deepened, says_shallow, says_unshallow, told_lines}
+use Rattle.git_server.specs.AnnouncedBoundary.{boundary_for, is_deepened, is_shallow_line, is_unshallow_line, announced_lines}
 
 where_deepened : (P : Boundary → Type 0) (deepened : Bool) (lines : List Boundary) → All P lines → All P (if deepened then lines else [])
 where_deepened P true lines all = all
 where_deepened P false lines all = All-nil P
 
 -- a property of every line of the boundary holds of each line that is sent
-pub told_keep : (P : Boundary → Type 0) (lines : List Boundary) (q : FetchAsked) → All P lines → All P (boundary_for lines q)
-told_keep P lines q all =
-    where_deepened P (is_deepened q) (told_lines lines q.shallows)
-    (All-append P (filter says_shallow lines) (filter (says_unshallow q.shallows) lines)
-    (All-filter says_shallow P lines all) (All-filter (says_unshallow q.shallows) P lines all))
+pub announced_keep : (P : Boundary → Type 0) (lines : List Boundary) (q : FetchAsked) → All P lines → All P (boundary_for lines q)
+announced_keep P lines q all =
+    where_deepened P (is_deepened q) (announced_lines lines q.shallows)
+    (All-append P (filter is_shallow_line lines) (filter (is_unshallow_line q.shallows) lines)
+    (All-filter is_shallow_line P lines all) (All-filter (is_unshallow_line q.shallows) P lines all))
 
-shallow_means : (shallows : List ObjectName) (line : Boundary) → says_shallow line ≡ true → IsUnshallowOf shallows line
-shallow_means shallows (Shallow id) says = tt
-shallow_means shallows (Unshallow id) says = absurd (cc)
+shallow_means : (shallows : List ObjectName) (line : Boundary) → is_shallow_line line ≡ true → IsUnshallowOf shallows line
+shallow_means shallows (Shallow id) conveys = tt
+shallow_means shallows (Unshallow id) conveys = absurd (cc)
 
-unshallow_means : (shallows : List ObjectName) (line : Boundary) → says_unshallow shallows line ≡ true → IsUnshallowOf shallows line
-unshallow_means shallows (Shallow id) says = tt
-unshallow_means shallows (Unshallow id) says =
-    let at = Any-from_list_any (λ (shallow : ObjectName). is_eq (object_cmp shallow id)) shallows says in
+unshallow_means : (shallows : List ObjectName) (line : Boundary) → is_unshallow_line shallows line ≡ true → IsUnshallowOf shallows line
+unshallow_means shallows (Shallow id) conveys = tt
+unshallow_means shallows (Unshallow id) conveys =
+    let at = Any-from_list_any (λ (shallow : ObjectName). is_eq (object_cmp shallow id)) shallows conveys in
     (at.0, at.1, at.2, at.3, same_object _ _ (is_tied _ at.4))
 
 -- a commit that is sent as no longer shallow is one that the request called shallow
-pub told_unshallow : (lines : List Boundary) (q : FetchAsked) → All (IsUnshallowOf q.shallows) (boundary_for lines q)
-told_unshallow lines q =
-    let shallow = filter says_shallow lines in
-    let unshallow = filter (says_unshallow q.shallows) lines in
-    where_deepened (IsUnshallowOf q.shallows) (is_deepened q) (told_lines lines q.shallows)
+pub announced_unshallow : (lines : List Boundary) (q : FetchAsked) → All (IsUnshallowOf q.shallows) (boundary_for lines q)
+announced_unshallow lines q =
+    let shallow = filter is_shallow_line lines in
+    let unshallow = filter (is_unshallow_line q.shallows) lines in
+    where_deepened (IsUnshallowOf q.shallows) (is_deepened q) (announced_lines lines q.shallows)
     (All-append (IsUnshallowOf q.shallows) shallow unshallow
-    (All-weaker (λ line. says_shallow line ≡ true) (IsUnshallowOf q.shallows) (shallow_means q.shallows) shallow (filter_passes says_shallow lines))
-    (All-weaker (λ line. says_unshallow q.shallows line ≡ true) (IsUnshallowOf q.shallows) (unshallow_means q.shallows) unshallow
-    (filter_passes (says_unshallow q.shallows) lines)))
+    (All-weaker (λ line. is_shallow_line line ≡ true) (IsUnshallowOf q.shallows) (shallow_means q.shallows) shallow (filter_passes is_shallow_line lines))
+    (All-weaker (λ line. is_unshallow_line q.shallows line ≡ true) (IsUnshallowOf q.shallows) (unshallow_means q.shallows) unshallow
+    (filter_passes (is_unshallow_line q.shallows) lines)))

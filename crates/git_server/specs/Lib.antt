@@ -3,7 +3,7 @@ pub mod NameBytes
 pub mod Objects
 pub mod SameObjects
 pub mod Lists
-pub mod ToldBoundary
+pub mod AnnouncedBoundary
 pub mod BoundaryLaws
 pub mod FetchAnswers
 pub mod Answers

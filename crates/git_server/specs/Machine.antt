@@ -17,6 +17,6 @@ pub mod LateRepo
 pub mod Server
 pub mod ServerCalls
 pub mod Moved
-pub mod Owed
+pub mod Unsent
 pub mod Runs
 pub mod Calls

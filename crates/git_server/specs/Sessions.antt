@@ -7,7 +7,7 @@ use Rattle.git_pkt.specs.declared.fault.Fault.{Fault}
 use Rattle.git_pkt.specs.declared.fault.Kind.{Kind}
 use Rattle.git_pkt.specs.declared.fault.Kind.TheVariants.{OutOfMemory, PackSource, Truncated}
 use Rattle.git_msg.specs.declared.offers.Offer.{Offer}
-use Rattle.git_msg.specs.Admission.{AreAdmitted, IsToldFor}
+use Rattle.git_msg.specs.Admission.{AreAdmitted, IsAnnouncedFor}
 use Rattle.git_msg.specs.Asked.{Asked}
 use Rattle.git_msg.specs.Lines.{Line}
 use Rattle.git_msg.specs.Requests.{AreLines, Asks, IsStop}
@@ -61,7 +61,7 @@ pub record IsRefusedAtPacket (s : Setting) (left : List Given) (rest : List ℕ)
   pub last : Given
   pub whole : left ≡ front ++ last ∷ []
   pub begins : Begins s front
-  pub told : IsToldFor s.offer s.limit (barred s.repo) left fault
+  pub announced : IsAnnouncedFor s.offer s.limit (barred s.repo) left fault
   pub no_rest : rest ≡ []
 
 -- none of the packets is refused, the input goes on, and reading stops at the bytes after them: they begin no packet, or the stream is too long
@@ -167,24 +167,24 @@ pub record IsSession (s : Setting) (used : List ℕ) (over : Bool) (given : List
   pub fit : AllFit (advertised s ++ answers ++ tail)
 
 -- no request has come; these packets of the advertisement were sent, and those have to be sent
-pub record IsOpening (s : Setting) (asked : List Asked) (sent owed : List Pkt) : Type 0 where
+pub record IsOpening (s : Setting) (asked : List Asked) (sent unsent : List Pkt) : Type 0 where
   pub none : asked ≡ []
-  pub parts : sent ++ owed ≡ advertised s
+  pub parts : sent ++ unsent ≡ advertised s
 
 -- all requests but the last were answered; these packets of the last answer were sent, and those have to be sent
-pub record IsAnswering (manner : Manner) (s : Setting) (asked : List Asked) (sent owed : List Pkt) : Type 0 where
+pub record IsAnswering (manner : Manner) (s : Setting) (asked : List Asked) (sent unsent : List Pkt) : Type 0 where
   pub earlier : List Asked
   pub last : Asked
   pub answers : List Pkt
   pub front : List Pkt
   pub whole : asked ≡ earlier ++ last ∷ []
   pub answered : AreAnswers s.repo earlier answers
-  pub answer : IsAnswerAs manner s.repo last (front ++ owed)
+  pub answer : IsAnswerAs manner s.repo last (front ++ unsent)
   pub sent_is : sent ≡ advertised s ++ answers ++ front
 
 -- the packets sent and those that have to be sent for these requests: all but a part of the last message was sent
 abbrev pub IsSent : Setting → List Asked → List Pkt → List Pkt → Type 0
-IsSent s asked sent owed = IsOpening s asked sent owed ⊎ IsAnswering whole s asked sent owed
+IsSent s asked sent unsent = IsOpening s asked sent unsent ⊎ IsAnswering whole s asked sent unsent
 
 -- the session goes on: nothing is refused and the client has not left
 pub record GoesOn (s : Setting) (used given : List ℕ) : Type 0 where
@@ -192,16 +192,16 @@ pub record GoesOn (s : Setting) (used given : List ℕ) : Type 0 where
   pub left : List Given
   pub rest : List ℕ
   pub sent : List Pkt
-  pub owed : List Pkt
+  pub unsent : List Pkt
   pub stream : Stream s used asked left rest
   pub begins : Begins s left
   pub unrefused : IsOpen rest
-  pub is_sent : IsSent s asked sent owed
+  pub is_sent : IsSent s asked sent unsent
   pub given_is : given ≡ spelled sent
   pub fit : AllFit sent
 
 -- the session ends so, and everything was sent except a part of what is written at its end
-pub record IsEnding (s : Setting) (used : List ℕ) (over : Bool) (given : List ℕ) (outcome : Outcome) (owed : List Pkt) : Type 0 where
+pub record IsEnding (s : Setting) (used : List ℕ) (over : Bool) (given : List ℕ) (outcome : Outcome) (unsent : List Pkt) : Type 0 where
   pub asked : List Asked
   pub left : List Given
   pub rest : List ℕ
@@ -210,14 +210,14 @@ pub record IsEnding (s : Setting) (used : List ℕ) (over : Bool) (given : List 
   pub stream : Stream s used asked left rest
   pub ends : EndsBy s over left rest (length used) outcome
   pub answered : AreAnswers s.repo asked answers
-  pub parts : IsTail s left outcome (sent ++ owed)
+  pub parts : IsTail s left outcome (sent ++ unsent)
   pub given_is : given ≡ spelled (advertised s ++ answers ++ sent)
   pub fit : AllFit (advertised s ++ answers ++ sent)
 
 -- the relation at every moment between the bytes used and those sent. A session goes on only while its input does.
 abbrev pub IsRunning : Setting → List ℕ → Bool → List ℕ → Type 0
 IsRunning s used over given =
-    ((over ≡ false) × GoesOn s used given) ⊎ ((outcome : Outcome) × (owed : List Pkt) × IsEnding s used over given outcome owed)
+    ((over ≡ false) × GoesOn s used given) ⊎ ((outcome : Outcome) × (unsent : List Pkt) × IsEnding s used over given outcome unsent)
 
 -- the session goes on, and the whole advertisement and each whole answer were sent
 pub record IsAnswered (s : Setting) (used given : List ℕ) : Type 0 where

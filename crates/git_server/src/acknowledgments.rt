@@ -50,7 +50,9 @@ pub(crate) fn write_acknowledgments<R: Repo, A: Allocator + Copy>(
             write_line(reader, b"acknowledgments", b"");
             Acknowledged::Part(AcknowledgmentsPlace::Have(0, false))
         }
-        AcknowledgmentsPlace::Have(from, told) => write_ack(repo, request, from, told, reader),
+        AcknowledgmentsPlace::Have(from, announced) => write_ack(
+            repo, request, from, announced, reader,
+        ),
         AcknowledgmentsPlace::Through => write_end(repo, request, reader),
     }
 }
@@ -60,11 +62,11 @@ fn write_ack<R: Repo, A: Allocator + Copy>(
     repo: &R,
     request: &Fetch<A>,
     from: usize,
-    told: bool,
+    announced: bool,
     reader: &mut PacketReader,
 ) -> Acknowledged
     requires { is_open reader.old ≡ false }
-    ensures { Acknowledges (R.state repo.now).answers request.now.asked (AcknowledgmentsPlace.Have from told) reader.old result reader.new }
+    ensures { Acknowledges (R.state repo.now).answers request.now.asked (AcknowledgmentsPlace.Have from announced) reader.old result reader.new }
 {
     let haves = request.haves();
     match next_common(repo, haves, from) {
@@ -73,7 +75,7 @@ fn write_ack<R: Repo, A: Allocator + Copy>(
             Acknowledged::Part(AcknowledgmentsPlace::Have(at + 1, true))
         }
         None => {
-            if told {
+            if announced {
                 return write_end(repo, request, reader);
             }
             write_line(reader, b"NAK", b"");

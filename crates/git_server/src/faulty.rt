@@ -55,7 +55,7 @@ impl<R: Repo> Repo for Faulty<R> {
 
     ghost state = { faulty_state R.state };
 
-    ghost read_gives = { λ faulty request offset room count. R.read_gives (inner_of faulty) request offset (min (most_of faulty) room) count };
+    ghost read_gives = { λ faulty request offset space count. R.read_gives (inner_of faulty) request offset (min (most_of faulty) space) count };
 
     ghost sound = { λ faulty. R.sound faulty.inner };
 
@@ -103,7 +103,7 @@ impl<R: Repo> Repo for Faulty<R> {
         offset: u64,
         out: &mut [u8],
     ) -> Result<usize, PackFault>
-        requires room { 0 < length out.old }
+        requires space { 0 < length out.old }
         ensures part { IfOk result (λ count. IsPackPart ((R.state (inner_of self.old)).answers.pack request.now.asked) offset count out.new) }
         ensures cause { OnErr result ((faulty_state R.state self.old).failures < (faulty_state R.state self.new).failures) }
         ensures fine { OnOk result ((faulty_state R.state self.new).failures ≡ (faulty_state R.state self.old).failures) }
@@ -111,7 +111,7 @@ impl<R: Repo> Repo for Faulty<R> {
         ensures given { IfOk result (λ count.
             R.read_gives (inner_of self.old) request.now.asked offset (min (most_of self.old) (length out.old)) count) }
         ensures fails { reads_left self.old ≡ 0 → IsErr result }
-        ensures due { OnErr result ((reads_left self.old ≡ 0)
+        ensures expected { OnErr result ((reads_left self.old ≡ 0)
             ⊎ ((R.state (inner_of self.old)).failures < (R.state (inner_of self.new)).failures)) }
         ensures reads { reads_left self.new ≡ reads_left self.old - 1 }
         ensures at_most { IfOk result (λ count. count ≤ most_of self.old) }

@@ -80,7 +80,7 @@ impl<P: Read + Drop> Repo for LateRepo<P> {
 
     ghost state = { late_state };
 
-    ghost read_gives = { λ repo request offset room count. count ≡ min (length (pack_for (late_lists repo) request) - offset) room };
+    ghost read_gives = { λ repo request offset space count. count ≡ min (length (pack_for (late_lists repo) request) - offset) space };
 
     ghost sound = { λ repo. is_sound repo.lists };
 
@@ -128,7 +128,7 @@ impl<P: Read + Drop> Repo for LateRepo<P> {
         offset: u64,
         out: &mut [u8],
     ) -> Result<usize, PackFault>
-        requires room { 0 < length out.old }
+        requires space { 0 < length out.old }
         ensures part { IfOk result (λ count. IsPackPart (pack_for (late_lists self.old) request.now.asked) offset count out.new) }
         ensures fills { IfOk result (λ count. count ≡ min (length (pack_for (late_lists self.old) request.now.asked) - offset) (length out.old)) }
         ensures cause { OnErr result ((late_state self.old).failures < (late_state self.new).failures) }

@@ -30,7 +30,7 @@ pub fn server_keeps_to_its_session<R: Repo, A: Allocator + Copy>(server: &Server
     ensures goes_on { (s : Setting) (used : List ℕ) (over : Bool) (given : List ℕ) → Running R.state s used over given server.now
         → outcome_of server.now ≡ None → (over ≡ false) × GoesOn s used given }
     ensures ends { (s : Setting) (used : List ℕ) (over : Bool) (given : List ℕ) (outcome : Outcome) → Running R.state s used over given server.now
-        → outcome_of server.now ≡ Some outcome → (owed : List Pkt) × IsEnding s used over given outcome owed }
+        → outcome_of server.now ≡ Some outcome → (unsent : List Pkt) × IsEnding s used over given outcome unsent }
 {}
 
 /// A server that neither waits for input nor has an outcome has used whole requests and nothing else.
@@ -92,10 +92,10 @@ pub fn all_fields_are_counted<R: Repo, A: Allocator + Copy>()
 /// The contract of each method ensures a call of the headline, and such calls follow one another: so the headline covers all calls that
 /// a program makes.
 pub fn methods_make_calls<R: Repo, A: Memory + Copy>()
-    ensures fed { (old new : Server R A) (piece : List ℕ) (used before after : ℕ) → used ≤ length piece
-        → Goes R.state (take used piece) [] old new → Pays used before after (credit_of (reader_of old)) (credit_of (reader_of new))
+    ensures fed { (old new : Server R A) (chunk : List ℕ) (used before after : ℕ) → used ≤ length chunk
+        → Goes R.state (take used chunk) [] old new → Pays used before after (credit_of (reader_of old)) (credit_of (reader_of new))
         → KeepsToMemory R.state A.refuses old new
-        → Makes R.state A.refuses (feed piece used) before old after new }
+        → Makes R.state A.refuses (feed chunk used) before old after new }
     ensures pulled { (old new : Server R A) (answer : Pulled) (steps : ℕ) → Pulls R.state old answer new
         → Makes R.state A.refuses (pull answer) steps old steps new }
     ensures closed { (old new : Server R A) (steps : ℕ) → wants_input old ≡ true → Closes R.state old new

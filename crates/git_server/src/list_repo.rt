@@ -11,7 +11,7 @@ ghost use Rattle.git_server.specs.Lists.{IsRepository, lists_in, repo_fault_name
 ghost use Rattle.git_server.specs.Objects.{object_cmp, object_of, has_object, precedes, AreRising};
 ghost use Rattle.git_server.specs.Packs.{IsPackPart};
 ghost use Rattle.git_server.specs.Repository.{IsNamed, IsOfFormat, IsRising, IsUnbornHead, bytes_of, comes_before};
-ghost use Rattle.git_server.specs.ToldBoundary.{is_deepened, says_shallow, says_unshallow, told_lines};
+ghost use Rattle.git_server.specs.AnnouncedBoundary.{is_deepened, is_shallow_line, is_unshallow_line, announced_lines};
 
 use crate::entry::RefEntry;
 use crate::repo::{PackFault, Repo};
@@ -171,7 +171,7 @@ impl ListRepo {
         offset: u64,
         out: &mut [u8],
     ) -> usize
-        requires room { 0 < length out.old }
+        requires space { 0 < length out.old }
         ensures part { IsPackPart (pack_for (lists_of self.now) request.now.asked) offset result out.new }
         ensures fills { result ≡ min (length (pack_for (lists_of self.now) request.now.asked) - offset) (length out.old) }
     {
@@ -190,7 +190,7 @@ impl Repo for ListRepo {
 
     ghost state = { state_of };
 
-    ghost read_gives = { λ repo request offset room count. count ≡ min (length (pack_for (lists_of repo) request) - offset) room };
+    ghost read_gives = { λ repo request offset space count. count ≡ min (length (pack_for (lists_of repo) request) - offset) space };
 
     ghost sound = { is_sound };
 
@@ -238,14 +238,14 @@ impl Repo for ListRepo {
 
     fn boundaries<A: Allocator + Copy>(&self, request: &Fetch<A>) -> usize {
         if deepens(request) {
-            count_told(&self.lists.boundaries, request.shallows())
+            count_announced(&self.lists.boundaries, request.shallows())
         } else {
             0
         }
     }
 
     fn boundary<A: Allocator + Copy>(&self, request: &Fetch<A>, i: usize) -> Boundary {
-        match told_at(&self.lists.boundaries, request.shallows(), i) {
+        match announced_at(&self.lists.boundaries, request.shallows(), i) {
             Some(line) => line,
             None => unreachable!(),
         }
@@ -257,7 +257,7 @@ impl Repo for ListRepo {
         offset: u64,
         out: &mut [u8],
     ) -> Result<usize, PackFault>
-        requires room { 0 < length out.old }
+        requires space { 0 < length out.old }
         ensures part { IfOk result (λ count. IsPackPart (pack_for (lists_of self.old) request.now.asked) offset count out.new) }
         ensures fills { result ≡ Ok (min (length (pack_for (lists_of self.old) request.now.asked) - offset) (length out.old)) }
         ensures same { self.new ≡ self.old }
@@ -403,14 +403,14 @@ fn deepens<A: Allocator + Copy>(request: &Fetch<A>) -> bool
 
 // Whether this is a `shallow` line.
 fn is_shallow(line: &Boundary) -> bool
-    ensures { result ≡ says_shallow line.now }
+    ensures { result ≡ is_shallow_line line.now }
 {
     matches!(line, Boundary::Shallow(_))
 }
 
 // Whether this is the `unshallow` line of one of these commits.
 fn is_unshallow_of(line: &Boundary, shallows: &[Oid]) -> bool
-    ensures { result ≡ says_unshallow shallows.now line.now }
+    ensures { result ≡ is_unshallow_line shallows.now line.now }
 {
     match line {
         Boundary::Shallow(_) => false,
@@ -419,8 +419,8 @@ fn is_unshallow_of(line: &Boundary, shallows: &[Oid]) -> bool
 }
 
 // The number of boundary lines for a client that has these commits without their parents.
-fn count_told(lines: &[Boundary], shallows: &[Oid]) -> usize
-    ensures { result ≡ length (told_lines lines.now shallows.now) }
+fn count_announced(lines: &[Boundary], shallows: &[Oid]) -> usize
+    ensures { result ≡ length (announced_lines lines.now shallows.now) }
 {
     let shallow = lines.iter().filter(|line| is_shallow(line)).count();
     let unshallow = lines
@@ -431,8 +431,8 @@ fn count_told(lines: &[Boundary], shallows: &[Oid]) -> usize
 }
 
 // The line at index `i` of those for the client: the shallow commits come first.
-fn told_at(lines: &[Boundary], shallows: &[Oid], i: usize) -> Option<Boundary>
-    ensures { result ≡ slice_get (told_lines lines.now shallows.now) i }
+fn announced_at(lines: &[Boundary], shallows: &[Oid], i: usize) -> Option<Boundary>
+    ensures { result ≡ slice_get (announced_lines lines.now shallows.now) i }
 {
     let shallow = lines.iter().filter(|line| is_shallow(line));
     let unshallow = lines.iter().filter(|line| is_unshallow_of(line, shallows));

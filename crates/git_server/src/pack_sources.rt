@@ -1,14 +1,14 @@
 //! The readers of the packs of a repository, with their failures.
 
 ghost use Rattle.std.specs.Prelude.{◌≡◌, ◌||◌, false, true, IfOk, OnErr};
-ghost use Rattle.git_pkt.specs.Machine.Told.{has_failed, inner_of};
+ghost use Rattle.git_pkt.specs.Machine.Recorded.{has_failed, inner_of};
 ghost use Rattle.git_server.specs.Machine.Growths.{has_refused};
 ghost use Rattle.git_server.specs.Machine.PackSources.{AreReadFrom, IsReadFrom, has_failure, readers_of};
 ghost use Rattle.git_server.specs.Repository.{bytes_of};
 
 use crate::growths::Growths;
 use crate::repo::PackFault;
-use git_pkt::{Retries, Told};
+use git_pkt::{Recorded, Retries};
 use std::alloc::Global;
 use std::io::Read;
 
@@ -19,8 +19,8 @@ const CHUNK: usize = 65_536;
 /// read is tried again.
 #[derive(Drop)]
 pub(crate) struct PackSources<P> {
-    pack: Told<Retries<P>>,
-    filtered: Option<Told<Retries<P>>>,
+    pack: Recorded<Retries<P>>,
+    filtered: Option<Recorded<Retries<P>>>,
     growths: Growths,
 }
 
@@ -31,9 +31,9 @@ impl<P: Read + Drop> PackSources<P> {
         ensures unfailed { has_failure result ≡ false }
     {
         PackSources {
-            pack: Told::new(Retries::new(pack)),
+            pack: Recorded::new(Retries::new(pack)),
             filtered: match filtered {
-                Some(reader) => Some(Told::new(Retries::new(reader))),
+                Some(reader) => Some(Recorded::new(Retries::new(reader))),
                 None => None,
             },
             growths: Growths::new(alloc),
@@ -55,7 +55,10 @@ impl<P: Read + Drop> PackSources<P> {
 }
 
 // Reads the rest of the bytes.
-fn read_whole<R: Read>(reader: &mut Told<R>, growths: &mut Growths) -> Result<Vec<u8>, PackFault>
+fn read_whole<R: Read>(
+    reader: &mut Recorded<R>,
+    growths: &mut Growths,
+) -> Result<Vec<u8>, PackFault>
     ensures read { IfOk result (λ read. IsReadFrom (R.remaining (inner_of reader.old)) read.items) }
     ensures cause { OnErr result ((has_failed reader.new || has_refused growths.new) ≡ true) }
 {

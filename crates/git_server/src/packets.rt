@@ -47,7 +47,7 @@ pub(crate) fn append_packet(hold: &mut Hold, packet: Packet<'_>)
 // Appends four digits and then the body.
 fn append_spelling(hold: &mut Hold, field: usize, body: &[u8])
     requires digits { field < 65536 }
-    requires room { length hold.old.items + 4 + length body.now ≤ 65520 }
+    requires space { length hold.old.items + 4 + length body.now ≤ 65520 }
     ensures { hold.new.items ≡ hold.old.items ++ (digits_of field ++ body.now) }
 {
     append(

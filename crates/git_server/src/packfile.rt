@@ -6,7 +6,7 @@ ghost use Rattle.git_pkt.specs.Machine.PacketReader.{is_open};
 ghost use Rattle.git_pkt.specs.Packets.{spelling_of};
 ghost use Rattle.git_server.specs.Machine.AnsweredRequest.{WritesPack};
 ghost use Rattle.git_server.specs.Machine.FullParts.{FillsPart};
-ghost use Rattle.git_server.specs.Machine.PackParts.{FitsRoom, PutsPart, ReadsPart, WritesPart, part_packet};
+ghost use Rattle.git_server.specs.Machine.PackParts.{FitsBuffer, PutsPart, ReadsPart, WritesPart, part_packet};
 ghost use Rattle.git_server.specs.Machine.WrittenPackets.{IsAtFront};
 
 use crate::answer::Answered;
@@ -102,13 +102,13 @@ fn read_part<R: Repo, A: Allocator + Copy>(
     repo: &mut R,
     request: &Fetch<A>,
     offset: u64,
-    room: &mut [u8],
+    buffer: &mut [u8],
 ) -> PartRead
-    requires full { length room.old ≡ 65515 }
+    requires full { length buffer.old ≡ 65515 }
     ensures { ReadsPart (R.read_gives repo.old request.now.asked offset) ((R.state repo.old).answers.pack request.now.asked) offset
-        (R.state repo.old) result (R.state repo.new) room.new }
+        (R.state repo.old) result (R.state repo.new) buffer.new }
 {
-    match repo.pack_read(request, offset, room) {
+    match repo.pack_read(request, offset, buffer) {
         Ok(0) => PartRead::End,
         Ok(count) => PartRead::Bytes(count),
         Err(PackFault) => PartRead::Failed,
@@ -118,7 +118,7 @@ fn read_part<R: Repo, A: Allocator + Copy>(
 // Completes the packet at the front of the buffer, after its payload was read to the place behind its first bytes.
 fn close_part(hold: &mut Hold, part: PartRead)
     requires long { length hold.old.items ≡ 65520 }
-    requires within { FitsRoom part }
+    requires within { FitsBuffer part }
     ensures { StartsWith hold.new.items (spelling_of (part_packet (drop 5 hold.old.items) part)) }
 {
     match part {

@@ -34,7 +34,7 @@ pub trait Repo {
 
     /// The number of bytes that a read of a pack may return, for a request, an offset and the length of the buffer. Any number is allowed if
     /// the repository does not define this.
-    ghost read_gives: { Self → FetchAsked → ℕ → ℕ → ℕ → Type 0 } = { λ repo request offset room count. Unit {0} };
+    ghost read_gives: { Self → FetchAsked → ℕ → ℕ → ℕ → Type 0 } = { λ repo request offset space count. Unit {0} };
 
     /// The format of its object names.
     fn format(&self) -> Format
@@ -84,7 +84,7 @@ pub trait Repo {
         offset: u64,
         out: &mut [u8],
     ) -> Result<usize, PackFault>
-        requires room { 0 < length out.old }
+        requires space { 0 < length out.old }
         ensures part { IfOk result (λ count. IsPackPart ((state self.old).answers.pack request.now.asked) offset count out.new) }
         ensures given { IfOk result (λ count. read_gives self.old request.now.asked offset (length out.old) count) }
         ensures cause { OnErr result ((state self.old).failures < (state self.new).failures) }

@@ -21,7 +21,7 @@
 ghost use Rattle.std.specs.Prelude.{◌≡◌, true, false, None};
 ghost use Rattle.git_pkt.specs.Machine.PacketReader.{is_open, passes_of};
 ghost use Rattle.git_msg.specs.Machine.RequestReader.{fault_of, is_waiting};
-ghost use Rattle.git_server.specs.Machine.Phases.{advertising_phase, lost_pack, outcome_in, owes_in, phase_after, refusal_in, refused_by, turn_in};
+ghost use Rattle.git_server.specs.Machine.Phases.{advertising_phase, lost_pack, outcome_in, has_unsent_in, phase_after, refusal_in, refused_by, turn_in};
 
 use crate::admission::Admission;
 use crate::advertisement::AdvertisementLine;
@@ -62,7 +62,7 @@ pub struct Server<R, A: Allocator + Copy> {
     phase: Phase<A>,
     ghost sound: { outcome_in phase ≡ None → fault_of requests ≡ None },
     ghost ready: { outcome_in phase ≡ None → is_waiting requests ≡ false },
-    ghost between: { owes_in phase ≡ true → is_open reader ≡ false },
+    ghost between: { has_unsent_in phase ≡ true → is_open reader ≡ false },
     ghost gathers: { passes_of reader ≡ false },
 }
 
@@ -96,7 +96,7 @@ impl<R: Repo, A: Allocator + Copy> Server<R, A> {
     ghost use Rattle.git_pkt.specs.Packets.{Pkt, Spells};
     ghost use Rattle.git_server.specs.Machine.Server.{IsFresh, Running, reader_of, repo_of, wants_input, outcome_of};
     ghost use Rattle.git_server.specs.Machine.LatePacks.{first_setting};
-    ghost use Rattle.git_server.specs.Machine.ServerCalls.{Closes, ClosesUnread, FillsOwed, Gives, Goes, GoesUnread, IsPulled, OwesNoPack, OwesNow};
+    ghost use Rattle.git_server.specs.Machine.ServerCalls.{Closes, ClosesUnread, FillsUnsent, Gives, Goes, GoesUnread, IsPulled, HasNoPackUnsent, AreUnsentNow};
     ghost use Rattle.git_server.specs.Machine.ServerCalls.{Pulls, RunsUnread, StopsInTime};
     ghost use Rattle.git_server.specs.Machine.WrittenPackets.{IsAtFront};
     ghost use Rattle.git_pkt.specs.Machine.PacketReader.{held_of};
@@ -148,7 +148,7 @@ impl<R: Repo, A: Allocator + Copy> Server<R, A> {
 
     /// Whether a pack is needed: the answer that has to be pulled has bytes of one, or may fail because there is none.
     pub fn wants_pack(&self) -> bool
-        ensures { MatchBool result (¬ OwesNoPack R.state self.now) (OwesNoPack R.state self.now) }
+        ensures { MatchBool result (¬ HasNoPackUnsent R.state self.now) (HasNoPackUnsent R.state self.now) }
     {
         match &self.phase {
             Phase::Answering(answer, _) => answer.has_pack(&self.repo),
@@ -159,7 +159,7 @@ impl<R: Repo, A: Allocator + Copy> Server<R, A> {
     /// Whether the server wants bytes: there is no outcome yet, and everything was pulled that has to be sent.
     pub fn wants_input(&self) -> bool
         ensures value { result ≡ wants_input self.now }
-        ensures waits { IsTrue result ↔ ((outcome_of self.now ≡ None) × OwesNow R.state self.now []) }
+        ensures waits { IsTrue result ↔ ((outcome_of self.now ≡ None) × AreUnsentNow R.state self.now []) }
     {
         match self.phase {
             Phase::Between => true,
@@ -210,7 +210,7 @@ impl<R: Repo, A: Allocator + Copy> Server<R, A> {
     /// into a packet, and is written only after they were read.
     pub fn pull(&mut self) -> Pulled<'_>
         ensures* after { sem 𝓛 (Rests (the_row R.row A.row A.Allocator) self.entry (λ new. Pulls R.state self.old result new)) }
-        ensures full { FillsOwed R.read_gives self.old (IsPulled result) }
+        ensures full { FillsUnsent R.read_gives self.old (IsPulled result) }
     {
         match self.turn() {
             Turn::NeedInput => Pulled::NeedInput,
@@ -247,7 +247,7 @@ impl<R: Repo, A: Allocator + Copy> Server<R, A> {
     pub(crate) fn give(&mut self)
         requires { turn_in self.old.phase ≡ Turn.Packet }
         ensures gives { Gives R.state self.old self.new }
-        ensures full { FillsOwed R.read_gives self.old (IsAtFront self.new.reader) }
+        ensures full { FillsUnsent R.read_gives self.old (IsAtFront self.new.reader) }
     {
         match &mut self.phase {
             Phase::Advertising(line) => {
@@ -282,44 +282,44 @@ impl<R: Repo, A: Memory + Copy> Server<R, A> {
     /// Takes bytes of the input, and returns how many were used: all of them, or those up to the end of a request, a flush
     /// in place of a request, or an error. None is used while a packet waits to be pulled, nor after the session ended. An empty
     /// chunk changes nothing.
-    pub fn feed(&mut self, piece: &[u8], steps: &mut Steps) -> usize
-        ensures used { result ≤ length piece.now }
-        ensures goes { Goes R.state (take result piece.now) [] self.old self.new }
-        ensures unread { GoesUnread R.state (take result piece.now) [] self.old self.new }
-        ensures whole { IsTrue (wants_input self.new) → result ≡ length piece.now }
-        ensures moves { wants_input self.old ≡ true → 0 < length piece.now → 0 < result ⊎ IsSome (outcome_of self.new) }
-        ensures in_time { StopsInTime R.state self.old result piece.now (outcome_of self.new) }
+    pub fn feed(&mut self, chunk: &[u8], steps: &mut Steps) -> usize
+        ensures used { result ≤ length chunk.now }
+        ensures goes { Goes R.state (take result chunk.now) [] self.old self.new }
+        ensures unread { GoesUnread R.state (take result chunk.now) [] self.old self.new }
+        ensures whole { IsTrue (wants_input self.new) → result ≡ length chunk.now }
+        ensures moves { wants_input self.old ≡ true → 0 < length chunk.now → 0 < result ⊎ IsSome (outcome_of self.new) }
+        ensures in_time { StopsInTime R.state self.old result chunk.now (outcome_of self.new) }
         ensures stays { wants_input self.old ≡ false → (result ≡ 0) × (self.new ≡ self.old) }
 
         // The session ends for lack of memory only if memory for a list was refused that would have had no more bytes than the limit.
         ensures memory { KeepsToMemory R.state A.refuses self.old self.new }
-        ensures nothing { length piece.now ≡ 0 → (result ≡ 0) × (self.new ≡ self.old) }
+        ensures nothing { length chunk.now ≡ 0 → (result ≡ 0) × (self.new ≡ self.old) }
         ensures cost { Pays result steps.old steps.new (credit_of (reader_of self.old)) (credit_of (reader_of self.new)) }
     {
         let mut used = 0;
-        while used < piece.len() && self.wants_input() {
-            used += self.step(&piece[used..], steps);
+        while used < chunk.len() && self.wants_input() {
+            used += self.step(&chunk[used..], steps);
         }
         used
     }
 
     // Uses one packet, or the whole chunk. If the server wants more after a packet, the bytes of the packet have paid for its steps.
-    fn step(&mut self, piece: &[u8], steps: &mut Steps) -> usize
+    fn step(&mut self, chunk: &[u8], steps: &mut Steps) -> usize
         requires wants { wants_input self.old ≡ true }
-        requires some { 0 < length piece.now }
-        ensures used { result ≤ length piece.now }
-        ensures goes { Goes R.state (take result piece.now) [] self.old self.new }
-        ensures unread { GoesUnread R.state (take result piece.now) [] self.old self.new }
+        requires some { 0 < length chunk.now }
+        ensures used { result ≤ length chunk.now }
+        ensures goes { Goes R.state (take result chunk.now) [] self.old self.new }
+        ensures unread { GoesUnread R.state (take result chunk.now) [] self.old self.new }
         ensures moves { 0 < result ⊎ IsSome (outcome_of self.new) }
         ensures goes_on { wants_input self.new ≡ true → 0 < result }
         ensures cost { Pays result steps.old steps.new (credit_of (reader_of self.old)) (credit_of (reader_of self.new)) }
-        ensures paid { wants_input self.new ≡ true → result < length piece.now
+        ensures paid { wants_input self.new ≡ true → result < length chunk.now
             → steps.new + credit_of (reader_of self.new) ≤ steps.old + credit_of (reader_of self.old) + 64 * result }
-        ensures in_time { StopsInTime R.state self.old result piece.now (outcome_of self.new) }
+        ensures in_time { StopsInTime R.state self.old result chunk.now (outcome_of self.new) }
         ensures memory { KeepsToMemory R.state A.refuses self.old self.new }
     {
         steps.tick(1);
-        let fed = self.reader.feed(piece, steps);
+        let fed = self.reader.feed(chunk, steps);
         let used = fed.used;
         match fed.got {
             Got::More => used,

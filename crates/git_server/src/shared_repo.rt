@@ -49,7 +49,7 @@ impl Repo for SharedRepo {
 
     ghost state = { shared_state };
 
-    ghost read_gives = { λ shared request offset room count. count ≡ min (length (pack_for (lists_of (shared_by shared)) request) - offset) room };
+    ghost read_gives = { λ shared request offset space count. count ≡ min (length (pack_for (lists_of (shared_by shared)) request) - offset) space };
 
     ghost sound = { λ shared. is_sound (shared_by shared) };
 
@@ -97,7 +97,7 @@ impl Repo for SharedRepo {
         offset: u64,
         out: &mut [u8],
     ) -> Result<usize, PackFault>
-        requires room { 0 < length out.old }
+        requires space { 0 < length out.old }
         ensures part { IfOk result (λ count. IsPackPart (pack_for (lists_of (shared_by self.old)) request.now.asked) offset count out.new) }
         ensures fills { result ≡ Ok (min (length (pack_for (lists_of (shared_by self.old)) request.now.asked) - offset) (length out.old)) }
         ensures same { self.new ≡ self.old }

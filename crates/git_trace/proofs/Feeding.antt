@@ -53,13 +53,13 @@ long_back begun s t e = long_joined begun s t ∙ rw e (or_true (has_long begun 
     or_true false = refl
 
 -- a byte makes the line too long, and so the text that goes on with it
-pub fault_on : (fed piece left : List ℕ) (i : ℕ) (fault : TraceFault) → i < length piece → left ≡ left_after (left_after [] fed) (take i piece)
-    → IsLineFault left (slice_index piece i ∷ []) fault → IsFeedFault (fed ++ piece) fault
-fault_on fed piece left i (LongLine line) below is long =
-    let here : has_long (left_after [] fed) (take i piece ++ slice_index piece i ∷ []) ≡ true =
-    long_back (left_after [] fed) (take i piece) (slice_index piece i ∷ []) (ap (λ (l : List ℕ). has_long l (slice_index piece i ∷ [])) (sym is) ∙ long) in
-    let front : has_long (left_after [] fed) (take (i + 1) piece) ≡ true = ap (has_long (left_after [] fed)) (take_more piece i 0 below) ∙ here in
-    let whole = long_front (left_after [] fed) (take (i + 1) piece) (drop (i + 1) piece) front in
-    long_back [] fed piece (ap (has_long (left_after [] fed)) (sym (take-append-drop (i + 1) piece)) ∙ whole)
-fault_on fed piece left i (NoPackets line) below is none = none
-fault_on fed piece left i OutOfMemory below is met = met
+pub fault_on : (fed chunk left : List ℕ) (i : ℕ) (fault : TraceFault) → i < length chunk → left ≡ left_after (left_after [] fed) (take i chunk)
+    → IsLineFault left (slice_index chunk i ∷ []) fault → IsFeedFault (fed ++ chunk) fault
+fault_on fed chunk left i (LongLine line) below is long =
+    let here : has_long (left_after [] fed) (take i chunk ++ slice_index chunk i ∷ []) ≡ true =
+    long_back (left_after [] fed) (take i chunk) (slice_index chunk i ∷ []) (ap (λ (l : List ℕ). has_long l (slice_index chunk i ∷ [])) (sym is) ∙ long) in
+    let front : has_long (left_after [] fed) (take (i + 1) chunk) ≡ true = ap (has_long (left_after [] fed)) (take_more chunk i 0 below) ∙ here in
+    let whole = long_front (left_after [] fed) (take (i + 1) chunk) (drop (i + 1) chunk) front in
+    long_back [] fed chunk (ap (has_long (left_after [] fed)) (sym (take-append-drop (i + 1) chunk)) ∙ whole)
+fault_on fed chunk left i (NoPackets line) below is none = none
+fault_on fed chunk left i OutOfMemory below is met = met

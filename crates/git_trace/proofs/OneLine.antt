@@ -11,10 +11,11 @@ use Rattle.git_trace.specs.declared.shown_lines.Look.TheVariants.{Lines, Columns
 use Rattle.git_trace.specs.declared.trace_lines.Direction.{Direction}
 use Rattle.git_trace.specs.declared.trace_lines.Direction.TheVariants.{Received, Sent}
 use Rattle.git_trace.specs.Escapes.{is_written}
-use Rattle.git_trace.specs.TraceLines.{Said, Traced, flush, delim, resp_end, pack, payload}
+use Rattle.git_trace.specs.TraceLines.{LineContent, Traced, flush, delim, resp_end, pack, payload}
 use Rattle.git_trace.specs.TraceLines.{after_name, after_word, behind_word, in_parts, is_name_byte, traced_in, without_return, without_spaces}
 use Rattle.git_trace.specs.ShownLines.{arrow, colour_of, cut, in_column, kind_word, label_of, line_of, name_column}
-use Rattle.git_trace.specs.ShownLines.{name_of, named, payload_shown, process_columns, said_bytes, spaces, text_column, bytes_shown, widest, columns_before, longest_front}
+use Rattle.git_trace.specs.ShownLines.{name_of, named, payload_shown, process_columns, content_bytes, spaces, text_column, bytes_shown, widest}
+use Rattle.git_trace.specs.ShownLines.{columns_before, longest_front}
 
 -- no LF
 abbrev pub OnLine : List ℕ → Type 0
@@ -107,7 +108,7 @@ arrow_on : (direction : Direction) → OnLine (arrow direction)
 arrow_on Received = refl
 arrow_on Sent = refl
 
-kind_on : (said : Said) → OnLine (kind_word said)
+kind_on : (content : LineContent) → OnLine (kind_word content)
 kind_on flush = refl
 kind_on delim = refl
 kind_on resp_end = refl
@@ -118,16 +119,16 @@ payload_on : (bytes : List ℕ) → OnLine (payload_shown bytes)
 payload_on [] = refl
 payload_on (b ∷ bytes) = escaped_on (b ∷ bytes)
 
-cut_on : (room : ℕ) (bytes : List ℕ) → OnLine bytes → OnLine (cut room bytes)
-cut_on room bytes e = at (nat_le (length bytes) room) refl where
-  at : (fits : Bool) → nat_le (length bytes) room ≡ fits → OnLine (cut room bytes)
+cut_on : (space : ℕ) (bytes : List ℕ) → OnLine bytes → OnLine (cut space bytes)
+cut_on space bytes e = at (nat_le (length bytes) space) refl where
+  at : (fits : Bool) → nat_le (length bytes) space ≡ fits → OnLine (cut space bytes)
   at true f = rw f e
-  at false f = rw f (joined (take (room - 2) bytes) (codes "..") (front (room - 2) bytes e) refl)
+  at false f = rw f (joined (take (space - 2) bytes) (codes "..") (front (space - 2) bytes e) refl)
 
-column_on : (label : Label) (room : ℕ) (bytes : List ℕ) → OnLine bytes → OnLine (in_column label room bytes)
-column_on label room [] e = refl
-column_on label room (b ∷ bytes) e =
-    joined (spaces (10 - length (name_of label))) (cut room (b ∷ bytes)) (spaces_on (10 - length (name_of label))) (cut_on room (b ∷ bytes) e)
+column_on : (label : Label) (space : ℕ) (bytes : List ℕ) → OnLine bytes → OnLine (in_column label space bytes)
+column_on label space [] e = refl
+column_on label space (b ∷ bytes) e =
+    joined (spaces (10 - length (name_of label))) (cut space (b ∷ bytes)) (spaces_on (10 - length (name_of label))) (cut_on space (b ∷ bytes) e)
 
 word_on : (label : Label) → OnLine (name_of label)
 word_on Label.Flush = refl
@@ -161,16 +162,16 @@ named_on false label = word_on label
 -- what is shown of a packet is a text without an LF, and one
 pub line_is_one : (look : Look) (t : Traced) → OnLine t.name → (shown : List ℕ) × (line_of look t ≡ shown ++ codes "\n") × OnLine shown
 line_is_one Lines t e =
-    let bytes = said_bytes t.name t.said in
+    let bytes = content_bytes t.name t.content in
     let head = joined (t.name ++ codes " ") (arrow t.direction) (joined t.name (codes " ") e refl) (arrow_on t.direction) in
-    let kind = joined (t.name ++ codes " " ++ arrow t.direction) (kind_word t.said) head (kind_on t.said) in (
-      t.name ++ codes " " ++ arrow t.direction ++ kind_word t.said ++ payload_shown bytes,
+    let kind = joined (t.name ++ codes " " ++ arrow t.direction) (kind_word t.content) head (kind_on t.content) in (
+      t.name ++ codes " " ++ arrow t.direction ++ kind_word t.content ++ payload_shown bytes,
       refl,
-      joined (t.name ++ codes " " ++ arrow t.direction ++ kind_word t.said) (payload_shown bytes) kind (payload_on bytes),
+      joined (t.name ++ codes " " ++ arrow t.direction ++ kind_word t.content) (payload_shown bytes) kind (payload_on bytes),
     )
 line_is_one (Columns colours width) t e =
-    let bytes = said_bytes t.name t.said in
-    let label = label_of t.said bytes in
+    let bytes = content_bytes t.name t.content in
+    let label = label_of t.content bytes in
     let name = joined (spaces (14 - length t.name)) (cut 14 t.name) (spaces_on (14 - length t.name)) (cut_on 14 t.name e) in
     let arrowed = joined (name_column t.name ++ codes " ") (arrow t.direction) (joined (name_column t.name) (codes " ") name refl) (arrow_on t.direction) in
     let process = joined (name_column t.name ++ codes " " ++ arrow t.direction) (codes "  ") arrowed refl in

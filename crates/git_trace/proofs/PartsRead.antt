@@ -9,7 +9,7 @@ use Rattle.std.proofs.Math.Seq.{drop-append_seam, take-append_seam}
 use Rattle.git_trace.specs.declared.trace_lines.Direction.{Direction}
 use Rattle.git_trace.specs.declared.trace_lines.Direction.TheVariants.{Received, Sent}
 use Rattle.git_trace.specs.TraceLines.{after_name, after_word, behind_word, in_parts}
-use Rattle.git_trace.specs.TraceLines.{is_name_byte, is_space, said_in, traced_in, without_return, without_spaces}
+use Rattle.git_trace.specs.TraceLines.{is_name_byte, is_space, content_in, traced_in, without_return, without_spaces}
 use Rattle.git_trace.specs.ShownLines.{arrow, spaces}
 
 -- whether the word begins a text is settled by eight of its characters
@@ -45,7 +45,7 @@ name_counted (b ∷ name) d rest all other =
     rw parts.0 (ap (λ (k : ℕ). 1 + k) (name_counted name d rest parts.1 other) ∙ omega arith)
 
 arrow_read : (name content : List ℕ) (direction : Direction)
-    → after_name name (arrow direction ++ (codes " " ++ content)) ≡ Some (record { name = name; direction = direction; said = said_in content })
+    → after_name name (arrow direction ++ (codes " " ++ content)) ≡ Some (record { name = name; direction = direction; content = content_in content })
 arrow_read name content Received = refl
 arrow_read name content Sent = refl
 
@@ -58,7 +58,7 @@ not_none : (n : ℕ) → 0 < n → (n == 0) ≡ false
 not_none n less = grind (arith)
 
 parts_read : (name content : List ℕ) (direction : Direction) → list_all is_name_byte name ≡ true → 0 < length name
-    → in_parts (name ++ (arrow direction ++ (codes " " ++ content))) ≡ Some (record { name = name; direction = direction; said = said_in content })
+    → in_parts (name ++ (arrow direction ++ (codes " " ++ content))) ≡ Some (record { name = name; direction = direction; content = content_in content })
 parts_read name content direction all some =
     let rest = arrow direction ++ (codes " " ++ content) in
     let counted = no_name direction content name all in
@@ -68,7 +68,7 @@ parts_read name content direction all some =
         → (if count == 0
         then None
         else after_name (take count (name ++ (arrow direction ++ (codes " " ++ content)))) (drop count (name ++ (arrow direction ++ (codes " " ++ content)))))
-        ≡ Some (record { name = name; direction = direction; said = said_in content })
+        ≡ Some (record { name = name; direction = direction; content = content_in content })
     by_count count is =
         let rest = arrow direction ++ (codes " " ++ content) in
         rw (is, not_none (length name) some, take-append_seam name rest, drop-append_seam name rest) (arrow_read name content direction)
@@ -78,7 +78,7 @@ name_is_no_space b e = grind (arith)
 
 padded_read : (pad : ℕ) (name content : List ℕ) (direction : Direction) → list_all is_name_byte name ≡ true → 0 < length name
     → behind_word (Some (spaces pad ++ (name ++ (arrow direction ++ (codes " " ++ content)))))
-    ≡ Some (record { name = name; direction = direction; said = said_in content })
+    ≡ Some (record { name = name; direction = direction; content = content_in content })
 padded_read pad [] content direction all some = absurd (omega (arith, some))
 padded_read pad (b ∷ name) content direction all some =
     let parts = and_parts (is_name_byte b) (list_all is_name_byte name) all in
@@ -88,7 +88,7 @@ padded_read pad (b ∷ name) content direction all some =
 pub line_read : (front name content line : List ℕ) (pad : ℕ) (direction : Direction)
     → line ≡ front ++ codes "packet: " ++ spaces pad ++ name ++ arrow direction ++ codes " " ++ content
     → after_word (front ++ codes "packet:") ≡ None → list_all is_name_byte name ≡ true → 0 < length name → without_return line ≡ line
-    → traced_in line ≡ Some (record { name = name; direction = direction; said = said_in content })
+    → traced_in line ≡ Some (record { name = name; direction = direction; content = content_in content })
 line_read front name content line pad direction is none all some ends =
     let rest = spaces pad ++ (name ++ (arrow direction ++ (codes " " ++ content))) in
     let grouped : front ++ codes "packet: " ++ spaces pad ++ name ++ arrow direction ++ codes " " ++ content ≡ front ++ (codes "packet: " ++ rest) =

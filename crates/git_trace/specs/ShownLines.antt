@@ -9,7 +9,7 @@ use Rattle.git_trace.specs.declared.shown_lines.Look.{Look}
 use Rattle.git_trace.specs.declared.shown_lines.Look.TheVariants.{Lines, Columns}
 use Rattle.git_trace.specs.declared.trace_lines.Direction.{Direction}
 use Rattle.git_trace.specs.declared.trace_lines.Direction.TheVariants.{Received, Sent}
-use Rattle.git_trace.specs.TraceLines.{Said, Traced, flush, delim, resp_end, pack, payload, bytes_in, traced_in}
+use Rattle.git_trace.specs.TraceLines.{LineContent, Traced, flush, delim, resp_end, pack, payload, bytes_in, traced_in}
 
 -- ---- lines for programs
 
@@ -21,7 +21,7 @@ abbrev pub payload_shown : List ℕ → List ℕ
 payload_shown [] = []
 payload_shown (b ∷ bytes) = 32 ∷ escaped_of (b ∷ bytes)
 
-abbrev pub kind_word : Said → List ℕ
+abbrev pub kind_word : LineContent → List ℕ
 kind_word flush = codes " flush"
 kind_word delim = codes " delim"
 kind_word resp_end = codes " end"
@@ -30,7 +30,7 @@ kind_word (payload content) = codes " data"
 
 -- with the packet's bytes
 abbrev pub plain_line : Traced → List ℕ → List ℕ
-plain_line t bytes = t.name ++ codes " " ++ arrow t.direction ++ kind_word t.said ++ payload_shown bytes ++ codes "\n"
+plain_line t bytes = t.name ++ codes " " ++ arrow t.direction ++ kind_word t.content ++ payload_shown bytes ++ codes "\n"
 
 -- ---- lines of columns
 
@@ -49,7 +49,7 @@ label_in bytes =
     then Label.Command
     else (if list_any (bytes_eq bytes) sections then Label.Section else (if starts_with nat_eq bytes (codes "ERR ") then Label.Refusal else Label.Data))))
 
-abbrev pub label_of : Said → List ℕ → Label
+abbrev pub label_of : LineContent → List ℕ → Label
 label_of flush bytes = Label.Flush
 label_of delim bytes = Label.Delim
 label_of resp_end bytes = Label.End
@@ -90,7 +90,7 @@ spaces n = replicate n 32
 
 -- a text that is longer than its width is cut, and ends with two dots
 abbrev pub cut : ℕ → List ℕ → List ℕ
-cut room bytes = if nat_le (length bytes) room then bytes else take (room - 2) bytes ++ codes ".."
+cut space bytes = if nat_le (length bytes) space then bytes else take (space - 2) bytes ++ codes ".."
 
 -- the process's name in its column
 abbrev pub name_column : List ℕ → List ℕ
@@ -104,8 +104,8 @@ bytes_shown label bytes = bytes
 
 -- the text in its column
 abbrev pub in_column : Label → ℕ → List ℕ → List ℕ
-in_column label room [] = []
-in_column label room (b ∷ bytes) = spaces (10 - length (name_of label)) ++ cut room (b ∷ bytes)
+in_column label space [] = []
+in_column label space (b ∷ bytes) = spaces (10 - length (name_of label)) ++ cut space (b ∷ bytes)
 
 -- the maximum number of columns of a line, and how many stand before the text
 abbrev pub widest : ℕ
@@ -131,20 +131,20 @@ labelled_line colours width label t bytes =
 
 -- with the packet's bytes
 abbrev pub column_line : Bool → ℕ → Traced → List ℕ → List ℕ
-column_line colours width t bytes = labelled_line colours width (label_of t.said bytes) t bytes
+column_line colours width t bytes = labelled_line colours width (label_of t.content bytes) t bytes
 
 -- ---- the line of a packet, and of a line of a trace
 
-abbrev pub said_bytes : List ℕ → Said → List ℕ
-said_bytes name (payload content) = bytes_in name content
-said_bytes name said = []
+abbrev pub content_bytes : List ℕ → LineContent → List ℕ
+content_bytes name (payload content) = bytes_in name content
+content_bytes name content = []
 
 abbrev pub line_with : Look → Traced → List ℕ → List ℕ
 line_with Lines t bytes = plain_line t bytes
 line_with (Columns colours width) t bytes = column_line colours width t bytes
 
 abbrev pub line_of : Look → Traced → List ℕ
-line_of look t = line_with look t (said_bytes t.name t.said)
+line_of look t = line_with look t (content_bytes t.name t.content)
 
 abbrev pub shown_if : Look → Option Traced → List ℕ
 shown_if look None = []

@@ -11,29 +11,29 @@ use Rattle.git_trace.specs.declared.trace_lines.TracePacket.{TracePacket}
 use Rattle.git_trace.specs.declared.trace_lines.TracePacket.TheVariants.{Flush, Delim, RespEnd, Pack, Text}
 
 -- what a line has of a packet: bytes of a pack are not written, and a payload is the text that is written for its bytes
-pub data Said : Type 0 where
-  flush : Said
-  delim : Said
-  resp_end : Said
-  pack : Said
-  payload : List ℕ → Said
+pub data LineContent : Type 0 where
+  flush : LineContent
+  delim : LineContent
+  resp_end : LineContent
+  pack : LineContent
+  payload : List ℕ → LineContent
 
 -- which process wrote a line, whether it received or sent the packet, and what the line has of it
 pub record Traced : Type 0 where
   pub name : List ℕ
   pub direction : Direction
-  pub said : Said
+  pub content : LineContent
 
 -- a line that borrows its bytes
-abbrev pub said_by : TracePacket → Said
-said_by Flush = flush
-said_by Delim = delim
-said_by RespEnd = resp_end
-said_by Pack = pack
-said_by (Text content) = payload content.now
+abbrev pub stated_by : TracePacket → LineContent
+stated_by Flush = flush
+stated_by Delim = delim
+stated_by RespEnd = resp_end
+stated_by Pack = pack
+stated_by (Text content) = payload content.now
 
 abbrev pub seen_line : TraceLine → Traced
-seen_line line = record { name = line.name.now; direction = line.direction; said = said_by line.packet }
+seen_line line = record { name = line.name.now; direction = line.direction; content = stated_by line.packet }
 
 -- ---- the parts of a line
 
@@ -58,8 +58,8 @@ abbrev pub without_spaces : List ℕ → List ℕ
 without_spaces text = drop (prefix_len is_space text) text
 
 -- which texts stand for packets without bytes, and for bytes of a pack
-abbrev pub said_in : List ℕ → Said
-said_in content =
+abbrev pub content_in : List ℕ → LineContent
+content_in content =
     if bytes_eq content (codes "0000")
     then flush
     else (if bytes_eq content (codes "0001")
@@ -70,9 +70,9 @@ said_in content =
 abbrev pub after_name : List ℕ → List ℕ → Option Traced
 after_name name content =
     if starts_with nat_eq content (codes "< ")
-    then Some (record { name = name; direction = Received; said = said_in (drop 2 content) })
+    then Some (record { name = name; direction = Received; content = content_in (drop 2 content) })
     else (if starts_with nat_eq content (codes "> ")
-    then Some (record { name = name; direction = Sent; said = said_in (drop 2 content) })
+    then Some (record { name = name; direction = Sent; content = content_in (drop 2 content) })
     else None)
 
 abbrev pub in_parts : List ℕ → Option Traced

@@ -4,7 +4,7 @@ ghost use Rattle.std.specs.Prelude.{◌≡◌, ◌<◌, ◌++◌, [], ℕ, Bool,
 ghost use Rattle.std.specs.List.{All, filter, list_all};
 ghost use Rattle.git_trace.specs.Escapes.{IsClear, is_written, unescaped, written};
 ghost use Rattle.git_trace.specs.ShownLines.{arrow, shown_line, spaces};
-ghost use Rattle.git_trace.specs.TraceLines.{Traced, after_word, is_name_byte, said_in, traced_in, without_return};
+ghost use Rattle.git_trace.specs.TraceLines.{Traced, after_word, is_name_byte, content_in, traced_in, without_return};
 ghost use Rattle.git_trace.specs.declared.shown_lines.Look.{Look};
 ghost use Rattle.git_trace.specs.declared.trace_lines.Direction.{Direction};
 
@@ -13,7 +13,7 @@ pub fn lines_are_read()
     ensures { (front name content line : List ℕ) (pad : ℕ) (direction : Direction)
         → line ≡ front ++ codes "packet: " ++ spaces pad ++ name ++ arrow direction ++ codes " " ++ content
         → after_word (front ++ codes "packet:") ≡ None → list_all is_name_byte name ≡ true → 0 < length name → without_return line ≡ line
-        → traced_in line ≡ Some (record { name = name; direction = direction; said = said_in content }) }
+        → traced_in line ≡ Some (record { name = name; direction = direction; content = content_in content }) }
 {}
 
 /// Of a line of a packet one line is shown, and of any other nothing.

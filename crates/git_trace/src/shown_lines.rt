@@ -2,10 +2,10 @@
 
 ghost use Rattle.std.specs.Prelude.{◌≡◌, ◌≤◌, ◌++◌, ◌-◌, [], min, length, take, IfOk, OnOk};
 ghost use Rattle.git_pkt.specs.Escape.{escape_of, escaped_of};
-ghost use Rattle.git_trace.specs.TraceLines.{seen_line, said_by};
+ghost use Rattle.git_trace.specs.TraceLines.{seen_line, stated_by};
 ghost use Rattle.git_trace.specs.TraceTexts.{is_packet_line};
 ghost use Rattle.git_trace.specs.ShownLines.{arrow, column_line, cut, in_column, kind_word, label_of, line_with, name_column, named, process_columns};
-ghost use Rattle.git_trace.specs.ShownLines.{payload_shown, plain_line, said_bytes, shown_line, spaces, text_column};
+ghost use Rattle.git_trace.specs.ShownLines.{payload_shown, plain_line, content_bytes, shown_line, spaces, text_column};
 
 use crate::labels::Label;
 use crate::trace_lines::{Direction, TraceLine, TracePacket, read_bytes, read_trace_line};
@@ -61,7 +61,7 @@ pub fn show_trace_line(
 
 /// Appends a packet's bytes.
 fn read_packet(traced: &TraceLine<'_>, out: &mut Vec<u8>) -> Result<(), AllocError>
-    ensures { OnOk result (out.new.items ≡ out.old.items ++ said_bytes traced.now.name.now (said_by traced.now.packet)) }
+    ensures { OnOk result (out.new.items ≡ out.old.items ++ content_bytes traced.now.name.now (stated_by traced.now.packet)) }
 {
     match traced.packet {
         TracePacket::Text(content) => read_bytes(traced.name, content, out),
@@ -107,7 +107,7 @@ fn arrow(direction: Direction) -> &'static [u8]
 }
 
 fn kind_word(packet: TracePacket<'_>) -> &'static [u8]
-    ensures { result.now ≡ kind_word (said_by packet.entry) }
+    ensures { result.now ≡ kind_word (stated_by packet.entry) }
 {
     match packet {
         TracePacket::Flush => b" flush",
@@ -174,7 +174,7 @@ fn put_process(name: &[u8], direction: Direction, out: &mut Vec<u8>) -> Result<(
 
 /// What a packet with these bytes is.
 fn label_of(packet: TracePacket<'_>, bytes: &[u8]) -> Label
-    ensures { result ≡ label_of (said_by packet.entry) bytes.now }
+    ensures { result ≡ label_of (stated_by packet.entry) bytes.now }
 {
     match packet {
         TracePacket::Flush => Label::Flush,
@@ -201,13 +201,13 @@ fn put_spaces(count: usize, out: &mut Vec<u8>) -> Result<(), AllocError>
 }
 
 /// Appends a text, cut to its width.
-fn put_cut(room: usize, text: &[u8], out: &mut Vec<u8>) -> Result<(), AllocError>
-    ensures { OnOk result (out.new.items ≡ out.old.items ++ cut room text.now) }
+fn put_cut(space: usize, text: &[u8], out: &mut Vec<u8>) -> Result<(), AllocError>
+    ensures { OnOk result (out.new.items ≡ out.old.items ++ cut space text.now) }
 {
-    if text.len() <= room {
+    if text.len() <= space {
         return out.extend_from_slice(text);
     }
-    out.extend_from_slice(&text[..room.saturating_sub(2)])?;
+    out.extend_from_slice(&text[..space.saturating_sub(2)])?;
     out.extend_from_slice(b"..")
 }
 
@@ -229,22 +229,22 @@ fn put_text(width: u32, label: Label, bytes: &[u8], out: &mut Vec<u8>) -> Result
     let mut escapes = [0; 4 * FRONT];
     let text = label.text(bytes);
     let end = escape_into(&text[..text.len().min(FRONT)], &mut escapes, 0);
-    let room = (width as usize).min(WIDEST).saturating_sub(BEFORE);
-    put_in_column(label, room, &escapes[..end], out)
+    let space = (width as usize).min(WIDEST).saturating_sub(BEFORE);
+    put_in_column(label, space, &escapes[..end], out)
 }
 
 /// Appends a text in its column, cut to its width.
 fn put_in_column(
     label: Label,
-    room: usize,
+    space: usize,
     text: &[u8],
     out: &mut Vec<u8>,
 ) -> Result<(), AllocError>
-    ensures { OnOk result (out.new.items ≡ out.old.items ++ in_column label room text.now) }
+    ensures { OnOk result (out.new.items ≡ out.old.items ++ in_column label space text.now) }
 {
     if text.is_empty() {
         return Ok(());
     }
     put_spaces(10 - label.name().len(), out)?;
-    put_cut(room, text, out)
+    put_cut(space, text, out)
 }

@@ -4,7 +4,7 @@ ghost use Rattle.std.specs.Prelude.{◌≡◌, ◌++◌, ◌≤◌, None, Some, 
 ghost use Rattle.std.specs.List.{prefix_len};
 ghost use Rattle.std.specs.Str.{bytes_eq};
 ghost use Rattle.git_trace.specs.TraceLines.{after_name, after_word, banded, bytes_in, has_band, in_parts, is_name_byte, is_space};
-ghost use Rattle.git_trace.specs.TraceLines.{said_by, said_in, seen_line, traced_in, without_return, without_spaces};
+ghost use Rattle.git_trace.specs.TraceLines.{stated_by, content_in, seen_line, traced_in, without_return, without_spaces};
 
 use crate::escapes::unescape;
 use std::alloc::AllocError;
@@ -139,7 +139,7 @@ fn after_name<'a>(name: &'a [u8], content: &'a [u8]) -> Option<TraceLine<'a>>
 }
 
 fn packet_of(content: &[u8]) -> TracePacket<'_>
-    ensures { said_by result ≡ said_in content.now }
+    ensures { stated_by result ≡ content_in content.now }
 {
     if is(content, b"0000") {
         TracePacket::Flush

@@ -63,14 +63,14 @@ impl TraceReader {
     }
 
     /// Takes another chunk of the text, and appends what is shown of the lines that end in it.
-    pub fn feed(&mut self, piece: &[u8], out: &mut Vec<u8>) -> Result<(), TraceFault>
-        ensures read { OnOk result ((fed : List ℕ) → HasRead self.old fed → HasRead self.new (fed ++ piece.now)) }
+    pub fn feed(&mut self, chunk: &[u8], out: &mut Vec<u8>) -> Result<(), TraceFault>
+        ensures read { OnOk result ((fed : List ℕ) → HasRead self.old fed → HasRead self.new (fed ++ chunk.now)) }
         ensures shown { OnOk result ((fed : List ℕ) → HasRead self.old fed
-            → Shows (look_of self.old) (lines_after [] fed) (lines_after [] (fed ++ piece.now)) out.old.items out.new.items) }
+            → Shows (look_of self.old) (lines_after [] fed) (lines_after [] (fed ++ chunk.now)) out.old.items out.new.items) }
         ensures look { look_of self.new ≡ look_of self.old }
-        ensures fault { IfErr result (λ fault. (fed : List ℕ) → HasRead self.old fed → IsFeedFault (fed ++ piece.now) fault) }
+        ensures fault { IfErr result (λ fault. (fed : List ℕ) → HasRead self.old fed → IsFeedFault (fed ++ chunk.now) fault) }
     {
-        'bytes: for byte in piece {
+        'bytes: for byte in chunk {
             self.take(*byte, out)?;
         }
         Ok(())

@@ -18,8 +18,8 @@ use Rattle.git_msg.proofs.CheckLaws.{AllFair, IsFair, fair_check, one_name, pass
 use Rattle.git_msg.specs.declared.offers.Offer.{Offer}
 use Rattle.git_server.specs.Answers.{advertisement_of, spelled}
 use Rattle.gitwire.specs.Numbers.{formats, numbered}
-use Rattle.gitwire.specs.Rooms.{Fills}
-use Rattle.gitwire.specs.WrittenForC.{Advertises, InFormat, IsDetermined, IsLineOf, IsOfKind, IsReferenceOf, Meant, Tells, telling_why}
+use Rattle.gitwire.specs.Buffers.{Fills}
+use Rattle.gitwire.specs.WrittenForC.{Advertises, InFormat, IsDetermined, IsLineOf, IsOfKind, IsReferenceOf, Meant, Announces, announcing_why}
 use Rattle.gitwire.specs.WrittenForC.{MeansBand, MeansLine, MeansLineOf, MeansPacket, MeansReference, MeansWanted}
 use Rattle.gitwire.specs.WrittenForC.{given, object_name_check, ref_name_check, where_given}
 use Rattle.gitwire.specs.declared.answer.GitwireAnswer.{GitwireAnswer}
@@ -33,34 +33,34 @@ pub record IsOne (Means : Meant → Type 0) : Type 0 where
   pub whys : (why other : Unwritten) → Means (Err why) → Means (Err other) → why ≡ other
   pub apart : (p : Pkt) (why : Unwritten) → length (body_of p) ≤ longest_payload → Means (Ok p) → Means (Err why) → ⊥
 
-fills_once : (bytes room : List ℕ) (answer other : GitwireAnswer) (filled others : List ℕ)
-    → Fills bytes room answer filled → Fills bytes room other others → (answer ≡ other) × (filled ≡ others)
-fills_once bytes room answer other filled others h k =
-    elim (leb_tells (length bytes) (length room)) [
+fills_once : (bytes buffer : List ℕ) (answer other : GitwireAnswer) (filled others : List ℕ)
+    → Fills bytes buffer answer filled → Fills bytes buffer other others → (answer ≡ other) × (filled ≡ others)
+fills_once bytes buffer answer other filled others h k =
+    elim (leb_tells (length bytes) (length buffer)) [
       | inl fits ↦ ((h.done fits.1).0 ∙ sym (k.done fits.1).0, (h.done fits.1).1 ∙ sym (k.done fits.1).1)
       | inr small ↦ ((h.too_small small.1).0 ∙ sym (k.too_small small.1).0, (h.too_small small.1).1 ∙ sym (k.too_small small.1).1)
     ]
 
-answer_once : (Means : Meant → Type 0) → IsOne Means → (a b : Meant) → Means a → Means b → (room : List ℕ)
+answer_once : (Means : Meant → Type 0) → IsOne Means → (a b : Meant) → Means a → Means b → (buffer : List ℕ)
     (answer other : GitwireAnswer) (filled others : List ℕ)
-    → Tells a room answer filled → Tells b room other others → (answer ≡ other) × (filled ≡ others)
-answer_once Means one (Ok p) (Ok q) h k room answer other filled others t u =
+    → Announces a buffer answer filled → Announces b buffer other others → (answer ≡ other) × (filled ≡ others)
+answer_once Means one (Ok p) (Ok q) h k buffer answer other filled others t u =
     let same = sym (one.packets p q h k) in
-    fills_once (spelling_of p) room answer other filled others t.1 (subst (λ (p : Pkt). Fills (spelling_of p) room other others) same u.1)
-answer_once Means one (Ok p) (Err why) h k room answer other filled others t u = absurd (one.apart p why t.0 h k)
-answer_once Means one (Err why) (Ok p) h k room answer other filled others t u = absurd (one.apart p why u.0 k h)
-answer_once Means one (Err why) (Err because) h k room answer other filled others t u =
-    (t.0 ∙ ap telling_why (one.whys why because h k) ∙ sym u.0, t.1 ∙ sym u.1)
+    fills_once (spelling_of p) buffer answer other filled others t.1 (subst (λ (p : Pkt). Fills (spelling_of p) buffer other others) same u.1)
+answer_once Means one (Ok p) (Err why) h k buffer answer other filled others t u = absurd (one.apart p why t.0 h k)
+answer_once Means one (Err why) (Ok p) h k buffer answer other filled others t u = absurd (one.apart p why u.0 k h)
+answer_once Means one (Err why) (Err because) h k buffer answer other filled others t u =
+    (t.0 ∙ ap announcing_why (one.whys why because h k) ∙ sym u.0, t.1 ∙ sym u.1)
 
 pub determined : (Means : Meant → Type 0) → IsOne Means → IsDetermined Means
-determined Means one room answer other filled others w v =
-    answer_once Means one w.meant v.meant w.means v.means room answer other filled others w.tells v.tells
+determined Means one buffer answer other filled others w v =
+    answer_once Means one w.meant v.meant w.means v.means buffer answer other filled others w.announces v.announces
 
-pub advertised_once : (offer : Option Offer) (room : List ℕ) (answer other : GitwireAnswer) (filled others : List ℕ)
-    → Advertises offer room answer filled → Advertises offer room other others → (answer ≡ other) × (filled ≡ others)
-advertised_once None room answer other filled others h k = (h.0 ∙ sym k.0, h.1 ∙ sym k.1)
-advertised_once (Some offer) room answer other filled others h k =
-    fills_once (spelled (advertisement_of offer)) room answer other filled others h.1 k.1
+pub advertised_once : (offer : Option Offer) (buffer : List ℕ) (answer other : GitwireAnswer) (filled others : List ℕ)
+    → Advertises offer buffer answer filled → Advertises offer buffer other others → (answer ≡ other) × (filled ≡ others)
+advertised_once None buffer answer other filled others h k = (h.0 ∙ sym k.0, h.1 ∙ sym k.1)
+advertised_once (Some offer) buffer answer other filled others h k =
+    fills_once (spelled (advertisement_of offer)) buffer answer other filled others h.1 k.1
 
 -- packets of any subject
 

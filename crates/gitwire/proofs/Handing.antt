@@ -5,8 +5,8 @@ use Rattle.git_names.specs.ObjectName.{ObjectName}
 use Rattle.git_names.specs.declared.fault.NameFault.{NameFault}
 use Rattle.git_pkt.specs.Packets.{body_of, longest_payload, spelling_of}
 use Rattle.git_msg.specs.WrittenRequest.{text_line}
-use Rattle.gitwire.specs.Rooms.{Fills}
-use Rattle.gitwire.specs.WrittenForC.{Makes, Meant, MeansLineOf, Names, Writes, refused_name, telling_why}
+use Rattle.gitwire.specs.Buffers.{Fills}
+use Rattle.gitwire.specs.WrittenForC.{Makes, Meant, MeansLineOf, Names, Writes, refused_name, announcing_why}
 use Rattle.gitwire.specs.declared.answer.GitwireAnswer.{GitwireAnswer}
 use Rattle.gitwire.specs.declared.written.Unwritten.{Unwritten}
 
@@ -15,12 +15,12 @@ pub line_fits : (text : List ℕ) → length text < longest_payload → length (
 line_fits text short = simp length-append (omega arith)
 
 -- what was made and handed out is what the values mean
-pub writes : (Means : Meant → Type 0) (made : Result (Unit {0}) Unwritten) (held room : List ℕ) (answer : GitwireAnswer) (filled : List ℕ)
-    → Makes Means made held → OnOk made (Fills held room answer filled)
-    → IfErr made (λ why. (answer ≡ telling_why why) × (filled ≡ room)) → Writes Means room answer filled
-writes Means (Ok _) held room answer filled (packet, means, fits, written) fills why =
-    record { meant = Ok packet; means = means; tells = (fits, subst (λ bytes. Fills bytes room answer filled) written fills) }
-writes Means (Err why) held room answer filled means fills tells = record { meant = Err why; means = means; tells = tells }
+pub writes : (Means : Meant → Type 0) (made : Result (Unit {0}) Unwritten) (held buffer : List ℕ) (answer : GitwireAnswer) (filled : List ℕ)
+    → Makes Means made held → OnOk made (Fills held buffer answer filled)
+    → IfErr made (λ why. (answer ≡ announcing_why why) × (filled ≡ buffer)) → Writes Means buffer answer filled
+writes Means (Ok _) held buffer answer filled (packet, means, fits, written) fills why =
+    record { meant = Ok packet; means = means; announces = (fits, subst (λ bytes. Fills bytes buffer answer filled) written fills) }
+writes Means (Err why) held buffer answer filled means fills announces = record { meant = Err why; means = means; announces = announces }
 
 -- what is made of a line, where its text is that of the object
 pub line_made : (number : ℕ) (digits : List ℕ) (text : ObjectName → List ℕ) (id : ObjectName) (line held : List ℕ)

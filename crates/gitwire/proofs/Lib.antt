@@ -1,7 +1,7 @@
 pub mod AsBox
 pub mod Determined
 pub mod FilledArrays
-pub mod FilledRooms
+pub mod FilledBuffers
 pub mod GivenNames
 pub mod Handing
 pub mod ListedEvents

@@ -13,18 +13,18 @@ use Rattle.git_client.specs.Machine.Turns.{values_of}
 use Rattle.git_client.specs.declared.client.Client.{Client}
 use Rattle.git_client.specs.declared.events.Event.{Event}
 use Rattle.git_client.specs.declared.events.Event.TheVariants as Event
-use Rattle.git_client.specs.declared.events.HeardGot.TheVariants as Got
-use Rattle.gitwire.specs.ClientAnswers.{LieInPiece}
+use Rattle.git_client.specs.declared.events.ReceivedGot.TheVariants as Got
+use Rattle.gitwire.specs.ClientAnswers.{LieInChunk}
 use Rattle.gitwire.specs.EventLists.{EndsHere, FeedsEach, GivesEvent, GivesNext, ListsEvents, Pauses}
 use Rattle.gitwire.specs.Answers.{answering_packet}
-use Rattle.gitwire.specs.EventAnswers.{bytes_shown, copied_of, passed_of, shown_at, telling_parts}
-use Rattle.gitwire.specs.Rooms.{put_before}
+use Rattle.gitwire.specs.EventAnswers.{bytes_shown, copied_of, passed_of, shown_at, announcing_parts}
+use Rattle.gitwire.specs.Buffers.{put_before}
 use Rattle.gitwire.specs.declared.answer.GitwireAnswer.{GitwireAnswer}
 use Rattle.gitwire.specs.declared.answer.What.TheVariants as What
 use Rattle.gitwire.specs.declared.event.GitwireEvent.{GitwireEvent}
 use Rattle.gitwire.specs.declared.event_list.Listed.{Listed}
 use Rattle.gitwire.proofs.FilledArrays.{filled_place}
-use Rattle.gitwire.proofs.FilledRooms.{filled_more}
+use Rattle.gitwire.proofs.FilledBuffers.{filled_more}
 use Rattle.gitwire.proofs.ShownLengths.{shown_fits}
 
 -- all other events are listed with their texts in the buffer
@@ -36,7 +36,7 @@ copied_others event no_pack no_progress = refl
 
 pub listed_others : (event : Event) (end texts : ℕ) → ((bytes : Bor (List ℕ)) → event ≡ Event.Pack bytes → ⊥)
     → ((bytes : Bor (List ℕ)) → event ≡ Event.Progress bytes → ⊥)
-    → shown_at event end texts ≡ record (telling_parts end (parts_of event)) { offset = texts }
+    → shown_at event end texts ≡ record (announcing_parts end (parts_of event)) { offset = texts }
 listed_others (Event.Pack bytes) end texts no_pack no_progress = absurd (no_pack bytes refl)
 listed_others (Event.Progress bytes) end texts no_pack no_progress = absurd (no_progress bytes refl)
 listed_others event end texts no_pack no_progress = refl
@@ -48,115 +48,115 @@ copied_fits (Event.Progress bytes) = omega arith
 copied_fits event = shown_fits event
 
 -- bytes that stay in the chunk are among those used
-in_used : (used : ℕ) (piece bytes front : List ℕ) → take used piece ≡ front ++ bytes → length bytes ≤ used
-in_used used piece bytes front is = omega (arith, ap length is, length-append front bytes, length-take used piece)
+in_used : (used : ℕ) (chunk bytes front : List ℕ) → take used chunk ≡ front ++ bytes → length bytes ≤ used
+in_used used chunk bytes front is = omega (arith, ap length is, length-append front bytes, length-take used chunk)
 
-pub passed_fits : (event : Event) (used : ℕ) (piece : List ℕ) → LieInPiece (Got.Event event) used piece → length (passed_of event) ≤ used
-passed_fits (Event.Pack bytes) used piece lies = in_used used piece bytes.now lies.0 lies.1
-passed_fits (Event.Progress bytes) used piece lies = in_used used piece bytes.now lies.0 lies.1
-passed_fits event used piece lies = omega arith
+pub passed_fits : (event : Event) (used : ℕ) (chunk : List ℕ) → LieInChunk (Got.Event event) used chunk → length (passed_of event) ≤ used
+passed_fits (Event.Pack bytes) used chunk lies = in_used used chunk bytes.now lies.0 lies.1
+passed_fits (Event.Progress bytes) used chunk lies = in_used used chunk bytes.now lies.0 lies.1
+passed_fits event used chunk lies = omega arith
 
-lie_after : (from used : ℕ) (piece bytes front : List ℕ) → take used (drop from piece) ≡ front ++ bytes
-    → (whole : List ℕ) × (take (from + used) piece ≡ whole ++ bytes)
-lie_after from used piece bytes front is =
-    (take from piece ++ front, take-add from used piece ∙ ap (λ (l : List ℕ). take from piece ++ l) is ∙ sym (append_assoc (take from piece) front bytes))
+lie_after : (from used : ℕ) (chunk bytes front : List ℕ) → take used (drop from chunk) ≡ front ++ bytes
+    → (whole : List ℕ) × (take (from + used) chunk ≡ whole ++ bytes)
+lie_after from used chunk bytes front is =
+    (take from chunk ++ front, take-add from used chunk ∙ ap (λ (l : List ℕ). take from chunk ++ l) is ∙ sym (append_assoc (take from chunk) front bytes))
 
-pub lies_after : (event : Event) (from used : ℕ) (piece : List ℕ) → LieInPiece (Got.Event event) used (drop from piece)
-    → LieInPiece (Got.Event event) (from + used) piece
-lies_after (Event.Pack bytes) from used piece lies = lie_after from used piece bytes.now lies.0 lies.1
-lies_after (Event.Progress bytes) from used piece lies = lie_after from used piece bytes.now lies.0 lies.1
-lies_after event from used piece lies = tt
+pub lies_after : (event : Event) (from used : ℕ) (chunk : List ℕ) → LieInChunk (Got.Event event) used (drop from chunk)
+    → LieInChunk (Got.Event event) (from + used) chunk
+lies_after (Event.Pack bytes) from used chunk lies = lie_after from used chunk bytes.now lies.0 lies.1
+lies_after (Event.Progress bytes) from used chunk lies = lie_after from used chunk bytes.now lies.0 lies.1
+lies_after event from used chunk lies = tt
 
 -- what a part up to the end has
 pub rest_length : (whole : List ℕ) (at : ℕ) → length (take (length whole - at) (drop at whole)) ≡ length whole - at
 rest_length whole at = ap length (take_rest whole at) ∙ length-drop at whole
 
 -- the bytes are written to the rest of a buffer
-pub placed_after : (room rest bytes : List ℕ) (at : ℕ) → at + length bytes ≤ length room
-    → rest ≡ put_before bytes (take (length room - at) (drop at room))
-    → put_mid at (length room - at) room rest ≡ take at room ++ bytes ++ drop (at + length bytes) room
-placed_after room rest bytes at fits is =
-    let left : drop (length room - at) (drop at room) ≡ [] = drop_of_length-le (drop at room) (omega (arith, length-drop at room)) in
-    let more : drop (length bytes) (take (length room - at) (drop at room)) ≡ drop (at + length bytes) room =
-    ap (drop (length bytes)) (take_rest room at) ∙ drop-drop (length bytes) at room in
+pub placed_after : (buffer rest bytes : List ℕ) (at : ℕ) → at + length bytes ≤ length buffer
+    → rest ≡ put_before bytes (take (length buffer - at) (drop at buffer))
+    → put_mid at (length buffer - at) buffer rest ≡ take at buffer ++ bytes ++ drop (at + length bytes) buffer
+placed_after buffer rest bytes at fits is =
+    let left : drop (length buffer - at) (drop at buffer) ≡ [] = drop_of_length-le (drop at buffer) (omega (arith, length-drop at buffer)) in
+    let more : drop (length bytes) (take (length buffer - at) (drop at buffer)) ≡ drop (at + length bytes) buffer =
+    ap (drop (length bytes)) (take_rest buffer at) ∙ drop-drop (length bytes) at buffer in
     rw (is, left, more) (
-    ap (λ (l : List ℕ). take at room ++ l) (append-nil (bytes ++ drop (at + length bytes) room))
-    ∙ sym (append_assoc (take at room) bytes (drop (at + length bytes) room))
+    ap (λ (l : List ℕ). take at buffer ++ l) (append-nil (bytes ++ drop (at + length bytes) buffer))
+    ∙ sym (append_assoc (take at buffer) bytes (drop (at + length bytes) buffer))
     )
 
 -- one call more
-feeds_more : (es : List GitwireEvent) (old mid new : Client Global) (piece : List ℕ) (from end : ℕ) (texts written : List ℕ)
-    → FeedsEach old piece from texts es mid end written
-    → (event : Event) (used : ℕ) (e : GitwireEvent) → GivesNext mid piece end written e event used new
-    → FeedsEach old piece from texts (es ++ e ∷ []) new (end + used) (written ++ copied_of event)
-feeds_more [] old mid new piece from end texts written (same, at, is) event used e gives =
-    let from_old : GivesNext old piece end written e event used new =
-    subst (λ (client : Client Global). GivesNext client piece end written e event used new) same gives in
-    let from_there : GivesNext old piece from written e event used new =
-    subst (λ (n : ℕ). GivesNext old piece n written e event used new) at from_old in
-    let first : GivesNext old piece from texts e event used new =
-    subst (λ (l : List ℕ). GivesNext old piece from l e event used new) is from_there in
+feeds_more : (es : List GitwireEvent) (old mid new : Client Global) (chunk : List ℕ) (from end : ℕ) (texts written : List ℕ)
+    → FeedsEach old chunk from texts es mid end written
+    → (event : Event) (used : ℕ) (e : GitwireEvent) → GivesNext mid chunk end written e event used new
+    → FeedsEach old chunk from texts (es ++ e ∷ []) new (end + used) (written ++ copied_of event)
+feeds_more [] old mid new chunk from end texts written (same, at, is) event used e gives =
+    let from_old : GivesNext old chunk end written e event used new =
+    subst (λ (client : Client Global). GivesNext client chunk end written e event used new) same gives in
+    let from_there : GivesNext old chunk from written e event used new =
+    subst (λ (n : ℕ). GivesNext old chunk n written e event used new) at from_old in
+    let first : GivesNext old chunk from texts e event used new =
+    subst (λ (l : List ℕ). GivesNext old chunk from l e event used new) is from_there in
     (event, used, new, first, (refl, ap (λ (n : ℕ). n + used) at, ap (λ (l : List ℕ). l ++ copied_of event) is))
-feeds_more (e0 ∷ es) old mid new piece from end texts written (first, used_first, next, gives_first, more) event used e gives = (
+feeds_more (e0 ∷ es) old mid new chunk from end texts written (first, used_first, next, gives_first, more) event used e gives = (
   first,
   used_first,
   next,
   gives_first,
-  feeds_more es next mid new piece (from + used_first) end (texts ++ copied_of first) written more event used e gives,
+  feeds_more es next mid new chunk (from + used_first) end (texts ++ copied_of first) written more event used e gives,
 )
 
 -- what has been listed so far, of this chunk, array and buffer
-pub record ListedSoFar (old : Client Global) (piece : List ℕ) (events : List GitwireEvent) (room : List ℕ) (now : Client Global) (used count texts : ℕ)
+pub record ListedSoFar (old : Client Global) (chunk : List ℕ) (events : List GitwireEvent) (buffer : List ℕ) (now : Client Global) (used count texts : ℕ)
     (filled : List GitwireEvent) (written : List ℕ) : Type 0 where
   pub listed : List GitwireEvent
   pub bytes : List ℕ
-  pub feeds : FeedsEach old piece 0 [] listed now used bytes
+  pub feeds : FeedsEach old chunk 0 [] listed now used bytes
   pub counts : count ≡ length listed
   pub long : texts ≡ length bytes
   pub events_are : filled ≡ listed ++ drop (length listed) events
-  pub room_is : written ≡ put_before bytes room
+  pub buffer_is : written ≡ put_before bytes buffer
 
-pub nothing_listed : (old : Client Global) (piece : List ℕ) (events : List GitwireEvent) (room : List ℕ)
-    → ListedSoFar old piece events room old 0 0 0 events room
-nothing_listed old piece events room = record {
+pub nothing_listed : (old : Client Global) (chunk : List ℕ) (events : List GitwireEvent) (buffer : List ℕ)
+    → ListedSoFar old chunk events buffer old 0 0 0 events buffer
+nothing_listed old chunk events buffer = record {
   listed = [];
   bytes = [];
   feeds = (refl, refl, refl);
   counts = refl;
   long = refl;
   events_are = refl;
-  room_is = refl;
+  buffer_is = refl;
 }
 
-pub listed_more : (old mid new : Client Global) (piece : List ℕ) (events : List GitwireEvent) (room : List ℕ) (used count texts : ℕ)
+pub listed_more : (old mid new : Client Global) (chunk : List ℕ) (events : List GitwireEvent) (buffer : List ℕ) (used count texts : ℕ)
     (filled next : List GitwireEvent) (written : List ℕ) (then : List ℕ) (one : Listed)
-    → ListedSoFar old piece events room mid used count texts filled written → count < length events
-    → GivesEvent mid piece used texts written one then new → next ≡ set filled count one.event
-    → ListedSoFar old piece events room new one.event.used (count + 1) one.texts next then
-listed_more old mid new piece events room used count texts filled next written then one h within gives sets =
+    → ListedSoFar old chunk events buffer mid used count texts filled written → count < length events
+    → GivesEvent mid chunk used texts written one then new → next ≡ set filled count one.event
+    → ListedSoFar old chunk events buffer new one.event.used (count + 1) one.texts next then
+listed_more old mid new chunk events buffer used count texts filled next written then one h within gives sets =
     let end : one.event.used ≡ used + gives.used = ap (λ (e : GitwireEvent). e.used) gives.event_is in
     let e_is : one.event ≡ shown_at gives.event (used + gives.used) (length h.bytes) =
     gives.event_is ∙ ap (shown_at gives.event (used + gives.used)) h.long in
-    let more : FeedsEach old piece 0 [] (h.listed ++ one.event ∷ []) new (used + gives.used) (h.bytes ++ copied_of gives.event) =
-    feeds_more h.listed old mid new piece 0 used [] h.bytes h.feeds gives.event gives.used one.event
+    let more : FeedsEach old chunk 0 [] (h.listed ++ one.event ∷ []) new (used + gives.used) (h.bytes ++ copied_of gives.event) =
+    feeds_more h.listed old mid new chunk 0 used [] h.bytes h.feeds gives.event gives.used one.event
     (record { feeds = gives.feeds; lies = gives.lies; listed_is = e_is }) in
     record {
       listed = h.listed ++ one.event ∷ [];
       bytes = h.bytes ++ copied_of gives.event;
-      feeds = subst (λ (n : ℕ). FeedsEach old piece 0 [] (h.listed ++ one.event ∷ []) new n (h.bytes ++ copied_of gives.event)) (sym end) more;
+      feeds = subst (λ (n : ℕ). FeedsEach old chunk 0 [] (h.listed ++ one.event ∷ []) new n (h.bytes ++ copied_of gives.event)) (sym end) more;
       counts = omega (arith, h.counts, length-append h.listed (one.event ∷ []));
       long = omega (arith, gives.texts_are, h.long, length-append h.bytes (copied_of gives.event));
       events_are = filled_place events h.listed filled next count one.event h.counts within h.events_are sets;
-      room_is = filled_more room h.bytes (copied_of gives.event) written then texts h.long h.room_is gives.room_is;
+      buffer_is = filled_more buffer h.bytes (copied_of gives.event) written then texts h.long h.buffer_is gives.buffer_is;
     }
 
 -- the calls stop after an event, since a request can be asked
-pub stopped_turn : (old last : Client Global) (piece : List ℕ) (events : List GitwireEvent) (room : List ℕ) (used count texts : ℕ) (answer : GitwireAnswer)
-    (filled : List GitwireEvent) (written : List ℕ) → ListedSoFar old piece events room last used count texts filled written
-    → used ≤ length piece → count ≤ length events → texts ≤ length room → 0 < count → can_ask last ≡ true
-    → answer ≡ answering_packet used 0 count What.CanAsk → ListsEvents old piece events room answer filled written last
-stopped_turn old last piece events room used count texts answer filled written h within places fits some ready is =
-    let pauses : Pauses last used count (length events) texts (length room) answer last = record {
+pub stopped_turn : (old last : Client Global) (chunk : List ℕ) (events : List GitwireEvent) (buffer : List ℕ) (used count texts : ℕ) (answer : GitwireAnswer)
+    (filled : List GitwireEvent) (written : List ℕ) → ListedSoFar old chunk events buffer last used count texts filled written
+    → used ≤ length chunk → count ≤ length events → texts ≤ length buffer → 0 < count → can_ask last ≡ true
+    → answer ≡ answering_packet used 0 count What.CanAsk → ListsEvents old chunk events buffer answer filled written last
+stopped_turn old last chunk events buffer used count texts answer filled written h within places fits some ready is =
+    let pauses : Pauses last used count (length events) texts (length buffer) answer last = record {
       some = some;
       turn = λ _. is;
       full = λ not. absurd cc;
@@ -174,17 +174,17 @@ stopped_turn old last piece events room used count texts answer filled written h
       count_fits = omega (arith, h.counts, places);
       texts_fit = omega (arith, h.long, fits);
       events_are = h.events_are;
-      room_is = h.room_is;
+      buffer_is = h.buffer_is;
     }
 
 -- the calls stop after an event, since there is no place for a further one
-pub stopped_full : (old last : Client Global) (piece : List ℕ) (events : List GitwireEvent) (room : List ℕ) (used count texts : ℕ) (answer : GitwireAnswer)
-    (filled : List GitwireEvent) (written : List ℕ) → ListedSoFar old piece events room last used count texts filled written
-    → used ≤ length piece → count ≤ length events → texts ≤ length room → 0 < count → can_ask last ≡ false
-    → (count ≡ length events) ⊎ (length room < texts + longest_payload)
-    → answer ≡ answering_packet used 0 count What.More → ListsEvents old piece events room answer filled written last
-stopped_full old last piece events room used count texts answer filled written h within places fits some ready why is =
-    let pauses : Pauses last used count (length events) texts (length room) answer last = record {
+pub stopped_full : (old last : Client Global) (chunk : List ℕ) (events : List GitwireEvent) (buffer : List ℕ) (used count texts : ℕ) (answer : GitwireAnswer)
+    (filled : List GitwireEvent) (written : List ℕ) → ListedSoFar old chunk events buffer last used count texts filled written
+    → used ≤ length chunk → count ≤ length events → texts ≤ length buffer → 0 < count → can_ask last ≡ false
+    → (count ≡ length events) ⊎ (length buffer < texts + longest_payload)
+    → answer ≡ answering_packet used 0 count What.More → ListsEvents old chunk events buffer answer filled written last
+stopped_full old last chunk events buffer used count texts answer filled written h within places fits some ready why is =
+    let pauses : Pauses last used count (length events) texts (length buffer) answer last = record {
       some = some;
       turn = λ can. absurd cc;
       full = λ _. is;
@@ -202,16 +202,16 @@ stopped_full old last piece events room used count texts answer filled written h
       count_fits = omega (arith, h.counts, places);
       texts_fit = omega (arith, h.long, fits);
       events_are = h.events_are;
-      room_is = h.room_is;
+      buffer_is = h.buffer_is;
     }
 
 -- one more call gives no event
-pub stopped_none : (old last new : Client Global) (piece : List ℕ) (events : List GitwireEvent) (room : List ℕ) (used count texts : ℕ)
+pub stopped_none : (old last new : Client Global) (chunk : List ℕ) (events : List GitwireEvent) (buffer : List ℕ) (used count texts : ℕ)
     (answer : GitwireAnswer) (filled : List GitwireEvent) (written then : List ℕ)
-    → ListedSoFar old piece events room last used count texts filled written
-    → count ≤ length events → texts ≤ length room → EndsHere last piece used count written answer then new
-    → ListsEvents old piece events room answer filled then new
-stopped_none old last new piece events room used count texts answer filled written then h places fits here = record {
+    → ListedSoFar old chunk events buffer last used count texts filled written
+    → count ≤ length events → texts ≤ length buffer → EndsHere last chunk used count written answer then new
+    → ListsEvents old chunk events buffer answer filled then new
+stopped_none old last new chunk events buffer used count texts answer filled written then h places fits here = record {
   listed = h.listed;
   texts = h.bytes;
   end = used;
@@ -222,7 +222,7 @@ stopped_none old last new piece events room used count texts answer filled writt
   count_fits = omega (arith, h.counts, places);
   texts_fit = omega (arith, h.long, fits);
   events_are = h.events_are;
-  room_is = here.2 ∙ h.room_is;
+  buffer_is = here.2 ∙ h.buffer_is;
 }
 
 -- there are events, where the texts have some bytes
@@ -231,7 +231,7 @@ some_listed zero texts begins some = absurd (some (begins refl))
 some_listed (suc count) texts begins some = omega arith
 
 -- an event ends in the chunk
-pub end_within : (old : Client Global) (piece : List ℕ) (from texts : ℕ) (room : List ℕ) (listed : Listed) (written : List ℕ) (new : Client Global)
-    → GivesEvent old piece from texts room listed written new → listed.event.used ≤ length piece
-end_within old piece from texts room listed written new gives =
+pub end_within : (old : Client Global) (chunk : List ℕ) (from texts : ℕ) (buffer : List ℕ) (listed : Listed) (written : List ℕ) (new : Client Global)
+    → GivesEvent old chunk from texts buffer listed written new → listed.event.used ≤ length chunk
+end_within old chunk from texts buffer listed written new gives =
     omega (arith, ap (λ (e : GitwireEvent). e.used) gives.event_is, gives.within)

@@ -74,4 +74,4 @@ shown_fits Event.Ended = omega arith
 pub answer_fits : (used at : ℕ) (event : Event) (answer : GitwireEvent) → all_parts_length (values_of event) ≤ longest_payload
     → answer ≡ shown_at event used at
     → answer.id_length + answer.name_length + answer.text_length + answer.peeled_length ≤ longest_payload
-answer_fits used at event answer fits tells = rw tells (omega (arith, shown_length (parts_of event), shown_fits event, fits))
+answer_fits used at event answer fits announces = rw announces (omega (arith, shown_length (parts_of event), shown_fits event, fits))

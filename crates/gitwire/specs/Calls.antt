@@ -7,7 +7,7 @@ use Rattle.gitwire.specs.declared.answer.What.TheVariants.{Done, NoHandle, OutOf
 
 -- the handle has nothing: that is reported, and the buffer is unchanged
 abbrev pub HasNone : List ℕ → GitwireAnswer → List ℕ → Type 0
-HasNone room answer filled = (answer ≡ answering NoHandle) × (filled ≡ room)
+HasNone buffer answer filled = (answer ≡ answering NoHandle) × (filled ≡ buffer)
 
 module _ {X : Type 0} where
   -- the handle has the value; or memory ran out, and it has none

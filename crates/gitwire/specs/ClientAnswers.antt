@@ -8,7 +8,7 @@ use Rattle.git_pkt.specs.declared.fault.Fault.{Fault}
 use Rattle.git_pkt.specs.declared.fault.Kind.TheVariants.{Truncated}
 use Rattle.git_msg.specs.declared.offers.Caps.{Caps}
 use Rattle.git_msg.specs.declared.requests.Request.{Request}
-use Rattle.git_client.specs.Machine.Client.{Asks, Converses, EndsWithMessage, EndsWithoutMessage, Feeds, HearsOn, History, Leaves, Pulls, RefusesToAsk}
+use Rattle.git_client.specs.Machine.Client.{Asks, Converses, EndsWithMessage, EndsWithoutMessage, Feeds, ReceivesOn, History, Leaves, Pulls, RefusesToAsk}
 use Rattle.git_client.specs.Machine.Client.{can_ask, caps_of, fault_of, given_by, nothing_yet, wants_input}
 use Rattle.git_client.specs.Conversation.{HasNoted}
 use Rattle.git_client.specs.Parts.{Terms, terms_of}
@@ -16,13 +16,13 @@ use Rattle.git_client.specs.declared.client.Client.{Client}
 use Rattle.git_client.specs.declared.events.Ending.{Ending}
 use Rattle.git_client.specs.declared.events.Ending.TheVariants.{FlushOnly, ResponseEnd}
 use Rattle.git_client.specs.declared.events.Event.TheVariants as Event
-use Rattle.git_client.specs.declared.events.Heard.{Heard}
-use Rattle.git_client.specs.declared.events.HeardGot.{HeardGot}
-use Rattle.git_client.specs.declared.events.HeardGot.TheVariants as Got
+use Rattle.git_client.specs.declared.events.Received.{Received}
+use Rattle.git_client.specs.declared.events.ReceivedGot.{ReceivedGot}
+use Rattle.git_client.specs.declared.events.ReceivedGot.TheVariants as Got
 use Rattle.git_client.specs.declared.events.Sent.{Sent}
-use Rattle.gitwire.specs.EventAnswers.{answering_refusal, copied_of, shown_at, telling_none}
+use Rattle.gitwire.specs.EventAnswers.{answering_refusal, copied_of, shown_at, announcing_none}
 use Rattle.gitwire.specs.Offers.{features_shown, is_noted}
-use Rattle.gitwire.specs.Rooms.{put_before}
+use Rattle.gitwire.specs.Buffers.{put_before}
 use Rattle.gitwire.specs.Answers.{more_of, answering, answering_fault, answering_packet, what_number}
 use Rattle.gitwire.specs.declared.event.GitwireEvent.{GitwireEvent}
 use Rattle.gitwire.specs.declared.answer.GitwireAnswer.{GitwireAnswer}
@@ -43,41 +43,41 @@ BeginsBy (Some format) (Some ending) old answer new = Begins (terms_of format en
 BeginsBy format ending old answer new = (answer ≡ what_number What.BadValue) × (new ≡ old)
 
 -- what is reported to C for what was received, by whether bytes were expected
-abbrev pub answer_of : Bool → ℕ → HeardGot → GitwireEvent
-answer_of due used Got.More = telling_none used (more_of due)
-answer_of due used (Got.Event event) = shown_at event used 0
-answer_of due used (Got.Failed fault) = answering_refusal used fault
+abbrev pub answer_of : Bool → ℕ → ReceivedGot → GitwireEvent
+answer_of expected used Got.More = announcing_none used (more_of expected)
+answer_of expected used (Got.Event event) = shown_at event used 0
+answer_of expected used (Got.Failed fault) = answering_refusal used fault
 
 -- the buffer: the texts of an event are at its front, except for those that stay in the chunk
-abbrev pub filled_by : HeardGot → List ℕ → List ℕ
-filled_by Got.More room = room
-filled_by (Got.Event event) room = put_before (copied_of event) room
-filled_by (Got.Failed fault) room = room
+abbrev pub filled_by : ReceivedGot → List ℕ → List ℕ
+filled_by Got.More buffer = buffer
+filled_by (Got.Event event) buffer = put_before (copied_of event) buffer
+filled_by (Got.Failed fault) buffer = buffer
 
 -- bytes of the pack or of the progress are the last of those used of the chunk
-abbrev pub LieInPiece : HeardGot → ℕ → List ℕ → Type 0
-LieInPiece (Got.Event (Event.Pack bytes)) used piece = (front : List ℕ) × (take used piece ≡ front ++ bytes.now)
-LieInPiece (Got.Event (Event.Progress bytes)) used piece = (front : List ℕ) × (take used piece ≡ front ++ bytes.now)
-LieInPiece got used piece = Unit {0}
+abbrev pub LieInChunk : ReceivedGot → ℕ → List ℕ → Type 0
+LieInChunk (Got.Event (Event.Pack bytes)) used chunk = (front : List ℕ) × (take used chunk ≡ front ++ bytes.now)
+LieInChunk (Got.Event (Event.Progress bytes)) used chunk = (front : List ℕ) × (take used chunk ≡ front ++ bytes.now)
+LieInChunk got used chunk = Unit {0}
 
 -- the client receives more, and what came is reported to C; its texts have at most as many bytes as a payload, and it determines the buffer
-pub record FeedsAnswers (old : Client Global) (piece room : List ℕ) (answer : GitwireEvent) (filled : List ℕ) (new : Client Global) : Type 0 where
-  pub heard : Heard
-  pub feeds : Feeds old piece heard new
-  pub within : heard.used ≤ length piece
+pub record FeedsAnswers (old : Client Global) (chunk buffer : List ℕ) (answer : GitwireEvent) (filled : List ℕ) (new : Client Global) : Type 0 where
+  pub arrived : Received
+  pub feeds : Feeds old chunk arrived new
+  pub within : arrived.used ≤ length chunk
   pub fits : answer.id_length + answer.name_length + answer.text_length + answer.peeled_length ≤ longest_payload
-  pub answer_is : answer ≡ answer_of (wants_input old) heard.used heard.got
-  pub room_is : filled ≡ filled_by heard.got room
-  pub lies : LieInPiece heard.got heard.used piece
+  pub answer_is : answer ≡ answer_of (wants_input old) arrived.used arrived.got
+  pub buffer_is : filled ≡ filled_by arrived.got buffer
+  pub lies : LieInChunk arrived.got arrived.used chunk
 
 -- nothing happens if the buffer is too small for the parts of some event
-pub record FeedsInRoom (old : Client Global) (piece room : List ℕ) (answer : GitwireEvent) (filled : List ℕ) (new : Client Global) : Type 0 where
-  pub small : length room < longest_payload → (answer ≡ telling_none 0 What.BufferTooSmall) × (filled ≡ room) × (new ≡ old)
-  pub large : longest_payload ≤ length room → FeedsAnswers old piece room answer filled new
+pub record FeedsInBuffer (old : Client Global) (chunk buffer : List ℕ) (answer : GitwireEvent) (filled : List ℕ) (new : Client Global) : Type 0 where
+  pub small : length buffer < longest_payload → (answer ≡ announcing_none 0 What.BufferTooSmall) × (filled ≡ buffer) × (new ≡ old)
+  pub large : longest_payload ≤ length buffer → FeedsAnswers old chunk buffer answer filled new
 
 -- the handle has nothing: that is reported, and the buffer is unchanged
-abbrev pub HearsNone : List ℕ → GitwireEvent → List ℕ → Type 0
-HearsNone room answer filled = (answer ≡ telling_none 0 What.NoHandle) × (filled ≡ room)
+abbrev pub ReceivesNone : List ℕ → GitwireEvent → List ℕ → Type 0
+ReceivesNone buffer answer filled = (answer ≡ announcing_none 0 What.NoHandle) × (filled ≡ buffer)
 
 -- what is reported to C about what to do next
 abbrev pub answer_of_sent : Sent → GitwireAnswer
@@ -89,21 +89,21 @@ answer_of_sent (Sent.Failed fault) = answering_fault 0 fault
 
 -- the buffer: a packet is at its front
 abbrev pub filled_by_sent : Sent → List ℕ → List ℕ
-filled_by_sent (Sent.Packet bytes) room = put_before bytes.now room
-filled_by_sent sent room = room
+filled_by_sent (Sent.Packet bytes) buffer = put_before bytes.now buffer
+filled_by_sent sent buffer = buffer
 
 -- the client returns what to do next, and that is reported to C; a packet to be sent has at most the bytes of the longest packet
-pub record PullsAnswers (old : Client Global) (room : List ℕ) (answer : GitwireAnswer) (filled : List ℕ) (new : Client Global) : Type 0 where
+pub record PullsAnswers (old : Client Global) (buffer : List ℕ) (answer : GitwireAnswer) (filled : List ℕ) (new : Client Global) : Type 0 where
   pub sent : Sent
   pub pulls : Pulls old sent new
   pub fits : length (given_by sent) ≤ 65520
   pub answer_is : answer ≡ answer_of_sent sent
-  pub room_is : filled ≡ filled_by_sent sent room
+  pub buffer_is : filled ≡ filled_by_sent sent buffer
 
 -- nothing happens if the buffer is too small for the longest packet
-pub record PullsInRoom (old : Client Global) (room : List ℕ) (answer : GitwireAnswer) (filled : List ℕ) (new : Client Global) : Type 0 where
-  pub small : length room < 65520 → (answer ≡ answering What.BufferTooSmall) × (filled ≡ room) × (new ≡ old)
-  pub large : 65520 ≤ length room → PullsAnswers old room answer filled new
+pub record PullsInBuffer (old : Client Global) (buffer : List ℕ) (answer : GitwireAnswer) (filled : List ℕ) (new : Client Global) : Type 0 where
+  pub small : length buffer < 65520 → (answer ≡ answering What.BufferTooSmall) × (filled ≡ buffer) × (new ≡ old)
+  pub large : 65520 ≤ length buffer → PullsAnswers old buffer answer filled new
 
 -- a request that the client takes
 pub record TakesRequest (old : Client Global) (request : Request Global) (new : Client Global) : Type 0 where
@@ -141,7 +141,7 @@ pub record LeavesAnswers (old : Client Global) (answer : ℕ) (new : Client Glob
 -- the input ends when more was expected: at the end of the last whole packet
 pub record CutsShort (old : Client Global) (answer : GitwireAnswer) (new : Client Global) : Type 0 where
   pub fault : Fault
-  pub carries : HearsOn old [] [] new
+  pub carries : ReceivesOn old [] [] new
   pub stays : fault_of new ≡ Some fault
   pub kind : fault.kind ≡ Truncated
   pub offset : (t : Terms) (h : History) (given : List Given) (rest : List ℕ) → Converses t h old → Splits 0 h.used given rest
@@ -154,20 +154,20 @@ pub record ClosesAnswers (old : Client Global) (answer : GitwireAnswer) (new : C
   pub cut : wants_input old ≡ true → CutsShort old answer new
 
 -- a message, if there is one, is written to the buffer, if that is large enough
-pub record PutsMessage (message room : List ℕ) (answer : GitwireAnswer) (filled : List ℕ) : Type 0 where
-  pub small : length room < length message → (answer ≡ answering What.BufferTooSmall) × (filled ≡ room)
-  pub large : length message ≤ length room → (answer ≡ answering_packet 0 0 (length message) What.Done) × (filled ≡ put_before message room)
+pub record PutsMessage (message buffer : List ℕ) (answer : GitwireAnswer) (filled : List ℕ) : Type 0 where
+  pub small : length buffer < length message → (answer ≡ answering What.BufferTooSmall) × (filled ≡ buffer)
+  pub large : length message ≤ length buffer → (answer ≡ answering_packet 0 0 (length message) What.Done) × (filled ≡ put_before message buffer)
 
 abbrev pub PutsMaybe : Option (List ℕ) → List ℕ → GitwireAnswer → List ℕ → Type 0
-PutsMaybe None room answer filled = (answer ≡ answering What.Nothing) × (filled ≡ room)
-PutsMaybe (Some message) room answer filled = PutsMessage message room answer filled
+PutsMaybe None buffer answer filled = (answer ≡ answering What.Nothing) × (filled ≡ buffer)
+PutsMaybe (Some message) buffer answer filled = PutsMessage message buffer answer filled
 
 -- the server's message about the error that ended the conversation
-pub record MessageAnswers (client : Client Global) (room : List ℕ) (answer : GitwireAnswer) (filled : List ℕ) : Type 0 where
+pub record MessageAnswers (client : Client Global) (buffer : List ℕ) (answer : GitwireAnswer) (filled : List ℕ) : Type 0 where
   pub message : Option (List ℕ)
   pub ends : (t : Terms) (h : History) → Converses t h client
-      → MatchOption message (EndsWithoutMessage client) (λ said. EndsWithMessage t h.asked h.used said)
-  pub puts : PutsMaybe message room answer filled
+      → MatchOption message (EndsWithoutMessage client) (λ content. EndsWithMessage t h.asked h.used content)
+  pub puts : PutsMaybe message buffer answer filled
 
 -- what was noted of the advertisement so far
 pub record Noted (client : Client Global) : Type 0 where

@@ -24,8 +24,8 @@ abbrev pub bytes_shown : Parts → List ℕ
 bytes_shown p = digits_shown p.id ++ text_shown p.name ++ text_shown p.text ++ digits_shown p.peeled
 
 -- an event of these parts, and how many bytes were used
-abbrev pub telling_parts : ℕ → Parts → GitwireEvent
-telling_parts used p = record {
+abbrev pub announcing_parts : ℕ → Parts → GitwireEvent
+announcing_parts used p = record {
   used = used;
   offset = 0;
   id_length = length (digits_shown p.id);
@@ -59,11 +59,11 @@ place_of event end texts = texts
 
 -- an event as C is shown it: how many bytes of the chunk were used up to its end, and where its texts begin
 abbrev pub shown_at : Event → ℕ → ℕ → GitwireEvent
-shown_at event end texts = record (telling_parts end (parts_of event)) { offset = place_of event end texts }
+shown_at event end texts = record (announcing_parts end (parts_of event)) { offset = place_of event end texts }
 
 -- no event
-abbrev pub telling_none : ℕ → What → GitwireEvent
-telling_none used what = record {
+abbrev pub announcing_none : ℕ → What → GitwireEvent
+announcing_none used what = record {
   used = used;
   offset = 0;
   id_length = 0;
@@ -79,4 +79,4 @@ telling_none used what = record {
 
 -- no event: the conversation is refused for this error
 abbrev pub answering_refusal : ℕ → Fault → GitwireEvent
-answering_refusal used fault = record (telling_none used What.Failed) { offset = fault.offset; fault = kind_number fault.kind }
+answering_refusal used fault = record (announcing_none used What.Failed) { offset = fault.offset; fault = kind_number fault.kind }

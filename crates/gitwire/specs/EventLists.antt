@@ -5,44 +5,44 @@ use Rattle.git_pkt.specs.Packets.{longest_payload}
 use Rattle.git_client.specs.Machine.Client.{Feeds, can_ask, wants_input}
 use Rattle.git_client.specs.declared.client.Client.{Client}
 use Rattle.git_client.specs.declared.events.Event.{Event}
-use Rattle.git_client.specs.declared.events.HeardGot.{HeardGot}
-use Rattle.git_client.specs.declared.events.HeardGot.TheVariants as Got
+use Rattle.git_client.specs.declared.events.ReceivedGot.{ReceivedGot}
+use Rattle.git_client.specs.declared.events.ReceivedGot.TheVariants as Got
 use Rattle.gitwire.specs.Answers.{answering, answering_fault, answering_packet, more_of}
-use Rattle.gitwire.specs.ClientAnswers.{LieInPiece}
+use Rattle.gitwire.specs.ClientAnswers.{LieInChunk}
 use Rattle.gitwire.specs.EventAnswers.{copied_of, shown_at}
-use Rattle.gitwire.specs.Rooms.{put_before}
+use Rattle.gitwire.specs.Buffers.{put_before}
 use Rattle.gitwire.specs.declared.answer.GitwireAnswer.{GitwireAnswer}
 use Rattle.gitwire.specs.declared.answer.What.TheVariants as What
 use Rattle.gitwire.specs.declared.event.GitwireEvent.{GitwireEvent}
 use Rattle.gitwire.specs.declared.event_list.Listed.{Listed}
 
 -- a call of `feed` on the bytes of the chunk from this place on gives this event, which is listed so, after events with these texts in the buffer
-pub record GivesNext (old : Client Global) (piece : List ℕ) (from : ℕ) (texts : List ℕ) (listed : GitwireEvent) (event : Event) (used : ℕ)
+pub record GivesNext (old : Client Global) (chunk : List ℕ) (from : ℕ) (texts : List ℕ) (listed : GitwireEvent) (event : Event) (used : ℕ)
     (new : Client Global) : Type 0 where
-  pub feeds : Feeds old (drop from piece) (record { used = used; got = Got.Event event }) new
-  pub lies : LieInPiece (Got.Event event) (from + used) piece
+  pub feeds : Feeds old (drop from chunk) (record { used = used; got = Got.Event event }) new
+  pub lies : LieInChunk (Got.Event event) (from + used) chunk
   pub listed_is : listed ≡ shown_at event (from + used) (length texts)
 
 -- calls of `feed` one after another, each on the bytes of the chunk that no earlier one used, give these events. The first call begins at the
 -- place `from`, and with these texts in the buffer; the last one ends at the place `end`, with those.
 abbrev pub FeedsEach : Client Global → List ℕ → ℕ → List ℕ → List GitwireEvent → Client Global → ℕ → List ℕ → Type 0
-FeedsEach old piece from texts [] new end written = (new ≡ old) × (end ≡ from) × (written ≡ texts)
-FeedsEach old piece from texts (e ∷ es) new end written =
+FeedsEach old chunk from texts [] new end written = (new ≡ old) × (end ≡ from) × (written ≡ texts)
+FeedsEach old chunk from texts (e ∷ es) new end written =
     (event : Event) × (used : ℕ) × (next : Client Global)
-    × GivesNext old piece from texts e event used next
-    × FeedsEach next piece (from + used) (texts ++ copied_of event) es new end written
+    × GivesNext old chunk from texts e event used next
+    × FeedsEach next chunk (from + used) (texts ++ copied_of event) es new end written
 
 -- what is reported to C for a call that gives no event, after as many events
-abbrev pub EndsAs : Bool → ℕ → ℕ → HeardGot → GitwireAnswer → Type 0
+abbrev pub EndsAs : Bool → ℕ → ℕ → ReceivedGot → GitwireAnswer → Type 0
 EndsAs expected used count Got.More answer = answer ≡ answering_packet used 0 count (more_of expected)
 EndsAs expected used count (Got.Failed fault) answer = answer ≡ record (answering_fault used fault) { length = count }
 EndsAs expected used count (Got.Event event) answer = ⊥
 
 -- one more call gives no event; if there were events, the program could not ask after them
-pub record GivesNone (old : Client Global) (piece : List ℕ) (from count : ℕ) (answer : GitwireAnswer) (new : Client Global) : Type 0 where
+pub record GivesNone (old : Client Global) (chunk : List ℕ) (from count : ℕ) (answer : GitwireAnswer) (new : Client Global) : Type 0 where
   pub used : ℕ
-  pub got : HeardGot
-  pub feeds : Feeds old (drop from piece) (record { used = used; got = got }) new
+  pub got : ReceivedGot
+  pub feeds : Feeds old (drop from chunk) (record { used = used; got = got }) new
   pub answer_is : EndsAs (wants_input old) (from + used) count got answer
   pub goes_on : 0 < count → can_ask old ≡ false
 
@@ -55,46 +55,46 @@ pub record Pauses (old : Client Global) (from count most written size : ℕ) (an
   pub stays : new ≡ old
 
 -- the array has the events that calls of `feed` give, and the buffer their texts; after them the calls pause, or one more gives no event
-pub record ListsEvents (old : Client Global) (piece : List ℕ) (events : List GitwireEvent) (room : List ℕ) (answer : GitwireAnswer)
+pub record ListsEvents (old : Client Global) (chunk : List ℕ) (events : List GitwireEvent) (buffer : List ℕ) (answer : GitwireAnswer)
     (filled : List GitwireEvent) (written : List ℕ) (new : Client Global) : Type 0 where
   pub listed : List GitwireEvent
   pub texts : List ℕ
   pub end : ℕ
   pub last : Client Global
-  pub feeds : FeedsEach old piece 0 [] listed last end texts
-  pub ends : Pauses last end (length listed) (length events) (length texts) (length room) answer new
-      ⊎ GivesNone last piece end (length listed) answer new
-  pub within : answer.used ≤ length piece
+  pub feeds : FeedsEach old chunk 0 [] listed last end texts
+  pub ends : Pauses last end (length listed) (length events) (length texts) (length buffer) answer new
+      ⊎ GivesNone last chunk end (length listed) answer new
+  pub within : answer.used ≤ length chunk
   pub count_fits : length listed ≤ length events
-  pub texts_fit : length texts ≤ length room
+  pub texts_fit : length texts ≤ length buffer
   pub events_are : filled ≡ listed ++ drop (length listed) events
-  pub room_is : written ≡ put_before texts room
+  pub buffer_is : written ≡ put_before texts buffer
 
 -- nothing happens if the array has no place, or the buffer is too small for the texts of some event
-pub record ListsInRoom (old : Client Global) (piece : List ℕ) (events : List GitwireEvent) (room : List ℕ) (answer : GitwireAnswer)
+pub record ListsInBuffer (old : Client Global) (chunk : List ℕ) (events : List GitwireEvent) (buffer : List ℕ) (answer : GitwireAnswer)
     (filled : List GitwireEvent) (written : List ℕ) (new : Client Global) : Type 0 where
-  pub small : (length events ≡ 0) ⊎ (length room < longest_payload)
-      → (answer ≡ answering What.BufferTooSmall) × (filled ≡ events) × (written ≡ room) × (new ≡ old)
-  pub large : 0 < length events → longest_payload ≤ length room → ListsEvents old piece events room answer filled written new
+  pub small : (length events ≡ 0) ⊎ (length buffer < longest_payload)
+      → (answer ≡ answering What.BufferTooSmall) × (filled ≡ events) × (written ≡ buffer) × (new ≡ old)
+  pub large : 0 < length events → longest_payload ≤ length buffer → ListsEvents old chunk events buffer answer filled written new
 
 -- the handle has nothing: that is reported, and the array and the buffer are unchanged
 abbrev pub ListsNothing : List GitwireEvent → List ℕ → GitwireAnswer → List GitwireEvent → List ℕ → Type 0
-ListsNothing events room answer filled written = (answer ≡ answering What.NoHandle) × (filled ≡ events) × (written ≡ room)
+ListsNothing events buffer answer filled written = (answer ≡ answering What.NoHandle) × (filled ≡ events) × (written ≡ buffer)
 
 -- one call of `feed` on the bytes of the chunk from this place on gives an event, whose texts are written to the buffer after these many bytes
-pub record GivesEvent (old : Client Global) (piece : List ℕ) (from texts : ℕ) (room : List ℕ) (listed : Listed) (written : List ℕ) (new : Client Global)
+pub record GivesEvent (old : Client Global) (chunk : List ℕ) (from texts : ℕ) (buffer : List ℕ) (listed : Listed) (written : List ℕ) (new : Client Global)
     : Type 0 where
   pub event : Event
   pub used : ℕ
-  pub feeds : Feeds old (drop from piece) (record { used = used; got = Got.Event event }) new
-  pub within : from + used ≤ length piece
-  pub lies : LieInPiece (Got.Event event) (from + used) piece
+  pub feeds : Feeds old (drop from chunk) (record { used = used; got = Got.Event event }) new
+  pub within : from + used ≤ length chunk
+  pub lies : LieInChunk (Got.Event event) (from + used) chunk
   pub event_is : listed.event ≡ shown_at event (from + used) texts
   pub texts_are : listed.texts ≡ texts + length (copied_of event)
-  pub texts_fit : listed.texts ≤ length room
-  pub room_is : written ≡ take texts room ++ copied_of event ++ drop (texts + length (copied_of event)) room
+  pub texts_fit : listed.texts ≤ length buffer
+  pub buffer_is : written ≡ take texts buffer ++ copied_of event ++ drop (texts + length (copied_of event)) buffer
 
 -- the same call gives none, and the buffer is unchanged
 abbrev pub EndsHere : Client Global → List ℕ → ℕ → ℕ → List ℕ → GitwireAnswer → List ℕ → Client Global → Type 0
-EndsHere old piece from count room answer written new =
-    GivesNone old piece from count answer new × (answer.used ≤ length piece) × (written ≡ room)
+EndsHere old chunk from count buffer answer written new =
+    GivesNone old chunk from count answer new × (answer.used ≤ length chunk) × (written ≡ buffer)

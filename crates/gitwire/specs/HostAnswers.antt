@@ -28,8 +28,8 @@ use Rattle.git_host.specs.declared.report.Report.{Report}
 use Rattle.gitwire.specs.Answers.{answering, answering_fault, answering_packet, answering_used, more_of, what_number}
 use Rattle.gitwire.specs.Numbers.{command_number}
 use Rattle.gitwire.specs.Offers.{offer_meant}
-use Rattle.gitwire.specs.RequestAnswers.{HasOrNone, PutsFrom, is_set, telling_which}
-use Rattle.gitwire.specs.Rooms.{put_before}
+use Rattle.gitwire.specs.RequestAnswers.{HasOrNone, PutsFrom, is_set, announcing_which}
+use Rattle.gitwire.specs.Buffers.{put_before}
 use Rattle.gitwire.specs.WrittenForC.{boundary_of, given, object_name_check, ref_name_check, where_given}
 use Rattle.gitwire.specs.declared.answer.GitwireAnswer.{GitwireAnswer}
 use Rattle.gitwire.specs.declared.answer.What.TheVariants as What
@@ -58,11 +58,11 @@ MakesHost format features limit advertise old answer new =
 -- ---- the client's bytes
 
 -- the server uses bytes of the chunk, and it is reported to C how many
-pub record FeedsAnswers (old : HostServer Global) (piece : List ℕ) (answer : GitwireAnswer) (new : HostServer Global) : Type 0 where
+pub record FeedsAnswers (old : HostServer Global) (chunk : List ℕ) (answer : GitwireAnswer) (new : HostServer Global) : Type 0 where
   pub used : ℕ
   pub answer_is : answer ≡ answering_used used (more_of (reads_on old))
-  pub within : used ≤ length piece
-  pub feeds : FeedsHost (take used piece) old new
+  pub within : used ≤ length chunk
+  pub feeds : FeedsHost (take used chunk) old new
 
 -- what is reported to C for a call that does something or changes nothing
 abbrev pub done_where : Bool → ℕ
@@ -108,24 +108,24 @@ stepping (HostStep.Ended outcome) asked bytes = ending outcome
 
 -- the buffer: a packet is at its front
 abbrev pub filled_at : HostStep → List ℕ → List ℕ → List ℕ
-filled_at HostStep.Packet bytes room = put_before bytes room
-filled_at step bytes room = room
+filled_at HostStep.Packet bytes buffer = put_before bytes buffer
+filled_at step bytes buffer = buffer
 
 -- the server returns a packet or what to do instead, and that is reported to C
-pub record PullsAnswers (old : HostServer Global) (room : List ℕ) (answer : GitwireAnswer) (filled : List ℕ) (new : HostServer Global) : Type 0 where
+pub record PullsAnswers (old : HostServer Global) (buffer : List ℕ) (answer : GitwireAnswer) (filled : List ℕ) (new : HostServer Global) : Type 0 where
   pub step : HostStep
   pub steps : StepsHost old step new
   pub answer_is : answer ≡ stepping step (request_of new) (bytes_of new)
-  pub room_is : filled ≡ filled_at step (bytes_of new) room
+  pub buffer_is : filled ≡ filled_at step (bytes_of new) buffer
 
 -- nothing happens, and it is reported that the buffer is too small
 abbrev pub IsTooSmall : HostServer Global → List ℕ → GitwireAnswer → List ℕ → HostServer Global → Type 0
-IsTooSmall old room answer filled new = (answer ≡ answering What.BufferTooSmall) × (filled ≡ room) × (new ≡ old)
+IsTooSmall old buffer answer filled new = (answer ≡ answering What.BufferTooSmall) × (filled ≡ buffer) × (new ≡ old)
 
 -- nothing happens if the buffer is too small for the longest packet
-pub record PullsInRoom (old : HostServer Global) (room : List ℕ) (answer : GitwireAnswer) (filled : List ℕ) (new : HostServer Global) : Type 0 where
-  pub small : length room < 65520 → IsTooSmall old room answer filled new
-  pub large : 65520 ≤ length room → PullsAnswers old room answer filled new
+pub record PullsInBuffer (old : HostServer Global) (buffer : List ℕ) (answer : GitwireAnswer) (filled : List ℕ) (new : HostServer Global) : Type 0 where
+  pub small : length buffer < 65520 → IsTooSmall old buffer answer filled new
+  pub large : 65520 ≤ length buffer → PullsAnswers old buffer answer filled new
 
 -- ---- the request at hand
 
@@ -138,14 +138,14 @@ abbrev pub has_flag_at : ℕ → Option Asked → Bool
 has_flag_at number None = false
 has_flag_at number (Some asked) = is_set number asked
 
-abbrev pub telling_given_at : ℕ → Option Asked → GitwireAnswer
-telling_given_at which None = answering What.Nothing
-telling_given_at which (Some asked) = telling_which which asked
+abbrev pub announcing_given_at : ℕ → Option Asked → GitwireAnswer
+announcing_given_at which None = answering What.Nothing
+announcing_given_at which (Some asked) = announcing_which which asked
 
 -- the text at an index of the list, if there is a request
 abbrev pub PutsAt : Option ItemList → ℕ → Option Asked → List ℕ → GitwireAnswer → List ℕ → Type 0
-PutsAt list i None room answer filled = (answer ≡ answering What.Nothing) × (filled ≡ room)
-PutsAt list i (Some asked) room answer filled = PutsFrom list asked i room answer filled
+PutsAt list i None buffer answer filled = (answer ≡ answering What.Nothing) × (filled ≡ buffer)
+PutsAt list i (Some asked) buffer answer filled = PutsFrom list asked i buffer answer filled
 
 -- the request is accepted, if one is asked about
 pub record AcceptsAnswers (old : HostServer Global) (answer : ℕ) (new : HostServer Global) : Type 0 where
@@ -159,27 +159,27 @@ refusing true bytes = answering_packet 0 0 (length bytes) What.Packet
 refusing false bytes = answering What.NotNow
 
 abbrev pub filled_where : Bool → List ℕ → List ℕ → List ℕ
-filled_where true bytes room = put_before bytes room
-filled_where false bytes room = room
+filled_where true bytes buffer = put_before bytes buffer
+filled_where false bytes buffer = buffer
 
 -- the request is refused with a text, if one is asked about
-pub record RefusesAnswers (text : List ℕ) (old : HostServer Global) (room : List ℕ) (answer : GitwireAnswer) (filled : List ℕ)
+pub record RefusesAnswers (text : List ℕ) (old : HostServer Global) (buffer : List ℕ) (answer : GitwireAnswer) (filled : List ℕ)
     (new : HostServer Global) : Type 0 where
   pub refused : Bool
   pub refuses : RefusesHost text old refused new
   pub answer_is : answer ≡ refusing refused (bytes_of new)
-  pub room_is : filled ≡ filled_where refused (bytes_of new) room
+  pub buffer_is : filled ≡ filled_where refused (bytes_of new) buffer
 
 -- a refusal by a kind of error, at offset 0
 abbrev pub refused_as : Kind → GitwireAnswer
 refused_as kind = answering_fault 0 (record { kind = kind; offset = 0 })
 
 -- the same; nothing happens if the buffer is too small, or the text is too long for an error packet
-pub record RefusesInRoom (text : List ℕ) (old : HostServer Global) (room : List ℕ) (answer : GitwireAnswer) (filled : List ℕ)
+pub record RefusesInBuffer (text : List ℕ) (old : HostServer Global) (buffer : List ℕ) (answer : GitwireAnswer) (filled : List ℕ)
     (new : HostServer Global) : Type 0 where
-  pub small : length room < 65520 → IsTooSmall old room answer filled new
-  pub too_long : 65520 ≤ length room → 65511 < length text → (answer ≡ refused_as BadLine) × (filled ≡ room) × (new ≡ old)
-  pub large : 65520 ≤ length room → length text ≤ 65511 → RefusesAnswers text old room answer filled new
+  pub small : length buffer < 65520 → IsTooSmall old buffer answer filled new
+  pub too_long : 65520 ≤ length buffer → 65511 < length text → (answer ≡ refused_as BadLine) × (filled ≡ buffer) × (new ≡ old)
+  pub large : 65520 ≤ length buffer → length text ≤ 65511 → RefusesAnswers text old buffer answer filled new
 
 -- ---- what the host reports
 
@@ -203,22 +203,22 @@ reporting HostReported.NotShallow part whole filled = answering What.NotShallow
 reporting HostReported.OutOfMemory part whole filled = answering What.OutOfMemory
 
 abbrev pub filled_by : HostReported → List ℕ → List ℕ → List ℕ
-filled_by HostReported.Packet bytes room = put_before bytes room
-filled_by reported bytes room = room
+filled_by HostReported.Packet bytes buffer = put_before bytes buffer
+filled_by reported bytes buffer = buffer
 
 -- the server takes the report, and its packet is at the front of the buffer, if it has one
-pub record ReportsAnswers (report : Report) (old : HostServer Global) (room : List ℕ) (answer : GitwireAnswer) (filled : List ℕ)
+pub record ReportsAnswers (report : Report) (old : HostServer Global) (buffer : List ℕ) (answer : GitwireAnswer) (filled : List ℕ)
     (new : HostServer Global) : Type 0 where
   pub reported : HostReported
   pub reports : ReportsHost report old reported new
   pub answer_is : answer ≡ reporting reported (length (part_of (bytes_in report))) (length (bytes_in report)) (length (bytes_of new))
-  pub room_is : filled ≡ filled_by reported (bytes_of new) room
+  pub buffer_is : filled ≡ filled_by reported (bytes_of new) buffer
 
 -- nothing happens if the buffer is too small for the longest packet
-pub record ReportsInRoom (report : Report) (old : HostServer Global) (room : List ℕ) (answer : GitwireAnswer) (filled : List ℕ)
+pub record ReportsInBuffer (report : Report) (old : HostServer Global) (buffer : List ℕ) (answer : GitwireAnswer) (filled : List ℕ)
     (new : HostServer Global) : Type 0 where
-  pub small : length room < 65520 → IsTooSmall old room answer filled new
-  pub large : 65520 ≤ length room → ReportsAnswers report old room answer filled new
+  pub small : length buffer < 65520 → IsTooSmall old buffer answer filled new
+  pub large : 65520 ≤ length buffer → ReportsAnswers report old buffer answer filled new
 
 -- ---- reports whose texts C passes
 
@@ -238,20 +238,20 @@ unread_by ReferenceFault.OutOfMemory = Unread.OutOfMemory
 
 -- the report that the texts mean is made; or it is reported why there is none, and nothing changes
 abbrev pub ReportsBy : Meant → HostServer Global → List ℕ → GitwireAnswer → List ℕ → HostServer Global → Type 0
-ReportsBy (Ok report) old room answer filled new = ReportsAnswers report old room answer filled new
-ReportsBy (Err why) old room answer filled new = (answer ≡ unread_as why) × (filled ≡ room) × (new ≡ old)
+ReportsBy (Ok report) old buffer answer filled new = ReportsAnswers report old buffer answer filled new
+ReportsBy (Err why) old buffer answer filled new = (answer ≡ unread_as why) × (filled ≡ buffer) × (new ≡ old)
 
-pub record ReportsMeant (Means : Meant → Type 0) (old : HostServer Global) (room : List ℕ) (answer : GitwireAnswer) (filled : List ℕ)
+pub record ReportsMeant (Means : Meant → Type 0) (old : HostServer Global) (buffer : List ℕ) (answer : GitwireAnswer) (filled : List ℕ)
     (new : HostServer Global) : Type 0 where
   pub meant : Meant
   pub means : Means meant
-  pub reports : ReportsBy meant old room answer filled new
+  pub reports : ReportsBy meant old buffer answer filled new
 
 -- nothing happens if the buffer is too small for the longest packet
-pub record ReportsMeantInRoom (Means : Meant → Type 0) (old : HostServer Global) (room : List ℕ) (answer : GitwireAnswer) (filled : List ℕ)
+pub record ReportsMeantInBuffer (Means : Meant → Type 0) (old : HostServer Global) (buffer : List ℕ) (answer : GitwireAnswer) (filled : List ℕ)
     (new : HostServer Global) : Type 0 where
-  pub small : length room < 65520 → IsTooSmall old room answer filled new
-  pub large : 65520 ≤ length room → ReportsMeant Means old room answer filled new
+  pub small : length buffer < 65520 → IsTooSmall old buffer answer filled new
+  pub large : 65520 ≤ length buffer → ReportsMeant Means old buffer answer filled new
 
 -- the digits of a wanted reference's object, in the session's format; no digits mean that there is no such reference
 abbrev pub MeansWantRef : Format → List ℕ → Meant → Type 0

@@ -1,7 +1,7 @@
 -- The names of what is reported, by their numbers.
 use Rattle.std.specs.Prelude.{◌≡◌, ◌≢◌, ℕ, List, Option, Some, None, codes}
 use Rattle.git_client.specs.declared.event_parts.EventKind.{EventKind}
-use Rattle.gitwire.specs.Rooms.{Puts}
+use Rattle.gitwire.specs.Buffers.{Puts}
 use Rattle.gitwire.specs.Answers.{what_number}
 use Rattle.gitwire.specs.declared.answer.What.{What}
 
@@ -60,9 +60,9 @@ IsWhatOf number (Some what) = what_number what ≡ number
 
 -- its name is in the buffer; or there is none, and nothing is written
 abbrev pub PutsName : Option What → List ℕ → ℕ → List ℕ → Type 0
-PutsName None room answer filled = (answer ≡ 0) × (filled ≡ room)
-PutsName (Some what) room answer filled = Puts (what_name what) room answer filled
+PutsName None buffer answer filled = (answer ≡ 0) × (filled ≡ buffer)
+PutsName (Some what) buffer answer filled = Puts (what_name what) buffer answer filled
 
 -- the name of what has the number
-abbrev pub TellsKind : ℕ → List ℕ → ℕ → List ℕ → Type 0
-TellsKind number room answer filled = (what : Option What) × IsWhatOf number what × PutsName what room answer filled
+abbrev pub AnnouncesKind : ℕ → List ℕ → ℕ → List ℕ → Type 0
+AnnouncesKind number buffer answer filled = (what : Option What) × IsWhatOf number what × PutsName what buffer answer filled

@@ -17,7 +17,7 @@ pub mod PacketLists
 pub mod RepositoryAnswers
 pub mod RequestAnswers
 pub mod RequestReaderAnswers
-pub mod Rooms
+pub mod Buffers
 pub mod ServerAnswers
 pub mod StaticTexts
 pub mod WrittenForC

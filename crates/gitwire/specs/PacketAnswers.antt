@@ -9,7 +9,7 @@ use Rattle.git_pkt.specs.declared.reader.Fed.{Fed}
 use Rattle.git_pkt.specs.declared.reader.Got.{Got}
 use Rattle.git_pkt.specs.declared.reader.Got.TheVariants.{More, Packet, Failed}
 use Rattle.git_pkt.specs.declared.reader.PacketReader.{PacketReader}
-use Rattle.gitwire.specs.Rooms.{put_before}
+use Rattle.gitwire.specs.Buffers.{put_before}
 use Rattle.gitwire.specs.Answers.{answering, answering_fault, answering_packet, answering_used, what_number}
 use Rattle.gitwire.specs.declared.answer.GitwireAnswer.{GitwireAnswer}
 use Rattle.gitwire.specs.declared.answer.What.TheVariants as What
@@ -30,25 +30,25 @@ answer_of used (Failed fault) = answering_fault used fault
 
 -- the buffer: a payload is at its front
 abbrev pub filled_by : Got → List ℕ → List ℕ
-filled_by More room = room
-filled_by (Packet Flush offset) room = room
-filled_by (Packet Delim offset) room = room
-filled_by (Packet RespEnd offset) room = room
-filled_by (Packet (Payload bytes) offset) room = put_before bytes.now room
-filled_by (Failed fault) room = room
+filled_by More buffer = buffer
+filled_by (Packet Flush offset) buffer = buffer
+filled_by (Packet Delim offset) buffer = buffer
+filled_by (Packet RespEnd offset) buffer = buffer
+filled_by (Packet (Payload bytes) offset) buffer = put_before bytes.now buffer
+filled_by (Failed fault) buffer = buffer
 
 -- the reader reads, and it is reported to C what came, with no more bytes used than the chunk has
-pub record FeedsAnswers (old : PacketReader) (piece room : List ℕ) (answer : GitwireAnswer) (filled : List ℕ) (new : PacketReader) : Type 0 where
+pub record FeedsAnswers (old : PacketReader) (chunk buffer : List ℕ) (answer : GitwireAnswer) (filled : List ℕ) (new : PacketReader) : Type 0 where
   pub fed : Fed
-  pub feeds : Feeds old piece fed new
-  pub within : fed.used ≤ length piece
+  pub feeds : Feeds old chunk fed new
+  pub within : fed.used ≤ length chunk
   pub answer_is : answer ≡ answer_of fed.used fed.got
-  pub room_is : filled ≡ filled_by fed.got room
+  pub buffer_is : filled ≡ filled_by fed.got buffer
 
 -- nothing happens if the buffer is too small for the longest payload
-pub record FeedsInRoom (old : PacketReader) (piece room : List ℕ) (answer : GitwireAnswer) (filled : List ℕ) (new : PacketReader) : Type 0 where
-  pub small : length room < longest_payload → (answer ≡ answering What.BufferTooSmall) × (filled ≡ room) × (new ≡ old)
-  pub large : longest_payload ≤ length room → FeedsAnswers old piece room answer filled new
+pub record FeedsInBuffer (old : PacketReader) (chunk buffer : List ℕ) (answer : GitwireAnswer) (filled : List ℕ) (new : PacketReader) : Type 0 where
+  pub small : length buffer < longest_payload → (answer ≡ answering What.BufferTooSmall) × (filled ≡ buffer) × (new ≡ old)
+  pub large : longest_payload ≤ length buffer → FeedsAnswers old chunk buffer answer filled new
 
 -- an error at the end: the one that the reader had, or that a packet is cut off
 pub record FailsAtEnd (old : PacketReader) (fault : Fault) (new : PacketReader) : Type 0 where

@@ -13,7 +13,7 @@ use Rattle.git_msg.specs.Machine.HeldRequest.{IsEmpty, IsRefused, Keeps, add_che
 use Rattle.git_msg.specs.Lines.{end_checks}
 use Rattle.git_msg.specs.declared.requests.Request.{Request}
 use Rattle.gitwire.specs.Numbers.{commands, flags, formats, given_numbers, numbered}
-use Rattle.gitwire.specs.Rooms.{Fills}
+use Rattle.gitwire.specs.Buffers.{Fills}
 use Rattle.gitwire.specs.Answers.{answering, answering_fault, answering_packet, what_number}
 use Rattle.gitwire.specs.declared.answer.GitwireAnswer.{GitwireAnswer}
 use Rattle.gitwire.specs.declared.answer.What.TheVariants as What
@@ -21,13 +21,13 @@ use Rattle.gitwire.specs.declared.numbers.Given.{Given}
 use Rattle.gitwire.specs.declared.numbers.ItemList.{ItemList}
 
 -- done, with a number
-abbrev pub telling_number : ℕ → GitwireAnswer
-telling_number number = answering_packet 0 number 0 What.Done
+abbrev pub announcing_number : ℕ → GitwireAnswer
+announcing_number number = answering_packet 0 number 0 What.Done
 
 -- done, or refused by a kind of error
-abbrev pub telling_result : Result (Unit {0}) Kind → GitwireAnswer
-telling_result (Ok done) = answering What.Done
-telling_result (Err kind) = answering_fault 0 (record { kind = kind; offset = 0 })
+abbrev pub announcing_result : Result (Unit {0}) Kind → GitwireAnswer
+announcing_result (Ok done) = answering What.Done
+announcing_result (Err kind) = answering_fault 0 (record { kind = kind; offset = 0 })
 
 -- the handle has the value, or none if memory ran out
 abbrev pub HasOrNone : {X : Type 0} → ℕ → X → Option X → Type 0
@@ -71,7 +71,7 @@ AddsLine old line (Err kind) new = (new ≡ old) × IsLineRefused old line kind
 pub record AddsAnswers (old : Request Global) (line : List ℕ) (answer : GitwireAnswer) (new : Request Global) : Type 0 where
   pub added : Result (Unit {0}) Kind
   pub adds : AddsLine old line added new
-  pub answer_is : answer ≡ telling_result added
+  pub answer_is : answer ≡ announcing_result added
 
 -- the request is whole, or it is not, by this kind of error
 abbrev pub JudgesEnd : Asked → Result (Unit {0}) Kind → Type 0
@@ -82,7 +82,7 @@ JudgesEnd asked (Err kind) = Refuses (end_checks asked) kind
 pub record EndsAnswers (asked : Asked) (answer : GitwireAnswer) : Type 0 where
   pub judged : Result (Unit {0}) Kind
   pub judges : JudgesEnd asked judged
-  pub answer_is : answer ≡ telling_result judged
+  pub answer_is : answer ≡ announcing_result judged
 
 -- whether the flag of this number is set; a number of no flag is not
 abbrev pub is_set : ℕ → Asked → Bool
@@ -94,14 +94,14 @@ given_of Given.Deepen = deepen_of
 given_of Given.DeepenSince = deepen_since_of
 
 -- what is reported to C about a number that may have been set
-abbrev pub telling_given : Option ℕ → GitwireAnswer
-telling_given None = answering What.Nothing
-telling_given (Some number) = telling_number number
+abbrev pub announcing_given : Option ℕ → GitwireAnswer
+announcing_given None = answering What.Nothing
+announcing_given (Some number) = announcing_number number
 
 -- what is reported to C about the number of the request that this number selects
-abbrev pub telling_which : ℕ → Asked → GitwireAnswer
-telling_which number asked =
-    unwrap_or (option_map (λ which. telling_given (given_of which asked)) (numbered given_numbers number)) (answering What.BadValue)
+abbrev pub announcing_which : ℕ → Asked → GitwireAnswer
+announcing_which number asked =
+    unwrap_or (option_map (λ which. announcing_given (given_of which asked)) (numbered given_numbers number)) (answering What.BadValue)
 
 -- the text at an index of a list; an object name as its digits
 abbrev pub item_of : ItemList → Asked → ℕ → Option (List ℕ)
@@ -116,10 +116,10 @@ item_of ItemList.Filters asked i = slice_get (filters_of asked) i
 
 -- the text, if there is one
 abbrev pub PutsItem : Option (List ℕ) → List ℕ → GitwireAnswer → List ℕ → Type 0
-PutsItem None room answer filled = (answer ≡ answering What.Nothing) × (filled ≡ room)
-PutsItem (Some text) room answer filled = Fills text room answer filled
+PutsItem None buffer answer filled = (answer ≡ answering What.Nothing) × (filled ≡ buffer)
+PutsItem (Some text) buffer answer filled = Fills text buffer answer filled
 
 -- the text at an index of the list, if there is such a list
 abbrev pub PutsFrom : Option ItemList → Asked → ℕ → List ℕ → GitwireAnswer → List ℕ → Type 0
-PutsFrom None asked i room answer filled = (answer ≡ answering What.BadValue) × (filled ≡ room)
-PutsFrom (Some list) asked i room answer filled = PutsItem (item_of list asked i) room answer filled
+PutsFrom None asked i buffer answer filled = (answer ≡ answering What.BadValue) × (filled ≡ buffer)
+PutsFrom (Some list) asked i buffer answer filled = PutsItem (item_of list asked i) buffer answer filled

@@ -37,11 +37,11 @@ MakesReader format features limit old answer new =
     ⊎ ((reader : RequestStream Global) × MeanReader format features limit reader × HasOrNone answer reader new)
 
 -- what is reported to C for an answer, by whether input was expected
-abbrev pub telling_read : Bool → ℕ → ReadGot Global → GitwireAnswer
-telling_read due used More = answering_used used (more_of due)
-telling_read due used (RequestGot request) = answering_used used What.Request
-telling_read due used Stop = answering_used used What.Stop
-telling_read due used (Failed fault) = answering_fault used fault
+abbrev pub announcing_read : Bool → ℕ → ReadGot Global → GitwireAnswer
+announcing_read expected used More = answering_used used (more_of expected)
+announcing_read expected used (RequestGot request) = answering_used used What.Request
+announcing_read expected used Stop = answering_used used What.Stop
+announcing_read expected used (Failed fault) = answering_fault used fault
 
 -- the request of a handle after an answer: a new one replaces the old one
 abbrev pub request_after : ReadGot Global → Request Global → Request Global
@@ -51,12 +51,12 @@ request_after Stop held = held
 request_after (Failed fault) held = held
 
 -- the reader reads, and it is reported to C what came
-pub record FeedsAnswers (old : RequestStream Global) (piece : List ℕ) (held : Request Global) (answer : GitwireAnswer)
+pub record FeedsAnswers (old : RequestStream Global) (chunk : List ℕ) (held : Request Global) (answer : GitwireAnswer)
     (new : RequestStream Global) (kept : Request Global) : Type 0 where
   pub read : ReadRequest Global
-  pub within : read.used ≤ length piece
-  pub feeds : Feeds old piece read new
-  pub answer_is : answer ≡ telling_read (wants_input old) read.used read.got
+  pub within : read.used ≤ length chunk
+  pub feeds : Feeds old chunk read new
+  pub answer_is : answer ≡ announcing_read (wants_input old) read.used read.got
   pub request : kept ≡ request_after read.got held
 
 -- what a handle for requests has when a reader is fed: its own request, or an empty one if it has none
@@ -67,29 +67,29 @@ Holds (Some request) held = held ≡ request
 -- a reader and a handle for its requests; if there is no memory for the first request of that handle, nothing is read
 abbrev pub FeedsHandle : RequestStream Global → List ℕ → Option (Request Global) → GitwireAnswer
     → Option (RequestStream Global) → Option (Request Global) → Type 0
-FeedsHandle old piece request answer new kept =
+FeedsHandle old chunk request answer new kept =
     ((request ≡ None) × (answer ≡ answering What.OutOfMemory) × (new ≡ Some old) × (kept ≡ None))
     ⊎ ((held : Request Global) × Holds request held
-    × IsSomeAnd new (λ reader. IsSomeAnd kept (λ next. FeedsAnswers old piece held answer reader next)))
+    × IsSomeAnd new (λ reader. IsSomeAnd kept (λ next. FeedsAnswers old chunk held answer reader next)))
 
 -- a handle that is fed
 abbrev pub FeedsIn : Option (RequestStream Global) → List ℕ → Option (Request Global) → GitwireAnswer
     → Option (RequestStream Global) → Option (Request Global) → Type 0
-FeedsIn None piece request answer new kept = (answer ≡ answering What.NoHandle) × (new ≡ None) × (kept ≡ request)
-FeedsIn (Some old) piece request answer new kept = FeedsHandle old piece request answer new kept
+FeedsIn None chunk request answer new kept = (answer ≡ answering What.NoHandle) × (new ≡ None) × (kept ≡ request)
+FeedsIn (Some old) chunk request answer new kept = FeedsHandle old chunk request answer new kept
 
 -- done, or refused at an offset
-abbrev pub telling_end : Result (Unit {0}) Fault → GitwireAnswer
-telling_end (Ok done) = answering What.Done
-telling_end (Err fault) = answering_fault 0 fault
+abbrev pub announcing_end : Result (Unit {0}) Fault → GitwireAnswer
+announcing_end (Ok done) = answering What.Done
+announcing_end (Err fault) = answering_fault 0 fault
 
 -- the input ends, and it is reported to C how
-pub record TellsClose (old : RequestStream Global) (answer : GitwireAnswer) (new : RequestStream Global) : Type 0 where
+pub record AnnouncesClose (old : RequestStream Global) (answer : GitwireAnswer) (new : RequestStream Global) : Type 0 where
   pub ended : Result (Unit {0}) Fault
   pub closes : Closes ended old new
-  pub answer_is : answer ≡ telling_end ended
+  pub answer_is : answer ≡ announcing_end ended
 
 -- the input may end only if more could come
 pub record ClosesAnswers (old : RequestStream Global) (answer : GitwireAnswer) (new : RequestStream Global) : Type 0 where
-  pub now : wants_input old ≡ true → TellsClose old answer new
+  pub now : wants_input old ≡ true → AnnouncesClose old answer new
   pub not_now : wants_input old ≡ false → (answer ≡ answering What.NotNow) × (new ≡ old)

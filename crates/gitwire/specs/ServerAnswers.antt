@@ -11,7 +11,7 @@ use Rattle.git_server.specs.declared.server.Pulled.{Pulled}
 use Rattle.git_server.specs.declared.server.Pulled.TheVariants.{Packet, NeedInput, Finished}
 use Rattle.git_server.specs.declared.server.Server.{Server}
 use Rattle.git_server.specs.declared.shared_repo.SharedRepo.{SharedRepo}
-use Rattle.gitwire.specs.Rooms.{put_before}
+use Rattle.gitwire.specs.Buffers.{put_before}
 use Rattle.gitwire.specs.Answers.{more_of, answering, answering_fault, answering_packet, answering_used, what_number}
 use Rattle.gitwire.specs.declared.answer.GitwireAnswer.{GitwireAnswer}
 use Rattle.gitwire.specs.declared.answer.What.TheVariants as What
@@ -45,20 +45,20 @@ BeginsOver None limit advertise old answer new = (answer ≡ what_number What.No
 BeginsOver (Some repository) limit advertise old answer new = BeginsWithin repository limit advertise old answer new
 
 -- the server uses bytes of the chunk, and it is reported to C how many
-pub record FeedsAnswers (old : Server SharedRepo Global) (piece : List ℕ) (answer : GitwireAnswer) (new : Server SharedRepo Global) : Type 0 where
+pub record FeedsAnswers (old : Server SharedRepo Global) (chunk : List ℕ) (answer : GitwireAnswer) (new : Server SharedRepo Global) : Type 0 where
   pub used : ℕ
   pub answer_is : answer ≡ answering_used used (more_of (wants_input old))
-  pub within : used ≤ length piece
-  pub goes : Goes shared_state (take used piece) [] old new
-  pub whole : wants_input new ≡ true → used ≡ length piece
-  pub moves : wants_input old ≡ true → 0 < length piece → (0 < used) ⊎ IsSome (outcome_of new)
-  pub in_time : StopsInTime shared_state old used piece (outcome_of new)
+  pub within : used ≤ length chunk
+  pub goes : Goes shared_state (take used chunk) [] old new
+  pub whole : wants_input new ≡ true → used ≡ length chunk
+  pub moves : wants_input old ≡ true → 0 < length chunk → (0 < used) ⊎ IsSome (outcome_of new)
+  pub in_time : StopsInTime shared_state old used chunk (outcome_of new)
   pub stays : wants_input old ≡ false → (used ≡ 0) × (new ≡ old)
-  pub nothing : length piece ≡ 0 → (used ≡ 0) × (new ≡ old)
+  pub nothing : length chunk ≡ 0 → (used ≡ 0) × (new ≡ old)
 
 -- the input ends when the server expects input
 pub record ClosesAnswers (old : Server SharedRepo Global) (answer : ℕ) (new : Server SharedRepo Global) : Type 0 where
-  pub due : wants_input old ≡ true → (answer ≡ what_number What.Done) × Closes shared_state old new × IsSome (outcome_of new)
+  pub expected : wants_input old ≡ true → (answer ≡ what_number What.Done) × Closes shared_state old new × IsSome (outcome_of new)
   pub not_now : wants_input old ≡ false → (answer ≡ what_number What.NotNow) × (new ≡ old)
 
 -- what is reported to C about what is pulled
@@ -71,20 +71,20 @@ answer_of (Finished (Refused fault)) = answering_fault 0 fault
 
 -- the buffer: a packet is at its front
 abbrev pub filled_by : Pulled → List ℕ → List ℕ
-filled_by (Packet bytes) room = put_before bytes.now room
-filled_by NeedInput room = room
-filled_by (Finished outcome) room = room
+filled_by (Packet bytes) buffer = put_before bytes.now buffer
+filled_by NeedInput buffer = buffer
+filled_by (Finished outcome) buffer = buffer
 
 -- the server returns a packet or what to do instead, and that is reported to C
-pub record PullsAnswers (old : Server SharedRepo Global) (room : List ℕ) (answer : GitwireAnswer) (filled : List ℕ)
+pub record PullsAnswers (old : Server SharedRepo Global) (buffer : List ℕ) (answer : GitwireAnswer) (filled : List ℕ)
     (new : Server SharedRepo Global) : Type 0 where
   pub pulled : Pulled
   pub pulls : Pulls shared_state old pulled new
   pub answer_is : answer ≡ answer_of pulled
-  pub room_is : filled ≡ filled_by pulled room
+  pub buffer_is : filled ≡ filled_by pulled buffer
 
 -- nothing happens if the buffer is too small for the longest packet
-pub record PullsInRoom (old : Server SharedRepo Global) (room : List ℕ) (answer : GitwireAnswer) (filled : List ℕ)
+pub record PullsInBuffer (old : Server SharedRepo Global) (buffer : List ℕ) (answer : GitwireAnswer) (filled : List ℕ)
     (new : Server SharedRepo Global) : Type 0 where
-  pub small : length room < 65520 → (answer ≡ answering What.BufferTooSmall) × (filled ≡ room) × (new ≡ old)
-  pub large : 65520 ≤ length room → PullsAnswers old room answer filled new
+  pub small : length buffer < 65520 → (answer ≡ answering What.BufferTooSmall) × (filled ≡ buffer) × (new ≡ old)
+  pub large : 65520 ≤ length buffer → PullsAnswers old buffer answer filled new

@@ -21,7 +21,7 @@ use Rattle.git_msg.specs.declared.response_lines.Boundary.TheVariants.{Shallow, 
 use Rattle.git_msg.specs.declared.offers.Offer.{Offer}
 use Rattle.git_server.specs.Answers.{advertisement_of, spelled}
 use Rattle.gitwire.specs.Numbers.{formats, numbered}
-use Rattle.gitwire.specs.Rooms.{Fills}
+use Rattle.gitwire.specs.Buffers.{Fills}
 use Rattle.gitwire.specs.Answers.{answering, answering_fault, what_number}
 use Rattle.gitwire.specs.declared.answer.GitwireAnswer.{GitwireAnswer}
 use Rattle.gitwire.specs.declared.answer.What.TheVariants.{Done, NoHandle, OutOfMemory, Payload, Flush, Delim, ResponseEnd, BadValue as a_bad_value}
@@ -37,25 +37,25 @@ abbrev pub refused_name : NameFault → Unwritten
 refused_name fault = Refused (kind_of fault)
 
 -- why nothing was written
-abbrev pub telling_why : Unwritten → GitwireAnswer
-telling_why BadValue = answering a_bad_value
-telling_why (Refused kind) = answering_fault 0 (record { kind = kind; offset = 0 })
+abbrev pub announcing_why : Unwritten → GitwireAnswer
+announcing_why BadValue = answering a_bad_value
+announcing_why (Refused kind) = answering_fault 0 (record { kind = kind; offset = 0 })
 
 -- what is reported to C if its values mean this
-abbrev pub Tells : Meant → List ℕ → GitwireAnswer → List ℕ → Type 0
-Tells (Ok packet) room answer filled = (length (body_of packet) ≤ longest_payload) × Fills (spelling_of packet) room answer filled
-Tells (Err why) room answer filled = (answer ≡ telling_why why) × (filled ≡ room)
+abbrev pub Announces : Meant → List ℕ → GitwireAnswer → List ℕ → Type 0
+Announces (Ok packet) buffer answer filled = (length (body_of packet) ≤ longest_payload) × Fills (spelling_of packet) buffer answer filled
+Announces (Err why) buffer answer filled = (answer ≡ announcing_why why) × (filled ≡ buffer)
 
 -- the packet that the values mean is at the front of the buffer, or it is reported to C why not
-pub record Writes (Means : Meant → Type 0) (room : List ℕ) (answer : GitwireAnswer) (filled : List ℕ) : Type 0 where
+pub record Writes (Means : Meant → Type 0) (buffer : List ℕ) (answer : GitwireAnswer) (filled : List ℕ) : Type 0 where
   pub meant : Meant
   pub means : Means meant
-  pub tells : Tells meant room answer filled
+  pub announces : Announces meant buffer answer filled
 
 -- the values and the buffer determine what is reported and left in the buffer
 abbrev pub IsDetermined : (Meant → Type 0) → Type 0
-IsDetermined Means = (room : List ℕ) (answer other : GitwireAnswer) (filled others : List ℕ)
-    → Writes Means room answer filled → Writes Means room other others → (answer ≡ other) × (filled ≡ others)
+IsDetermined Means = (buffer : List ℕ) (answer other : GitwireAnswer) (filled others : List ℕ)
+    → Writes Means buffer answer filled → Writes Means buffer other others → (answer ≡ other) × (filled ≡ others)
 
 -- the hold has the packet that the values mean, or this is why there is none
 abbrev pub Makes : (Meant → Type 0) → Result (Unit {0}) Unwritten → List ℕ → Type 0
@@ -64,9 +64,9 @@ Makes Means (Err why) held = Means (Err why)
 
 -- the packets of the advertisement of the offer that C means, one after another
 abbrev pub Advertises : Option Offer → List ℕ → GitwireAnswer → List ℕ → Type 0
-Advertises None room answer filled = (answer ≡ answering a_bad_value) × (filled ≡ room)
-Advertises (Some offer) room answer filled =
-    (length (spelled (advertisement_of offer)) < 200) × Fills (spelled (advertisement_of offer)) room answer filled
+Advertises None buffer answer filled = (answer ≡ answering a_bad_value) × (filled ≡ buffer)
+Advertises (Some offer) buffer answer filled =
+    (length (spelled (advertisement_of offer)) < 200) × Fills (spelled (advertisement_of offer)) buffer answer filled
 
 -- a handle has a writer, or none if memory ran out
 abbrev pub BeginsToWrite : ℕ → Option (List ℕ) → Type 0
@@ -75,8 +75,8 @@ BeginsToWrite answer (Some held) = answer ≡ what_number Done
 
 -- a handle with a writer does this to the buffer, and keeps it; if the handle has none, that is reported, and nothing is written
 abbrev pub WritesIn : Option (List ℕ) → (List ℕ → GitwireAnswer → List ℕ → Type 0) → List ℕ → GitwireAnswer → List ℕ → Option (List ℕ) → Type 0
-WritesIn None Does room answer filled new = (answer ≡ answering NoHandle) × (filled ≡ room) × (new ≡ None)
-WritesIn (Some held) Does room answer filled new = Does room answer filled × IsSome new
+WritesIn None Does buffer answer filled new = (answer ≡ answering NoHandle) × (filled ≡ buffer) × (new ≡ None)
+WritesIn (Some held) Does buffer answer filled new = Does buffer answer filled × IsSome new
 
 -- the packet of this kind: only a payload has bytes
 abbrev pub IsOfKind : ℕ → List ℕ → Pkt → Type 0

@@ -97,10 +97,10 @@ impl What {
     ghost use Rattle.gitwire.specs.Answers.{more_of, what_number};
 
     /// What is reported for a chunk if nothing else is: more is to come, or none was expected.
-    pub(crate) fn more(due: bool) -> What
-        ensures { result ≡ more_of due }
+    pub(crate) fn more(expected: bool) -> What
+        ensures { result ≡ more_of expected }
     {
-        match due {
+        match expected {
             true => What::More,
             false => What::NotNow,
         }

@@ -2,8 +2,8 @@
 
 ghost use Rattle.std.specs.Prelude.{◌≡◌, None, MatchResult, false};
 ghost use Rattle.gitwire.specs.Calls.{HasNone, Of, On};
-ghost use Rattle.gitwire.specs.ClientAnswers.{AdvertisesAnswer, AsksIn, BeginsBy, ClosesAnswers, FeaturesAnswer, FeedsInRoom, HearsNone};
-ghost use Rattle.gitwire.specs.ClientAnswers.{LeavesRequest, LeavesAnswers, MessageAnswers, PullsInRoom, TakesRequest, endings};
+ghost use Rattle.gitwire.specs.ClientAnswers.{AdvertisesAnswer, AsksIn, BeginsBy, ClosesAnswers, FeaturesAnswer, FeedsInBuffer, ReceivesNone};
+ghost use Rattle.gitwire.specs.ClientAnswers.{LeavesRequest, LeavesAnswers, MessageAnswers, PullsInBuffer, TakesRequest, endings};
 ghost use Rattle.gitwire.specs.Handles.{client_in, request_in};
 ghost use Rattle.gitwire.specs.Numbers.{formats, numbered};
 ghost use Rattle.gitwire.specs.Answers.{answering, what_number};
@@ -14,7 +14,7 @@ use crate::event_list::list;
 use crate::handles::{GitwireClient, GitwireRequest, Holds, fill};
 use crate::numbers::format_numbered;
 use crate::offer::{features_noted, key_noted};
-use git_client::{Client, Ending, HeardGot, Sent};
+use git_client::{Client, Ending, ReceivedGot, Sent};
 use git_msg::{Command, Limits, Request};
 use git_names::{Format, Steps};
 use git_pkt::LONGEST_PACKET;
@@ -66,32 +66,32 @@ fn ending_numbered(number: u32) -> Option<Ending>
 pub extern "C" fn gitwire_client_feed(
     alloc: Global,
     client: &mut GitwireClient,
-    piece: &[u8],
-    room: &mut [u8],
+    chunk: &[u8],
+    buffer: &mut [u8],
 ) -> GitwireEvent
-    ensures { On (client_in client.old) (client_in client.new) (λ old new. FeedsInRoom old piece.now room.old result room.new new)
-        (HearsNone room.old result room.new) }
+    ensures { On (client_in client.old) (client_in client.new) (λ old new. FeedsInBuffer old chunk.now buffer.old result buffer.new new)
+        (ReceivesNone buffer.old result buffer.new) }
 {
     let Some(mut taken) = client.take(alloc) else {
         return GitwireEvent::none(0, What::NoHandle);
     };
-    let answer = feed(&mut taken.inner, piece, room);
+    let answer = feed(&mut taken.inner, chunk, buffer);
     client.put(taken);
     answer
 }
 
-fn feed(client: &mut Client<Global>, piece: &[u8], room: &mut [u8]) -> GitwireEvent
-    ensures { FeedsInRoom client.old piece.now room.old result room.new client.new }
+fn feed(client: &mut Client<Global>, chunk: &[u8], buffer: &mut [u8]) -> GitwireEvent
+    ensures { FeedsInBuffer client.old chunk.now buffer.old result buffer.new client.new }
 {
-    if room.len() < LONGEST_PARTS {
+    if buffer.len() < LONGEST_PARTS {
         return GitwireEvent::none(0, What::BufferTooSmall);
     }
-    let due = client.wants_input();
-    let heard = client.feed(piece, &mut Steps::new());
-    match heard.got {
-        HeardGot::More => GitwireEvent::none(heard.used, What::more(due)),
-        HeardGot::Event(event) => list(event, heard.used, room, 0).event,
-        HeardGot::Failed(fault) => GitwireEvent::of_fault(heard.used, fault),
+    let expected = client.wants_input();
+    let arrived = client.feed(chunk, &mut Steps::new());
+    match arrived.got {
+        ReceivedGot::More => GitwireEvent::none(arrived.used, What::more(expected)),
+        ReceivedGot::Event(event) => list(event, arrived.used, buffer, 0).event,
+        ReceivedGot::Failed(fault) => GitwireEvent::of_fault(arrived.used, fault),
     }
 }
 
@@ -101,27 +101,28 @@ fn feed(client: &mut Client<Global>, piece: &[u8], room: &mut [u8]) -> GitwireEv
 pub extern "C" fn gitwire_client_pull(
     alloc: Global,
     client: &mut GitwireClient,
-    room: &mut [u8],
+    buffer: &mut [u8],
 ) -> GitwireAnswer
-    ensures { On (client_in client.old) (client_in client.new) (λ old new. PullsInRoom old room.old result room.new new) (HasNone room.old result room.new) }
+    ensures { On (client_in client.old) (client_in client.new) (λ old new. PullsInBuffer old buffer.old result buffer.new new)
+        (HasNone buffer.old result buffer.new) }
 {
     let Some(mut taken) = client.take(alloc) else {
         return GitwireAnswer::of(What::NoHandle);
     };
-    let answer = pull(&mut taken.inner, room);
+    let answer = pull(&mut taken.inner, buffer);
     client.put(taken);
     answer
 }
 
-fn pull(client: &mut Client<Global>, room: &mut [u8]) -> GitwireAnswer
-    ensures { PullsInRoom client.old room.old result room.new client.new }
+fn pull(client: &mut Client<Global>, buffer: &mut [u8]) -> GitwireAnswer
+    ensures { PullsInBuffer client.old buffer.old result buffer.new client.new }
 {
-    if room.len() < LONGEST_PACKET {
+    if buffer.len() < LONGEST_PACKET {
         return GitwireAnswer::of(What::BufferTooSmall);
     }
     match client.pull() {
         Sent::Packet(bytes) => {
-            room[..bytes.len()].copy_from_slice(bytes);
+            buffer[..bytes.len()].copy_from_slice(bytes);
             GitwireAnswer::of_packet(0, 0, bytes.len(), What::Packet)
         }
         Sent::NeedInput => GitwireAnswer::of(What::NeedInput),
@@ -234,28 +235,28 @@ fn close(client: &mut Client<Global>) -> GitwireAnswer
 pub extern "C" fn gitwire_client_message(
     alloc: Global,
     client: &mut GitwireClient,
-    room: &mut [u8],
+    buffer: &mut [u8],
 ) -> GitwireAnswer
-    ensures { Of (client_in client.old) (client_in client.new) (λ had. MessageAnswers had room.old result room.new) (HasNone room.old result room.new) }
+    ensures { Of (client_in client.old) (client_in client.new) (λ had. MessageAnswers had buffer.old result buffer.new) (HasNone buffer.old result buffer.new) }
 {
     let Some(taken) = client.take(alloc) else {
         return GitwireAnswer::of(What::NoHandle);
     };
-    let answer = message(&taken.inner, room);
+    let answer = message(&taken.inner, buffer);
     client.put(taken);
     answer
 }
 
-fn message(client: &Client<Global>, room: &mut [u8]) -> GitwireAnswer
-    ensures { MessageAnswers client.now room.old result room.new }
+fn message(client: &Client<Global>, buffer: &mut [u8]) -> GitwireAnswer
+    ensures { MessageAnswers client.now buffer.old result buffer.new }
 {
     let Some(message) = client.message() else {
         return GitwireAnswer::of(What::Nothing);
     };
-    if room.len() < message.len() {
+    if buffer.len() < message.len() {
         return GitwireAnswer::of(What::BufferTooSmall);
     }
-    room[..message.len()].copy_from_slice(message);
+    buffer[..message.len()].copy_from_slice(message);
     GitwireAnswer::of_packet(0, 0, message.len(), What::Done)
 }
 

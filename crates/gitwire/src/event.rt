@@ -4,7 +4,7 @@ ghost use Rattle.std.specs.Prelude.{◌≡◌, ◌+◌, ◌≤◌, ◌++◌, ℕ
 ghost use Rattle.std.specs.Option.{option_copied};
 ghost use Rattle.git_client.specs.EventParts.{of_text, parts_shown};
 ghost use Rattle.gitwire.specs.EventAnswers.{digits_shown, text_shown};
-ghost use Rattle.gitwire.specs.Rooms.{put_before};
+ghost use Rattle.gitwire.specs.Buffers.{put_before};
 
 use crate::answer::What;
 use git_client::{EventKind, EventParts};
@@ -43,18 +43,18 @@ pub struct GitwireEvent {
 }
 
 impl GitwireEvent {
-    ghost use Rattle.gitwire.specs.EventAnswers.{bytes_shown, telling_none, telling_parts, answering_refusal};
+    ghost use Rattle.gitwire.specs.EventAnswers.{bytes_shown, announcing_none, announcing_parts, answering_refusal};
 
     /// The event: its texts are written to the front of the buffer, one after another.
-    pub(crate) fn of_parts(used: usize, parts: EventParts<'_>, room: &mut [u8]) -> GitwireEvent
-        requires { length (bytes_shown (parts_shown parts)) ≤ length room.old }
-        ensures answer { result ≡ telling_parts used (parts_shown parts.entry) }
-        ensures room { room.new ≡ put_before (bytes_shown (parts_shown parts.entry)) room.old }
+    pub(crate) fn of_parts(used: usize, parts: EventParts<'_>, buffer: &mut [u8]) -> GitwireEvent
+        requires { length (bytes_shown (parts_shown parts)) ≤ length buffer.old }
+        ensures answer { result ≡ announcing_parts used (parts_shown parts.entry) }
+        ensures buffer { buffer.new ≡ put_before (bytes_shown (parts_shown parts.entry)) buffer.old }
     {
-        let id_end = put_digits(room, 0, parts.id);
-        let name_end = put_at(room, id_end, bytes_of(parts.name));
-        let text_end = put_at(room, name_end, bytes_of(parts.text));
-        let end = put_digits(room, text_end, parts.peeled);
+        let id_end = put_digits(buffer, 0, parts.id);
+        let name_end = put_at(buffer, id_end, bytes_of(parts.name));
+        let text_end = put_at(buffer, name_end, bytes_of(parts.text));
+        let end = put_digits(buffer, text_end, parts.peeled);
         GitwireEvent {
             used,
             offset: 0,
@@ -72,7 +72,7 @@ impl GitwireEvent {
 
     /// No event.
     pub(crate) fn none(used: usize, what: What) -> GitwireEvent
-        ensures { result ≡ telling_none used what }
+        ensures { result ≡ announcing_none used what }
     {
         GitwireEvent {
             used,
@@ -91,7 +91,7 @@ impl GitwireEvent {
 
     /// So many bytes that lie elsewhere.
     pub(crate) fn of_bytes(used: usize, kind: EventKind, count: usize) -> GitwireEvent
-        ensures { (bytes : List ℕ) → length bytes ≡ count → result ≡ telling_parts used (of_text kind bytes) }
+        ensures { (bytes : List ℕ) → length bytes ≡ count → result ≡ announcing_parts used (of_text kind bytes) }
     {
         GitwireEvent {
             text_length: count,
@@ -123,14 +123,14 @@ fn bytes_of(text: Option<&[u8]>) -> &[u8]
 }
 
 /// Puts the digits of an object name, if there is one, at a place of the buffer, and returns where they end.
-fn put_digits(room: &mut [u8], at: usize, id: Option<&Oid>) -> usize
-    requires { at + length (digits_shown (option_copied id)) ≤ length room.old }
+fn put_digits(buffer: &mut [u8], at: usize, id: Option<&Oid>) -> usize
+    requires { at + length (digits_shown (option_copied id)) ≤ length buffer.old }
     ensures end { result ≡ at + length (digits_shown (option_copied id.entry)) }
-    ensures placed { room.new ≡ take at room.old ++ digits_shown (option_copied id.entry)
-        ++ drop (at + length (digits_shown (option_copied id.entry))) room.old }
+    ensures placed { buffer.new ≡ take at buffer.old ++ digits_shown (option_copied id.entry)
+        ++ drop (at + length (digits_shown (option_copied id.entry))) buffer.old }
 {
     let Some(id) = id else {
         return at;
     };
-    put_at(room, at, id.written(&mut [0; 64]))
+    put_at(buffer, at, id.written(&mut [0; 64]))
 }

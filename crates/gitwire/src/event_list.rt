@@ -6,15 +6,15 @@ ghost use Rattle.gitwire.specs.Calls.{On};
 ghost use Rattle.git_client.specs.EventParts.{of_text};
 ghost use Rattle.git_client.specs.Machine.Client.{can_ask};
 ghost use Rattle.gitwire.specs.Answers.{answering_packet};
-ghost use Rattle.gitwire.specs.EventAnswers.{copied_of, passed_of, shown_at, telling_parts};
-ghost use Rattle.gitwire.specs.EventLists.{EndsHere, GivesEvent, ListsEvents, ListsInRoom, ListsNothing};
+ghost use Rattle.gitwire.specs.EventAnswers.{copied_of, passed_of, shown_at, announcing_parts};
+ghost use Rattle.gitwire.specs.EventLists.{EndsHere, GivesEvent, ListsEvents, ListsInBuffer, ListsNothing};
 ghost use Rattle.gitwire.specs.Handles.{client_in};
 
 use crate::answer::{GitwireAnswer, What};
 use crate::client::LONGEST_PARTS;
 use crate::event::GitwireEvent;
 use crate::handles::{GitwireClient, Holds};
-use git_client::{Client, Event, EventKind, HeardGot};
+use git_client::{Client, Event, EventKind, ReceivedGot};
 use git_names::Steps;
 use std::alloc::Global;
 
@@ -45,54 +45,54 @@ pub(crate) struct Listed {
 pub extern "C" fn gitwire_client_events(
     alloc: Global,
     client: &mut GitwireClient,
-    piece: &[u8],
+    chunk: &[u8],
     events: &mut [GitwireEvent],
-    room: &mut [u8],
+    buffer: &mut [u8],
 ) -> GitwireAnswer
     ensures { On (client_in client.old) (client_in client.new)
-        (λ old new. ListsInRoom old piece.now events.old room.old result events.new room.new new)
-        (ListsNothing events.old room.old result events.new room.new) }
+        (λ old new. ListsInBuffer old chunk.now events.old buffer.old result events.new buffer.new new)
+        (ListsNothing events.old buffer.old result events.new buffer.new) }
 {
     let Some(mut taken) = client.take(alloc) else {
         return GitwireAnswer::of(What::NoHandle);
     };
-    let answer = list_events(&mut taken.inner, piece, events, room);
+    let answer = list_events(&mut taken.inner, chunk, events, buffer);
     client.put(taken);
     answer
 }
 
 fn list_events(
     client: &mut Client<Global>,
-    piece: &[u8],
+    chunk: &[u8],
     events: &mut [GitwireEvent],
-    room: &mut [u8],
+    buffer: &mut [u8],
 ) -> GitwireAnswer
-    ensures { ListsInRoom client.old piece.now events.old room.old result events.new room.new client.new }
+    ensures { ListsInBuffer client.old chunk.now events.old buffer.old result events.new buffer.new client.new }
 {
-    if events.is_empty() || room.len() < LONGEST_PARTS {
+    if events.is_empty() || buffer.len() < LONGEST_PARTS {
         return GitwireAnswer::of(What::BufferTooSmall);
     }
-    fill_events(client, piece, events, room)
+    fill_events(client, chunk, events, buffer)
 }
 
 /// Calls `feed` until it gives no event, the array is full, or the texts of a further event might not fit into the buffer.
 fn fill_events(
     client: &mut Client<Global>,
-    piece: &[u8],
+    chunk: &[u8],
     events: &mut [GitwireEvent],
-    room: &mut [u8],
+    buffer: &mut [u8],
 ) -> GitwireAnswer
     requires place { 0 < length events.old }
-    requires suffices { longest_payload ≤ length room.old }
-    ensures { ListsEvents client.old piece.now events.old room.old result events.new room.new client.new }
+    requires suffices { longest_payload ≤ length buffer.old }
+    ensures { ListsEvents client.old chunk.now events.old buffer.old result events.new buffer.new client.new }
 {
     let mut so_far = Extent {
         used: 0,
         count: 0,
         texts: 0,
     };
-    while so_far.count < events.len() && LONGEST_PARTS <= room.len() - so_far.texts {
-        match next(client, piece, so_far, room) {
+    while so_far.count < events.len() && LONGEST_PARTS <= buffer.len() - so_far.texts {
+        match next(client, chunk, so_far, buffer) {
             Ok(listed) => {
                 events[so_far.count] = listed.event;
                 so_far = Extent {
@@ -124,25 +124,25 @@ impl Extent {
 #[inline(always)]
 fn next(
     client: &mut Client<Global>,
-    piece: &[u8],
+    chunk: &[u8],
     so_far: Extent,
-    room: &mut [u8],
+    buffer: &mut [u8],
 ) -> Result<Listed, GitwireAnswer>
-    requires within { so_far.used ≤ length piece.now }
-    requires suffices { so_far.texts + longest_payload ≤ length room.old }
+    requires within { so_far.used ≤ length chunk.now }
+    requires suffices { so_far.texts + longest_payload ≤ length buffer.old }
     requires goes_on { 0 < so_far.count → can_ask client.old ≡ false }
-    ensures { MatchResult result (λ listed. GivesEvent client.old piece.now so_far.used so_far.texts room.old listed room.new client.new)
-        (λ answer. EndsHere client.old piece.now so_far.used so_far.count room.old answer room.new client.new) }
+    ensures { MatchResult result (λ listed. GivesEvent client.old chunk.now so_far.used so_far.texts buffer.old listed buffer.new client.new)
+        (λ answer. EndsHere client.old chunk.now so_far.used so_far.count buffer.old answer buffer.new client.new) }
 {
     let expected = client.wants_input();
-    let heard = client.feed(&piece[so_far.used..], &mut Steps::new());
-    let used = so_far.used + heard.used;
-    match heard.got {
-        HeardGot::More => {
+    let arrived = client.feed(&chunk[so_far.used..], &mut Steps::new());
+    let used = so_far.used + arrived.used;
+    match arrived.got {
+        ReceivedGot::More => {
             Err(GitwireAnswer::of_packet(used, 0, so_far.count, What::more(expected)))
         }
-        HeardGot::Event(event) => Ok(list(event, used, room, so_far.texts)),
-        HeardGot::Failed(fault) => Err(GitwireAnswer {
+        ReceivedGot::Event(event) => Ok(list(event, used, buffer, so_far.texts)),
+        ReceivedGot::Failed(fault) => Err(GitwireAnswer {
             length: so_far.count,
             ..GitwireAnswer::of_fault(used, fault)
         }),
@@ -151,12 +151,12 @@ fn next(
 
 /// The event as it is shown, when so many bytes of the chunk are used. Its texts are written to the buffer from this place on.
 #[inline(always)]
-pub(crate) fn list(event: Event<'_>, used: usize, room: &mut [u8], at: usize) -> Listed
-    requires copied { at + length (copied_of event) ≤ length room.old }
+pub(crate) fn list(event: Event<'_>, used: usize, buffer: &mut [u8], at: usize) -> Listed
+    requires copied { at + length (copied_of event) ≤ length buffer.old }
     requires passed { length (passed_of event) ≤ used }
     ensures event { result.event ≡ shown_at event.entry used at }
     ensures texts { result.texts ≡ at + length (copied_of event.entry) }
-    ensures room { room.new ≡ take at room.old ++ copied_of event.entry ++ drop (at + length (copied_of event.entry)) room.old }
+    ensures buffer { buffer.new ≡ take at buffer.old ++ copied_of event.entry ++ drop (at + length (copied_of event.entry)) buffer.old }
 {
     match event {
         Event::Pack(bytes) => list_passed(used, EventKind::Pack, bytes.len(), at),
@@ -164,7 +164,7 @@ pub(crate) fn list(event: Event<'_>, used: usize, room: &mut [u8], at: usize) ->
         _ => {
             let event = GitwireEvent {
                 offset: at as u64,
-                ..GitwireEvent::of_parts(used, event.parts(), &mut room[at..])
+                ..GitwireEvent::of_parts(used, event.parts(), &mut buffer[at..])
             };
             let end = at
                 + event.id_length
@@ -180,7 +180,7 @@ pub(crate) fn list(event: Event<'_>, used: usize, room: &mut [u8], at: usize) ->
 fn list_passed(used: usize, kind: EventKind, count: usize, texts: usize) -> Listed
     requires { count ≤ used }
     ensures event { (bytes : List ℕ) → length bytes ≡ count
-        → result.event ≡ record (telling_parts used (of_text kind bytes)) { offset = used - count } }
+        → result.event ≡ record (announcing_parts used (of_text kind bytes)) { offset = used - count } }
     ensures texts { result.texts ≡ texts }
 {
     Listed {

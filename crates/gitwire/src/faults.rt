@@ -1,21 +1,21 @@
 //! What users see of errors, by their numbers.
 
-ghost use Rattle.gitwire.specs.FaultAnswers.{IsKindOf, TellsText};
+ghost use Rattle.gitwire.specs.FaultAnswers.{IsKindOf, AnnouncesText};
 
-use crate::rooms::put_bytes;
+use crate::buffers::put_bytes;
 use git_pkt::{Fault, Kind};
 
 /// Writes what users see of an error, such as `Truncated at 994`, to the front of the buffer, and returns its length: 0 if no error has the
 /// number, or the buffer is too small.
 #[unsafe(no_mangle)]
-pub extern "C" fn gitwire_fault_text(fault: u32, offset: u64, room: &mut [u8]) -> usize
-    ensures { TellsText fault offset room.old result room.new }
+pub extern "C" fn gitwire_fault_text(fault: u32, offset: u64, buffer: &mut [u8]) -> usize
+    ensures { AnnouncesText fault offset buffer.old result buffer.new }
 {
     let Some(kind) = kind_of(fault) else {
         return 0;
     };
     let text = Fault { kind, offset }.text();
-    put_bytes(text.as_bytes(), room)
+    put_bytes(text.as_bytes(), buffer)
 }
 
 /// The kind of error with this number.

@@ -72,7 +72,7 @@ unsafe impl Send for Held {}
 pub(crate) struct Handle {
     held: Held,
     is_made: bool,
-    ghost tells: { is_made ≡ is_some held.machine },
+    ghost announces: { is_made ≡ is_some held.machine },
 }
 
 impl Handle {

@@ -6,16 +6,16 @@ ghost use Rattle.git_host.specs.HostServer.{bytes_of};
 ghost use Rattle.gitwire.specs.Calls.{HasNone, On};
 ghost use Rattle.gitwire.specs.Handles.{host_in};
 ghost use Rattle.gitwire.specs.Answers.{answering, answering_packet, what_number};
-ghost use Rattle.gitwire.specs.HostAnswers.{AcceptsAnswers, ClosesAnswers, FeedsAnswers, MakesHost, MeanHost, MeanNoHost, PullsInRoom, RefusesInRoom};
+ghost use Rattle.gitwire.specs.HostAnswers.{AcceptsAnswers, ClosesAnswers, FeedsAnswers, MakesHost, MeanHost, MeanNoHost, PullsInBuffer, RefusesInBuffer};
 ghost use Rattle.gitwire.specs.HostAnswers.{asking, done_where, ending, filled_at, needing, refused_as, stepping};
-ghost use Rattle.gitwire.specs.Rooms.{put_before};
+ghost use Rattle.gitwire.specs.Buffers.{put_before};
 
 use crate::answer::{GitwireAnswer, What};
+use crate::buffers::put_bytes;
 use crate::handles::{GitwireHost, Holds, fill};
 use crate::numbers::number_of_command;
 use crate::offer::offer_numbered;
 use crate::request::MOST_LIMIT;
-use crate::rooms::put_bytes;
 use git_host::{HostServer, HostStep, LONGEST_REFUSAL, Need};
 use git_msg::Limits;
 use git_names::Steps;
@@ -74,24 +74,24 @@ fn host_meant(
 pub extern "C" fn gitwire_host_feed(
     alloc: Global,
     host: &mut GitwireHost,
-    piece: &[u8],
+    chunk: &[u8],
 ) -> GitwireAnswer
-    ensures { On (host_in host.old) (host_in host.new) (λ old new. FeedsAnswers old piece.now result new) (result ≡ answering What.NoHandle) }
+    ensures { On (host_in host.old) (host_in host.new) (λ old new. FeedsAnswers old chunk.now result new) (result ≡ answering What.NoHandle) }
 {
     let Some(mut taken) = host.take(alloc) else {
         return GitwireAnswer::of(What::NoHandle);
     };
-    let answer = feed(&mut taken.inner, piece);
+    let answer = feed(&mut taken.inner, chunk);
     host.put(taken);
     answer
 }
 
-fn feed(server: &mut HostServer<Global>, piece: &[u8]) -> GitwireAnswer
-    ensures { FeedsAnswers server.old piece.now result server.new }
+fn feed(server: &mut HostServer<Global>, chunk: &[u8]) -> GitwireAnswer
+    ensures { FeedsAnswers server.old chunk.now result server.new }
 {
-    let due = server.wants_input();
-    let used = server.feed(piece, &mut Steps::new());
-    GitwireAnswer::of_used(used, What::more(due))
+    let expected = server.wants_input();
+    let used = server.feed(chunk, &mut Steps::new());
+    GitwireAnswer::of_used(used, What::more(expected))
 }
 
 /// The input ends here. `Done`; `NotNow` if the server expects no bytes, and nothing changed; or `NoHandle`.
@@ -129,36 +129,36 @@ fn done_where(done: bool) -> u32
 pub extern "C" fn gitwire_host_pull(
     alloc: Global,
     host: &mut GitwireHost,
-    room: &mut [u8],
+    buffer: &mut [u8],
 ) -> GitwireAnswer
-    ensures { On (host_in host.old) (host_in host.new) (λ old new. PullsInRoom old room.old result room.new new) (HasNone room.old result room.new) }
+    ensures { On (host_in host.old) (host_in host.new) (λ old new. PullsInBuffer old buffer.old result buffer.new new) (HasNone buffer.old result buffer.new) }
 {
     let Some(mut taken) = host.take(alloc) else {
         return GitwireAnswer::of(What::NoHandle);
     };
-    let answer = pull(&mut taken.inner, room);
+    let answer = pull(&mut taken.inner, buffer);
     host.put(taken);
     answer
 }
 
-fn pull(server: &mut HostServer<Global>, room: &mut [u8]) -> GitwireAnswer
-    ensures { PullsInRoom server.old room.old result room.new server.new }
+fn pull(server: &mut HostServer<Global>, buffer: &mut [u8]) -> GitwireAnswer
+    ensures { PullsInBuffer server.old buffer.old result buffer.new server.new }
 {
-    if room.len() < LONGEST_PACKET {
+    if buffer.len() < LONGEST_PACKET {
         return GitwireAnswer::of(What::BufferTooSmall);
     }
     let step = server.next();
-    show(server, step, room)
+    show(server, step, buffer)
 }
 
 // Shows what to do next.
-fn show(server: &HostServer<Global>, step: HostStep, room: &mut [u8]) -> GitwireAnswer
-    requires { 65520 ≤ length room.old }
+fn show(server: &HostServer<Global>, step: HostStep, buffer: &mut [u8]) -> GitwireAnswer
+    requires { 65520 ≤ length buffer.old }
     ensures answer { result ≡ stepping step (request_of server.now) (bytes_of server.now) }
-    ensures room { room.new ≡ filled_at step (bytes_of server.now) room.old }
+    ensures buffer { buffer.new ≡ filled_at step (bytes_of server.now) buffer.old }
 {
     match step {
-        HostStep::Packet => hand_out(server, 0, room),
+        HostStep::Packet => hand_out(server, 0, buffer),
         HostStep::NeedInput => GitwireAnswer::of(What::NeedInput),
         HostStep::Asked => show_asked(server),
         HostStep::Need(need) => show_need(need),
@@ -167,12 +167,12 @@ fn show(server: &HostServer<Global>, step: HostStep, room: &mut [u8]) -> Gitwire
 }
 
 /// Copies the packet that was returned last to the front of the buffer.
-pub(crate) fn hand_out(server: &HostServer<Global>, used: usize, room: &mut [u8]) -> GitwireAnswer
-    requires { 65520 ≤ length room.old }
+pub(crate) fn hand_out(server: &HostServer<Global>, used: usize, buffer: &mut [u8]) -> GitwireAnswer
+    requires { 65520 ≤ length buffer.old }
     ensures answer { result ≡ answering_packet used 0 (length (bytes_of server.now)) What.Packet }
-    ensures room { room.new ≡ put_before (bytes_of server.now) room.old }
+    ensures buffer { buffer.new ≡ put_before (bytes_of server.now) buffer.old }
 {
-    let length = put_bytes(server.packet(), room);
+    let length = put_bytes(server.packet(), buffer);
     GitwireAnswer::of_packet(used, 0, length, What::Packet)
 }
 
@@ -240,23 +240,23 @@ pub extern "C" fn gitwire_host_refuse(
     alloc: Global,
     host: &mut GitwireHost,
     text: &[u8],
-    room: &mut [u8],
+    buffer: &mut [u8],
 ) -> GitwireAnswer
-    ensures { On (host_in host.old) (host_in host.new) (λ old new. RefusesInRoom text.now old room.old result room.new new)
-        (HasNone room.old result room.new) }
+    ensures { On (host_in host.old) (host_in host.new) (λ old new. RefusesInBuffer text.now old buffer.old result buffer.new new)
+        (HasNone buffer.old result buffer.new) }
 {
     let Some(mut taken) = host.take(alloc) else {
         return GitwireAnswer::of(What::NoHandle);
     };
-    let answer = refuse(&mut taken.inner, text, room);
+    let answer = refuse(&mut taken.inner, text, buffer);
     host.put(taken);
     answer
 }
 
-fn refuse(server: &mut HostServer<Global>, text: &[u8], room: &mut [u8]) -> GitwireAnswer
-    ensures { RefusesInRoom text.now server.old room.old result room.new server.new }
+fn refuse(server: &mut HostServer<Global>, text: &[u8], buffer: &mut [u8]) -> GitwireAnswer
+    ensures { RefusesInBuffer text.now server.old buffer.old result buffer.new server.new }
 {
-    if room.len() < LONGEST_PACKET {
+    if buffer.len() < LONGEST_PACKET {
         return GitwireAnswer::of(What::BufferTooSmall);
     }
     if text.len() > LONGEST_REFUSAL {
@@ -265,7 +265,7 @@ fn refuse(server: &mut HostServer<Global>, text: &[u8], room: &mut [u8]) -> Gitw
     if !server.refuse(text) {
         return GitwireAnswer::of(What::NotNow);
     }
-    hand_out(server, 0, room)
+    hand_out(server, 0, buffer)
 }
 
 /// A refusal by a kind of error, at offset 0.

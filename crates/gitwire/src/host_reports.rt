@@ -7,8 +7,8 @@ ghost use Rattle.git_host.specs.HostServer.{bytes_of};
 ghost use Rattle.git_host.specs.declared.report.Report.{Report as Reported};
 ghost use Rattle.gitwire.specs.Calls.{HasNone, On};
 ghost use Rattle.gitwire.specs.Handles.{host_in};
-ghost use Rattle.gitwire.specs.HostAnswers.{MeansBoundary, MeansReference, MeansUnborn, MeansWantRef, ReportsAnswers, ReportsInRoom};
-ghost use Rattle.gitwire.specs.HostAnswers.{ReportsMeant, ReportsMeantInRoom, bytes_in, filled_by, reporting, size_given, unread_by};
+ghost use Rattle.gitwire.specs.HostAnswers.{MeansBoundary, MeansReference, MeansUnborn, MeansWantRef, ReportsAnswers, ReportsInBuffer};
+ghost use Rattle.gitwire.specs.HostAnswers.{ReportsMeant, ReportsMeantInBuffer, bytes_in, filled_by, reporting, size_given, unread_by};
 
 use crate::answer::{GitwireAnswer, What};
 use crate::handles::{GitwireHost, Holds};
@@ -27,12 +27,12 @@ pub extern "C" fn gitwire_host_want(
     alloc: Global,
     host: &mut GitwireHost,
     has: bool,
-    room: &mut [u8],
+    buffer: &mut [u8],
 ) -> GitwireAnswer
-    ensures { On (host_in host.old) (host_in host.new) (λ old new. ReportsInRoom (Reported.Want has) old room.old result room.new new)
-        (HasNone room.old result room.new) }
+    ensures { On (host_in host.old) (host_in host.new) (λ old new. ReportsInBuffer (Reported.Want has) old buffer.old result buffer.new new)
+        (HasNone buffer.old result buffer.new) }
 {
-    report_in(alloc, host, Report::Want(has), room)
+    report_in(alloc, host, Report::Want(has), buffer)
 }
 
 /// The object of the wanted reference that is asked for, by its digits; no digits mean that there is no such reference: `More`. If there is
@@ -42,15 +42,15 @@ pub extern "C" fn gitwire_host_want_ref(
     alloc: Global,
     host: &mut GitwireHost,
     id: &[u8],
-    room: &mut [u8],
+    buffer: &mut [u8],
 ) -> GitwireAnswer
     ensures { On (host_in host.old) (host_in host.new)
-        (λ old new. ReportsMeantInRoom (MeansWantRef (format_of old) id.now) old room.old result room.new new) (HasNone room.old result room.new) }
+        (λ old new. ReportsMeantInBuffer (MeansWantRef (format_of old) id.now) old buffer.old result buffer.new new) (HasNone buffer.old result buffer.new) }
 {
     let Some(mut taken) = host.take(alloc) else {
         return GitwireAnswer::of(What::NoHandle);
     };
-    let answer = want_ref(&mut taken.inner, id, room);
+    let answer = want_ref(&mut taken.inner, id, buffer);
     host.put(taken);
     answer
 }
@@ -61,12 +61,12 @@ pub extern "C" fn gitwire_host_have(
     alloc: Global,
     host: &mut GitwireHost,
     has: bool,
-    room: &mut [u8],
+    buffer: &mut [u8],
 ) -> GitwireAnswer
-    ensures { On (host_in host.old) (host_in host.new) (λ old new. ReportsInRoom (Reported.Have has) old room.old result room.new new)
-        (HasNone room.old result room.new) }
+    ensures { On (host_in host.old) (host_in host.new) (λ old new. ReportsInBuffer (Reported.Have has) old buffer.old result buffer.new new)
+        (HasNone buffer.old result buffer.new) }
 {
-    report_in(alloc, host, Report::Have(has), room)
+    report_in(alloc, host, Report::Have(has), buffer)
 }
 
 /// Whether the store is ready to send a pack: `Packet`, the line `ready`, or the flush that ends the answer.
@@ -75,12 +75,12 @@ pub extern "C" fn gitwire_host_ready(
     alloc: Global,
     host: &mut GitwireHost,
     ready: bool,
-    room: &mut [u8],
+    buffer: &mut [u8],
 ) -> GitwireAnswer
-    ensures { On (host_in host.old) (host_in host.new) (λ old new. ReportsInRoom (Reported.Ready ready) old room.old result room.new new)
-        (HasNone room.old result room.new) }
+    ensures { On (host_in host.old) (host_in host.new) (λ old new. ReportsInBuffer (Reported.Ready ready) old buffer.old result buffer.new new)
+        (HasNone buffer.old result buffer.new) }
 {
-    report_in(alloc, host, Report::Ready(ready), room)
+    report_in(alloc, host, Report::Ready(ready), buffer)
 }
 
 /// A line of the shallow boundary, `shallow` or else `unshallow`, by the digits of its commit: `Packet`. `Failed` by `BadObjectName`, and
@@ -91,16 +91,16 @@ pub extern "C" fn gitwire_host_boundary(
     host: &mut GitwireHost,
     shallow: bool,
     id: &[u8],
-    room: &mut [u8],
+    buffer: &mut [u8],
 ) -> GitwireAnswer
     ensures { On (host_in host.old) (host_in host.new)
-        (λ old new. ReportsMeantInRoom (MeansBoundary (format_of old) shallow id.now) old room.old result room.new new)
-        (HasNone room.old result room.new) }
+        (λ old new. ReportsMeantInBuffer (MeansBoundary (format_of old) shallow id.now) old buffer.old result buffer.new new)
+        (HasNone buffer.old result buffer.new) }
 {
     let Some(mut taken) = host.take(alloc) else {
         return GitwireAnswer::of(What::NoHandle);
     };
-    let answer = boundary(&mut taken.inner, shallow, id, room);
+    let answer = boundary(&mut taken.inner, shallow, id, buffer);
     host.put(taken);
     answer
 }
@@ -110,12 +110,12 @@ pub extern "C" fn gitwire_host_boundary(
 pub extern "C" fn gitwire_host_boundary_end(
     alloc: Global,
     host: &mut GitwireHost,
-    room: &mut [u8],
+    buffer: &mut [u8],
 ) -> GitwireAnswer
-    ensures { On (host_in host.old) (host_in host.new) (λ old new. ReportsInRoom Reported.BoundaryEnd old room.old result room.new new)
-        (HasNone room.old result room.new) }
+    ensures { On (host_in host.old) (host_in host.new) (λ old new. ReportsInBuffer Reported.BoundaryEnd old buffer.old result buffer.new new)
+        (HasNone buffer.old result buffer.new) }
 {
-    report_in(alloc, host, Report::BoundaryEnd, room)
+    report_in(alloc, host, Report::BoundaryEnd, buffer)
 }
 
 /// Bytes of the pack: `Packet`, and `used` of them are in it, at most 65,515. No bytes are `More`.
@@ -124,12 +124,12 @@ pub extern "C" fn gitwire_host_pack(
     alloc: Global,
     host: &mut GitwireHost,
     bytes: &[u8],
-    room: &mut [u8],
+    buffer: &mut [u8],
 ) -> GitwireAnswer
-    ensures { On (host_in host.old) (host_in host.new) (λ old new. ReportsInRoom (Reported.Pack bytes.entry) old room.old result room.new new)
-        (HasNone room.old result room.new) }
+    ensures { On (host_in host.old) (host_in host.new) (λ old new. ReportsInBuffer (Reported.Pack bytes.entry) old buffer.old result buffer.new new)
+        (HasNone buffer.old result buffer.new) }
 {
-    report_in(alloc, host, Report::Pack(bytes), room)
+    report_in(alloc, host, Report::Pack(bytes), buffer)
 }
 
 /// A text for the client's user: `Packet`, and `used` of its bytes are in it, at most 65,515. No bytes are `More`; if the request has
@@ -139,12 +139,12 @@ pub extern "C" fn gitwire_host_progress(
     alloc: Global,
     host: &mut GitwireHost,
     text: &[u8],
-    room: &mut [u8],
+    buffer: &mut [u8],
 ) -> GitwireAnswer
-    ensures { On (host_in host.old) (host_in host.new) (λ old new. ReportsInRoom (Reported.Progress text.entry) old room.old result room.new new)
-        (HasNone room.old result room.new) }
+    ensures { On (host_in host.old) (host_in host.new) (λ old new. ReportsInBuffer (Reported.Progress text.entry) old buffer.old result buffer.new new)
+        (HasNone buffer.old result buffer.new) }
 {
-    report_in(alloc, host, Report::Progress(text), room)
+    report_in(alloc, host, Report::Progress(text), buffer)
 }
 
 /// The pack has no more bytes: `Packet`, the flush that ends the answer.
@@ -152,12 +152,12 @@ pub extern "C" fn gitwire_host_progress(
 pub extern "C" fn gitwire_host_pack_end(
     alloc: Global,
     host: &mut GitwireHost,
-    room: &mut [u8],
+    buffer: &mut [u8],
 ) -> GitwireAnswer
-    ensures { On (host_in host.old) (host_in host.new) (λ old new. ReportsInRoom Reported.PackEnd old room.old result room.new new)
-        (HasNone room.old result room.new) }
+    ensures { On (host_in host.old) (host_in host.new) (λ old new. ReportsInBuffer Reported.PackEnd old buffer.old result buffer.new new)
+        (HasNone buffer.old result buffer.new) }
 {
-    report_in(alloc, host, Report::PackEnd, room)
+    report_in(alloc, host, Report::PackEnd, buffer)
 }
 
 /// A reference, by the digits of its object, its name, the name that it points to, if it is symbolic, and the digits of the object that it
@@ -172,16 +172,16 @@ pub extern "C" fn gitwire_host_reference(
     name: &[u8],
     target: &[u8],
     peeled: &[u8],
-    room: &mut [u8],
+    buffer: &mut [u8],
 ) -> GitwireAnswer
     ensures { On (host_in host.old) (host_in host.new)
-        (λ old new. ReportsMeantInRoom (MeansReference (format_of old) id.now name.now target.now peeled.now) old room.old result room.new new)
-        (HasNone room.old result room.new) }
+        (λ old new. ReportsMeantInBuffer (MeansReference (format_of old) id.now name.now target.now peeled.now) old buffer.old result buffer.new new)
+        (HasNone buffer.old result buffer.new) }
 {
     let Some(mut taken) = host.take(alloc) else {
         return GitwireAnswer::of(What::NoHandle);
     };
-    let answer = reference(alloc, &mut taken.inner, id, name, target, peeled, room);
+    let answer = reference(alloc, &mut taken.inner, id, name, target, peeled, buffer);
     host.put(taken);
     answer
 }
@@ -193,15 +193,15 @@ pub extern "C" fn gitwire_host_unborn(
     alloc: Global,
     host: &mut GitwireHost,
     target: &[u8],
-    room: &mut [u8],
+    buffer: &mut [u8],
 ) -> GitwireAnswer
-    ensures { On (host_in host.old) (host_in host.new) (λ old new. ReportsMeantInRoom (MeansUnborn target.now) old room.old result room.new new)
-        (HasNone room.old result room.new) }
+    ensures { On (host_in host.old) (host_in host.new) (λ old new. ReportsMeantInBuffer (MeansUnborn target.now) old buffer.old result buffer.new new)
+        (HasNone buffer.old result buffer.new) }
 {
     let Some(mut taken) = host.take(alloc) else {
         return GitwireAnswer::of(What::NoHandle);
     };
-    let answer = unborn(&mut taken.inner, target, room);
+    let answer = unborn(&mut taken.inner, target, buffer);
     host.put(taken);
     answer
 }
@@ -211,12 +211,12 @@ pub extern "C" fn gitwire_host_unborn(
 pub extern "C" fn gitwire_host_references_end(
     alloc: Global,
     host: &mut GitwireHost,
-    room: &mut [u8],
+    buffer: &mut [u8],
 ) -> GitwireAnswer
-    ensures { On (host_in host.old) (host_in host.new) (λ old new. ReportsInRoom Reported.ReferencesEnd old room.old result room.new new)
-        (HasNone room.old result room.new) }
+    ensures { On (host_in host.old) (host_in host.new) (λ old new. ReportsInBuffer Reported.ReferencesEnd old buffer.old result buffer.new new)
+        (HasNone buffer.old result buffer.new) }
 {
-    report_in(alloc, host, Report::ReferencesEnd, room)
+    report_in(alloc, host, Report::ReferencesEnd, buffer)
 }
 
 /// The size of the object that is asked about, if the store has it: `Packet`.
@@ -226,12 +226,17 @@ pub extern "C" fn gitwire_host_size(
     host: &mut GitwireHost,
     has_size: bool,
     size: u64,
-    room: &mut [u8],
+    buffer: &mut [u8],
 ) -> GitwireAnswer
     ensures { On (host_in host.old) (host_in host.new)
-        (λ old new. ReportsInRoom (Reported.Size (size_given has_size size)) old room.old result room.new new) (HasNone room.old result room.new) }
+        (λ old new. ReportsInBuffer (Reported.Size (size_given has_size size)) old buffer.old result buffer.new new) (HasNone buffer.old result buffer.new) }
 {
-    report_in(alloc, host, Report::Size(size_given(has_size, size)), room)
+    report_in(
+        alloc,
+        host,
+        Report::Size(size_given(has_size, size)),
+        buffer,
+    )
 }
 
 /// What is asked for cannot be had: `Packet`, and the session is over. If bytes of a pack are asked for, the packet is a text on the band
@@ -240,12 +245,12 @@ pub extern "C" fn gitwire_host_size(
 pub extern "C" fn gitwire_host_fail(
     alloc: Global,
     host: &mut GitwireHost,
-    room: &mut [u8],
+    buffer: &mut [u8],
 ) -> GitwireAnswer
-    ensures { On (host_in host.old) (host_in host.new) (λ old new. ReportsInRoom Reported.Failed old room.old result room.new new)
-        (HasNone room.old result room.new) }
+    ensures { On (host_in host.old) (host_in host.new) (λ old new. ReportsInBuffer Reported.Failed old buffer.old result buffer.new new)
+        (HasNone buffer.old result buffer.new) }
 {
-    report_in(alloc, host, Report::Failed, room)
+    report_in(alloc, host, Report::Failed, buffer)
 }
 
 // Takes what the host reports, and copies its packet to the front of the buffer, if it has one. `Packet`, `More`, `NotNow`, `OutOfOrder`,
@@ -254,15 +259,15 @@ fn report_in(
     alloc: Global,
     host: &mut GitwireHost,
     report: Report<'_>,
-    room: &mut [u8],
+    buffer: &mut [u8],
 ) -> GitwireAnswer
-    ensures { On (host_in host.old) (host_in host.new) (λ old new. ReportsInRoom report.entry old room.old result room.new new)
-        (HasNone room.old result room.new) }
+    ensures { On (host_in host.old) (host_in host.new) (λ old new. ReportsInBuffer report.entry old buffer.old result buffer.new new)
+        (HasNone buffer.old result buffer.new) }
 {
     let Some(mut taken) = host.take(alloc) else {
         return GitwireAnswer::of(What::NoHandle);
     };
-    let answer = report_within(&mut taken.inner, report, room);
+    let answer = report_within(&mut taken.inner, report, buffer);
     host.put(taken);
     answer
 }
@@ -270,25 +275,29 @@ fn report_in(
 fn report_within(
     server: &mut HostServer<Global>,
     report: Report<'_>,
-    room: &mut [u8],
+    buffer: &mut [u8],
 ) -> GitwireAnswer
-    ensures { ReportsInRoom report.entry server.old room.old result room.new server.new }
+    ensures { ReportsInBuffer report.entry server.old buffer.old result buffer.new server.new }
 {
-    if room.len() < LONGEST_PACKET {
+    if buffer.len() < LONGEST_PACKET {
         return GitwireAnswer::of(What::BufferTooSmall);
     }
-    report_to(server, report, room)
+    report_to(server, report, buffer)
 }
 
 // The same, if the buffer has space for each packet.
-fn report_to(server: &mut HostServer<Global>, report: Report<'_>, room: &mut [u8]) -> GitwireAnswer
-    requires { 65520 ≤ length room.old }
-    ensures { ReportsAnswers report.entry server.old room.old result room.new server.new }
+fn report_to(
+    server: &mut HostServer<Global>,
+    report: Report<'_>,
+    buffer: &mut [u8],
+) -> GitwireAnswer
+    requires { 65520 ≤ length buffer.old }
+    ensures { ReportsAnswers report.entry server.old buffer.old result buffer.new server.new }
 {
     let whole = byte_count(&report);
     let part = part_count(&report);
     let reported = server.report(report);
-    show(server, reported, part, whole, room)
+    show(server, reported, part, whole, buffer)
 }
 
 fn byte_count(report: &Report<'_>) -> usize
@@ -314,14 +323,14 @@ fn show(
     reported: HostReported,
     part: usize,
     whole: usize,
-    room: &mut [u8],
+    buffer: &mut [u8],
 ) -> GitwireAnswer
-    requires { 65520 ≤ length room.old }
+    requires { 65520 ≤ length buffer.old }
     ensures answer { result ≡ reporting reported part whole (length (bytes_of server.now)) }
-    ensures room { room.new ≡ filled_by reported (bytes_of server.now) room.old }
+    ensures buffer { buffer.new ≡ filled_by reported (bytes_of server.now) buffer.old }
 {
     match reported {
-        HostReported::Packet => hand_out(server, part, room),
+        HostReported::Packet => hand_out(server, part, buffer),
         HostReported::Taken => GitwireAnswer::of(What::More),
         HostReported::Hidden => GitwireAnswer::of_used(whole, What::More),
         HostReported::NotAsked => GitwireAnswer::of(What::NotNow),
@@ -333,14 +342,14 @@ fn show(
     }
 }
 
-fn want_ref(server: &mut HostServer<Global>, id: &[u8], room: &mut [u8]) -> GitwireAnswer
-    ensures { ReportsMeantInRoom (MeansWantRef (format_of server.old) id.now) server.old room.old result room.new server.new }
+fn want_ref(server: &mut HostServer<Global>, id: &[u8], buffer: &mut [u8]) -> GitwireAnswer
+    ensures { ReportsMeantInBuffer (MeansWantRef (format_of server.old) id.now) server.old buffer.old result buffer.new server.new }
 {
-    if room.len() < LONGEST_PACKET {
+    if buffer.len() < LONGEST_PACKET {
         return GitwireAnswer::of(What::BufferTooSmall);
     }
     match read_given_id(server.format(), id) {
-        Ok(id) => report_to(server, Report::WantRef(id), room),
+        Ok(id) => report_to(server, Report::WantRef(id), buffer),
         Err(_) => refused_as(Kind::BadObjectName),
     }
 }
@@ -349,27 +358,27 @@ fn boundary(
     server: &mut HostServer<Global>,
     shallow: bool,
     id: &[u8],
-    room: &mut [u8],
+    buffer: &mut [u8],
 ) -> GitwireAnswer
-    ensures { ReportsMeantInRoom (MeansBoundary (format_of server.old) shallow id.now) server.old room.old result room.new server.new }
+    ensures { ReportsMeantInBuffer (MeansBoundary (format_of server.old) shallow id.now) server.old buffer.old result buffer.new server.new }
 {
-    if room.len() < LONGEST_PACKET {
+    if buffer.len() < LONGEST_PACKET {
         return GitwireAnswer::of(What::BufferTooSmall);
     }
     match Oid::read(server.format(), id, &mut Steps::new()) {
-        Ok(id) => report_to(server, Report::Boundary(boundary_of(shallow, id)), room),
+        Ok(id) => report_to(server, Report::Boundary(boundary_of(shallow, id)), buffer),
         Err(_) => refused_as(Kind::BadObjectName),
     }
 }
 
-fn unborn(server: &mut HostServer<Global>, target: &[u8], room: &mut [u8]) -> GitwireAnswer
-    ensures { ReportsMeantInRoom (MeansUnborn target.now) server.old room.old result room.new server.new }
+fn unborn(server: &mut HostServer<Global>, target: &[u8], buffer: &mut [u8]) -> GitwireAnswer
+    ensures { ReportsMeantInBuffer (MeansUnborn target.now) server.old buffer.old result buffer.new server.new }
 {
-    if room.len() < LONGEST_PACKET {
+    if buffer.len() < LONGEST_PACKET {
         return GitwireAnswer::of(What::BufferTooSmall);
     }
     match RefName::read(target, &mut Steps::new()) {
-        Ok(target) => report_to(server, Report::Unborn(target), room),
+        Ok(target) => report_to(server, Report::Unborn(target), buffer),
         Err(_) => refused_as(Kind::BadRefName),
     }
 }
@@ -381,19 +390,19 @@ fn reference(
     name: &[u8],
     target: &[u8],
     peeled: &[u8],
-    room: &mut [u8],
+    buffer: &mut [u8],
 ) -> GitwireAnswer
-    ensures { ReportsMeantInRoom (MeansReference (format_of server.old) id.now name.now target.now peeled.now) server.old room.old result
-        room.new server.new }
+    ensures { ReportsMeantInBuffer (MeansReference (format_of server.old) id.now name.now target.now peeled.now) server.old buffer.old result
+        buffer.new server.new }
 {
-    if room.len() < LONGEST_PACKET {
+    if buffer.len() < LONGEST_PACKET {
         return GitwireAnswer::of(What::BufferTooSmall);
     }
     if target.is_empty() && peeled.is_empty() {
-        return plain_reference(server, id, name, room);
+        return plain_reference(server, id, name, buffer);
     }
     match read_entry(alloc, server.format(), id, name, target, peeled) {
-        Ok(entry) => report_to(server, Report::Reference(entry), room),
+        Ok(entry) => report_to(server, Report::Reference(entry), buffer),
         Err(why) => why.answer(),
     }
 }
@@ -403,13 +412,13 @@ fn plain_reference(
     server: &mut HostServer<Global>,
     id: &[u8],
     name: &[u8],
-    room: &mut [u8],
+    buffer: &mut [u8],
 ) -> GitwireAnswer
-    requires { 65520 ≤ length room.old }
-    ensures { ReportsMeant (MeansReference (format_of server.old) id.now name.now [] []) server.old room.old result room.new server.new }
+    requires { 65520 ≤ length buffer.old }
+    ensures { ReportsMeant (MeansReference (format_of server.old) id.now name.now [] []) server.old buffer.old result buffer.new server.new }
 {
     match server.plain_reference(id, name) {
-        Ok(reported) => show(server, reported, 0, 0, room),
+        Ok(reported) => show(server, reported, 0, 0, buffer),
         Err(fault) => unread_by(fault).answer(),
     }
 }

@@ -5,14 +5,14 @@ ghost use Rattle.git_host.specs.HostLookups.{asked_in, request_of};
 ghost use Rattle.gitwire.specs.Answers.{answering};
 ghost use Rattle.gitwire.specs.Calls.{HasNone, Of};
 ghost use Rattle.gitwire.specs.Handles.{host_in};
-ghost use Rattle.gitwire.specs.HostAnswers.{PutsAt, command_shown, has_flag_at, telling_given_at};
+ghost use Rattle.gitwire.specs.HostAnswers.{PutsAt, command_shown, has_flag_at, announcing_given_at};
 ghost use Rattle.gitwire.specs.Numbers.{item_lists, numbered};
-ghost use Rattle.gitwire.specs.RequestAnswers.{PutsFrom, is_set, telling_which};
+ghost use Rattle.gitwire.specs.RequestAnswers.{PutsFrom, is_set, announcing_which};
 
 use crate::answer::{GitwireAnswer, What};
 use crate::handles::{GitwireHost, Holds};
 use crate::numbers::{Given, ItemList, flag_numbered, number_of_command};
-use crate::request::tell_number;
+use crate::request::announce_number;
 use crate::request_items::{put_name_if_any, put_text_if_any};
 use git_host::{HostServer, RequestAtHand};
 use std::alloc::Global;
@@ -79,7 +79,7 @@ pub extern "C" fn gitwire_host_number(
     host: &mut GitwireHost,
     which: u32,
 ) -> GitwireAnswer
-    ensures { Of (host_in host.old) (host_in host.new) (λ had. result ≡ telling_given_at which (request_of had)) (result ≡ answering What.NoHandle) }
+    ensures { Of (host_in host.old) (host_in host.new) (λ had. result ≡ announcing_given_at which (request_of had)) (result ≡ answering What.NoHandle) }
 {
     let Some(taken) = host.take(alloc) else {
         return GitwireAnswer::of(What::NoHandle);
@@ -90,7 +90,7 @@ pub extern "C" fn gitwire_host_number(
 }
 
 fn number(server: &HostServer<Global>, which: u32) -> GitwireAnswer
-    ensures { result ≡ telling_given_at which (request_of server.now) }
+    ensures { result ≡ announcing_given_at which (request_of server.now) }
 {
     match server.request() {
         Some(request) => given_number(&request, which),
@@ -99,7 +99,7 @@ fn number(server: &HostServer<Global>, which: u32) -> GitwireAnswer
 }
 
 fn given_number(request: &RequestAtHand<'_, Global>, which: u32) -> GitwireAnswer
-    ensures { result ≡ telling_which which (asked_in request.now) }
+    ensures { result ≡ announcing_which which (asked_in request.now) }
 {
     let Some(which) = Given::numbered(which) else {
         return GitwireAnswer::of(What::BadValue);
@@ -109,7 +109,7 @@ fn given_number(request: &RequestAtHand<'_, Global>, which: u32) -> GitwireAnswe
         Given::DeepenSince => request.deepen_since(),
     };
     match given {
-        Some(number) => tell_number(number),
+        Some(number) => announce_number(number),
         None => GitwireAnswer::of(What::Nothing),
     }
 }
@@ -123,24 +123,24 @@ pub extern "C" fn gitwire_host_item(
     host: &mut GitwireHost,
     list: u32,
     index: usize,
-    room: &mut [u8],
+    buffer: &mut [u8],
 ) -> GitwireAnswer
-    ensures { Of (host_in host.old) (host_in host.new) (λ had. PutsAt (numbered item_lists list) index (request_of had) room.old result room.new)
-        (HasNone room.old result room.new) }
+    ensures { Of (host_in host.old) (host_in host.new) (λ had. PutsAt (numbered item_lists list) index (request_of had) buffer.old result buffer.new)
+        (HasNone buffer.old result buffer.new) }
 {
     let Some(taken) = host.take(alloc) else {
         return GitwireAnswer::of(What::NoHandle);
     };
-    let answer = item(&taken.inner, list, index, room);
+    let answer = item(&taken.inner, list, index, buffer);
     host.put(taken);
     answer
 }
 
-fn item(server: &HostServer<Global>, list: u32, index: usize, room: &mut [u8]) -> GitwireAnswer
-    ensures { PutsAt (numbered item_lists list) index (request_of server.now) room.old result room.new }
+fn item(server: &HostServer<Global>, list: u32, index: usize, buffer: &mut [u8]) -> GitwireAnswer
+    ensures { PutsAt (numbered item_lists list) index (request_of server.now) buffer.old result buffer.new }
 {
     match server.request() {
-        Some(request) => put_item(&request, list, index, room),
+        Some(request) => put_item(&request, list, index, buffer),
         None => GitwireAnswer::of(What::Nothing),
     }
 }
@@ -149,21 +149,21 @@ fn put_item(
     request: &RequestAtHand<'_, Global>,
     list: u32,
     index: usize,
-    room: &mut [u8],
+    buffer: &mut [u8],
 ) -> GitwireAnswer
-    ensures { PutsFrom (numbered item_lists list) (asked_in request.now) index room.old result room.new }
+    ensures { PutsFrom (numbered item_lists list) (asked_in request.now) index buffer.old result buffer.new }
 {
     let Some(list) = ItemList::numbered(list) else {
         return GitwireAnswer::of(What::BadValue);
     };
     match list {
-        ItemList::RefPrefixes => put_text_if_any(request.ref_prefix(index), room),
-        ItemList::Wants => put_name_if_any(request.wants().get(index), room),
-        ItemList::Haves => put_name_if_any(request.haves().get(index), room),
-        ItemList::Shallows => put_name_if_any(request.shallows().get(index), room),
-        ItemList::DeepenNots => put_text_if_any(request.deepen_not(index), room),
-        ItemList::WantRefs => put_text_if_any(request.want_ref(index), room),
-        ItemList::Oids => put_name_if_any(request.oids().get(index), room),
-        ItemList::Filters => put_text_if_any(request.filter(index), room),
+        ItemList::RefPrefixes => put_text_if_any(request.ref_prefix(index), buffer),
+        ItemList::Wants => put_name_if_any(request.wants().get(index), buffer),
+        ItemList::Haves => put_name_if_any(request.haves().get(index), buffer),
+        ItemList::Shallows => put_name_if_any(request.shallows().get(index), buffer),
+        ItemList::DeepenNots => put_text_if_any(request.deepen_not(index), buffer),
+        ItemList::WantRefs => put_text_if_any(request.want_ref(index), buffer),
+        ItemList::Oids => put_name_if_any(request.oids().get(index), buffer),
+        ItemList::Filters => put_text_if_any(request.filter(index), buffer),
     }
 }

@@ -1,22 +1,22 @@
 //! The names of what is reported, by their numbers.
 
 ghost use Rattle.std.specs.Prelude.{◌≡◌};
-ghost use Rattle.gitwire.specs.KindAnswers.{IsWhatOf, TellsKind, what_name};
+ghost use Rattle.gitwire.specs.KindAnswers.{IsWhatOf, AnnouncesKind, what_name};
 
 use crate::answer::What;
-use crate::rooms::put_bytes;
+use crate::buffers::put_bytes;
 use git_client::EventKind;
 
 /// Writes the name of a kind of what is reported, such as `NeedInput`, to the front of the buffer, and returns its length: 0 if no kind has
 /// the number, or the buffer is too small.
 #[unsafe(no_mangle)]
-pub extern "C" fn gitwire_kind_name(kind: u32, room: &mut [u8]) -> usize
-    ensures { TellsKind kind room.old result room.new }
+pub extern "C" fn gitwire_kind_name(kind: u32, buffer: &mut [u8]) -> usize
+    ensures { AnnouncesKind kind buffer.old result buffer.new }
 {
     let Some(what) = what_of(kind) else {
         return 0;
     };
-    put_bytes(name_of(what).as_bytes(), room)
+    put_bytes(name_of(what).as_bytes(), buffer)
 }
 
 /// The kind with this number.

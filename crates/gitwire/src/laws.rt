@@ -7,7 +7,7 @@ ghost use Rattle.gitwire.specs.WrittenForC.{MeansLine, MeansPacket, MeansReferen
 ghost use Rattle.gitwire.specs.declared.answer.GitwireAnswer.{GitwireAnswer};
 
 /// The values that C passes and the buffer determine what a writer reports and what it leaves in the buffer.
-pub fn writers_tell_one_thing()
+pub fn writers_have_one_result()
     ensures packet { (kind : ℕ) (payload : List ℕ) → IsDetermined (MeansPacket kind payload) }
     ensures band { (band : ℕ) (bytes : List ℕ) → IsDetermined (MeansBand band bytes) }
     ensures line { (text : List ℕ) → IsDetermined (MeansLine text) }
@@ -17,7 +17,7 @@ pub fn writers_tell_one_thing()
     ensures boundary { (format : ℕ) (shallow : Bool) (id : List ℕ) → IsDetermined (MeansBoundary format shallow id) }
     ensures wanted { (format : ℕ) (id name : List ℕ) → IsDetermined (MeansWanted format id name) }
     ensures info { (format : ℕ) (id : List ℕ) (has_size : Bool) (size : ℕ) → IsDetermined (MeansInfo format id has_size size) }
-    ensures advertisement { (format features : ℕ) (room : List ℕ) (answer other : GitwireAnswer) (filled others : List ℕ)
-        → Advertises (offer_meant format features) room answer filled → Advertises (offer_meant format features) room other others
+    ensures advertisement { (format features : ℕ) (buffer : List ℕ) (answer other : GitwireAnswer) (filled others : List ℕ)
+        → Advertises (offer_meant format features) buffer answer filled → Advertises (offer_meant format features) buffer other others
         → (answer ≡ other) × (filled ≡ others) }
 {}

@@ -3,6 +3,7 @@
 #![tactic(auto)]
 
 mod answer;
+mod buffers;
 mod client;
 mod escape;
 mod event;
@@ -28,7 +29,6 @@ mod repository;
 mod request;
 mod request_items;
 mod request_reader;
-mod rooms;
 mod server;
 mod static_texts;
 mod threads;

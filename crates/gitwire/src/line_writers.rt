@@ -34,16 +34,16 @@ pub extern "C" fn gitwire_put_reference(
     name: &[u8],
     target: &[u8],
     peeled: &[u8],
-    room: &mut [u8],
+    buffer: &mut [u8],
 ) -> GitwireAnswer
-    ensures { WritesIn (writer_in writer.old) (Writes (MeansReference format id.now name.now target.now peeled.now)) room.old result room.new
+    ensures { WritesIn (writer_in writer.old) (Writes (MeansReference format id.now name.now target.now peeled.now)) buffer.old result buffer.new
         (writer_in writer.new) }
 {
     let Some(mut taken) = writer.take(alloc) else {
         return GitwireAnswer::of(What::NoHandle);
     };
     let made = make_reference(&mut taken.inner.hold, format, id, name, target, peeled);
-    let answer = hand_out(made, &taken.inner.hold, room);
+    let answer = hand_out(made, &taken.inner.hold, buffer);
     writer.put(taken);
     answer
 }
@@ -56,15 +56,15 @@ pub extern "C" fn gitwire_put_ack(
     writer: &mut GitwireWriter,
     format: u32,
     id: &[u8],
-    room: &mut [u8],
+    buffer: &mut [u8],
 ) -> GitwireAnswer
-    ensures { WritesIn (writer_in writer.old) (Writes (MeansAck format id.now)) room.old result room.new (writer_in writer.new) }
+    ensures { WritesIn (writer_in writer.old) (Writes (MeansAck format id.now)) buffer.old result buffer.new (writer_in writer.new) }
 {
     let Some(mut taken) = writer.take(alloc) else {
         return GitwireAnswer::of(What::NoHandle);
     };
     let made = make_ack(&mut taken.inner.hold, format, id);
-    let answer = hand_out(made, &taken.inner.hold, room);
+    let answer = hand_out(made, &taken.inner.hold, buffer);
     writer.put(taken);
     answer
 }
@@ -78,15 +78,15 @@ pub extern "C" fn gitwire_put_boundary(
     format: u32,
     shallow: bool,
     id: &[u8],
-    room: &mut [u8],
+    buffer: &mut [u8],
 ) -> GitwireAnswer
-    ensures { WritesIn (writer_in writer.old) (Writes (MeansBoundary format shallow id.now)) room.old result room.new (writer_in writer.new) }
+    ensures { WritesIn (writer_in writer.old) (Writes (MeansBoundary format shallow id.now)) buffer.old result buffer.new (writer_in writer.new) }
 {
     let Some(mut taken) = writer.take(alloc) else {
         return GitwireAnswer::of(What::NoHandle);
     };
     let made = make_boundary(&mut taken.inner.hold, format, shallow, id);
-    let answer = hand_out(made, &taken.inner.hold, room);
+    let answer = hand_out(made, &taken.inner.hold, buffer);
     writer.put(taken);
     answer
 }
@@ -101,15 +101,15 @@ pub extern "C" fn gitwire_put_wanted(
     format: u32,
     id: &[u8],
     name: &[u8],
-    room: &mut [u8],
+    buffer: &mut [u8],
 ) -> GitwireAnswer
-    ensures { WritesIn (writer_in writer.old) (Writes (MeansWanted format id.now name.now)) room.old result room.new (writer_in writer.new) }
+    ensures { WritesIn (writer_in writer.old) (Writes (MeansWanted format id.now name.now)) buffer.old result buffer.new (writer_in writer.new) }
 {
     let Some(mut taken) = writer.take(alloc) else {
         return GitwireAnswer::of(What::NoHandle);
     };
     let made = make_wanted(&mut taken.inner.hold, format, id, name);
-    let answer = hand_out(made, &taken.inner.hold, room);
+    let answer = hand_out(made, &taken.inner.hold, buffer);
     writer.put(taken);
     answer
 }
@@ -125,15 +125,15 @@ pub extern "C" fn gitwire_put_info(
     id: &[u8],
     has_size: bool,
     size: u64,
-    room: &mut [u8],
+    buffer: &mut [u8],
 ) -> GitwireAnswer
-    ensures { WritesIn (writer_in writer.old) (Writes (MeansInfo format id.now has_size size)) room.old result room.new (writer_in writer.new) }
+    ensures { WritesIn (writer_in writer.old) (Writes (MeansInfo format id.now has_size size)) buffer.old result buffer.new (writer_in writer.new) }
 {
     let Some(mut taken) = writer.take(alloc) else {
         return GitwireAnswer::of(What::NoHandle);
     };
     let made = make_info(&mut taken.inner.hold, format, id, has_size, size);
-    let answer = hand_out(made, &taken.inner.hold, room);
+    let answer = hand_out(made, &taken.inner.hold, buffer);
     writer.put(taken);
     answer
 }

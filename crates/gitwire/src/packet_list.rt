@@ -4,7 +4,7 @@ ghost use Rattle.std.specs.Prelude.{◌+◌, ◌≤◌, ◌<◌, MatchResult, le
 ghost use Rattle.git_pkt.specs.Packets.{longest_payload};
 ghost use Rattle.gitwire.specs.Calls.{On};
 ghost use Rattle.gitwire.specs.Handles.{packet_reader_in};
-ghost use Rattle.gitwire.specs.PacketLists.{EndsHere, GivesPacket, ListsInRoom, ListsNothing, ListsPackets};
+ghost use Rattle.gitwire.specs.PacketLists.{EndsHere, GivesPacket, ListsInBuffer, ListsNothing, ListsPackets};
 
 use crate::answer::{GitwireAnswer, What};
 use crate::gatherer::Gatherer;
@@ -23,51 +23,51 @@ use std::alloc::Global;
 pub extern "C" fn gitwire_packet_reader_packets(
     alloc: Global,
     reader: &mut GitwirePacketReader,
-    piece: &[u8],
+    chunk: &[u8],
     packets: &mut [GitwireAnswer],
-    room: &mut [u8],
+    buffer: &mut [u8],
 ) -> GitwireAnswer
     ensures { On (packet_reader_in reader.old) (packet_reader_in reader.new)
-        (λ old new. ListsInRoom old piece.now packets.old room.old result packets.new room.new new)
-        (ListsNothing packets.old room.old result packets.new room.new) }
+        (λ old new. ListsInBuffer old chunk.now packets.old buffer.old result packets.new buffer.new new)
+        (ListsNothing packets.old buffer.old result packets.new buffer.new) }
 {
     let Some(mut taken) = reader.take(alloc) else {
         return GitwireAnswer::of(What::NoHandle);
     };
-    let answer = list_packets(&mut taken.inner, piece, packets, room);
+    let answer = list_packets(&mut taken.inner, chunk, packets, buffer);
     reader.put(taken);
     answer
 }
 
 fn list_packets(
     gatherer: &mut Gatherer,
-    piece: &[u8],
+    chunk: &[u8],
     packets: &mut [GitwireAnswer],
-    room: &mut [u8],
+    buffer: &mut [u8],
 ) -> GitwireAnswer
-    ensures { ListsInRoom gatherer.old.reader piece.now packets.old room.old result packets.new room.new gatherer.new.reader }
+    ensures { ListsInBuffer gatherer.old.reader chunk.now packets.old buffer.old result packets.new buffer.new gatherer.new.reader }
 {
-    if packets.is_empty() || room.len() < LONGEST_PAYLOAD {
+    if packets.is_empty() || buffer.len() < LONGEST_PAYLOAD {
         return GitwireAnswer::of(What::BufferTooSmall);
     }
-    fill_packets(gatherer, piece, packets, room)
+    fill_packets(gatherer, chunk, packets, buffer)
 }
 
 /// Calls `feed` until it gives no packet, or the array is full.
 fn fill_packets(
     gatherer: &mut Gatherer,
-    piece: &[u8],
+    chunk: &[u8],
     packets: &mut [GitwireAnswer],
-    room: &mut [u8],
+    buffer: &mut [u8],
 ) -> GitwireAnswer
     requires place { 0 < length packets.old }
-    requires suffices { longest_payload ≤ length room.old }
-    ensures { ListsPackets gatherer.old.reader piece.now packets.old room.old result packets.new room.new gatherer.new.reader }
+    requires suffices { longest_payload ≤ length buffer.old }
+    ensures { ListsPackets gatherer.old.reader chunk.now packets.old buffer.old result packets.new buffer.new gatherer.new.reader }
 {
     let mut used = 0;
     let mut count = 0;
     while count < packets.len() {
-        match next(gatherer, piece, used, count, room) {
+        match next(gatherer, chunk, used, count, buffer) {
             Ok(packet) => {
                 packets[count] = packet;
                 used = packet.used;
@@ -84,17 +84,17 @@ fn fill_packets(
 #[inline(always)]
 fn next(
     gatherer: &mut Gatherer,
-    piece: &[u8],
+    chunk: &[u8],
     from: usize,
     count: usize,
-    room: &mut [u8],
+    buffer: &mut [u8],
 ) -> Result<GitwireAnswer, GitwireAnswer>
-    requires within { from ≤ length piece.now }
-    requires suffices { longest_payload ≤ length room.old }
-    ensures { MatchResult result (λ packet. GivesPacket gatherer.old.reader piece.now from room.old packet room.new gatherer.new.reader)
-        (λ answer. EndsHere gatherer.old.reader piece.now from count room.old answer room.new gatherer.new.reader) }
+    requires within { from ≤ length chunk.now }
+    requires suffices { longest_payload ≤ length buffer.old }
+    ensures { MatchResult result (λ packet. GivesPacket gatherer.old.reader chunk.now from buffer.old packet buffer.new gatherer.new.reader)
+        (λ answer. EndsHere gatherer.old.reader chunk.now from count buffer.old answer buffer.new gatherer.new.reader) }
 {
-    let fed = gatherer.reader.feed(&piece[from..], &mut Steps::new());
+    let fed = gatherer.reader.feed(&chunk[from..], &mut Steps::new());
     let used = from + fed.used;
     match fed.got {
         Got::More => Err(GitwireAnswer::of_packet(used, 0, count, What::More)),
@@ -108,7 +108,7 @@ fn next(
             Packet::RespEnd => Ok(GitwireAnswer::of_packet(used, offset, 0, What::ResponseEnd)),
             Packet::Payload(bytes) => {
                 if fed.used < bytes.len() {
-                    room[..bytes.len()].copy_from_slice(bytes);
+                    buffer[..bytes.len()].copy_from_slice(bytes);
                 }
                 Ok(GitwireAnswer::of_packet(used, offset, bytes.len(), What::Payload))
             }

@@ -3,7 +3,7 @@
 ghost use Rattle.std.specs.Prelude.{◌≡◌, None};
 ghost use Rattle.gitwire.specs.Calls.{HasNone, On};
 ghost use Rattle.gitwire.specs.Handles.{packet_reader_in};
-ghost use Rattle.gitwire.specs.PacketAnswers.{Begins, ClosesAnswers, FeedsInRoom};
+ghost use Rattle.gitwire.specs.PacketAnswers.{Begins, ClosesAnswers, FeedsInBuffer};
 ghost use Rattle.gitwire.specs.Answers.{answering};
 
 use crate::answer::{GitwireAnswer, What};
@@ -39,27 +39,27 @@ pub extern "C" fn gitwire_packet_reader_init(alloc: Global, reader: &mut Gitwire
 pub extern "C" fn gitwire_packet_reader_feed(
     alloc: Global,
     reader: &mut GitwirePacketReader,
-    piece: &[u8],
-    room: &mut [u8],
+    chunk: &[u8],
+    buffer: &mut [u8],
 ) -> GitwireAnswer
-    ensures { On (packet_reader_in reader.old) (packet_reader_in reader.new) (λ old new. FeedsInRoom old piece.now room.old result room.new new)
-        (HasNone room.old result room.new) }
+    ensures { On (packet_reader_in reader.old) (packet_reader_in reader.new) (λ old new. FeedsInBuffer old chunk.now buffer.old result buffer.new new)
+        (HasNone buffer.old result buffer.new) }
 {
     let Some(mut taken) = reader.take(alloc) else {
         return GitwireAnswer::of(What::NoHandle);
     };
-    let answer = feed(&mut taken.inner, piece, room);
+    let answer = feed(&mut taken.inner, chunk, buffer);
     reader.put(taken);
     answer
 }
 
-fn feed(gatherer: &mut Gatherer, piece: &[u8], room: &mut [u8]) -> GitwireAnswer
-    ensures { FeedsInRoom gatherer.old.reader piece.now room.old result room.new gatherer.new.reader }
+fn feed(gatherer: &mut Gatherer, chunk: &[u8], buffer: &mut [u8]) -> GitwireAnswer
+    ensures { FeedsInBuffer gatherer.old.reader chunk.now buffer.old result buffer.new gatherer.new.reader }
 {
-    if room.len() < LONGEST_PAYLOAD {
+    if buffer.len() < LONGEST_PAYLOAD {
         return GitwireAnswer::of(What::BufferTooSmall);
     }
-    let fed = gatherer.reader.feed(piece, &mut Steps::new());
+    let fed = gatherer.reader.feed(chunk, &mut Steps::new());
     match fed.got {
         Got::More => GitwireAnswer::of_used(fed.used, What::More),
         Got::Failed(fault) => GitwireAnswer::of_fault(fed.used, fault),
@@ -68,7 +68,7 @@ fn feed(gatherer: &mut Gatherer, piece: &[u8], room: &mut [u8]) -> GitwireAnswer
             Packet::Delim => GitwireAnswer::of_packet(fed.used, offset, 0, What::Delim),
             Packet::RespEnd => GitwireAnswer::of_packet(fed.used, offset, 0, What::ResponseEnd),
             Packet::Payload(bytes) => {
-                room[..bytes.len()].copy_from_slice(bytes);
+                buffer[..bytes.len()].copy_from_slice(bytes);
                 GitwireAnswer::of_packet(fed.used, offset, bytes.len(), What::Payload)
             }
         },

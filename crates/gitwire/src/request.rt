@@ -7,7 +7,7 @@ ghost use Rattle.gitwire.specs.Handles.{request_in};
 ghost use Rattle.gitwire.specs.Numbers.{command_number, format_number, item_lists, numbered};
 ghost use Rattle.gitwire.specs.RequestAnswers.{AddsLine, AddsAnswers, EndsAnswers, Makes, MeanNoRequest, MeanRequest, PutsFrom};
 ghost use Rattle.gitwire.specs.Answers.{answering};
-ghost use Rattle.gitwire.specs.RequestAnswers.{is_set, telling_number, telling_result, telling_which};
+ghost use Rattle.gitwire.specs.RequestAnswers.{is_set, announcing_number, announcing_result, announcing_which};
 
 use crate::answer::{GitwireAnswer, What};
 use crate::handles::{GitwireRequest, Holds, fill};
@@ -84,7 +84,7 @@ pub extern "C" fn gitwire_request_add(
 fn add(request: &mut Request<Global>, line: &[u8]) -> GitwireAnswer
     ensures { AddsAnswers request.old line.now result request.new }
 {
-    tell(add_line(request, line))
+    announce(add_line(request, line))
 }
 
 fn add_line(request: &mut Request<Global>, line: &[u8]) -> Result<(), Kind>
@@ -98,8 +98,8 @@ fn add_line(request: &mut Request<Global>, line: &[u8]) -> Result<(), Kind>
     }
 }
 
-fn tell(judged: Result<(), Kind>) -> GitwireAnswer
-    ensures { result ≡ telling_result judged }
+fn announce(judged: Result<(), Kind>) -> GitwireAnswer
+    ensures { result ≡ announcing_result judged }
 {
     match judged {
         Ok(()) => GitwireAnswer::of(What::Done),
@@ -123,7 +123,7 @@ pub extern "C" fn gitwire_request_end(alloc: Global, request: &mut GitwireReques
 fn judge_end(request: &Request<Global>) -> GitwireAnswer
     ensures { EndsAnswers (asked_of request.now) result }
 {
-    tell(request.check_end())
+    announce(request.check_end())
 }
 
 /// The number of the request's command; 0 for a handle without a request.
@@ -152,8 +152,8 @@ pub extern "C" fn gitwire_request_format(alloc: Global, request: &mut GitwireReq
     answer
 }
 
-pub(crate) fn tell_number(number: u64) -> GitwireAnswer
-    ensures { result ≡ telling_number number }
+pub(crate) fn announce_number(number: u64) -> GitwireAnswer
+    ensures { result ≡ announcing_number number }
 {
     GitwireAnswer::of_packet(0, number, 0, What::Done)
 }
@@ -193,7 +193,7 @@ pub extern "C" fn gitwire_request_number(
     request: &mut GitwireRequest,
     which: u32,
 ) -> GitwireAnswer
-    ensures { Of (request_in request.old) (request_in request.new) (λ had. result ≡ telling_which which (asked_of had)) (result ≡ answering What.NoHandle) }
+    ensures { Of (request_in request.old) (request_in request.new) (λ had. result ≡ announcing_which which (asked_of had)) (result ≡ answering What.NoHandle) }
 {
     let Some(taken) = request.take(alloc) else {
         return GitwireAnswer::of(What::NoHandle);
@@ -204,7 +204,7 @@ pub extern "C" fn gitwire_request_number(
 }
 
 fn given_number(request: &Request<Global>, which: u32) -> GitwireAnswer
-    ensures { result ≡ telling_which which (asked_of request.now) }
+    ensures { result ≡ announcing_which which (asked_of request.now) }
 {
     let Some(which) = Given::numbered(which) else {
         return GitwireAnswer::of(What::BadValue);
@@ -214,7 +214,7 @@ fn given_number(request: &Request<Global>, which: u32) -> GitwireAnswer
         Given::DeepenSince => request.deepen_since(),
     };
     match given {
-        Some(number) => tell_number(number),
+        Some(number) => announce_number(number),
         None => GitwireAnswer::of(What::Nothing),
     }
 }
@@ -227,15 +227,16 @@ pub extern "C" fn gitwire_request_item(
     request: &mut GitwireRequest,
     list: u32,
     index: usize,
-    room: &mut [u8],
+    buffer: &mut [u8],
 ) -> GitwireAnswer
-    ensures { Of (request_in request.old) (request_in request.new) (λ had. PutsFrom (numbered item_lists list) (asked_of had) index room.old result room.new)
-        (HasNone room.old result room.new) }
+    ensures { Of (request_in request.old) (request_in request.new)
+        (λ had. PutsFrom (numbered item_lists list) (asked_of had) index buffer.old result buffer.new)
+        (HasNone buffer.old result buffer.new) }
 {
     let Some(taken) = request.take(alloc) else {
         return GitwireAnswer::of(What::NoHandle);
     };
-    let answer = put_item(&taken.inner, list, index, room);
+    let answer = put_item(&taken.inner, list, index, buffer);
     request.put(taken);
     answer
 }

@@ -65,9 +65,9 @@ pub extern "C" fn gitwire_request_reader_feed(
     alloc: Global,
     reader: &mut GitwireRequestReader,
     request: &mut GitwireRequest,
-    piece: &[u8],
+    chunk: &[u8],
 ) -> GitwireAnswer
-    ensures { FeedsIn (request_reader_in reader.old) piece.now (request_in request.old) result (request_reader_in reader.new) (request_in request.new) }
+    ensures { FeedsIn (request_reader_in reader.old) chunk.now (request_in request.old) result (request_reader_in reader.new) (request_in request.new) }
 {
     let Some(mut taken) = reader.take(alloc) else {
         return GitwireAnswer::of(What::NoHandle);
@@ -76,7 +76,7 @@ pub extern "C" fn gitwire_request_reader_feed(
         reader.put(taken);
         return GitwireAnswer::of(What::OutOfMemory);
     };
-    let answer = feed(&mut taken.inner, piece, &mut held.inner);
+    let answer = feed(&mut taken.inner, chunk, &mut held.inner);
     reader.put(taken);
     request.put(held);
     answer
@@ -100,15 +100,15 @@ fn take_request(alloc: Global, request: &mut GitwireRequest) -> Option<Taken<Req
 
 fn feed(
     reader: &mut RequestStream<Global>,
-    piece: &[u8],
+    chunk: &[u8],
     request: &mut Request<Global>,
 ) -> GitwireAnswer
-    ensures { FeedsAnswers reader.old piece.now request.old result reader.new request.new }
+    ensures { FeedsAnswers reader.old chunk.now request.old result reader.new request.new }
 {
-    let due = reader.wants_input();
-    let ReadRequest { used, got } = reader.feed(piece, &mut Steps::new());
+    let expected = reader.wants_input();
+    let ReadRequest { used, got } = reader.feed(chunk, &mut Steps::new());
     match got {
-        ReadGot::More => GitwireAnswer::of_used(used, What::more(due)),
+        ReadGot::More => GitwireAnswer::of_used(used, What::more(expected)),
         ReadGot::Request(asked) => {
             *request = asked;
             GitwireAnswer::of_used(used, What::Request)

@@ -4,7 +4,7 @@ ghost use Rattle.std.specs.Prelude.{◌≡◌, IfSome, None};
 ghost use Rattle.gitwire.specs.Calls.{HasNone, On};
 ghost use Rattle.gitwire.specs.Handles.{repository_in, server_in};
 ghost use Rattle.gitwire.specs.Answers.{answering, what_number};
-ghost use Rattle.gitwire.specs.ServerAnswers.{BeginsOver, BeginsWithin, ClosesAnswers, FeedsAnswers, PullsInRoom, Starts};
+ghost use Rattle.gitwire.specs.ServerAnswers.{BeginsOver, BeginsWithin, ClosesAnswers, FeedsAnswers, PullsInBuffer, Starts};
 
 use crate::answer::{GitwireAnswer, What};
 use crate::handles::{GitwireRepository, GitwireServer, Holds, fill};
@@ -86,24 +86,24 @@ fn make(
 pub extern "C" fn gitwire_server_feed(
     alloc: Global,
     server: &mut GitwireServer,
-    piece: &[u8],
+    chunk: &[u8],
 ) -> GitwireAnswer
-    ensures { On (server_in server.old) (server_in server.new) (λ old new. FeedsAnswers old piece.now result new) (result ≡ answering What.NoHandle) }
+    ensures { On (server_in server.old) (server_in server.new) (λ old new. FeedsAnswers old chunk.now result new) (result ≡ answering What.NoHandle) }
 {
     let Some(mut taken) = server.take(alloc) else {
         return GitwireAnswer::of(What::NoHandle);
     };
-    let answer = feed(&mut taken.inner, piece);
+    let answer = feed(&mut taken.inner, chunk);
     server.put(taken);
     answer
 }
 
-fn feed(server: &mut Server<SharedRepo, Global>, piece: &[u8]) -> GitwireAnswer
-    ensures { FeedsAnswers server.old piece.now result server.new }
+fn feed(server: &mut Server<SharedRepo, Global>, chunk: &[u8]) -> GitwireAnswer
+    ensures { FeedsAnswers server.old chunk.now result server.new }
 {
-    let due = server.wants_input();
-    let used = server.feed(piece, &mut Steps::new());
-    GitwireAnswer::of_used(used, What::more(due))
+    let expected = server.wants_input();
+    let used = server.feed(chunk, &mut Steps::new());
+    GitwireAnswer::of_used(used, What::more(expected))
 }
 
 /// The input ends here. `Done`; `NotNow` if the server expects no bytes, and nothing changed; or `NoHandle`.
@@ -135,28 +135,29 @@ fn close(server: &mut Server<SharedRepo, Global>) -> u32
 pub extern "C" fn gitwire_server_pull(
     alloc: Global,
     server: &mut GitwireServer,
-    room: &mut [u8],
+    buffer: &mut [u8],
 ) -> GitwireAnswer
-    ensures { On (server_in server.old) (server_in server.new) (λ old new. PullsInRoom old room.old result room.new new) (HasNone room.old result room.new) }
+    ensures { On (server_in server.old) (server_in server.new) (λ old new. PullsInBuffer old buffer.old result buffer.new new)
+        (HasNone buffer.old result buffer.new) }
 {
     let Some(mut taken) = server.take(alloc) else {
         return GitwireAnswer::of(What::NoHandle);
     };
-    let answer = pull(&mut taken.inner, room);
+    let answer = pull(&mut taken.inner, buffer);
     server.put(taken);
     answer
 }
 
-fn pull(server: &mut Server<SharedRepo, Global>, room: &mut [u8]) -> GitwireAnswer
-    ensures { PullsInRoom server.old room.old result room.new server.new }
+fn pull(server: &mut Server<SharedRepo, Global>, buffer: &mut [u8]) -> GitwireAnswer
+    ensures { PullsInBuffer server.old buffer.old result buffer.new server.new }
 {
-    if room.len() < LONGEST_PACKET {
+    if buffer.len() < LONGEST_PACKET {
         return GitwireAnswer::of(What::BufferTooSmall);
     }
     match server.pull() {
         Pulled::NeedInput => GitwireAnswer::of(What::NeedInput),
         Pulled::Packet(bytes) => {
-            room[..bytes.len()].copy_from_slice(bytes);
+            buffer[..bytes.len()].copy_from_slice(bytes);
             GitwireAnswer::of_packet(0, 0, bytes.len(), What::Packet)
         }
         Pulled::Finished(outcome) => match outcome {

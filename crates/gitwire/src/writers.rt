@@ -8,10 +8,10 @@ ghost use Rattle.gitwire.specs.Offers.{offer_meant};
 ghost use Rattle.gitwire.specs.WrittenForC.{Advertises, Makes, MeansBand, MeansError, MeansLine, MeansPacket, Writes, WritesIn};
 
 use crate::answer::{GitwireAnswer, What};
+use crate::buffers::fill;
 use crate::handles::{GitwireWriter, Holds};
 use crate::offer::offer_numbered;
 use crate::packets::LONGEST_PAYLOAD;
-use crate::rooms::fill;
 use crate::written::{Unwritten, hand_out};
 use git_msg::put_line;
 use git_pkt::{Band, Hold, Kind, Packet, put, put_band};
@@ -27,15 +27,15 @@ pub extern "C" fn gitwire_put_packet(
     writer: &mut GitwireWriter,
     kind: u32,
     payload: &[u8],
-    room: &mut [u8],
+    buffer: &mut [u8],
 ) -> GitwireAnswer
-    ensures { WritesIn (writer_in writer.old) (Writes (MeansPacket kind payload.now)) room.old result room.new (writer_in writer.new) }
+    ensures { WritesIn (writer_in writer.old) (Writes (MeansPacket kind payload.now)) buffer.old result buffer.new (writer_in writer.new) }
 {
     let Some(mut taken) = writer.take(alloc) else {
         return GitwireAnswer::of(What::NoHandle);
     };
     let made = make_packet(&mut taken.inner.hold, kind, payload);
-    let answer = hand_out(made, &taken.inner.hold, room);
+    let answer = hand_out(made, &taken.inner.hold, buffer);
     writer.put(taken);
     answer
 }
@@ -49,15 +49,15 @@ pub extern "C" fn gitwire_put_band(
     writer: &mut GitwireWriter,
     band: u32,
     bytes: &[u8],
-    room: &mut [u8],
+    buffer: &mut [u8],
 ) -> GitwireAnswer
-    ensures { WritesIn (writer_in writer.old) (Writes (MeansBand band bytes.now)) room.old result room.new (writer_in writer.new) }
+    ensures { WritesIn (writer_in writer.old) (Writes (MeansBand band bytes.now)) buffer.old result buffer.new (writer_in writer.new) }
 {
     let Some(mut taken) = writer.take(alloc) else {
         return GitwireAnswer::of(What::NoHandle);
     };
     let made = make_band(&mut taken.inner.hold, band, bytes);
-    let answer = hand_out(made, &taken.inner.hold, room);
+    let answer = hand_out(made, &taken.inner.hold, buffer);
     writer.put(taken);
     answer
 }
@@ -69,15 +69,15 @@ pub extern "C" fn gitwire_put_line(
     alloc: Global,
     writer: &mut GitwireWriter,
     text: &[u8],
-    room: &mut [u8],
+    buffer: &mut [u8],
 ) -> GitwireAnswer
-    ensures { WritesIn (writer_in writer.old) (Writes (MeansLine text.now)) room.old result room.new (writer_in writer.new) }
+    ensures { WritesIn (writer_in writer.old) (Writes (MeansLine text.now)) buffer.old result buffer.new (writer_in writer.new) }
 {
     let Some(mut taken) = writer.take(alloc) else {
         return GitwireAnswer::of(What::NoHandle);
     };
     let made = make_line(&mut taken.inner.hold, b"", text);
-    let answer = hand_out(made, &taken.inner.hold, room);
+    let answer = hand_out(made, &taken.inner.hold, buffer);
     writer.put(taken);
     answer
 }
@@ -90,15 +90,15 @@ pub extern "C" fn gitwire_put_error(
     alloc: Global,
     writer: &mut GitwireWriter,
     text: &[u8],
-    room: &mut [u8],
+    buffer: &mut [u8],
 ) -> GitwireAnswer
-    ensures { WritesIn (writer_in writer.old) (Writes (MeansError text.now)) room.old result room.new (writer_in writer.new) }
+    ensures { WritesIn (writer_in writer.old) (Writes (MeansError text.now)) buffer.old result buffer.new (writer_in writer.new) }
 {
     let Some(mut taken) = writer.take(alloc) else {
         return GitwireAnswer::of(What::NoHandle);
     };
     let made = make_line(&mut taken.inner.hold, b"ERR ", text);
-    let answer = hand_out(made, &taken.inner.hold, room);
+    let answer = hand_out(made, &taken.inner.hold, buffer);
     writer.put(taken);
     answer
 }
@@ -111,26 +111,26 @@ pub extern "C" fn gitwire_put_advertisement(
     writer: &mut GitwireWriter,
     format: u32,
     features: u32,
-    room: &mut [u8],
+    buffer: &mut [u8],
 ) -> GitwireAnswer
-    ensures { WritesIn (writer_in writer.old) (Advertises (offer_meant format features)) room.old result room.new (writer_in writer.new) }
+    ensures { WritesIn (writer_in writer.old) (Advertises (offer_meant format features)) buffer.old result buffer.new (writer_in writer.new) }
 {
     let Some(mut taken) = writer.take(alloc) else {
         return GitwireAnswer::of(What::NoHandle);
     };
-    let answer = advertise(&mut taken.inner.hold, format, features, room);
+    let answer = advertise(&mut taken.inner.hold, format, features, buffer);
     writer.put(taken);
     answer
 }
 
-fn advertise(hold: &mut Hold, format: u32, features: u32, room: &mut [u8]) -> GitwireAnswer
-    ensures { Advertises (offer_meant format features) room.old result room.new }
+fn advertise(hold: &mut Hold, format: u32, features: u32, buffer: &mut [u8]) -> GitwireAnswer
+    ensures { Advertises (offer_meant format features) buffer.old result buffer.new }
 {
     let Some(offer) = offer_numbered(format, features) else {
         return GitwireAnswer::of(What::BadValue);
     };
     put_advertisement(hold, &offer);
-    fill(hold.as_slice(), room)
+    fill(hold.as_slice(), buffer)
 }
 
 fn make_packet(hold: &mut Hold, kind: u32, payload: &[u8]) -> Result<(), Unwritten>

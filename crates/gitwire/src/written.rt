@@ -1,11 +1,11 @@
 //! A packet on its way to a buffer of C, or why there is none.
 
 ghost use Rattle.std.specs.Prelude.{◌≡◌, IfErr, OnOk};
-ghost use Rattle.gitwire.specs.Rooms.{Fills};
-ghost use Rattle.gitwire.specs.WrittenForC.{refused_name, telling_why};
+ghost use Rattle.gitwire.specs.Buffers.{Fills};
+ghost use Rattle.gitwire.specs.WrittenForC.{refused_name, announcing_why};
 
 use crate::answer::{GitwireAnswer, What};
-use crate::rooms::fill;
+use crate::buffers::fill;
 use git_names::NameFault;
 use git_pkt::{Fault, Hold, Kind};
 
@@ -27,12 +27,12 @@ impl From<NameFault> for Unwritten {
 }
 
 /// Copies the packet that was made to the front of the buffer, or reports why there is none.
-pub(crate) fn hand_out(made: Result<(), Unwritten>, hold: &Hold, room: &mut [u8]) -> GitwireAnswer
-    ensures made { OnOk made (Fills hold.now.items room.old result room.new) }
-    ensures unwritten { IfErr made (λ why. (result ≡ telling_why why) × (room.new ≡ room.old)) }
+pub(crate) fn hand_out(made: Result<(), Unwritten>, hold: &Hold, buffer: &mut [u8]) -> GitwireAnswer
+    ensures made { OnOk made (Fills hold.now.items buffer.old result buffer.new) }
+    ensures unwritten { IfErr made (λ why. (result ≡ announcing_why why) × (buffer.new ≡ buffer.old)) }
 {
     match made {
-        Ok(()) => fill(hold.as_slice(), room),
+        Ok(()) => fill(hold.as_slice(), buffer),
         Err(Unwritten::BadValue) => GitwireAnswer::of(What::BadValue),
         Err(Unwritten::Refused(kind)) => GitwireAnswer::of_fault(0, Fault { kind, offset: 0 }),
     }

@@ -90,31 +90,31 @@ impl Write for Sink {
 
 /// Returns one of its chunks for each read, or as much of a long one as the buffer holds. Empty ones are skipped.
 #[derive(Drop)]
-pub struct Pieces<'a> {
-    pieces: &'a [&'a [u8]],
+pub struct Chunks<'a> {
+    chunks: &'a [&'a [u8]],
     // The current chunk, and how many of its bytes were returned.
     number: usize,
     given: usize,
 }
 
-impl<'a> Pieces<'a> {
+impl<'a> Chunks<'a> {
     /// A reader of these chunks, from the first on.
-    pub fn new(pieces: &'a [&'a [u8]]) -> Pieces<'a> {
-        Pieces {
-            pieces,
+    pub fn new(chunks: &'a [&'a [u8]]) -> Chunks<'a> {
+        Chunks {
+            chunks,
             number: 0,
             given: 0,
         }
     }
 }
 
-impl<'a> Read for Pieces<'a> {
+impl<'a> Read for Chunks<'a> {
     fn read(&mut self, buf: &mut [u8]) -> io::Result<usize> {
-        for _ in 0..self.pieces.len() {
-            let Some(piece) = self.pieces.get(self.number) else {
+        for _ in 0..self.chunks.len() {
+            let Some(chunk) = self.chunks.get(self.number) else {
                 return Ok(0);
             };
-            let rest = piece.get(self.given..).unwrap_or(&[]);
+            let rest = chunk.get(self.given..).unwrap_or(&[]);
             if !rest.is_empty() {
                 let count = rest.len().min(buf.len());
                 buf[..count].copy_from_slice(&rest[..count]);

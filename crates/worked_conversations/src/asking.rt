@@ -68,7 +68,7 @@ pub fn written(alloc: Global, request: &Request<Global>, caps: &Caps) -> Result<
 
 impl Asking {
     // Adds an argument, and returns the result.
-    fn told(
+    fn announced(
         self,
         alloc: Global,
         request: &mut Request<Global>,
@@ -92,28 +92,28 @@ impl Asking {
     }
 
     // Adds the argument of each step, and returns the results.
-    fn all_told(
+    fn all_announced(
         self,
         alloc: Global,
         request: &mut Request<Global>,
         script: &Script,
     ) -> Result<Vec<u8>, Trouble> {
-        let mut told = Vec::new(alloc);
+        let mut announced = Vec::new(alloc);
         let mut last = Step::default();
         for step in script.steps.as_slice() {
-            let line = self.told(alloc, request, script.between(last, *step))?;
-            append(&mut told, line.as_bytes())?;
+            let line = self.announced(alloc, request, script.between(last, *step))?;
+            append(&mut announced, line.as_bytes())?;
             last = *step;
         }
-        Ok(told)
+        Ok(announced)
     }
 
     /// Each argument is kept or refused as the line after it states, and the request is written as the ending states.
     pub fn goes(self, alloc: Global, script: &Script) -> Result<usize, Trouble> {
         let limits = limits(self.limit);
         let mut request = Request::new(alloc, self.command, self.format, limits);
-        let told = self.all_told(alloc, &mut request, script)?;
-        same(alloc, told.as_slice(), script.given.as_slice())?;
+        let announced = self.all_announced(alloc, &mut request, script)?;
+        same(alloc, announced.as_slice(), script.given.as_slice())?;
         let written = self.written(alloc, &request)?;
         same(alloc, written.as_slice(), script.ending.as_bytes())?;
         Ok(script.steps.len())
@@ -121,8 +121,8 @@ impl Asking {
 }
 
 // Compares what was written with what the case states.
-fn same(alloc: Global, came: &[u8], due: &[u8]) -> Result<(), Trouble> {
-    if came != due {
+fn same(alloc: Global, came: &[u8], expected: &[u8]) -> Result<(), Trouble> {
+    if came != expected {
         let came = String::from_utf8_lossy(alloc, came)?;
         return Err(Trouble::Differs(came));
     }

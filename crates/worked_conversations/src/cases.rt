@@ -24,7 +24,7 @@ struct Files {
     pack: Vec<u8>,
     filtered: Option<Vec<u8>>,
     /// The input of a client before its case.
-    heard: Vec<u8>,
+    arrived: Vec<u8>,
     recording: Option<Recording>,
 }
 
@@ -188,7 +188,7 @@ fn client_of<'a>(words: Words<'_>, files: &'a Files) -> clients::Setup<'a> {
     clients::Setup {
         format: words.format(),
         ending: words.ending(),
-        heard: files.heard.as_slice(),
+        arrived: files.arrived.as_slice(),
     }
 }
 
@@ -293,7 +293,7 @@ fn read_files(rt: &HostRuntime, alloc: Global, words: Words<'_>) -> Result<Files
         repository: file_after(rt, alloc, words, words.before_repository())?,
         pack: file_after(rt, alloc, words, "pack")?,
         filtered: named_file(rt, words, "filtered")?,
-        heard: file_after(rt, alloc, words, "after")?,
+        arrived: file_after(rt, alloc, words, "after")?,
         recording: read_recording(rt, alloc, words)?,
     })
 }

@@ -1,17 +1,17 @@
 //! Recorded streams that are checked against each other.
 
-use crate::escapes::length_told;
-use crate::runs::{Due, Known, Run, compare};
+use crate::escapes::length_announced;
+use crate::runs::{Expected, Known, Run, compare};
 use crate::script::Script;
 use crate::setup::{MANY, TURNS};
 use crate::texts::copied;
 use crate::trouble::Trouble;
 use git_client::Ending;
 use git_names::Format;
-use git_pkt::Told;
+use git_pkt::Recorded;
 use git2show_lib::{CheckFault, check};
 use std::alloc::{AllocError, Global};
-use test_streams::{Pieces, Sink};
+use test_streams::{Chunks, Sink};
 
 fn ending_of(alloc: Global, answer: Result<(), CheckFault>) -> Result<String, AllocError> {
     match answer {
@@ -40,13 +40,13 @@ fn checked(
     let mut sink = Sink::new(Vec::new(alloc), usize::MAX, u32::MAX);
     let answer = check(
         alloc,
-        &mut Told::new(Pieces::new(requests)),
-        &mut Told::new(Pieces::new(responses)),
+        &mut Recorded::new(Chunks::new(requests)),
+        &mut Recorded::new(Chunks::new(responses)),
         setup.format,
         setup.ending,
         &mut [0; 256],
         &mut [0; 256],
-        &mut Told::new(&mut sink),
+        &mut Recorded::new(&mut sink),
         TURNS,
     );
     if sink.flushed != sink.taken.len() {
@@ -61,15 +61,20 @@ pub fn goes(
     alloc: Global,
     setup: Setup,
     script: &Script,
-    pieces: &[&[u8]],
-    due: &Due,
+    chunks: &[&[u8]],
+    expected: &Expected,
     place: usize,
 ) -> Result<(), Trouble> {
     let asked = script.asked.as_slice();
-    compare(alloc, &checked(alloc, setup, &[asked], pieces)?, due, place)?;
+    compare(
+        alloc,
+        &checked(alloc, setup, &[asked], chunks)?,
+        expected,
+        place,
+    )?;
     let (front, rest) = asked.split_at(place.min(asked.len()));
-    let run = checked(alloc, setup, &[front, rest], pieces)?;
-    compare(alloc, &run, due, place)
+    let run = checked(alloc, setup, &[front, rest], chunks)?;
+    compare(alloc, &run, expected, place)
 }
 
 // How many bytes of the transcript come before the line of the request with this number, from 0.
@@ -95,7 +100,7 @@ fn responses_before(script: &Script, given: usize) -> usize {
             return step.input;
         }
     }
-    script.told()
+    script.announced()
 }
 
 /// How far the requests go up to a byte.
@@ -119,7 +124,7 @@ fn reached(asked: &[u8], at: usize) -> Place {
         let digits = asked
             .get(reached.end..reached.end.saturating_add(4))
             .unwrap_or(&[]);
-        let Some(length) = length_told(digits) else {
+        let Some(length) = length_announced(digits) else {
             return reached;
         };
         let end = reached.end.saturating_add(length.max(4));
@@ -137,7 +142,7 @@ fn reached(asked: &[u8], at: usize) -> Place {
 }
 
 // The expected result if the requests end at this byte and all of them are answered.
-fn due_of_requests(alloc: Global, script: &Script, end: usize) -> Result<Due, Trouble> {
+fn expected_of_requests(alloc: Global, script: &Script, end: usize) -> Result<Expected, Trouble> {
     let reached = reached(script.asked.as_slice(), end);
     let all = script.given.as_slice();
     let given = before_request(all, reached.flushes);
@@ -149,7 +154,7 @@ fn due_of_requests(alloc: Global, script: &Script, end: usize) -> Result<Due, Tr
     } else {
         String::from_str(alloc, "closed\n")?
     };
-    Ok(Due {
+    Ok(Expected {
         given: copied(alloc, all.get(..given).unwrap_or(&[]))?,
         pack: Vec::new(alloc),
         progress: Vec::new(alloc),
@@ -172,7 +177,7 @@ pub fn goes_with_requests_cut_short(
     }
     for end in 0..script.asked_read.min(asked.len()) {
         let run = checked(alloc, setup, &[&asked[..end]], &[script.input.as_slice()])?;
-        compare(alloc, &run, &due_of_requests(alloc, script, end)?, end)?;
+        compare(alloc, &run, &expected_of_requests(alloc, script, end)?, end)?;
         runs = runs.saturating_add(1);
     }
     Ok(runs)

@@ -8,10 +8,10 @@ use crate::setup::MANY;
 use crate::texts::{append, append_str};
 use crate::trouble::Trouble;
 use crate::wordings::{Wording, shown};
-use git_client::{Client, Ending, Event, HeardGot, Sent, write_asked, write_event};
+use git_client::{Client, Ending, Event, ReceivedGot, Sent, write_asked, write_event};
 use git_msg::Caps;
 use git_names::{Format, Steps};
-use git_pkt::{Fault, Told};
+use git_pkt::{Fault, Recorded};
 use std::alloc::{AllocError, Global};
 
 /// How a client is set up.
@@ -20,7 +20,7 @@ pub struct Setup<'a> {
     pub format: Format,
     pub ending: Ending,
     /// The advertisement that it has received before its case, if the case does not begin with one.
-    pub heard: &'a [u8],
+    pub arrived: &'a [u8],
 }
 
 // Appends a word if its flag is set.
@@ -79,7 +79,7 @@ impl Notes {
         let pack = self.pack.len().saturating_sub(self.pack_start) as u64;
         let progress = self.progress.len().saturating_sub(self.progress_start) as u64;
         let mut line = Vec::new(alloc);
-        if write_event(&mut Told::new(&mut line), event, pack, progress).is_err() {
+        if write_event(&mut Recorded::new(&mut line), event, pack, progress).is_err() {
             return Err(Trouble::Breaks("a line is not written"));
         }
         append(&mut self.lines, line.as_slice())?;
@@ -122,14 +122,14 @@ impl<'a> Talk<'a> {
             shows_sent: !script.asked.is_empty(),
             notes: Notes::new(alloc),
         };
-        talk.hear(setup.heard)?;
-        if talk.client.position() != setup.heard.len() as u64 {
+        talk.receive_response(setup.arrived)?;
+        if talk.client.position() != setup.arrived.len() as u64 {
             return Err(Trouble::BadCase("more than an advertisement was heard before"));
         }
         talk.notes = Notes::new(alloc);
         talk.wordings = script.wordings.as_slice();
         talk.leaves = script.leaves;
-        talk.say()?;
+        talk.send_all()?;
         Ok(talk)
     }
 
@@ -147,7 +147,7 @@ impl<'a> Talk<'a> {
     }
 
     // Sends everything that has to be sent, and asks all requests that can be asked now.
-    fn say(&mut self) -> Result<(), Trouble> {
+    fn send_all(&mut self) -> Result<(), Trouble> {
         for _ in 0..MANY {
             self.check_waiting()?;
             match self.client.pull() {
@@ -194,7 +194,7 @@ impl<'a> Talk<'a> {
         match self.client.ask(request) {
             Ok(()) => {
                 let mut line = Vec::new(self.alloc);
-                if write_asked(&mut Told::new(&mut line), wording.command).is_err() {
+                if write_asked(&mut Recorded::new(&mut line), wording.command).is_err() {
                     return Err(Trouble::Breaks("a line is not written"));
                 }
                 append(&mut self.notes.lines, line.as_slice())?;
@@ -214,16 +214,16 @@ impl<'a> Talk<'a> {
     }
 
     // Receives bytes of a chunk up to an event, and notes the event. Returns the rest of the chunk, if there was an event.
-    fn hear_event<'p>(&mut self, piece: &'p [u8]) -> Result<Option<&'p [u8]>, Trouble> {
+    fn receive_event<'p>(&mut self, chunk: &'p [u8]) -> Result<Option<&'p [u8]>, Trouble> {
         let is_wanted = self.client.wants_input();
-        let heard = self.client.feed(piece, &mut Steps::new());
-        let rest = &piece[heard.used..];
-        match heard.got {
-            HeardGot::More if is_wanted && !rest.is_empty() => {
+        let arrived = self.client.feed(chunk, &mut Steps::new());
+        let rest = &chunk[arrived.used..];
+        match arrived.got {
+            ReceivedGot::More if is_wanted && !rest.is_empty() => {
                 Err(Trouble::Breaks("a piece is not used up"))
             }
-            HeardGot::More | HeardGot::Failed(_) => Ok(None),
-            HeardGot::Event(event) => {
+            ReceivedGot::More | ReceivedGot::Failed(_) => Ok(None),
+            ReceivedGot::Event(event) => {
                 self.notes.note(self.alloc, &event)?;
                 Ok(Some(rest))
             }
@@ -231,14 +231,14 @@ impl<'a> Talk<'a> {
     }
 
     // Receives a chunk up to the point where no more input is needed, and sends what has to be sent in between.
-    fn hear(&mut self, piece: &[u8]) -> Result<(), Trouble> {
-        let mut rest = piece;
-        for _ in 0..=piece.len() {
-            let Some(left) = self.hear_event(rest)? else {
+    fn receive_response(&mut self, chunk: &[u8]) -> Result<(), Trouble> {
+        let mut rest = chunk;
+        for _ in 0..=chunk.len() {
+            let Some(left) = self.receive_event(rest)? else {
                 return Ok(());
             };
             rest = left;
-            self.say()?;
+            self.send_all()?;
         }
         Err(Trouble::Breaks("a piece has events without an end"))
     }
@@ -276,11 +276,11 @@ impl<'a> Talk<'a> {
 
     // How many bytes a client uses at its end, and the error that it reports then.
     fn feed_more(&mut self) -> Result<(usize, Option<Fault>), Trouble> {
-        let heard = self.client.feed(b"0000", &mut Steps::new());
-        match heard.got {
-            HeardGot::More => Ok((heard.used, None)),
-            HeardGot::Failed(fault) => Ok((heard.used, Some(fault))),
-            HeardGot::Event(_) => Err(Trouble::Breaks("an event of no bytes")),
+        let arrived = self.client.feed(b"0000", &mut Steps::new());
+        match arrived.got {
+            ReceivedGot::More => Ok((arrived.used, None)),
+            ReceivedGot::Failed(fault) => Ok((arrived.used, Some(fault))),
+            ReceivedGot::Event(_) => Err(Trouble::Breaks("an event of no bytes")),
         }
     }
 
@@ -300,9 +300,9 @@ impl<'a> Talk<'a> {
     // A client at its end uses nothing more, and each of its functions reports the end. Returns how it ended.
     fn ended(&mut self) -> Result<String, Trouble> {
         let position = self.client.position();
-        let (used, told) = self.feed_more()?;
+        let (used, announced) = self.feed_more()?;
         let (can_ask, fault, ending) = self.ending()?;
-        if used != 0 || told != fault {
+        if used != 0 || announced != fault {
             return Err(Trouble::Breaks("a client goes on after its end"));
         }
         if self.client.can_ask() != can_ask
@@ -334,11 +334,11 @@ pub fn fed(
     alloc: Global,
     setup: &Setup<'_>,
     script: &Script,
-    pieces: &[&[u8]],
+    chunks: &[&[u8]],
 ) -> Result<Run, Trouble> {
     let mut talk = Talk::new(alloc, setup, script)?;
-    for piece in pieces {
-        talk.hear(piece)?;
+    for chunk in chunks {
+        talk.receive_response(chunk)?;
     }
     talk.close()?;
     let mut ending = talk.ended()?;
@@ -346,7 +346,7 @@ pub fn fed(
         append_message(alloc, &mut ending, message)?;
     }
     append_noted(&mut ending, &talk.client.caps())?;
-    let used = (talk.client.position() as usize).saturating_sub(setup.heard.len());
+    let used = (talk.client.position() as usize).saturating_sub(setup.arrived.len());
     Ok(Run {
         given: talk.notes.lines,
         pack: talk.notes.pack,

@@ -1,6 +1,6 @@
 //! The sides and readers that a case can run.
 
-use crate::runs::{Due, compare};
+use crate::runs::{Expected, compare};
 use crate::script::{Given, Script, append_error};
 use crate::setup::{LAST_POSITION, offer};
 use crate::trouble::Trouble;
@@ -39,52 +39,57 @@ fn packets_go(
     alloc: Global,
     start: u64,
     script: &Script,
-    pieces: &[&[u8]],
-    due: &Due,
+    chunks: &[&[u8]],
+    expected: &Expected,
     place: usize,
 ) -> Result<(), Trouble> {
-    let run = packets::read(alloc, start, script, pieces)?;
-    compare(alloc, &run, due, place)?;
+    let run = packets::read(alloc, start, script, chunks)?;
+    compare(alloc, &run, expected, place)?;
     if start == 0 {
-        return shown(alloc, pieces, due, place);
+        return shown(alloc, chunks, expected, place);
     }
     Ok(())
 }
 
-fn shown(alloc: Global, pieces: &[&[u8]], due: &Due, place: usize) -> Result<(), Trouble> {
-    let run = packets::shown(alloc, pieces)?;
-    compare(alloc, &run, due, place)
+fn shown(
+    alloc: Global,
+    chunks: &[&[u8]],
+    expected: &Expected,
+    place: usize,
+) -> Result<(), Trouble> {
+    let run = packets::shown(alloc, chunks)?;
+    compare(alloc, &run, expected, place)
 }
 
 // The server, fed and served.
 fn server_goes(
     alloc: Global,
     setup: &sessions::Setup<'_>,
-    pieces: &[&[u8]],
-    due: &Due,
+    chunks: &[&[u8]],
+    expected: &Expected,
     place: usize,
 ) -> Result<(), Trouble> {
-    let run = sessions::fed(alloc, setup, pieces)?;
-    compare(alloc, &run, due, place)?;
-    let run = sessions::served(alloc, setup, pieces)?;
-    compare(alloc, &run, due, place)
+    let run = sessions::fed(alloc, setup, chunks)?;
+    compare(alloc, &run, expected, place)?;
+    let run = sessions::served(alloc, setup, chunks)?;
+    compare(alloc, &run, expected, place)
 }
 
 // A host's server of a repository, fed, and served where no read of a pack is to fail or to be short.
 fn host_goes(
     alloc: Global,
     setup: &sessions::Setup<'_>,
-    pieces: &[&[u8]],
-    due: &Due,
+    chunks: &[&[u8]],
+    expected: &Expected,
     place: usize,
 ) -> Result<(), Trouble> {
-    let run = host_runs::of_repository(alloc, setup, pieces)?;
-    compare(alloc, &run, due, place)?;
+    let run = host_runs::of_repository(alloc, setup, chunks)?;
+    compare(alloc, &run, expected, place)?;
     if setup.reads.is_some() {
         return Ok(());
     }
-    let run = host_runs::served(alloc, setup, pieces)?;
-    compare(alloc, &run, due, place)
+    let run = host_runs::served(alloc, setup, chunks)?;
+    compare(alloc, &run, expected, place)
 }
 
 impl<'a> End<'a> {
@@ -102,7 +107,7 @@ impl<'a> End<'a> {
     pub fn start(&self) -> u64 {
         match self {
             End::Packets(start) => *start,
-            End::Client(setup) => setup.heard.len() as u64,
+            End::Client(setup) => setup.arrived.len() as u64,
             _ => 0,
         }
     }
@@ -119,7 +124,7 @@ impl<'a> End<'a> {
 
     /// How many bytes of all its steps it does not use: the byte past the last position.
     pub fn unread(&self, script: &Script) -> usize {
-        let last = self.start().saturating_add(script.told() as u64);
+        let last = self.start().saturating_add(script.announced() as u64);
         usize::from(last > LAST_POSITION)
     }
 
@@ -152,28 +157,28 @@ impl<'a> End<'a> {
         &self,
         alloc: Global,
         script: &Script,
-        pieces: &[&[u8]],
-        due: &Due,
+        chunks: &[&[u8]],
+        expected: &Expected,
         place: usize,
     ) -> Result<(), Trouble> {
         match self {
-            End::Packets(start) => packets_go(alloc, *start, script, pieces, due, place),
+            End::Packets(start) => packets_go(alloc, *start, script, chunks, expected, place),
             End::Requests(format, limit, features) => {
                 let offer = offer(*format, *features);
-                let run = requests::heard(alloc, offer, *limit, pieces)?;
-                compare(alloc, &run, due, place)
+                let run = requests::arrived(alloc, offer, *limit, chunks)?;
+                compare(alloc, &run, expected, place)
             }
-            End::Server(setup) => server_goes(alloc, setup, pieces, due, place),
-            End::HostOfRepository(setup) => host_goes(alloc, setup, pieces, due, place),
+            End::Server(setup) => server_goes(alloc, setup, chunks, expected, place),
+            End::HostOfRepository(setup) => host_goes(alloc, setup, chunks, expected, place),
             End::Host(setup) => {
-                let run = host_runs::of_case(alloc, *setup, script, pieces)?;
-                compare(alloc, &run, due, place)
+                let run = host_runs::of_case(alloc, *setup, script, chunks)?;
+                compare(alloc, &run, expected, place)
             }
             End::Client(setup) => {
-                let run = clients::fed(alloc, setup, script, pieces)?;
-                compare(alloc, &run, due, place)
+                let run = clients::fed(alloc, setup, script, chunks)?;
+                compare(alloc, &run, expected, place)
             }
-            End::Check(setup) => checks::goes(alloc, *setup, script, pieces, due, place),
+            End::Check(setup) => checks::goes(alloc, *setup, script, chunks, expected, place),
         }
     }
 

@@ -11,11 +11,11 @@ use crate::setup::{TURNS, limits, offer};
 use crate::texts::append_str;
 use crate::trouble::Trouble;
 use git_host::{Hosted, RepoStore, Store, serve_store};
-use git_pkt::Told;
+use git_pkt::Recorded;
 use git_server::{Faulty, Repo};
 use std::alloc::Global;
 use std::io::Cursor;
-use test_streams::Pieces;
+use test_streams::Chunks;
 
 /// Feeds the chunks to a host's server, whose host makes the reports of the case. Then the input ends. What was not asked for is a line of the
 /// ending.
@@ -23,11 +23,11 @@ pub fn of_case(
     alloc: Global,
     setup: Setup,
     script: &Script,
-    pieces: &[&[u8]],
+    chunks: &[&[u8]],
 ) -> Result<Run, Trouble> {
     let reports = CaseReports::new(alloc, script.replies.as_slice());
     let mut host = Host::new(alloc, setup, reports);
-    let mut run = run(alloc, &mut host, pieces)?;
+    let mut run = run(alloc, &mut host, chunks)?;
     let left = host.reports().left();
     if left > 0 {
         let line = format!(in alloc; "{left} reports are not asked for\n")?;
@@ -41,7 +41,7 @@ fn reported_of<R: Repo + Drop>(
     alloc: Global,
     setup: &sessions::Setup<'_>,
     repo: R,
-    pieces: &[&[u8]],
+    chunks: &[&[u8]],
 ) -> Result<Run, Trouble> {
     let setup = Setup {
         format: repo.format(),
@@ -50,34 +50,34 @@ fn reported_of<R: Repo + Drop>(
         advertises: setup.advertises,
     };
     let mut host = Host::new(alloc, setup, RepoReports::new(alloc, repo));
-    run(alloc, &mut host, pieces)
+    run(alloc, &mut host, chunks)
 }
 
 /// The same with the repository of a case.
 pub fn of_repository(
     alloc: Global,
     setup: &sessions::Setup<'_>,
-    pieces: &[&[u8]],
+    chunks: &[&[u8]],
 ) -> Result<Run, Trouble> {
     let repo = repository(alloc, setup.contents)?;
     match setup.reads {
         Some(Reads { fail_from, most }) => {
             let repo = Faulty::new(repo, fail_from, most.max(1));
-            reported_of(alloc, setup, repo, pieces)
+            reported_of(alloc, setup, repo, chunks)
         }
-        None => reported_of(alloc, setup, repo, pieces),
+        None => reported_of(alloc, setup, repo, chunks),
     }
 }
 
 // Serves the chunks with a host's server over its store, and appends what it sends. Returns how the run ended.
-fn serve_pieces<S: Store>(
+fn serve_chunks<S: Store>(
     alloc: Global,
     hosted: &mut Hosted<S, Global>,
-    pieces: &[&[u8]],
+    chunks: &[&[u8]],
     output: &mut Vec<u8>,
 ) -> Result<String, Trouble> {
-    let mut reader = Told::new(Pieces::new(pieces));
-    let mut writer = Told::new(output);
+    let mut reader = Recorded::new(Chunks::new(chunks));
+    let mut writer = Recorded::new(output);
     match serve_store(&mut reader, &mut writer, &mut [0; 256], hosted, TURNS) {
         Ok(Some(outcome)) => Ok(ending_of(alloc, outcome)?),
         Ok(None) => Err(Trouble::Breaks("a served session has no outcome")),
@@ -89,7 +89,7 @@ fn serve_pieces<S: Store>(
 pub fn served(
     alloc: Global,
     setup: &sessions::Setup<'_>,
-    pieces: &[&[u8]],
+    chunks: &[&[u8]],
 ) -> Result<Run, Trouble> {
     let contents = setup.contents;
     let repo = repository(alloc, contents)?;
@@ -99,6 +99,6 @@ pub fn served(
     let store = RepoStore::new(alloc, repo, Cursor::new(contents.pack), filtered);
     let mut hosted = Hosted::new(alloc, store, offer, limits, setup.advertises);
     let mut given = Vec::new(alloc);
-    let ending = serve_pieces(alloc, &mut hosted, pieces, &mut given)?;
+    let ending = serve_chunks(alloc, &mut hosted, chunks, &mut given)?;
     Ok(Run::new(alloc, given, ending, None))
 }

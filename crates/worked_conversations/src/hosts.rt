@@ -118,8 +118,8 @@ impl<S: Reports> Serves for Host<S> {
         self.server.wants_input()
     }
 
-    fn take(&mut self, piece: &[u8]) -> usize {
-        self.server.feed(piece, &mut Steps::new())
+    fn take(&mut self, chunk: &[u8]) -> usize {
+        self.server.feed(chunk, &mut Steps::new())
     }
 
     fn end(&mut self) {

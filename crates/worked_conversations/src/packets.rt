@@ -10,10 +10,10 @@ use crate::setup::{LAST_POSITION, TURNS};
 use crate::texts::append;
 use crate::trouble::Trouble;
 use git_names::Steps;
-use git_pkt::{Fault, Got, Packet, PacketReader, RunFault, Told, put};
+use git_pkt::{Fault, Got, Packet, PacketReader, Recorded, RunFault, put};
 use git2show_lib::show;
 use std::alloc::{AllocError, Global};
-use test_streams::{Pieces, Sink};
+use test_streams::{Chunks, Sink};
 
 // Appends the line of a packet.
 fn append_line(
@@ -71,14 +71,14 @@ enum Used<'a> {
 fn feed_packet<'a>(
     alloc: Global,
     reader: &mut PacketReader,
-    piece: &'a [u8],
+    chunk: &'a [u8],
     lines: &mut Vec<u8>,
 ) -> Result<Used<'a>, AllocError>
     requires gathers { passes_of reader.old ≡ false }
     ensures gathers { passes_of reader.new ≡ false }
 {
-    let fed = reader.feed(piece, &mut Steps::new());
-    let rest = &piece[fed.used..];
+    let fed = reader.feed(chunk, &mut Steps::new());
+    let rest = &chunk[fed.used..];
     match fed.got {
         Got::More => Ok(Used::Whole),
         Got::Failed(_) => Ok(Used::Failed),
@@ -95,14 +95,14 @@ fn feed(
     reader: &mut PacketReader,
     start: u64,
     input: &[u8],
-    piece: &[u8],
+    chunk: &[u8],
     lines: &mut Vec<u8>,
 ) -> Result<bool, Trouble>
     requires gathers { passes_of reader.old ≡ false }
     ensures gathers { passes_of reader.new ≡ false }
 {
-    let mut rest = piece;
-    for _ in 0..=piece.len() {
+    let mut rest = chunk;
+    for _ in 0..=chunk.len() {
         match feed_packet(alloc, reader, rest, lines)? {
             Used::Whole => return Ok(false),
             Used::Failed => return Ok(true),
@@ -119,13 +119,13 @@ fn check_failed(reader: &mut PacketReader, fault: Fault) -> Result<(), Trouble>
     requires gathers { passes_of reader.old ≡ false }
 {
     let position = reader.position();
-    for piece in [b"0000".as_slice(), b"".as_slice()] {
-        let fed = reader.feed(piece, &mut Steps::new());
-        let told = match fed.got {
-            Got::Failed(told) => Some(told),
+    for chunk in [b"0000".as_slice(), b"".as_slice()] {
+        let fed = reader.feed(chunk, &mut Steps::new());
+        let announced = match fed.got {
+            Got::Failed(announced) => Some(announced),
             _ => None,
         };
-        if fed.used != 0 || told != Some(fault) {
+        if fed.used != 0 || announced != Some(fault) {
             return Err(Trouble::Breaks("a reader goes on after its fault"));
         }
     }
@@ -136,19 +136,19 @@ fn check_failed(reader: &mut PacketReader, fault: Fault) -> Result<(), Trouble>
 }
 
 /// Reads the chunks, and then the input ends.
-pub fn read(alloc: Global, start: u64, script: &Script, pieces: &[&[u8]]) -> Result<Run, Trouble> {
+pub fn read(alloc: Global, start: u64, script: &Script, chunks: &[&[u8]]) -> Result<Run, Trouble> {
     if start > LAST_POSITION {
         return Err(Trouble::BadCase("an offset past the last position"));
     }
     let mut reader = PacketReader::at(start);
     let mut lines = Vec::new(alloc);
-    for piece in pieces {
+    for chunk in chunks {
         if feed(
             alloc,
             &mut reader,
             start,
             script.input.as_slice(),
-            piece,
+            chunk,
             &mut lines,
         )? {
             break;
@@ -166,13 +166,13 @@ pub fn read(alloc: Global, start: u64, script: &Script, pieces: &[&[u8]]) -> Res
 }
 
 /// Shows the chunks.
-pub fn shown(alloc: Global, pieces: &[&[u8]]) -> Result<Run, Trouble> {
+pub fn shown(alloc: Global, chunks: &[&[u8]]) -> Result<Run, Trouble> {
     let mut sink = Sink::new(Vec::new(alloc), usize::MAX, u32::MAX);
-    let mut piece = [0; 4_096];
+    let mut chunk = [0; 4_096];
     let answer = show(
-        &mut Told::new(Pieces::new(pieces)),
-        &mut Told::new(&mut sink),
-        &mut piece,
+        &mut Recorded::new(Chunks::new(chunks)),
+        &mut Recorded::new(&mut sink),
+        &mut chunk,
         TURNS,
     );
     let ending = match answer {

@@ -2,14 +2,14 @@
 
 ghost use Rattle.std.specs.Prelude.{◌<◌};
 
-use crate::runs::{Due, Known, Run, compare};
+use crate::runs::{Expected, Known, Run, compare};
 use crate::script::Script;
 use crate::sessions::{Contents, repository};
 use crate::texts::copied;
 use crate::trouble::Trouble;
 use git_client::Ending;
 use git_msg::Limits;
-use git_pkt::{RunFault, Told};
+use git_pkt::{Recorded, RunFault};
 use git_repository::TextFault;
 use git_server::Repo;
 use git2show_lib::{play, read_script};
@@ -60,8 +60,8 @@ fn played(
         requests,
         cut,
         ending,
-        &mut Told::new(&mut out),
-        &mut Told::new(&mut pack),
+        &mut Recorded::new(&mut out),
+        &mut Recorded::new(&mut pack),
     );
     let is_flushed = out.flushed == out.taken.len() && pack.flushed == pack.taken.len();
     if ended.is_ok() && !is_flushed {
@@ -84,7 +84,7 @@ fn response_ends(given: &[u8], ending: Ending) -> u64 {
 }
 
 // How a play ends: as the script states, with an error's offset after the response ends.
-fn due_ending(alloc: Global, script: &Script, ending: Ending) -> Result<String, Trouble> {
+fn expected_ending(alloc: Global, script: &Script, ending: Ending) -> Result<String, Trouble> {
     let line = script.ending.as_str();
     let Some((fault, offset)) = line.trim_end().split_once(" at ") else {
         return Ok(String::from_str(alloc, line)?);
@@ -96,12 +96,12 @@ fn due_ending(alloc: Global, script: &Script, ending: Ending) -> Result<String, 
     Ok(format!(in alloc; "{fault} at {offset}\n")?)
 }
 
-fn due(alloc: Global, script: &Script, ending: Ending) -> Result<Due, Trouble> {
-    Ok(Due {
+fn expected(alloc: Global, script: &Script, ending: Ending) -> Result<Expected, Trouble> {
+    Ok(Expected {
         given: copied(alloc, script.given.as_slice())?,
         pack: copied(alloc, script.pack.as_slice())?,
         progress: Vec::new(alloc),
-        ending: due_ending(alloc, script, ending)?,
+        ending: expected_ending(alloc, script, ending)?,
         used: 0,
         known: Known::All,
     })
@@ -114,19 +114,19 @@ fn goes_with(
     script: &Script,
     ending: Ending,
 ) -> Result<usize, Trouble> {
-    let due = due(alloc, script, ending)?;
+    let expected = expected(alloc, script, ending)?;
     let mut runs = 0usize;
     for cut in 1..=SHORT {
         compare(
             alloc,
             &played(alloc, contents, script, cut, ending)?,
-            &due,
+            &expected,
             cut,
         )?;
         runs = runs.saturating_add(1);
     }
     let run = played(alloc, contents, script, LONGEST, ending)?;
-    compare(alloc, &run, &due, LONGEST)?;
+    compare(alloc, &run, &expected, LONGEST)?;
     Ok(runs.saturating_add(1))
 }
 

@@ -33,7 +33,7 @@ struct Keeper {
 
 impl Keeper {
     // Gives the reader a packet, and keeps its argument, if it is one.
-    fn hear(&mut self, packet: Packet<'_>, offset: u64) -> Result<Brought, Fault> {
+    fn receive_response(&mut self, packet: Packet<'_>, offset: u64) -> Result<Brought, Fault> {
         let taken = match self.reader.take(packet, offset, &mut Steps::new()) {
             Ok(taken) => taken,
             Err(fault) => return Err(fault),
@@ -180,13 +180,13 @@ fn append_request(
 }
 
 // Appends the line of a packet's result. Returns whether it was the last packet.
-fn append_heard(
+fn append_received(
     alloc: Global,
     lines: &mut Vec<u8>,
-    heard: &Brought,
+    arrived: &Brought,
     packet: Packet<'_>,
 ) -> Result<bool, AllocError> {
-    match heard {
+    match arrived {
         Brought::More => {}
         Brought::Kept => {
             if let Packet::Payload(payload) = packet {
@@ -201,22 +201,22 @@ fn append_heard(
 
 // How a reader ended with an error, which it keeps reporting.
 fn refused(alloc: Global, keeper: &mut Keeper, fault: Fault) -> Result<String, Trouble> {
-    if keeper.hear(Packet::Flush, 7).err() != Some(fault) {
+    if keeper.receive_response(Packet::Flush, 7).err() != Some(fault) {
         return Err(Trouble::Breaks("a reader goes on after its fault"));
     }
     Ok(format!(in alloc; "refused {fault}\n")?)
 }
 
 // Gives the reader a packet, and appends the line of its result. Returns how the reader ended, if it did.
-fn hear(
+fn receive_response(
     alloc: Global,
     keeper: &mut Keeper,
     packet: Packet<'_>,
     offset: u64,
     lines: &mut Vec<u8>,
 ) -> Result<Option<String>, Trouble> {
-    match keeper.hear(packet, offset) {
-        Ok(heard) => match append_heard(alloc, lines, &heard, packet)? {
+    match keeper.receive_response(packet, offset) {
+        Ok(arrived) => match append_received(alloc, lines, &arrived, packet)? {
             true => Ok(Some(String::from_str(alloc, "stop\n")?)),
             false => Ok(None),
         },
@@ -239,18 +239,20 @@ fn feed_packet<'a>(
     alloc: Global,
     packets: &mut PacketReader,
     keeper: &mut Keeper,
-    piece: &'a [u8],
+    chunk: &'a [u8],
     lines: &mut Vec<u8>,
 ) -> Result<Used<'a>, Trouble>
     requires gathers { passes_of packets.old ≡ false }
     ensures gathers { passes_of packets.new ≡ false }
 {
-    let fed = packets.feed(piece, &mut Steps::new());
-    let rest = &piece[fed.used..];
+    let fed = packets.feed(chunk, &mut Steps::new());
+    let rest = &chunk[fed.used..];
     match fed.got {
         Got::More => Ok(Used::Whole),
         Got::Failed(fault) => Ok(Used::Ended(format!(in alloc; "refused {fault}\n")?)),
-        Got::Packet(packet, offset) => match hear(alloc, keeper, packet, offset, lines)? {
+        Got::Packet(packet, offset) => match receive_response(
+            alloc, keeper, packet, offset, lines,
+        )? {
             Some(ending) => Ok(Used::Ended(ending)),
             None => Ok(Used::Front(rest)),
         },
@@ -262,14 +264,14 @@ fn feed(
     alloc: Global,
     packets: &mut PacketReader,
     keeper: &mut Keeper,
-    piece: &[u8],
+    chunk: &[u8],
     lines: &mut Vec<u8>,
 ) -> Result<Option<String>, Trouble>
     requires gathers { passes_of packets.old ≡ false }
     ensures gathers { passes_of packets.new ≡ false }
 {
-    let mut rest = piece;
-    for _ in 0..=piece.len() {
+    let mut rest = chunk;
+    for _ in 0..=chunk.len() {
         match feed_packet(alloc, packets, keeper, rest, lines)? {
             Used::Whole => return Ok(None),
             Used::Front(left) => rest = left,
@@ -280,15 +282,15 @@ fn feed(
 }
 
 /// What a reader with this limit receives in the chunks. Then the input ends.
-pub fn heard(alloc: Global, offer: Offer, limit: u32, pieces: &[&[u8]]) -> Result<Run, Trouble> {
+pub fn arrived(alloc: Global, offer: Offer, limit: u32, chunks: &[&[u8]]) -> Result<Run, Trouble> {
     let mut packets = PacketReader::new();
     let mut keeper = Keeper {
         reader: RequestReader::new(alloc, offer, limits(limit)),
     };
     let mut lines = Vec::new(alloc);
     let mut ending = None;
-    for piece in pieces {
-        ending = feed(alloc, &mut packets, &mut keeper, piece, &mut lines)?;
+    for chunk in chunks {
+        ending = feed(alloc, &mut packets, &mut keeper, chunk, &mut lines)?;
         if ending.is_some() {
             break;
         }

@@ -1,7 +1,7 @@
 //! One side over an input that is cut in every way and ended everywhere, and the expected result.
 
 use crate::ends::End;
-use crate::escapes::{escaped, length_told};
+use crate::escapes::{escaped, length_announced};
 use crate::script::{Script, Step};
 use crate::setup::MANY;
 use crate::texts::copied;
@@ -47,7 +47,7 @@ pub enum Known {
 
 /// The expected result of a run.
 #[derive(Drop)]
-pub struct Due {
+pub struct Expected {
     pub given: Vec<u8>,
     pub pack: Vec<u8>,
     pub progress: Vec<u8>,
@@ -105,7 +105,8 @@ fn last_packet(input: &[u8], at: usize) -> usize {
     let mut end = 0usize;
     for _ in 0..MANY {
         let digits = input.get(end..end.saturating_add(4)).unwrap_or(&[]);
-        let Some(next) = length_told(digits).map(|length| end.saturating_add(length.max(4))) else {
+        let Some(next) = length_announced(digits).map(|length| end.saturating_add(length.max(4)))
+        else {
             return end;
         };
         if next > at {
@@ -117,14 +118,14 @@ fn last_packet(input: &[u8], at: usize) -> usize {
 }
 
 // The expected result if the input ends at this byte of a recording.
-fn recorded_due_at(
+fn recorded_expected_at(
     alloc: Global,
     end: &End<'_>,
     script: &Script,
     at: usize,
-) -> Result<Due, Trouble> {
+) -> Result<Expected, Trouble> {
     let last = last_packet(script.input.as_slice(), at) as u64;
-    Ok(Due {
+    Ok(Expected {
         given: copied(alloc, script.given.as_slice())?,
         pack: copied(alloc, script.pack.as_slice())?,
         progress: copied(alloc, script.progress.as_slice())?,
@@ -135,20 +136,25 @@ fn recorded_due_at(
 }
 
 /// The expected result if the input ends at this byte.
-pub fn due_at(alloc: Global, end: &End<'_>, script: &Script, at: usize) -> Result<Due, Trouble> {
-    let told = script.told();
-    if told <= at {
-        return Ok(Due {
+pub fn expected_at(
+    alloc: Global,
+    end: &End<'_>,
+    script: &Script,
+    at: usize,
+) -> Result<Expected, Trouble> {
+    let announced = script.announced();
+    if announced <= at {
+        return Ok(Expected {
             given: copied(alloc, script.given.as_slice())?,
             pack: copied(alloc, script.pack.as_slice())?,
             progress: copied(alloc, script.progress.as_slice())?,
             ending: script.ending.clone()?,
-            used: told.saturating_sub(end.unread(script)),
+            used: announced.saturating_sub(end.unread(script)),
             known: Known::All,
         });
     }
     if script.is_recorded {
-        return recorded_due_at(alloc, end, script, at);
+        return recorded_expected_at(alloc, end, script, at);
     }
     let (last, is_answered) = last_step(script, at);
     let mut given = front(alloc, &script.given, last.given)?;
@@ -160,7 +166,7 @@ pub fn due_at(alloc: Global, end: &End<'_>, script: &Script, at: usize) -> Resul
         end.truncated(alloc, offset)?
     };
     let (pack, progress) = on_bands(script, last, at);
-    Ok(Due {
+    Ok(Expected {
         given,
         pack: front(alloc, &script.pack, pack)?,
         progress: front(alloc, &script.progress, progress)?,
@@ -175,7 +181,7 @@ fn first_line(text: &str) -> &str {
 }
 
 // Reports bytes other than the expected ones.
-fn told(alloc: Global, place: usize, what: &str, came: &[u8]) -> Result<Trouble, AllocError> {
+fn announced(alloc: Global, place: usize, what: &str, came: &[u8]) -> Result<Trouble, AllocError> {
     let came = escaped(alloc, came)?;
     let came = String::from_utf8_lossy(alloc, came.as_slice())?;
     let came = came.as_str();
@@ -183,36 +189,36 @@ fn told(alloc: Global, place: usize, what: &str, came: &[u8]) -> Result<Trouble,
 }
 
 // Whether the result is the expected one, or a prefix of it if no more is known.
-fn is_due(came: &Vec<u8>, due: &Vec<u8>, known: Known) -> bool {
+fn is_expected(came: &Vec<u8>, expected: &Vec<u8>, known: Known) -> bool {
     match known {
-        Known::All | Known::Given => came.as_slice() == due.as_slice(),
-        Known::Front => due.as_slice().starts_with(came.as_slice()),
+        Known::All | Known::Given => came.as_slice() == expected.as_slice(),
+        Known::Front => expected.as_slice().starts_with(came.as_slice()),
     }
 }
 
 /// Compares the result with the expected one.
-pub fn compare(alloc: Global, run: &Run, due: &Due, place: usize) -> Result<(), Trouble> {
+pub fn compare(alloc: Global, run: &Run, expected: &Expected, place: usize) -> Result<(), Trouble> {
     for (what, came, wanted) in [
-        ("given", &run.given, &due.given),
-        ("pack", &run.pack, &due.pack),
-        ("progress", &run.progress, &due.progress),
+        ("given", &run.given, &expected.given),
+        ("pack", &run.pack, &expected.pack),
+        ("progress", &run.progress, &expected.progress),
     ] {
-        if !is_due(came, wanted, due.known) {
-            return Err(told(alloc, place, what, came.as_slice())?);
+        if !is_expected(came, wanted, expected.known) {
+            return Err(announced(alloc, place, what, came.as_slice())?);
         }
     }
-    let (came, wanted) = (run.ending.as_str(), due.ending.as_str());
-    let is_same = match due.known {
+    let (came, wanted) = (run.ending.as_str(), expected.ending.as_str());
+    let is_same = match expected.known {
         Known::All => came == wanted,
         Known::Given | Known::Front => first_line(came) == first_line(wanted),
     };
     if !is_same {
-        return Err(told(alloc, place, "ended", came.as_bytes())?);
+        return Err(announced(alloc, place, "ended", came.as_bytes())?);
     }
     match run.used {
-        Some(used) if used != due.used => {
+        Some(used) if used != expected.used => {
             let used = format!(in alloc; "{used}")?;
-            Err(told(alloc, place, "used", used.as_bytes())?)
+            Err(announced(alloc, place, "used", used.as_bytes())?)
         }
         _ => Ok(()),
     }
@@ -233,13 +239,13 @@ fn goes_cut(
     alloc: Global,
     end: &End<'_>,
     script: &Script,
-    due: &Due,
+    expected: &Expected,
     at: usize,
 ) -> Result<(), Trouble> {
     let input = script.input.as_slice();
     let (front, rest) = input.split_at(at.min(input.len()));
-    end.goes(alloc, script, &[front, rest], due, at)?;
-    let ended = due_at(alloc, end, script, at)?;
+    end.goes(alloc, script, &[front, rest], expected, at)?;
+    let ended = expected_at(alloc, end, script, at)?;
     end.goes(alloc, script, &[front], &ended, at)
 }
 
@@ -247,16 +253,16 @@ fn goes_cut(
 /// runs were made.
 pub fn goes(alloc: Global, end: &End<'_>, script: &Script) -> Result<usize, Trouble> {
     let input = script.input.as_slice();
-    let due = due_at(alloc, end, script, input.len())?;
+    let expected = expected_at(alloc, end, script, input.len())?;
     let mut runs = 0usize;
     for at in 0..=input.len() {
         if is_cut_at(input.len(), at) {
-            goes_cut(alloc, end, script, &due, at)?;
+            goes_cut(alloc, end, script, &expected, at)?;
             runs = runs.saturating_add(2);
         }
     }
     let single = single_bytes(alloc, input)?;
-    end.goes(alloc, script, single.as_slice(), &due, usize::MAX)?;
+    end.goes(alloc, script, single.as_slice(), &expected, usize::MAX)?;
     let others = end.goes_elsewhere(alloc, script)?;
     Ok(runs.saturating_add(1).saturating_add(others))
 }

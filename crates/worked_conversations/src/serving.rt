@@ -26,8 +26,8 @@ pub trait Serves {
     fn needs_input(&self) -> bool;
 
     /// Takes bytes of the input, and returns how many were used.
-    fn take(&mut self, piece: &[u8]) -> usize
-        ensures used { result ≤ length piece.now };
+    fn take(&mut self, chunk: &[u8]) -> usize
+        ensures used { result ≤ length chunk.now };
 
     /// Ends the input, if bytes are wanted.
     fn end(&mut self);
@@ -71,26 +71,26 @@ fn drain<S: Serves>(server: &mut S, output: &mut Vec<u8>) -> Result<Option<Outco
 // Feeds a chunk up to the point where the server has something to send, and appends that. Returns its outcome, and the rest of the chunk.
 fn feed_front<'a, S: Serves>(
     server: &mut S,
-    piece: &'a [u8],
+    chunk: &'a [u8],
     output: &mut Vec<u8>,
 ) -> Result<(Option<Outcome>, &'a [u8]), Trouble> {
-    let used = server.take(piece);
+    let used = server.take(chunk);
     let outcome = drain(server, output)?;
-    Ok((outcome, &piece[used..]))
+    Ok((outcome, &chunk[used..]))
 }
 
 // Feeds a whole chunk, and appends what the server sends for it. Returns its outcome, and how many bytes it used.
 fn feed<S: Serves>(
     server: &mut S,
-    piece: &[u8],
+    chunk: &[u8],
     output: &mut Vec<u8>,
 ) -> Result<(Option<Outcome>, usize), Trouble> {
-    let mut rest = piece;
-    for _ in 0..=piece.len() {
+    let mut rest = chunk;
+    for _ in 0..=chunk.len() {
         let (outcome, left) = feed_front(server, rest, output)?;
         rest = left;
         if rest.is_empty() || outcome.is_some() {
-            return Ok((outcome, piece.len().saturating_sub(rest.len())));
+            return Ok((outcome, chunk.len().saturating_sub(rest.len())));
         }
     }
     Err(Trouble::Breaks("a piece is never used up"))
@@ -99,13 +99,13 @@ fn feed<S: Serves>(
 // Feeds all chunks to a new server. Returns its last outcome, and how many bytes it used.
 fn feed_all<S: Serves>(
     server: &mut S,
-    pieces: &[&[u8]],
+    chunks: &[&[u8]],
     output: &mut Vec<u8>,
 ) -> Result<(Option<Outcome>, usize), Trouble> {
     let mut outcome = drain(server, output)?;
     let mut used = 0usize;
-    for piece in pieces {
-        let (came, count) = feed(server, piece, output)?;
+    for chunk in chunks {
+        let (came, count) = feed(server, chunk, output)?;
         outcome = came;
         used = used.saturating_add(count);
     }
@@ -147,9 +147,9 @@ fn check_over<S: Serves>(
 }
 
 /// Feeds the chunks to a new server. Then the input ends.
-pub fn run<S: Serves>(alloc: Global, server: &mut S, pieces: &[&[u8]]) -> Result<Run, Trouble> {
+pub fn run<S: Serves>(alloc: Global, server: &mut S, chunks: &[&[u8]]) -> Result<Run, Trouble> {
     let mut given = Vec::new(alloc);
-    let (outcome, used) = feed_all(server, pieces, &mut given)?;
+    let (outcome, used) = feed_all(server, chunks, &mut given)?;
     let outcome = close(server, outcome, &mut given)?;
     check_over(server, outcome, &mut given)?;
     let ending = ending_of(alloc, outcome)?;

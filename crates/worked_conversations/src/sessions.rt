@@ -6,11 +6,11 @@ use crate::setup::{TURNS, limits, offer};
 use crate::texts::{append, copied};
 use crate::trouble::Trouble;
 use git_names::Steps;
-use git_pkt::{Fault, RunFault, Told};
+use git_pkt::{Fault, Recorded, RunFault};
 use git_repository::{Packs, TextFault, read_repo};
 use git_server::{Faulty, ListRepo, Outcome, Pulled, Repo, Server, serve};
 use std::alloc::{AllocError, Global};
-use test_streams::Pieces;
+use test_streams::Chunks;
 
 /// How the reads of a pack go.
 #[derive(Clone, Copy)]
@@ -74,8 +74,8 @@ impl<R: Repo> Serves for Server<R, Global> {
         self.wants_input()
     }
 
-    fn take(&mut self, piece: &[u8]) -> usize {
-        self.feed(piece, &mut Steps::new())
+    fn take(&mut self, chunk: &[u8]) -> usize {
+        self.feed(chunk, &mut Steps::new())
     }
 
     fn end(&mut self) {
@@ -101,25 +101,25 @@ impl<R: Repo> Serves for Server<R, Global> {
 }
 
 /// Feeds the chunks to a server. Then the input ends.
-pub fn fed(alloc: Global, setup: &Setup<'_>, pieces: &[&[u8]]) -> Result<Run, Trouble> {
+pub fn fed(alloc: Global, setup: &Setup<'_>, chunks: &[&[u8]]) -> Result<Run, Trouble> {
     let repo = repository(alloc, setup.contents)?;
     match setup.reads {
         Some(Reads { fail_from, most }) => {
             let repo = Faulty::new(repo, fail_from, most.max(1));
-            run(alloc, &mut new_server(alloc, repo, setup), pieces)
+            run(alloc, &mut new_server(alloc, repo, setup), chunks)
         }
-        None => run(alloc, &mut new_server(alloc, repo, setup), pieces),
+        None => run(alloc, &mut new_server(alloc, repo, setup), chunks),
     }
 }
 
 // Serves the chunks, and appends what the server sends.
-fn serve_pieces<R: Repo>(
+fn serve_chunks<R: Repo>(
     server: &mut Server<R, Global>,
-    pieces: &[&[u8]],
+    chunks: &[&[u8]],
     output: &mut Vec<u8>,
 ) -> Result<Outcome, RunFault> {
-    let mut reader = Told::new(Pieces::new(pieces));
-    let mut writer = Told::new(output);
+    let mut reader = Recorded::new(Chunks::new(chunks));
+    let mut writer = Recorded::new(output);
     serve(&mut reader, &mut writer, &mut [0; 256], server, TURNS)
 }
 
@@ -135,22 +135,22 @@ fn ending_of_run(alloc: Global, run: Result<Outcome, RunFault>) -> Result<String
 fn served_by<R: Repo + Drop>(
     alloc: Global,
     mut server: Server<R, Global>,
-    pieces: &[&[u8]],
+    chunks: &[&[u8]],
 ) -> Result<Run, Trouble> {
     let mut given = Vec::new(alloc);
-    let run = serve_pieces(&mut server, pieces, &mut given);
+    let run = serve_chunks(&mut server, chunks, &mut given);
     let ending = ending_of_run(alloc, run)?;
     Ok(Run::new(alloc, given, ending, None))
 }
 
 /// Serves the chunks.
-pub fn served(alloc: Global, setup: &Setup<'_>, pieces: &[&[u8]]) -> Result<Run, Trouble> {
+pub fn served(alloc: Global, setup: &Setup<'_>, chunks: &[&[u8]]) -> Result<Run, Trouble> {
     let repo = repository(alloc, setup.contents)?;
     match setup.reads {
         Some(Reads { fail_from, most }) => {
             let repo = Faulty::new(repo, fail_from, most.max(1));
-            served_by(alloc, new_server(alloc, repo, setup), pieces)
+            served_by(alloc, new_server(alloc, repo, setup), chunks)
         }
-        None => served_by(alloc, new_server(alloc, repo, setup), pieces),
+        None => served_by(alloc, new_server(alloc, repo, setup), chunks),
     }
 }

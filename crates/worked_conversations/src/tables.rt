@@ -40,17 +40,22 @@ pub enum Table {
 
 /// The rest of a line after a word.
 #[derive(Clone, Copy)]
-enum Said<'a> {
+enum LineContent<'a> {
     Nothing,
     Bytes(&'a [u8]),
 }
 
 // Appends a line of a word and bytes in their escaped form.
-fn say(alloc: Global, lines: &mut Vec<u8>, word: &str, said: Said<'_>) -> Result<(), AllocError> {
+fn send_all(
+    alloc: Global,
+    lines: &mut Vec<u8>,
+    word: &str,
+    content: LineContent<'_>,
+) -> Result<(), AllocError> {
     append(lines, word.as_bytes())?;
-    match said {
-        Said::Nothing | Said::Bytes([]) => {}
-        Said::Bytes(bytes) => {
+    match content {
+        LineContent::Nothing | LineContent::Bytes([]) => {}
+        LineContent::Bytes(bytes) => {
             append(lines, b" ")?;
             append(lines, escaped(alloc, bytes)?.as_slice())?;
         }
@@ -58,97 +63,107 @@ fn say(alloc: Global, lines: &mut Vec<u8>, word: &str, said: Said<'_>) -> Result
     append(lines, b"\n")
 }
 
-fn say_payload(alloc: Global, lines: &mut Vec<u8>, payload: &[u8]) -> Result<(), AllocError> {
-    say(alloc, lines, "text", Said::Bytes(text(payload)))?;
+fn state_payload(alloc: Global, lines: &mut Vec<u8>, payload: &[u8]) -> Result<(), AllocError> {
+    send_all(alloc, lines, "text", LineContent::Bytes(text(payload)))?;
     if payload.len() > 65_516 {
         return Ok(());
     }
     let mut hold = Hold::new();
     put(&mut hold, Packet::Payload(payload));
-    say(alloc, lines, "packet", Said::Bytes(hold.as_slice()))
+    send_all(alloc, lines, "packet", LineContent::Bytes(hold.as_slice()))
 }
 
 // Appends the line of an object name, as it is written.
-fn say_object(alloc: Global, lines: &mut Vec<u8>, word: &str, id: Oid) -> Result<(), AllocError> {
-    say(
+fn state_object(alloc: Global, lines: &mut Vec<u8>, word: &str, id: Oid) -> Result<(), AllocError> {
+    send_all(
         alloc,
         lines,
         word,
-        Said::Bytes(id.encode_hex(alloc)?.as_bytes()),
+        LineContent::Bytes(id.encode_hex(alloc)?.as_bytes()),
     )
 }
 
 // Appends the line of a number.
-fn say_number(
+fn state_number(
     alloc: Global,
     lines: &mut Vec<u8>,
     word: &str,
     number: u64,
 ) -> Result<(), AllocError> {
     let number = format!(in alloc; "{number}")?;
-    say(alloc, lines, word, Said::Bytes(number.as_bytes()))
+    send_all(alloc, lines, word, LineContent::Bytes(number.as_bytes()))
 }
 
-fn say_object_name(
+fn state_object_name(
     alloc: Global,
     lines: &mut Vec<u8>,
     format: Format,
     text: &[u8],
 ) -> Result<(), AllocError> {
     match Oid::read(format, text, &mut Steps::new()) {
-        Ok(id) => say_object(alloc, lines, "object", id),
-        Err(fault) => say(
+        Ok(id) => state_object(alloc, lines, "object", id),
+        Err(fault) => send_all(
             alloc,
             lines,
             format!(in alloc; "{fault}")?.as_str(),
-            Said::Nothing,
+            LineContent::Nothing,
         ),
     }
 }
 
-fn say_reference_name(alloc: Global, lines: &mut Vec<u8>, text: &[u8]) -> Result<(), AllocError> {
+fn state_reference_name(alloc: Global, lines: &mut Vec<u8>, text: &[u8]) -> Result<(), AllocError> {
     match RefName::read(text, &mut Steps::new()) {
-        Ok(name) if name.as_bytes() == text => say(alloc, lines, "reference", Said::Nothing),
-        Ok(name) => say(alloc, lines, "another name", Said::Bytes(name.as_bytes())),
-        Err(fault) => say(
+        Ok(name) if name.as_bytes() == text => send_all(
+            alloc,
+            lines,
+            "reference",
+            LineContent::Nothing,
+        ),
+        Ok(name) => send_all(
+            alloc,
+            lines,
+            "another name",
+            LineContent::Bytes(name.as_bytes()),
+        ),
+        Err(fault) => send_all(
             alloc,
             lines,
             format!(in alloc; "{fault}")?.as_str(),
-            Said::Nothing,
+            LineContent::Nothing,
         ),
     }
 }
 
-fn say_capability(alloc: Global, lines: &mut Vec<u8>, text: &[u8]) -> Result<(), AllocError> {
+fn state_capability(alloc: Global, lines: &mut Vec<u8>, text: &[u8]) -> Result<(), AllocError> {
     match read_capability(text, &mut Steps::new()) {
         Ok(capability) => {
-            say(alloc, lines, "key", Said::Bytes(capability.key))?;
+            send_all(alloc, lines, "key", LineContent::Bytes(capability.key))?;
             match capability.value {
-                Some(value) => say(alloc, lines, "value", Said::Bytes(value)),
+                Some(value) => send_all(alloc, lines, "value", LineContent::Bytes(value)),
                 None => Ok(()),
             }
         }
-        Err(kind) => say(alloc, lines, kind.name(), Said::Nothing),
+        Err(kind) => send_all(alloc, lines, kind.name(), LineContent::Nothing),
     }
 }
 
-fn say_notes(alloc: Global, lines: &mut Vec<u8>, text: &[u8]) -> Result<(), AllocError> {
+fn state_notes(alloc: Global, lines: &mut Vec<u8>, text: &[u8]) -> Result<(), AllocError> {
     let mut caps = Caps::new();
     for line in text.split(|byte| *byte == b'\n') {
         if let Ok(capability) = read_capability(line, &mut Steps::new()) {
             caps = caps.with(&capability, &mut Steps::new());
         }
     }
-    let mut said = String::new(alloc);
-    append_noted(&mut said, &caps)?;
-    append_str(&mut said, "speaks")?;
+    let mut content = String::new(alloc);
+    append_noted(&mut content, &caps)?;
+    append_str(&mut content, "speaks")?;
     for format in [Format::Sha1, Format::Sha256] {
         if caps.speaks(format) {
-            append_str(&mut said, " ")?;
-            append_str(&mut said, format.name())?;
+            append_str(&mut content, " ")?;
+            append_str(&mut content, format.name())?;
         }
     }
-    append_str(&mut said, "\noffers")?;
+    append_str(&mut content, "\noffers")?;
     let offer = caps.offer(Format::Sha256);
     for (is_set, word) in [
         (offer.unborn, " unborn"),
@@ -160,14 +175,14 @@ fn say_notes(alloc: Global, lines: &mut Vec<u8>, text: &[u8]) -> Result<(), Allo
         (offer.server_option, " server-option"),
     ] {
         if is_set {
-            append_str(&mut said, word)?;
+            append_str(&mut content, word)?;
         }
     }
-    append_str(&mut said, "\n")?;
-    append(lines, said.as_bytes())
+    append_str(&mut content, "\n")?;
+    append(lines, content.as_bytes())
 }
 
-fn say_argument(
+fn state_argument(
     alloc: Global,
     lines: &mut Vec<u8>,
     (command, format, features): (Command, Format, bool),
@@ -175,34 +190,39 @@ fn say_argument(
 ) -> Result<(), AllocError> {
     let argument = match argument_of(command, &offer(format, features), text) {
         Ok(argument) => argument,
-        Err(kind) => return say(alloc, lines, kind.name(), Said::Nothing),
+        Err(kind) => return send_all(alloc, lines, kind.name(), LineContent::Nothing),
     };
     match argument {
-        Argument::Symrefs => say(alloc, lines, "symrefs", Said::Nothing),
-        Argument::Peel => say(alloc, lines, "peel", Said::Nothing),
-        Argument::Unborn => say(alloc, lines, "unborn", Said::Nothing),
-        Argument::RefPrefix(prefix) => say(alloc, lines, "prefix", Said::Bytes(prefix)),
-        Argument::Want(id) => say_object(alloc, lines, "want", id),
-        Argument::IsDone => say(alloc, lines, "done", Said::Nothing),
-        Argument::ThinPack => say(alloc, lines, "thin-pack", Said::Nothing),
-        Argument::NoProgress => say(alloc, lines, "no-progress", Said::Nothing),
-        Argument::IncludeTag => say(alloc, lines, "include-tag", Said::Nothing),
-        Argument::OfsDelta => say(alloc, lines, "ofs-delta", Said::Nothing),
-        Argument::WaitForDone => say(alloc, lines, "wait-for-done", Said::Nothing),
-        Argument::Filter(spec) => say(alloc, lines, "filter", Said::Bytes(spec)),
-        Argument::Have(id) => say_object(alloc, lines, "have", id),
-        Argument::Shallow(id) => say_object(alloc, lines, "shallow", id),
-        Argument::Deepen(depth) => say_number(alloc, lines, "deepen", depth),
-        Argument::DeepenRelative => say(alloc, lines, "deepen-relative", Said::Nothing),
-        Argument::DeepenSince(time) => say_number(alloc, lines, "deepen-since", time),
-        Argument::DeepenNot(revision) => say(alloc, lines, "deepen-not", Said::Bytes(revision)),
-        Argument::WantRef(name) => say(alloc, lines, "want-ref", Said::Bytes(name)),
-        Argument::Size => say(alloc, lines, "size", Said::Nothing),
-        Argument::ObjectId(id) => say_object(alloc, lines, "oid", id),
+        Argument::Symrefs => send_all(alloc, lines, "symrefs", LineContent::Nothing),
+        Argument::Peel => send_all(alloc, lines, "peel", LineContent::Nothing),
+        Argument::Unborn => send_all(alloc, lines, "unborn", LineContent::Nothing),
+        Argument::RefPrefix(prefix) => send_all(alloc, lines, "prefix", LineContent::Bytes(prefix)),
+        Argument::Want(id) => state_object(alloc, lines, "want", id),
+        Argument::IsDone => send_all(alloc, lines, "done", LineContent::Nothing),
+        Argument::ThinPack => send_all(alloc, lines, "thin-pack", LineContent::Nothing),
+        Argument::NoProgress => send_all(alloc, lines, "no-progress", LineContent::Nothing),
+        Argument::IncludeTag => send_all(alloc, lines, "include-tag", LineContent::Nothing),
+        Argument::OfsDelta => send_all(alloc, lines, "ofs-delta", LineContent::Nothing),
+        Argument::WaitForDone => send_all(alloc, lines, "wait-for-done", LineContent::Nothing),
+        Argument::Filter(spec) => send_all(alloc, lines, "filter", LineContent::Bytes(spec)),
+        Argument::Have(id) => state_object(alloc, lines, "have", id),
+        Argument::Shallow(id) => state_object(alloc, lines, "shallow", id),
+        Argument::Deepen(depth) => state_number(alloc, lines, "deepen", depth),
+        Argument::DeepenRelative => send_all(alloc, lines, "deepen-relative", LineContent::Nothing),
+        Argument::DeepenSince(time) => state_number(alloc, lines, "deepen-since", time),
+        Argument::DeepenNot(revision) => send_all(
+            alloc,
+            lines,
+            "deepen-not",
+            LineContent::Bytes(revision),
+        ),
+        Argument::WantRef(name) => send_all(alloc, lines, "want-ref", LineContent::Bytes(name)),
+        Argument::Size => send_all(alloc, lines, "size", LineContent::Nothing),
+        Argument::ObjectId(id) => state_object(alloc, lines, "oid", id),
     }
 }
 
-fn say_reference(
+fn state_reference(
     alloc: Global,
     lines: &mut Vec<u8>,
     format: Format,
@@ -210,24 +230,24 @@ fn say_reference(
 ) -> Result<(), AllocError> {
     let reference = match read_reference(format, text, &mut Steps::new()) {
         Ok(reference) => reference,
-        Err(kind) => return say(alloc, lines, kind.name(), Said::Nothing),
+        Err(kind) => return send_all(alloc, lines, kind.name(), LineContent::Nothing),
     };
     match reference.id {
-        Some(id) => say_object(alloc, lines, "object", id)?,
-        None => say(alloc, lines, "unborn", Said::Nothing)?,
+        Some(id) => state_object(alloc, lines, "object", id)?,
+        None => send_all(alloc, lines, "unborn", LineContent::Nothing)?,
     }
-    say(alloc, lines, "name", Said::Bytes(reference.name))?;
+    send_all(alloc, lines, "name", LineContent::Bytes(reference.name))?;
     if let Some(target) = reference.target {
-        say(alloc, lines, "target", Said::Bytes(target))?;
+        send_all(alloc, lines, "target", LineContent::Bytes(target))?;
     }
     match reference.peeled {
-        Some(peeled) => say_object(alloc, lines, "peeled", peeled),
+        Some(peeled) => state_object(alloc, lines, "peeled", peeled),
         None => Ok(()),
     }
 }
 
 // Appends the format of a repository text, the name that its `HEAD` points to if it is unborn, and its references.
-fn say_repository(alloc: Global, lines: &mut Vec<u8>, text: &[u8]) -> Result<(), Trouble> {
+fn state_repository(alloc: Global, lines: &mut Vec<u8>, text: &[u8]) -> Result<(), Trouble> {
     let packs = Packs {
         pack: Vec::new(alloc),
         filtered: None,
@@ -237,22 +257,22 @@ fn say_repository(alloc: Global, lines: &mut Vec<u8>, text: &[u8]) -> Result<(),
         Err(TextFault::OutOfMemory) => return Err(Trouble::OutOfMemory),
         Err(fault) => {
             let fault = format!(in alloc; "{fault}")?;
-            say(alloc, lines, fault.as_str(), Said::Nothing)?;
+            send_all(alloc, lines, fault.as_str(), LineContent::Nothing)?;
             return Ok(());
         }
     };
-    say(alloc, lines, repo.format().name(), Said::Nothing)?;
+    send_all(alloc, lines, repo.format().name(), LineContent::Nothing)?;
     if let Some(target) = repo.unborn_head() {
-        say(alloc, lines, "unborn", Said::Bytes(target))?;
+        send_all(alloc, lines, "unborn", LineContent::Bytes(target))?;
     }
     for entry in repo.refs() {
-        say_object(alloc, lines, "object", entry.id())?;
-        say(alloc, lines, "name", Said::Bytes(entry.name()))?;
+        state_object(alloc, lines, "object", entry.id())?;
+        send_all(alloc, lines, "name", LineContent::Bytes(entry.name()))?;
         if let Some(target) = entry.target() {
-            say(alloc, lines, "target", Said::Bytes(target))?;
+            send_all(alloc, lines, "target", LineContent::Bytes(target))?;
         }
         if let Some(peeled) = entry.peeled() {
-            say_object(alloc, lines, "peeled", peeled)?;
+            state_object(alloc, lines, "peeled", peeled)?;
         }
         if repo.find(entry.name()) != Some(entry.id()) {
             return Err(Trouble::Breaks("a reference is not found"));
@@ -262,7 +282,7 @@ fn say_repository(alloc: Global, lines: &mut Vec<u8>, text: &[u8]) -> Result<(),
 }
 
 // Appends the packets of each request of a script, as they are written to a server that advertised everything.
-fn say_script(
+fn state_script(
     alloc: Global,
     lines: &mut Vec<u8>,
     (format, limit): (Format, u32),
@@ -273,7 +293,7 @@ fn say_script(
         Err(TextFault::OutOfMemory) => return Err(Trouble::OutOfMemory),
         Err(fault) => {
             let fault = format!(in alloc; "{fault}")?;
-            say(alloc, lines, fault.as_str(), Said::Nothing)?;
+            send_all(alloc, lines, fault.as_str(), LineContent::Nothing)?;
             return Ok(());
         }
     };
@@ -284,35 +304,40 @@ fn say_script(
 }
 
 // The lines of a text are not those after it.
-fn differs(alloc: Global, text: &[u8], told: &[u8]) -> Result<Trouble, AllocError> {
+fn differs(alloc: Global, text: &[u8], announced: &[u8]) -> Result<Trouble, AllocError> {
     let text = escaped(alloc, text)?;
-    let told = escaped(alloc, told)?;
+    let announced = escaped(alloc, announced)?;
     let text = String::from_utf8_lossy(alloc, text.as_slice())?;
-    let told = String::from_utf8_lossy(alloc, told.as_slice())?;
-    let (text, told) = (text.as_str(), told.as_str());
-    Ok(Trouble::Differs(format!(in alloc; "of {text}: {told}")?))
+    let announced = String::from_utf8_lossy(alloc, announced.as_slice())?;
+    let (text, announced) = (text.as_str(), announced.as_str());
+    Ok(Trouble::Differs(format!(in alloc; "of {text}: {announced}")?))
 }
 
 impl Table {
     // The lines that report on a text.
-    fn told(self, alloc: Global, text: &[u8]) -> Result<Vec<u8>, Trouble> {
+    fn announced(self, alloc: Global, text: &[u8]) -> Result<Vec<u8>, Trouble> {
         let mut lines = Vec::new(alloc);
         match self {
-            Table::Payloads => say_payload(alloc, &mut lines, text)?,
-            Table::ObjectNames(format) => say_object_name(alloc, &mut lines, format, text)?,
-            Table::ReferenceNames => say_reference_name(alloc, &mut lines, text)?,
-            Table::CapabilityLines => say_capability(alloc, &mut lines, text)?,
-            Table::Notes => say_notes(alloc, &mut lines, text)?,
+            Table::Payloads => state_payload(alloc, &mut lines, text)?,
+            Table::ObjectNames(format) => state_object_name(alloc, &mut lines, format, text)?,
+            Table::ReferenceNames => state_reference_name(alloc, &mut lines, text)?,
+            Table::CapabilityLines => state_capability(alloc, &mut lines, text)?,
+            Table::Notes => state_notes(alloc, &mut lines, text)?,
             Table::Arguments(command, format, features) => {
-                say_argument(alloc, &mut lines, (command, format, features), text)?;
+                state_argument(alloc, &mut lines, (command, format, features), text)?;
             }
-            Table::ReferenceLines(format) => say_reference(alloc, &mut lines, format, text)?,
-            Table::RepositoryTexts => say_repository(alloc, &mut lines, text)?,
-            Table::Scripts(format, limit) => say_script(alloc, &mut lines, (format, limit), text)?,
+            Table::ReferenceLines(format) => state_reference(alloc, &mut lines, format, text)?,
+            Table::RepositoryTexts => state_repository(alloc, &mut lines, text)?,
+            Table::Scripts(format, limit) => state_script(
+                alloc,
+                &mut lines,
+                (format, limit),
+                text,
+            )?,
             Table::Lists(format) => {
                 let text = str::from_utf8(text).map_err(|_| Trouble::BadCase("no text"))?;
                 let made = made(alloc, format, text)?;
-                say(alloc, &mut lines, made.as_str(), Said::Nothing)?;
+                send_all(alloc, &mut lines, made.as_str(), LineContent::Nothing)?;
             }
         }
         Ok(lines)
@@ -324,9 +349,9 @@ impl Table {
         for step in script.steps.as_slice() {
             let text = script.between(last, *step);
             let lines = script.given.as_slice().get(last.given..step.given);
-            let told = self.told(alloc, text)?;
-            if Some(told.as_slice()) != lines {
-                return Err(differs(alloc, text, told.as_slice())?);
+            let announced = self.announced(alloc, text)?;
+            if Some(announced.as_slice()) != lines {
+                return Err(differs(alloc, text, announced.as_slice())?);
             }
             last = *step;
         }

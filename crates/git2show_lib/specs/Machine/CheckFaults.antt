@@ -1,7 +1,7 @@
 -- The faults of a check, and which of its streams is at fault.
 use Rattle.std.specs.Prelude.{◌≡◌, ◌⊎◌, ℕ, ◌+◌, Bool, false, Result, Ok, Err}
-use Rattle.git_pkt.specs.declared.told.Told.{Told}
-use Rattle.git_pkt.specs.Machine.Told.{reads_of, has_failed, has_ended}
+use Rattle.git_pkt.specs.declared.recorded.Recorded.{Recorded}
+use Rattle.git_pkt.specs.Machine.Recorded.{reads_of, has_failed, has_ended}
 use Rattle.git_pkt.specs.declared.fault.RunFault.{RunFault}
 use Rattle.git_pkt.specs.declared.fault.RunFault.TheVariants.{ReadFault as RunReadFault, WriteFault as RunWriteFault, ReadLimit as RunReadLimit, Refused}
 use Rattle.git2show_lib.specs.declared.checking.CheckFault.{CheckFault}
@@ -21,7 +21,7 @@ run_result (Ok done) = Ok done
 run_result (Err fault) = Err (run_fault fault)
 
 -- the reads of both streams are spent, and one of them has not ended
-abbrev pub AreSpent : {Q R : Type 0} → Told Q → Told R → ℕ → Type 0
+abbrev pub AreSpent : {Q R : Type 0} → Recorded Q → Recorded R → ℕ → Type 0
 AreSpent requests responses turns =
     (reads_of requests + reads_of responses ≡ turns) × ((has_ended requests ≡ false) ⊎ (has_ended responses ≡ false))
 
@@ -30,5 +30,5 @@ pub record Standing : Type 0 where
   pub ended : Bool
   pub failed : Bool
 
-abbrev pub standing_of : {R : Type 0} → Told R → Standing
+abbrev pub standing_of : {R : Type 0} → Recorded R → Standing
 standing_of reader = record { ended = has_ended reader; failed = has_failed reader }

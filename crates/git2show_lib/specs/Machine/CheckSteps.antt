@@ -10,9 +10,9 @@ use Rattle.git_pkt.specs.declared.fault.Kind.TheVariants.{UnexpectedPacket}
 use Rattle.git_msg.specs.Machine.HeldRequest.{asked_of, format_of}
 use Rattle.git_msg.specs.Requests.{IsStop}
 use Rattle.git_msg.specs.declared.requests.Request.{Request}
-use Rattle.git_client.specs.Machine.RunSteps.{HearsTo, HearsWhole, window_of}
+use Rattle.git_client.specs.Machine.RunSteps.{ReceivesResponse, ReceivesWholeResponse, window_of}
 use Rattle.git_client.specs.declared.client.Client.{Client}
-use Rattle.git_client.specs.declared.hearing.Window.{Window}
+use Rattle.git_client.specs.declared.receiving.Window.{Window}
 use Rattle.git2show_lib.specs.Others.{judged_of}
 use Rattle.git2show_lib.specs.OtherLines.{Question, other}
 use Rattle.git2show_lib.specs.Machine.KeptLines.{noted_in}
@@ -33,10 +33,10 @@ nowhere = flow None None
 
 module _ {A : Type 0} where
   -- how the advertisement was received: where it is whole, it was noted whole
-  abbrev pub HearsNoting : Result Window RunFault → Bool → Client A → Client A → Noting A → List ℕ → Flow → Flow → Type 0
-  HearsNoting (Ok window) ended old new notes piece reader out =
-      (heard : HearsWhole window old new [] piece reader out nowhere nowhere) × HasNotedLines heard.hears.used notes
-  HearsNoting (Err fault) ended old new notes piece reader out = HearsTo (Err fault) ended old new [] piece reader out nowhere nowhere
+  abbrev pub ReceivesNoting : Result Window RunFault → Bool → Client A → Client A → Noting A → List ℕ → Flow → Flow → Type 0
+  ReceivesNoting (Ok window) ended old new notes chunk reader out =
+      (arrived : ReceivesWholeResponse window old new [] chunk reader out nowhere nowhere) × HasNotedLines arrived.arrives.used notes
+  ReceivesNoting (Err fault) ended old new notes chunk reader out = ReceivesResponse (Err fault) ended old new [] chunk reader out nowhere nowhere
 
   -- of the bytes that waited and those that came, all but the last were used, and they ask this
   pub record ReadsOn (old new : JudgedRequests A) (asked : List Question) (waiting unused : List ℕ) (reader : Flow) : Type 0 where
@@ -88,15 +88,15 @@ module _ {A : Type 0} where
 
   -- how the next request was read
   abbrev pub ReadsTo : Result (Next A) CheckFault → Bool → JudgedRequests A → JudgedRequests A → List ℕ → Window → List ℕ → Flow → Type 0
-  ReadsTo (Ok (NextRequest judged)) ended old new waiting window piece reader =
-      ReadsRequest ended old new judged waiting (window_of window piece) reader
-  ReadsTo (Ok (NextOther others)) ended old new waiting window piece reader =
-      ReadsWhole ended old new (other (noted_in others).lines) waiting (window_of window piece) reader
-  ReadsTo (Ok NextNothing) ended old new waiting window piece reader = ReadsNoMore ended old new waiting reader
-  ReadsTo (Err (Requests fault)) ended old new waiting window piece reader = ReadsFault fault ended old new waiting reader
-  ReadsTo (Err ReadFault) ended old new waiting window piece reader = ReadsAll ended old new waiting reader
-  ReadsTo (Err ReadLimit) ended old new waiting window piece reader = ReadsAll ended old new waiting reader
-  ReadsTo (Err fault) ended old new waiting window piece reader = ⊥
+  ReadsTo (Ok (NextRequest judged)) ended old new waiting window chunk reader =
+      ReadsRequest ended old new judged waiting (window_of window chunk) reader
+  ReadsTo (Ok (NextOther others)) ended old new waiting window chunk reader =
+      ReadsWhole ended old new (other (noted_in others).lines) waiting (window_of window chunk) reader
+  ReadsTo (Ok NextNothing) ended old new waiting window chunk reader = ReadsNoMore ended old new waiting reader
+  ReadsTo (Err (Requests fault)) ended old new waiting window chunk reader = ReadsFault fault ended old new waiting reader
+  ReadsTo (Err ReadFault) ended old new waiting window chunk reader = ReadsAll ended old new waiting reader
+  ReadsTo (Err ReadLimit) ended old new waiting window chunk reader = ReadsAll ended old new waiting reader
+  ReadsTo (Err fault) ended old new waiting window chunk reader = ⊥
 
 -- bytes came of the responses where nothing is asked any more, or waited
 pub record SeesMore (waiting : List ℕ) (reader : Flow) : Type 0 where

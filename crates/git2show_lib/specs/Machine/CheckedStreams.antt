@@ -176,7 +176,7 @@ lines_begun None = []
 lines_begun (Some begun) = begun.lines
 
 -- the responses: the advertisement and its events, what came for each request, and such an answer
-pub record Heard : Type 0 where
+pub record Received : Type 0 where
   pub opening : List ℕ
   pub greeting : List EventValue
   pub turns : List Turn
@@ -187,11 +187,11 @@ abbrev pub place_after : (opening : List ℕ) → List Turn → ℕ
 place_after opening turns = length (opening ++ received_in turns) + passed_in turns
 
 -- all of their bytes before that answer
-abbrev pub whole_of : Heard → List ℕ
+abbrev pub whole_of : Received → List ℕ
 whole_of r = r.opening ++ bytes_in r.turns
 
 -- of the responses a client that was asked this received these bytes, which have these events
-pub record AreHeard (t : Terms) (asked : List Asked) (used : List ℕ) (events : List EventValue) (r : Heard) : Type 0 where
+pub record AreReceived (t : Terms) (asked : List Asked) (used : List ℕ) (events : List EventValue) (r : Received) : Type 0 where
   pub asked_is : asked ≡ asked_in r.turns
   pub used_is : used ≡ r.opening ++ received_in r.turns
   pub events_are : events ≡ r.greeting ++ events_in r.turns
@@ -218,8 +218,8 @@ turns_shown [] = []
 turns_shown (turn ∷ turns) = turn_shown turn ++ turns_shown turns
 
 -- all lines
-abbrev pub heard_shown : Heard → List ℕ
-heard_shown r = (events_shown r.greeting ++ turns_shown r.turns) ++ lines_begun r.begun
+abbrev pub received_shown : Received → List ℕ
+received_shown r = (events_shown r.greeting ++ turns_shown r.turns) ++ lines_begun r.begun
 
 -- a whole advertisement is at the head of the bytes, and this is offered by it, and advertised beside what is known
 pub record IsOffered (t : Terms) (bytes : List ℕ) (by : Advertised) : Type 0 where
@@ -239,21 +239,21 @@ pub record AreUnread (found : Found) : Type 0 where
   pub nothing_waits : found.unused ≡ []
 
 -- just the requests that were read came in turn, and no further one is begun
-pub record AreAllAsked (r : Heard) (found : Found) : Type 0 where
+pub record AreAllAsked (r : Received) (found : Found) : Type 0 where
   pub asked : found.asked ≡ questions_in r.turns
   pub nothing_left : found.left ≡ []
   pub no_rest : found.rest ≡ []
   pub nothing_begun : r.begun ≡ None
 
 -- the requests that were read came in turn, and what came for each is whole
-pub record AreAnswered (t : Terms) (h : History) (r : Heard) (found : Found) : Type 0 where
+pub record AreAnswered (t : Terms) (h : History) (r : Received) (found : Found) : Type 0 where
   pub asked : found.asked ≡ questions_in r.turns
   pub ended : AllEnded t r.turns
   pub nothing_begun : r.begun ≡ None
   pub whole : IsConversation t h.asked h.used h.events
 
 -- so did those before the last one, whose command is not known
-pub record IsOtherDue (t : Terms) (h : History) (r : Heard) (begun : Begun) (found : Found) : Type 0 where
+pub record IsOtherExpected (t : Terms) (h : History) (r : Received) (begun : Begun) (found : Found) : Type 0 where
   pub asked : found.asked ≡ questions_in r.turns ++ other begun.lines ∷ []
   pub is_begun : r.begun ≡ Some begun
   pub nothing_left : found.left ≡ []
@@ -268,7 +268,7 @@ AreOver text ended found =
 -- ---- how a check ended
 
 -- each request was asked and answered, and nothing is left of the responses
-pub record IsWhole (t : Terms) (by : Advertised) (requests responses : Standing) (unused : List ℕ) (h : History) (r : Heard) (found : Found) : Type 0 where
+pub record IsWhole (t : Terms) (by : Advertised) (requests responses : Standing) (unused : List ℕ) (h : History) (r : Received) (found : Found) : Type 0 where
   pub answered : AreAnswered t h r found
   pub over : AreOver by.text requests.ended found
   pub nothing_left : unused ≡ []
@@ -276,7 +276,7 @@ pub record IsWhole (t : Terms) (by : Advertised) (requests responses : Standing)
 
 -- what comes instead of a request is refused, where each before it was answered: truncated only where the requests have
 -- ended, and too long only where one more byte of them was read
-pub record IsBadRequest (t : Terms) (by : Advertised) (limit : ℕ) (requests responses : Standing) (h : History) (r : Heard) (found : Found)
+pub record IsBadRequest (t : Terms) (by : Advertised) (limit : ℕ) (requests responses : Standing) (h : History) (r : Received) (found : Found)
     (fault : Fault) : Type 0 where
   pub answered : AreAnswered t h r found
   pub refused : IsRefused by limit found.left found.rest (length found.used) fault
@@ -284,7 +284,7 @@ pub record IsBadRequest (t : Terms) (by : Advertised) (limit : ℕ) (requests re
   pub more_can_come : responses.ended ≡ false
 
 -- the responses are refused for their first fault, before the next request is read
-pub record IsBadResponse (t : Terms) (responses : Standing) (unused : List ℕ) (h : History) (r : Heard) (found : Found) (fault : Fault) : Type 0 where
+pub record IsBadResponse (t : Terms) (responses : Standing) (unused : List ℕ) (h : History) (r : Received) (found : Found) (fault : Fault) : Type 0 where
   pub all_asked : AreAllAsked r found
   pub plain : last_form t.format r.turns ≡ None
   pub malformed : IsMalformed t responses.ended unused h fault
@@ -327,7 +327,7 @@ pub record SieveRefusesLater (t : Terms) (h : History) {form : Form} {bytes rece
   pub at : fault.offset ≡ packet.offset
 
 -- the last response, which is sieved, is refused for its first fault
-pub record IsBadSieved (t : Terms) (responses : Standing) (unused : List ℕ) (h : History) (r : Heard) (found : Found) (earlier : List Turn) (fault : Fault)
+pub record IsBadSieved (t : Terms) (responses : Standing) (unused : List ℕ) (h : History) (r : Received) (found : Found) (earlier : List Turn) (fault : Fault)
     : Type 0 where
   pub all_asked : AreAllAsked r found
   pub last : Turn
@@ -338,7 +338,7 @@ pub record IsBadSieved (t : Terms) (responses : Standing) (unused : List ℕ) (h
   pub why : SieveBreaksOff t h responses.ended unused last.bytes s fault ⊎ (SieveRefuses t h s fault ⊎ SieveRefusesLater t h s fault)
 
 -- the last request that was read, of the object format that is offered, can't be asked
-pub record IsBadQuestion (A : Type 0) (t : Terms) (offer : Offer) (h : History) (r : Heard) (found : Found) (fault : Fault) : Type 0 where
+pub record IsBadQuestion (A : Type 0) (t : Terms) (offer : Offer) (h : History) (r : Received) (found : Found) (fault : Fault) : Type 0 where
   pub request : Request A
   pub noted : Noted
   pub format : format_of request ≡ offer.format
@@ -349,14 +349,14 @@ pub record IsBadQuestion (A : Type 0) (t : Terms) (offer : Offer) (h : History) 
   pub refused : IsRefusedRequest t (request ∷ []) h fault
 
 -- the advertisement is whole, and a line of it was not kept: for the limit, or for want of memory
-pub record IsUnnoted (t : Terms) (h : History) (r : Heard) (found : Found) (fault : Fault) : Type 0 where
+pub record IsUnnoted (t : Terms) (h : History) (r : Received) (found : Found) (fault : Fault) : Type 0 where
   pub answered : AreAnswered t h r found
   pub none_asked : r.turns ≡ []
   pub why : IsLost fault.kind
   pub at : fault.offset ≡ length h.used
 
 -- more of the responses was read than was asked for
-pub record IsLeftOver (t : Terms) (by : Advertised) (requests : Standing) (unused : List ℕ) (h : History) (r : Heard) (found : Found)
+pub record IsLeftOver (t : Terms) (by : Advertised) (requests : Standing) (unused : List ℕ) (h : History) (r : Received) (found : Found)
     (fault : Fault) : Type 0 where
   pub answered : AreAnswered t h r found
   pub over : AreOver by.text requests.ended found
@@ -364,22 +364,22 @@ pub record IsLeftOver (t : Terms) (by : Advertised) (requests : Standing) (unuse
   pub fault_is : fault ≡ record { kind = UnexpectedPacket; offset = length h.used }
 
 -- the answer to a command that is not known breaks off
-pub record IsBadAnswer (t : Terms) (responses : Standing) (unused : List ℕ) (h : History) (r : Heard) (found : Found) (fault : Fault) : Type 0 where
+pub record IsBadAnswer (t : Terms) (responses : Standing) (unused : List ℕ) (h : History) (r : Received) (found : Found) (fault : Fault) : Type 0 where
   pub begun : Begun
-  pub due : IsOtherDue t h r begun found
+  pub expected : IsOtherExpected t h r begun found
   pub rest : List ℕ
   pub begins : IsAnswerBegun t.ending begun.bytes rest
   pub breaks : BreakOff rest (length begun.bytes) fault
   pub timely : IsTimely fault.kind responses.ended unused
 
 -- the line of a request for a command that is not known is written
-pub record IsBeingShown (t : Terms) (h : History) (r : Heard) (found : Found) : Type 0 where
+pub record IsBeingShown (t : Terms) (h : History) (r : Received) (found : Found) : Type 0 where
   pub begun : Begun
-  pub due : IsOtherDue t h r begun found
+  pub expected : IsOtherExpected t h r begun found
   pub none_came : begun.bytes ≡ []
 
 -- the last response, which is sieved, goes on, and so does what the client received of it
-pub record IsSievedSoFar (t : Terms) (r : Heard) (form : Form) : Type 0 where
+pub record IsSievedSoFar (t : Terms) (r : Received) (form : Form) : Type 0 where
   pub earlier : List Turn
   pub last : Turn
   pub turns_are : r.turns ≡ earlier ++ last ∷ []
@@ -389,28 +389,28 @@ pub record IsSievedSoFar (t : Terms) (r : Heard) (form : Form) : Type 0 where
   pub all : s.beyond ≡ []
   pub still_open : IsOpen s.rest
 
-abbrev pub IsSoFar : Terms → Heard → Option Form → Type 0
+abbrev pub IsSoFar : Terms → Received → Option Form → Type 0
 IsSoFar t r None = Unit {0}
 IsSoFar t r (Some form) = IsSievedSoFar t r form
 
 -- more is expected of the advertisement or of a response
-pub record IsWithinResponse (t : Terms) (unused : List ℕ) (h : History) (r : Heard) (found : Found) : Type 0 where
+pub record IsWithinResponse (t : Terms) (unused : List ℕ) (h : History) (r : Received) (found : Found) : Type 0 where
   pub all_asked : AreAllAsked r found
   pub so_far : IsSoFar t r (last_form t.format r.turns)
   pub all_used : unused ≡ []
   pub goes_on : GoesOn t h.asked h.used h.events
 
 -- or of the answer to a command that is not known
-pub record IsWithinAnswer (t : Terms) (unused : List ℕ) (h : History) (r : Heard) (found : Found) : Type 0 where
+pub record IsWithinAnswer (t : Terms) (unused : List ℕ) (h : History) (r : Received) (found : Found) : Type 0 where
   pub begun : Begun
-  pub due : IsOtherDue t h r begun found
+  pub expected : IsOtherExpected t h r begun found
   pub all_used : unused ≡ []
   pub rest : List ℕ
   pub begins : IsAnswerBegun t.ending begun.bytes rest
   pub still_open : IsOpen rest
 
 -- a request is begun, or can come
-pub record IsWithinRequest (t : Terms) (by : Advertised) (limit : ℕ) (requests responses : Standing) (h : History) (r : Heard) (found : Found) : Type 0 where
+pub record IsWithinRequest (t : Terms) (by : Advertised) (limit : ℕ) (requests responses : Standing) (h : History) (r : Received) (found : Found) : Type 0 where
   pub answered : AreAnswered t h r found
   pub begun : IsBegun by limit found.left
   pub still_open : IsOpen found.rest
@@ -419,19 +419,19 @@ pub record IsWithinRequest (t : Terms) (by : Advertised) (limit : ℕ) (requests
   pub more_can_come : responses.ended ≡ false
 
 -- whether a byte is left over was not seen
-pub record IsAtTheEnd (t : Terms) (by : Advertised) (requests : Standing) (unused : List ℕ) (h : History) (r : Heard) (found : Found) : Type 0 where
+pub record IsAtTheEnd (t : Terms) (by : Advertised) (requests : Standing) (unused : List ℕ) (h : History) (r : Received) (found : Found) : Type 0 where
   pub answered : AreAnswered t h r found
   pub over : AreOver by.text requests.ended found
   pub nothing_left : unused ≡ []
 
 -- nothing is wrong so far, and a read is next: of the responses, of the requests, or of what is left over
-abbrev pub IsCutOff : Terms → Advertised → ℕ → (of_requests of_responses : Type 0) → Standing → Standing → List ℕ → History → Heard → Found → Type 0
+abbrev pub IsCutOff : Terms → Advertised → ℕ → (of_requests of_responses : Type 0) → Standing → Standing → List ℕ → History → Received → Found → Type 0
 IsCutOff t by limit of_requests of_responses requests responses unused h r found =
     ((IsWithinResponse t unused h r found ⊎ IsWithinAnswer t unused h r found) × of_responses)
     ⊎ ((IsWithinRequest t by limit requests responses h r found × of_requests) ⊎ (IsAtTheEnd t by requests unused h r found × of_responses))
 
 -- what is wrong with what a client received, or may not ask
-abbrev pub IsBad : (A : Type 0) → Terms → Advertised → Standing → Standing → List ℕ → History → Heard → Found → Fault → Type 0
+abbrev pub IsBad : (A : Type 0) → Terms → Advertised → Standing → Standing → List ℕ → History → Received → Found → Fault → Type 0
 IsBad A t by requests responses unused h r found fault =
     IsBadResponse t responses unused h r found fault
     ⊎ (IsUnnoted t h r found fault ⊎ (IsBadQuestion A t by.offer h r found fault ⊎ IsLeftOver t by requests unused h r found fault))
@@ -443,7 +443,7 @@ pub record IsReported (met : Fault → Type 0) (before : ℕ) (fault : Fault) : 
   pub reported : fault ≡ moved before own
 
 -- how a check ended
-abbrev pub EndsAs : (A : Type 0) → Terms → Advertised → ℕ → Result (Unit {0}) CheckFault → Standing → Standing → List ℕ → History → Heard → Found → Type 0
+abbrev pub EndsAs : (A : Type 0) → Terms → Advertised → ℕ → Result (Unit {0}) CheckFault → Standing → Standing → List ℕ → History → Received → Found → Type 0
 EndsAs A t by limit (Ok done) requests responses unused h r found = IsWhole t by requests responses unused h r found
 EndsAs A t by limit (Err (Requests fault)) requests responses unused h r found = IsBadRequest t by limit requests responses h r found fault
 EndsAs A t by limit (Err (Responses fault)) requests responses unused h r found =
@@ -466,11 +466,11 @@ pub record Checked (A : Type 0) (t : Terms) (limit : ℕ) (result : Result (Unit
   pub unused : List ℕ
   pub found : Found
   pub by : Advertised
-  pub r : Heard
+  pub r : Received
   pub were_read : read ≡ (found.used ++ found.unused) ∷ ((whole_of r ++ bytes_begun r.begun) ++ unused) ∷ []
-  pub told : given ≡ heard_shown r ∷ []
-  pub received : AreHeard t h.asked h.used h.events r
-  pub heard : HasEvents t h.asked h.used h.events
+  pub announced : given ≡ received_shown r ∷ []
+  pub received : AreReceived t h.asked h.used h.events r
+  pub arrived : HasEvents t h.asked h.used h.events
   pub may_be : (caps : Caps) → HasNoted t h.asked h.used caps → All (λ q. offers_command caps (command_asked q) ≡ true) h.asked
   pub in_turn : length h.asked ≤ turns_of h.events
   pub offered : IsOffered t h.used by ⊎ AreUnread found

@@ -279,8 +279,8 @@ module _ {A : Type 0} where
 
   -- how it is left after each answer of `feed`
   abbrev pub Leaves : JudgedGot A → ℕ → List ℕ → JudgedRequests A → Type 0
-  Leaves More used piece new = (used ≡ length piece) × IsReady new
-  Leaves got used piece new = LeavesAt got used new
+  Leaves More used chunk new = (used ≡ length chunk) × IsReady new
+  Leaves got used chunk new = LeavesAt got used new
 
   -- and after the bytes up to the end of a packet, or all of them
   abbrev pub StepLeaves : JudgedGot A → ℕ → JudgedRequests A → Type 0
@@ -289,31 +289,31 @@ module _ {A : Type 0} where
 
   -- a fault is none of the input's end, and that the stream is too long is reported only where the chunk has a further byte
   abbrev pub IsNews : List ℕ → JudgedRead A → Type 0
-  IsNews piece read = (fault : Fault) → read.got ≡ FailedGot fault → ShownByFeed fault read.used piece
+  IsNews chunk read = (fault : Fault) → read.got ≡ FailedGot fault → ShownByFeed fault read.used chunk
 
   -- what a reader does with the bytes that it uses, whatever was read before, by how it is left
-  pub record ReadsBy (Left : JudgedGot A → ℕ → JudgedRequests A → Type 0) (old : JudgedRequests A) (piece : List ℕ) (read : JudgedRead A)
+  pub record ReadsBy (Left : JudgedGot A → ℕ → JudgedRequests A → Type 0) (old : JudgedRequests A) (chunk : List ℕ) (read : JudgedRead A)
       (new : JudgedRequests A) : Type 0 where
     pub reads : (used : List ℕ) (asked : List Question) → HasRead used asked old
-        → HasRead (used ++ take read.used piece) (asked ++ asked_by read.got) new
+        → HasRead (used ++ take read.used chunk) (asked ++ asked_by read.got) new
     pub leaves : Left read.got read.used new
-    pub news : IsNews piece read
+    pub news : IsNews chunk read
     pub by : advertised_by new ≡ advertised_by old
     pub limit : limit_of new ≡ limit_of old
 
   -- what a call of `feed` does
   abbrev pub Feeds : JudgedRequests A → List ℕ → JudgedRead A → JudgedRequests A → Type 0
-  Feeds old piece read new = ReadsBy (λ got used s. Leaves got used piece s) old piece read new
+  Feeds old chunk read new = ReadsBy (λ got used s. Leaves got used chunk s) old chunk read new
 
   -- what the bytes up to the end of a packet do, or all of them
   abbrev pub Steps : JudgedRequests A → List ℕ → JudgedRead A → JudgedRequests A → Type 0
-  Steps old piece read new = ReadsBy StepLeaves old piece read new
+  Steps old chunk read new = ReadsBy StepLeaves old chunk read new
 
   -- what a packet does: with any reader of packets that comes to its end, this is such a step
   abbrev pub TakesPacket : RequestJudge A → Given → JudgedGot A → RequestJudge A → Type 0
   TakesPacket old g got new =
-      (before after : PacketReader) (piece : List ℕ) (used : ℕ) → 0 < used → EndsPacket before (take used piece) g after
-      → Steps (record { packets = before; judge = old }) piece (record { used = used; got = got }) (record { packets = after; judge = new })
+      (before after : PacketReader) (chunk : List ℕ) (used : ℕ) → 0 < used → EndsPacket before (take used chunk) g after
+      → Steps (record { packets = before; judge = old }) chunk (record { used = used; got = got }) (record { packets = after; judge = new })
 
   -- what a call of `close` means: all was whole requests, or the last was cut off
   abbrev pub Closes : Result (Unit {0}) Fault → JudgedRequests A → JudgedRequests A → Type 0

@@ -36,27 +36,27 @@ pub record BreaksOff (ending : Ending) (used : List ℕ) (fault : Fault) : Type 
   pub breaks : BreakOff rest (length used) fault
 
 -- all of the chunk was used, and more is expected
-pub record PassesAll (ending : Ending) (old new : PacketReader) (piece : List ℕ) : Type 0 where
+pub record PassesAll (ending : Ending) (old new : PacketReader) (chunk : List ℕ) : Type 0 where
   pub sound : fault_of new ≡ None
   pub gathers : passes_of new ≡ false
-  pub passes : (used : List ℕ) → Passes ending used old → Passes ending (used ++ piece) new
+  pub passes : (used : List ℕ) → Passes ending used old → Passes ending (used ++ chunk) new
 
 -- the answer ends in the chunk
-pub record PassesUpTo (ending : Ending) (used : ℕ) (old new : PacketReader) (piece : List ℕ) : Type 0 where
-  pub within : used ≤ length piece
-  pub passes : (bytes : List ℕ) → Passes ending bytes old → HasPassed ending (bytes ++ take used piece) new
+pub record PassesUpTo (ending : Ending) (used : ℕ) (old new : PacketReader) (chunk : List ℕ) : Type 0 where
+  pub within : used ≤ length chunk
+  pub passes : (bytes : List ℕ) → Passes ending bytes old → HasPassed ending (bytes ++ take used chunk) new
 
 -- it breaks off there
-pub record BreaksIn (ending : Ending) (fault : Fault) (old : PacketReader) (piece : List ℕ) : Type 0 where
+pub record BreaksIn (ending : Ending) (fault : Fault) (old : PacketReader) (chunk : List ℕ) : Type 0 where
   pub used : ℕ
-  pub breaks : (bytes : List ℕ) → Passes ending bytes old → BreaksOff ending (bytes ++ take used piece) fault
-  pub shown : ShownByFeed fault used piece
+  pub breaks : (bytes : List ℕ) → Passes ending bytes old → BreaksOff ending (bytes ++ take used chunk) fault
+  pub shown : ShownByFeed fault used chunk
 
 -- how a chunk passed
-abbrev pub PassesPiece : Ending → Result (Option ℕ) Fault → PacketReader → PacketReader → List ℕ → Type 0
-PassesPiece ending (Ok None) old new piece = PassesAll ending old new piece
-PassesPiece ending (Ok (Some used)) old new piece = PassesUpTo ending used old new piece
-PassesPiece ending (Err fault) old new piece = BreaksIn ending fault old piece
+abbrev pub PassesChunk : Ending → Result (Option ℕ) Fault → PacketReader → PacketReader → List ℕ → Type 0
+PassesChunk ending (Ok None) old new chunk = PassesAll ending old new chunk
+PassesChunk ending (Ok (Some used)) old new chunk = PassesUpTo ending used old new chunk
+PassesChunk ending (Err fault) old new chunk = BreaksIn ending fault old chunk
 
 -- the input ends after packets, where more are expected
 abbrev pub ClosesAnswer : Fault → PacketReader → Type 0
@@ -73,13 +73,13 @@ pub record Uses (used waiting unused : List ℕ) (reader : Flow) : Type 0 where
   pub parts : waiting ++ came ≡ used ++ unused
 
 -- the answer passed whole
-pub record PassesWhole (ending : Ending) (passed : Passed) (waiting piece : List ℕ) (reader : Flow) : Type 0 where
+pub record PassesWhole (ending : Ending) (passed : Passed) (waiting chunk : List ℕ) (reader : Flow) : Type 0 where
   pub used : List ℕ
-  pub uses : Uses used waiting (window_of passed.left piece) reader
+  pub uses : Uses used waiting (window_of passed.left chunk) reader
   pub answer : IsOtherAnswer ending used
   pub count : passed.count ≡ length used
   pub ordered : passed.left.start ≤ passed.left.end
-  pub within : passed.left.end ≤ length piece
+  pub within : passed.left.end ≤ length chunk
 
 -- all bytes were used, and more are expected
 pub record PassesOn (ending : Ending) (waiting : List ℕ) (reader : Flow) : Type 0 where
@@ -99,8 +99,8 @@ pub record PassesNot (ending : Ending) (fault : Fault) (ended : Bool) (waiting :
 
 -- how an answer passed
 abbrev pub PassesTo : Ending → Result Passed RunFault → Bool → List ℕ → List ℕ → Flow → Type 0
-PassesTo ending (Ok passed) ended waiting piece reader = PassesWhole ending passed waiting piece reader
-PassesTo ending (Err ReadFault) ended waiting piece reader = PassesOn ending waiting reader
-PassesTo ending (Err ReadLimit) ended waiting piece reader = PassesOn ending waiting reader
-PassesTo ending (Err (Refused fault)) ended waiting piece reader = PassesNot ending fault ended waiting reader
-PassesTo ending (Err WriteFault) ended waiting piece reader = ⊥
+PassesTo ending (Ok passed) ended waiting chunk reader = PassesWhole ending passed waiting chunk reader
+PassesTo ending (Err ReadFault) ended waiting chunk reader = PassesOn ending waiting reader
+PassesTo ending (Err ReadLimit) ended waiting chunk reader = PassesOn ending waiting reader
+PassesTo ending (Err (Refused fault)) ended waiting chunk reader = PassesNot ending fault ended waiting reader
+PassesTo ending (Err WriteFault) ended waiting chunk reader = ⊥

@@ -65,25 +65,25 @@ pub record Writes (view : Option View) (start final : Tally) (broken : Bool) (ol
   pub tally : final ≡ tally_of view start packets
 
 -- the reader met this fault when it had used so many bytes of the chunk
-pub record MeetsFault (f : Fault) (new : PacketReader) (piece : List ℕ) (used : ℕ) : Type 0 where
-  pub told : fault_of new ≡ Some f
-  pub shown : ShownByFeed f used piece
+pub record MeetsFault (f : Fault) (new : PacketReader) (chunk : List ℕ) (used : ℕ) : Type 0 where
+  pub announced : fault_of new ≡ Some f
+  pub shown : ShownByFeed f used chunk
 
 module _ (view : Option View) (start final : Tally) where
   -- all of the chunk was used and printed, or a front of it up to a fault
-  abbrev pub PrintsPiece : Option Fault → PacketReader → PacketReader → List ℕ → List ℕ → Flow → Type 0
-  PrintsPiece None old new piece waiting writer = Prints view start final old new piece waiting writer × (fault_of new ≡ None)
-  PrintsPiece (Some f) old new piece waiting writer =
-      (used : ℕ) × Prints view start final old new (take used piece) waiting writer × MeetsFault f new piece used
+  abbrev pub PrintsChunk : Option Fault → PacketReader → PacketReader → List ℕ → List ℕ → Flow → Type 0
+  PrintsChunk None old new chunk waiting writer = Prints view start final old new chunk waiting writer × (fault_of new ≡ None)
+  PrintsChunk (Some f) old new chunk waiting writer =
+      (used : ℕ) × Prints view start final old new (take used chunk) waiting writer × MeetsFault f new chunk used
 
   -- a front of the chunk was used, and a front of its lines written
   abbrev pub WritesFront : PacketReader → PacketReader → List ℕ → Flow → Type 0
-  WritesFront old new piece writer = (used : ℕ) × Writes view start final true old new (take used piece) writer
+  WritesFront old new chunk writer = (used : ℕ) × Writes view start final true old new (take used chunk) writer
 
   -- all of the chunk was used and its lines were written, or those of a front of it up to a fault; or a write failed somewhere in it
-  abbrev pub ShowsPiece : Result (Unit {0}) RunFault → PacketReader → PacketReader → List ℕ → Flow → Type 0
-  ShowsPiece (Ok done) old new piece writer = Writes view start final false old new piece writer × (fault_of new ≡ None)
-  ShowsPiece (Err WriteFault) old new piece writer = WritesFront old new piece writer
-  ShowsPiece (Err (Refused f)) old new piece writer =
-      (used : ℕ) × Writes view start final false old new (take used piece) writer × MeetsFault f new piece used
-  ShowsPiece (Err fault) old new piece writer = ⊥
+  abbrev pub ShowsChunk : Result (Unit {0}) RunFault → PacketReader → PacketReader → List ℕ → Flow → Type 0
+  ShowsChunk (Ok done) old new chunk writer = Writes view start final false old new chunk writer × (fault_of new ≡ None)
+  ShowsChunk (Err WriteFault) old new chunk writer = WritesFront old new chunk writer
+  ShowsChunk (Err (Refused f)) old new chunk writer =
+      (used : ℕ) × Writes view start final false old new (take used chunk) writer × MeetsFault f new chunk used
+  ShowsChunk (Err fault) old new chunk writer = ⊥

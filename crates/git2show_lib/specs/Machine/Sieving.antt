@@ -13,9 +13,9 @@ use Rattle.git_pkt.specs.declared.fault.RunFault.TheVariants.{ReadFault, WriteFa
 use Rattle.git_pkt.specs.declared.reader.PacketReader.{PacketReader}
 use Rattle.git_client.specs.Parts.{Terms}
 use Rattle.git_client.specs.Machine.Client.{Converses, History, can_ask, fault_of, spelled, wants_input}
-use Rattle.git_client.specs.Machine.RunSteps.{HearsBytes, HearsInPiece, HearsPieceBroken, HearsToFault, no_counts, window_of}
+use Rattle.git_client.specs.Machine.RunSteps.{ReceivesBytes, ReceivesInChunk, ReceivesChunkBroken, ReceivesToFault, no_counts, window_of}
 use Rattle.git_client.specs.declared.client.Client.{Client}
-use Rattle.git_client.specs.declared.hearing.Counts.{Counts}
+use Rattle.git_client.specs.declared.receiving.Counts.{Counts}
 use Rattle.git2show_lib.specs.Others.{BreakOff}
 use Rattle.git2show_lib.specs.Sieve.{ArePassed, received_as, sieved, sieved_from, sieved_packet, spot_after}
 use Rattle.git2show_lib.specs.Machine.CheckSteps.{nowhere}
@@ -44,9 +44,9 @@ module _ {A : Type 0} where
 
   -- the client receives this for a packet, or nothing
   abbrev pub Receives : Option Pkt → (old new : Client A) (counts counts_after : Counts) (out : Flow) → Type 0
-  Receives None old new counts counts_after out = HearsBytes false old new counts counts_after [] out nowhere nowhere × (wants_input new ≡ true)
+  Receives None old new counts counts_after out = ReceivesBytes false old new counts counts_after [] out nowhere nowhere × (wants_input new ≡ true)
   Receives (Some passed_as) old new counts counts_after out =
-      (used : ℕ) × HearsInPiece old new counts counts_after (spelling_of passed_as) used out nowhere nowhere
+      (used : ℕ) × ReceivesInChunk old new counts counts_after (spelling_of passed_as) used out nowhere nowhere
 
   pub record ReceivesPacket (form : Form) (spot : Spot) (packet : Pkt) (old new : Client A) (counts counts_after : Counts) (out : Flow) : Type 0 where
     pub passed_as : Option Pkt
@@ -58,7 +58,7 @@ module _ {A : Type 0} where
   pub record RefusesPacket (kind : Kind) (form : Form) (spot : Spot) (packet : Pkt) (old new : Client A) (counts counts_after : Counts) (out : Flow)
       : Type 0 where
     pub refused : sieved_packet form spot packet ≡ Err kind
-    pub stays : HearsBytes false old new counts counts_after [] out nowhere nowhere
+    pub stays : ReceivesBytes false old new counts counts_after [] out nowhere nowhere
     pub waits : wants_input new ≡ true
 
   -- or the client refuses what it receives
@@ -68,13 +68,13 @@ module _ {A : Type 0} where
     pub is : sieved_packet form spot packet ≡ Ok (Some passed_as)
     pub own : Fault
     pub kind_is : own.kind ≡ kind
-    pub hears : HearsToFault own old new counts counts_after (spelling_of passed_as) out nowhere nowhere
+    pub arrives : ReceivesToFault own old new counts counts_after (spelling_of passed_as) out nowhere nowhere
 
   -- or a write failed
   pub record ReceivesBroken (form : Form) (spot : Spot) (packet : Pkt) (old new : Client A) (counts counts_after : Counts) (out : Flow) : Type 0 where
     pub passed_as : Pkt
     pub is : sieved_packet form spot packet ≡ Ok (Some passed_as)
-    pub hears : HearsPieceBroken old new counts counts_after (spelling_of passed_as) out nowhere nowhere
+    pub arrives : ReceivesChunkBroken old new counts counts_after (spelling_of passed_as) out nowhere nowhere
 
   -- how a packet was passed on
   abbrev pub ReceivesTo : Result (Unit {0}) RunFault → Form → Spot → Given → (old new : Client A) (counts counts_after : Counts) (out : Flow) → Type 0
@@ -112,33 +112,33 @@ module _ {A : Type 0} where
     pub cut : spelled (sieved_from form old.spot more) ≡ received ++ beyond
     pub waits : wants_input new.client ≡ true → beyond ≡ []
     pub whole : IsAllReceived old.client beyond
-    pub bytes : HearsBytes false old.client new.client old.counts new.counts received out nowhere nowhere
+    pub bytes : ReceivesBytes false old.client new.client old.counts new.counts received out nowhere nowhere
 
   -- all of the chunk was used, or the client can ask
-  pub record SievesInPiece (form : Form) (old new : Stage A) (piece : List ℕ) (used : ℕ) (out : Flow) : Type 0 where
-    pub sieves : SievesOn form old new (take used piece) out
-    pub within : used ≤ length piece
-    pub all : wants_input new.client ≡ true → used ≡ length piece
+  pub record SievesInChunk (form : Form) (old new : Stage A) (chunk : List ℕ) (used : ℕ) (out : Flow) : Type 0 where
+    pub sieves : SievesOn form old new (take used chunk) out
+    pub within : used ≤ length chunk
+    pub all : wants_input new.client ≡ true → used ≡ length chunk
     pub sound : reader_fault_of new.packets ≡ None
     pub gathers : passes_of new.packets ≡ false
     pub ends : wants_input new.client ≡ false → (can_ask new.client ≡ true) × (is_open new.packets ≡ false)
 
   -- the chunk has bytes that are no packet
-  pub record BreaksInPiece (fault : Fault) (form : Form) (old new : Stage A) (piece : List ℕ) (out : Flow) : Type 0 where
+  pub record BreaksInChunk (fault : Fault) (form : Form) (old new : Stage A) (chunk : List ℕ) (out : Flow) : Type 0 where
     pub used : ℕ
-    pub sieves : SievesOn form old new (take used piece) out
+    pub sieves : SievesOn form old new (take used chunk) out
     pub waits : wants_input new.client ≡ true
     pub failed : reader_fault_of new.packets ≡ Some fault
-    pub shown : ShownByFeed fault used piece
+    pub shown : ShownByFeed fault used chunk
 
   -- packets were passed on, and with the next one it ended so
-  pub record EndsInPiece (result : Result (Unit {0}) RunFault) (form : Form) (old new : Stage A) (piece : List ℕ) (out : Flow) : Type 0 where
+  pub record EndsInChunk (result : Result (Unit {0}) RunFault) (form : Form) (old new : Stage A) (chunk : List ℕ) (out : Flow) : Type 0 where
     pub middle : Stage A
     pub held : Option (List ℕ)
     pub first : List ℕ
     pub last : List ℕ
     pub used : ℕ
-    pub bytes : take used piece ≡ first ++ last
+    pub bytes : take used chunk ≡ first ++ last
     pub sieves : SievesOn form old middle first (flow out.before held)
     pub waits : wants_input middle.client ≡ true
     pub packet : Given
@@ -148,11 +148,11 @@ module _ {A : Type 0} where
     pub ends : ReceivesTo result form middle.spot packet middle.client new.client middle.counts new.counts (flow held out.after)
 
   -- how a chunk was passed on
-  abbrev pub SievesPieceTo : Result ℕ RunFault → Form → (old new : Stage A) (piece : List ℕ) (out : Flow) → Type 0
-  SievesPieceTo (Ok used) form old new piece out = SievesInPiece form old new piece used out
-  SievesPieceTo (Err (Refused fault)) form old new piece out =
-      BreaksInPiece fault form old new piece out ⊎ EndsInPiece (Err (Refused fault)) form old new piece out
-  SievesPieceTo (Err fault) form old new piece out = EndsInPiece (Err fault) form old new piece out
+  abbrev pub SievesChunkTo : Result ℕ RunFault → Form → (old new : Stage A) (chunk : List ℕ) (out : Flow) → Type 0
+  SievesChunkTo (Ok used) form old new chunk out = SievesInChunk form old new chunk used out
+  SievesChunkTo (Err (Refused fault)) form old new chunk out =
+      BreaksInChunk fault form old new chunk out ⊎ EndsInChunk (Err (Refused fault)) form old new chunk out
+  SievesChunkTo (Err fault) form old new chunk out = EndsInChunk (Err fault) form old new chunk out
 
   -- ---- a response over a reader of bytes
 
@@ -168,19 +168,19 @@ module _ {A : Type 0} where
     pub beyond : List ℕ
     pub cut : spelled (sieved form given) ≡ received ++ beyond
     pub counts : Counts
-    pub bytes : HearsBytes broken old new no_counts counts received out nowhere nowhere
+    pub bytes : ReceivesBytes broken old new no_counts counts received out nowhere nowhere
 
   -- the response was received whole
-  pub record SievesWhole (form : Form) (passed : Passed) (old new : Client A) (waiting piece : List ℕ) (reader out : Flow) : Type 0 where
+  pub record SievesWhole (form : Form) (passed : Passed) (old new : Client A) (waiting chunk : List ℕ) (reader out : Flow) : Type 0 where
     pub used : List ℕ
-    pub uses : Uses used waiting (window_of passed.left piece) reader
+    pub uses : Uses used waiting (window_of passed.left chunk) reader
     pub sieves : Sieves false form old new used out
     pub none_bad : sieves.bad ≡ []
     pub no_rest : sieves.rest ≡ []
     pub all : IsAllReceived old sieves.beyond
     pub count : passed.count ≡ length used
     pub ordered : passed.left.start ≤ passed.left.end
-    pub within : passed.left.end ≤ length piece
+    pub within : passed.left.end ≤ length chunk
     pub can_ask_on : can_ask new ≡ true
 
   -- all bytes were used, and more are expected
@@ -248,9 +248,9 @@ module _ {A : Type 0} where
     pub sieves : Sieves true form old new used out
 
   -- how a response was received
-  abbrev pub SievesTo : Form → Result Passed RunFault → Bool → (old new : Client A) (waiting piece : List ℕ) (reader out : Flow) → Type 0
-  SievesTo form (Ok passed) ended old new waiting piece reader out = SievesWhole form passed old new waiting piece reader out
-  SievesTo form (Err ReadFault) ended old new waiting piece reader out = SievesMore form old new waiting reader out
-  SievesTo form (Err ReadLimit) ended old new waiting piece reader out = SievesMore form old new waiting reader out
-  SievesTo form (Err (Refused fault)) ended old new waiting piece reader out = SievesFault fault form ended old new waiting reader out
-  SievesTo form (Err WriteFault) ended old new waiting piece reader out = SievesBroken form old new waiting reader out
+  abbrev pub SievesTo : Form → Result Passed RunFault → Bool → (old new : Client A) (waiting chunk : List ℕ) (reader out : Flow) → Type 0
+  SievesTo form (Ok passed) ended old new waiting chunk reader out = SievesWhole form passed old new waiting chunk reader out
+  SievesTo form (Err ReadFault) ended old new waiting chunk reader out = SievesMore form old new waiting reader out
+  SievesTo form (Err ReadLimit) ended old new waiting chunk reader out = SievesMore form old new waiting reader out
+  SievesTo form (Err (Refused fault)) ended old new waiting chunk reader out = SievesFault fault form ended old new waiting reader out
+  SievesTo form (Err WriteFault) ended old new waiting chunk reader out = SievesBroken form old new waiting reader out

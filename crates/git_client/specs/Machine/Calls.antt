@@ -11,11 +11,11 @@ use Rattle.git_client.specs.Parts.{Terms}
 use Rattle.git_client.specs.Events.{pack_bytes, turns_of}
 use Rattle.git_client.specs.Packs.{HasPack}
 use Rattle.git_client.specs.Conversation.{HasEvents, HasNoted, FirstMalformed, GoesOn, GoesWell, IsConversation}
-use Rattle.git_client.specs.Machine.Client.{History, Converses, HearsOn, Asks, RefusesToAsk, Leaves, Pulls, Feeds, given_by, events_of}
+use Rattle.git_client.specs.Machine.Client.{History, Converses, ReceivesOn, Asks, RefusesToAsk, Leaves, Pulls, Feeds, given_by, events_of}
 use Rattle.git_client.specs.Machine.Client.{bytes_held, stored_in, kept_by, limit_of, reader_of, request_of, caps_of, fault_of, can_ask, wants_input}
-use Rattle.git_client.specs.Machine.Client.{left_to_say, said_of, spelled}
+use Rattle.git_client.specs.Machine.Client.{left_to_send, sent_of, spelled}
 use Rattle.git_client.specs.declared.client.Client.{Client}
-use Rattle.git_client.specs.declared.events.Heard.{Heard}
+use Rattle.git_client.specs.declared.events.Received.{Received}
 use Rattle.git_client.specs.declared.events.Sent.{Sent}
 
 -- a call that may change a client: its arguments and its result
@@ -24,14 +24,14 @@ pub data Call (A : Type 0) : Type 0 where
   ask_refused : (request handed_back : Request A) (fault : Fault) → Call A
   leave : Call A
   pull : Sent → Call A
-  feed : (piece : List ℕ) (answer : Heard) → Call A
+  feed : (chunk : List ℕ) (answer : Received) → Call A
   close : Fault → Call A
 
 module _ {A : Type 0} where
   -- the effect of a call of `close`, which is made when input is wanted
   pub record Closes (old : Client A) (fault : Fault) (new : Client A) : Type 0 where
     pub waits : wants_input old ≡ true
-    pub carries : HearsOn old [] [] new
+    pub carries : ReceivesOn old [] [] new
     pub refused : fault_of new ≡ Some fault
     pub kind : fault.kind ≡ Truncated
     pub offset : (t : Terms) (h : History) (given : List Given) (rest : List ℕ) → Converses t h old → Splits 0 h.used given rest
@@ -44,8 +44,8 @@ module _ {A : Type 0} where
   Makes (ask_refused request handed_back fault) before old after new = RefusesToAsk old request handed_back fault new × (after ≡ before)
   Makes leave before old after new = Leaves old new × (after ≡ before)
   Makes (pull sent) before old after new = Pulls old sent new × (after ≡ before)
-  Makes (feed piece answer) before old after new =
-      Feeds old piece answer new × (answer.used ≤ length piece)
+  Makes (feed chunk answer) before old after new =
+      Feeds old chunk answer new × (answer.used ≤ length chunk)
       × Pays answer.used before after (credit_of (reader_of old)) (credit_of (reader_of new))
   Makes (close fault) before old after new = Closes old fault new × (after ≡ before)
 
@@ -55,7 +55,7 @@ module _ {A : Type 0} where
   after_call h (ask_refused request handed_back fault) = h
   after_call h leave = record h { left = true }
   after_call h (pull sent) = record h { given = h.given ++ given_by sent }
-  after_call h (feed piece answer) = record h { used = h.used ++ take answer.used piece; events = h.events ++ events_of answer.got }
+  after_call h (feed chunk answer) = record h { used = h.used ++ take answer.used chunk; events = h.events ++ events_of answer.got }
   after_call h (close fault) = h
 
   -- the effect of calls on the history, one after the other
@@ -70,7 +70,7 @@ module _ {A : Type 0} where
   closes (call ∷ calls) = closes calls
 
   abbrev pub feeds_by : Call A → ℕ
-  feeds_by (feed piece answer) = 1
+  feeds_by (feed chunk answer) = 1
   feeds_by call = 0
 
   -- the number of calls of `feed` among them
@@ -99,7 +99,7 @@ module _ {A : Type 0} where
     pub events : HasEvents t h.asked h.used h.events
     pub noted : HasNoted t h.asked h.used (caps_of client)
     -- if no packet is left to send, exactly the written form of the requests was sent, and the flush if the client has left
-    pub given : left_to_say client ≡ [] → h.given ≡ spelled (said_of t.format (caps_of client) h.asked h.left)
+    pub given : left_to_send client ≡ [] → h.given ≡ spelled (sent_of t.format (caps_of client) h.asked h.left)
     -- the pack bytes among the events are the pack of the bytes used: at any time, and after a refusal too
     pub pack : HasPack t h.asked h.used (pack_bytes h.events)
     -- if the client can ask, each response is whole
@@ -107,10 +107,10 @@ module _ {A : Type 0} where
     -- it can ask if and only if it has neither failed nor left, and has received the advertisement and a whole response to each request
     pub turn : (can_ask client ≡ true) ↔ ((fault_of client ≡ None) × (h.left ≡ false) × (turns_of h.events ≡ suc (length h.asked)))
     -- it waits for input only if more is expected after the bytes used, and the whole written form of the requests was sent
-    pub due : wants_input client ≡ true → GoesOn t h.asked h.used h.events
-    pub waits : wants_input client ≡ true → h.given ≡ spelled (said_of t.format (caps_of client) h.asked h.left)
+    pub expected : wants_input client ≡ true → GoesOn t h.asked h.used h.events
+    pub waits : wants_input client ≡ true → h.given ≡ spelled (sent_of t.format (caps_of client) h.asked h.left)
     -- if it neither can ask nor waits for input, it has a packet to send, unless it has failed or left
-    pub owes : fault_of client ≡ None → h.left ≡ false → can_ask client ≡ false → wants_input client ≡ false → left_to_say client ≢ []
+    pub has_unsent : fault_of client ≡ None → h.left ≡ false → can_ask client ≡ false → wants_input client ≡ false → left_to_send client ≢ []
     -- a client that has refused something did so at the first malformed packet, and any other client has received none
     pub refused : (fault : Fault) → fault_of client ≡ Some fault → FirstMalformed t h.asked h.used fault
     pub unrefused : fault_of client ≡ None → GoesWell t h.asked h.used h.events

@@ -25,24 +25,24 @@ use Rattle.git_msg.specs.Machine.RequestWriter.{written_of}
 use Rattle.git_msg.specs.declared.offers.Caps.{Caps}
 use Rattle.git_msg.specs.declared.requests.Request.{Request}
 use Rattle.git_client.specs.Parts.{Terms, Part, opening, advertisement, listing, sections, informing, closing}
-use Rattle.git_client.specs.Parts.{nearest, advertisement_of, message_of, is_end_due, part_of}
-use Rattle.git_client.specs.Sections.{is_empty, is_header_due, section_of, lines_of, allowed_after, acks_in}
+use Rattle.git_client.specs.Parts.{nearest, advertisement_of, message_of, is_end_expected, part_of}
+use Rattle.git_client.specs.Sections.{is_empty, is_header_expected, section_of, lines_of, allowed_after, acks_in}
 use Rattle.git_client.specs.Events.{EventValue, all_parts_length}
 use Rattle.git_client.specs.Places.{place_after}
 use Rattle.git_client.specs.Opened.{events_on, opened_in}
-use Rattle.git_client.specs.Conversation.{GiveAll, RefusesAt, HasDue}
+use Rattle.git_client.specs.Conversation.{GiveAll, RefusesAt, HasExpected}
 use Rattle.git_client.specs.Machine.Turns.{takes_packets, fault_in, is_ready, has_left_in, left_in, phase_in, question_in, values_of, events_at, Fits}
 use Rattle.git_client.specs.Machine.Turns.{after_acknowledgments}
 use Rattle.git_client.specs.declared.sections.Section.{Section}
 use Rattle.git_client.specs.declared.sections.Section.TheVariants.{Acknowledgments as AcknowledgmentsSection, ShallowInfo as ShallowInfoSection}
 use Rattle.git_client.specs.declared.sections.Section.TheVariants.{WantedRefs as WantedRefsSection, Packfile as PackfileSection}
 use Rattle.git_client.specs.declared.phase.Phase.{Phase}
-use Rattle.git_client.specs.declared.phase.Phase.TheVariants.{Hearing, Asking, Failed as FailedPhase}
-use Rattle.git_client.specs.declared.phase.Due.{Due}
-use Rattle.git_client.specs.declared.phase.Due.TheVariants.{Version, Capabilities, References, Header, Acknowledgments, ShallowInfo, WantedRefs}
-use Rattle.git_client.specs.declared.phase.Due.TheVariants.{Packfile, SizeLine, Sizes, ResponseEnd}
-use Rattle.git_client.specs.declared.phase.Said.{Said}
-use Rattle.git_client.specs.declared.phase.Said.TheVariants.{Nothing, Offered as OfferedSaid, Ended as EndedSaid}
+use Rattle.git_client.specs.declared.phase.Phase.TheVariants.{Receiving, Asking, Failed as FailedPhase}
+use Rattle.git_client.specs.declared.phase.Expected.{Expected}
+use Rattle.git_client.specs.declared.phase.Expected.TheVariants.{Version, Capabilities, References, Header, Acknowledgments, ShallowInfo, WantedRefs}
+use Rattle.git_client.specs.declared.phase.Expected.TheVariants.{Packfile, SizeLine, Sizes, ResponseEnd}
+use Rattle.git_client.specs.declared.phase.LineContent.{LineContent}
+use Rattle.git_client.specs.declared.phase.LineContent.TheVariants.{Nothing, Offered as OfferedContent, Ended as EndedContent}
 use Rattle.git_client.specs.declared.phase.Turn.{Turn}
 use Rattle.git_client.specs.declared.client.Advance.{Advance}
 use Rattle.git_client.specs.declared.client.Client.{Client}
@@ -51,9 +51,9 @@ use Rattle.git_client.specs.declared.client.Outcome.TheVariants.{More as Nothing
 use Rattle.git_client.specs.declared.events.Ending.{Ending}
 use Rattle.git_client.specs.declared.events.Event.{Event}
 use Rattle.git_client.specs.declared.events.Event.TheVariants.{Offered, Ended, Pack as PackEvent, Progress as ProgressEvent}
-use Rattle.git_client.specs.declared.events.Heard.{Heard}
-use Rattle.git_client.specs.declared.events.HeardGot.{HeardGot}
-use Rattle.git_client.specs.declared.events.HeardGot.TheVariants.{More, Event as EventGot, Failed}
+use Rattle.git_client.specs.declared.events.Received.{Received}
+use Rattle.git_client.specs.declared.events.ReceivedGot.{ReceivedGot}
+use Rattle.git_client.specs.declared.events.ReceivedGot.TheVariants.{More, Event as EventGot, Failed}
 use Rattle.git_client.specs.declared.events.Sent.{Sent}
 use Rattle.git_client.specs.declared.events.Sent.TheVariants.{Packet, NeedInput, CanAsk, Finished, Failed as FailedSent}
 
@@ -82,47 +82,47 @@ farewell true = flush ∷ []
 farewell false = []
 
 -- all that a client sends
-abbrev pub said_of : Format → Caps → List Asked → Bool → List Pkt
-said_of format caps asked left = questions_of format caps asked ++ farewell left
+abbrev pub sent_of : Format → Caps → List Asked → Bool → List Pkt
+sent_of format caps asked left = questions_of format caps asked ++ farewell left
 
 -- 1 if a response end is expected, since its flush is counted already; otherwise 0
-abbrev pub awaits_end : Due → ℕ
+abbrev pub awaits_end : Expected → ℕ
 awaits_end ResponseEnd = 1
-awaits_end due = 0
+awaits_end expected = 0
 
 -- the packets so far end inside this section
 pub record IsInside (section : Section) (message : List Pkt) : Type 0 where
-  pub inside : is_header_due message ≡ false
+  pub inside : is_header_expected message ≡ false
   pub begun : section_of message ≡ Some section
 
 -- after these packets of a message, which belong to this part, this is expected
-abbrev pub IsDueIn : Part → List Pkt → Due → Type 0
-IsDueIn opening message Version = Unit {0}
-IsDueIn advertisement message Capabilities = Unit {0}
-IsDueIn listing message References = Unit {0}
-IsDueIn (sections done) message (Header allowed) = (is_header_due message ≡ true) × (allowed ≡ allowed_after done message)
-IsDueIn (sections done) message (Acknowledgments told) =
-    IsInside AcknowledgmentsSection message × (told ≡ acks_in (lines_of message)) × (allowed_after done message ≡ after_acknowledgments)
-IsDueIn (sections done) message (ShallowInfo allowed) = IsInside ShallowInfoSection message × (allowed ≡ allowed_after done message)
-IsDueIn (sections done) message (WantedRefs allowed) = IsInside WantedRefsSection message × (allowed ≡ allowed_after done message)
-IsDueIn (sections done) message Packfile = IsInside PackfileSection message
-IsDueIn informing message SizeLine = is_empty message ≡ true
-IsDueIn informing message Sizes = is_empty message ≡ false
-IsDueIn closing message ResponseEnd = Unit {0}
-IsDueIn part message due = ⊥
+abbrev pub IsExpectedIn : Part → List Pkt → Expected → Type 0
+IsExpectedIn opening message Version = Unit {0}
+IsExpectedIn advertisement message Capabilities = Unit {0}
+IsExpectedIn listing message References = Unit {0}
+IsExpectedIn (sections done) message (Header allowed) = (is_header_expected message ≡ true) × (allowed ≡ allowed_after done message)
+IsExpectedIn (sections done) message (Acknowledgments announced) =
+    IsInside AcknowledgmentsSection message × (announced ≡ acks_in (lines_of message)) × (allowed_after done message ≡ after_acknowledgments)
+IsExpectedIn (sections done) message (ShallowInfo allowed) = IsInside ShallowInfoSection message × (allowed ≡ allowed_after done message)
+IsExpectedIn (sections done) message (WantedRefs allowed) = IsInside WantedRefsSection message × (allowed ≡ allowed_after done message)
+IsExpectedIn (sections done) message Packfile = IsInside PackfileSection message
+IsExpectedIn informing message SizeLine = is_empty message ≡ true
+IsExpectedIn informing message Sizes = is_empty message ≡ false
+IsExpectedIn closing message ResponseEnd = Unit {0}
+IsExpectedIn part message expected = ⊥
 
 -- this is expected after these packets, which have as many whole messages as there are requests
-pub record IsDue (t : Terms) (asked : List Asked) (before : List Pkt) (due : Due) : Type 0 where
+pub record IsExpected (t : Terms) (asked : List Asked) (before : List Pkt) (expected : Expected) : Type 0 where
   pub part : Part
   pub is_part : part_of t asked before ≡ Some part
-  pub counts : flushes before ≡ length asked + awaits_end due
+  pub counts : flushes before ≡ length asked + awaits_end expected
   pub same_lines : flushes before ≡ 0 → message_of before ≡ advertisement_of before
-  pub is_due : IsDueIn part (message_of before) due
+  pub is_expected : IsExpectedIn part (message_of before) expected
 
 -- the packets are a whole advertisement and a whole response to each request
 pub record AreWhole (t : Terms) (asked : List Asked) (before : List Pkt) : Type 0 where
   pub all_flushes : flushes before ≡ suc (length asked)
-  pub no_end_due : is_end_due t.ending before ≡ false
+  pub no_end_expected : is_end_expected t.ending before ≡ false
   pub no_message : message_of before ≡ []
 
 -- the last request is being asked after the responses to all before it
@@ -189,16 +189,16 @@ module _ {A : Type 0} where
   phase_of client = client.phase
 
   -- the contents of the last packet, as the judge found them
-  abbrev pub said_last : Client A → Said
-  said_last client = client.said
+  abbrev pub content_last : Client A → LineContent
+  content_last client = client.content
 
   -- the request that is being asked
   abbrev pub request_of : Client A → Option (Request A)
   request_of client = client.request
 
   -- the packets that still have to be pulled
-  abbrev pub left_to_say : Client A → List Pkt
-  left_to_say client = left_in client.phase client.request
+  abbrev pub left_to_send : Client A → List Pkt
+  left_to_send client = left_in client.phase client.request
 
   -- the number of bytes that the client has: those in the buffer of its packet reader, and those stored of the request that it asks
   abbrev pub bytes_held : Client A → ℕ
@@ -214,12 +214,12 @@ module _ {A : Type 0} where
         phase = phase;
         caps = caps;
         request = request;
-        said = said;
+        content = content;
         sound = sound;
         shut = shut;
         gathers = gathers;
         passes = passes;
-        owes = owes;
+        has_unsent = has_unsent;
         freed = freed;
         formats = formats;
         covered = covered;
@@ -237,7 +237,7 @@ module _ {A : Type 0} where
 
 -- the packets that come before this phase, the nearest first
 abbrev pub Behind : Terms → List Asked → List Pkt → Option Asked → Phase → Type 0
-Behind t asked before question (Hearing due) = IsDue t asked before due
+Behind t asked before question (Receiving expected) = IsExpected t asked before expected
 Behind t asked before question (Asking writer) = IsAsked t asked before question
 Behind t asked before question (FailedPhase fault) = ⊥
 Behind t asked before question phase = AreWhole t asked before
@@ -254,14 +254,14 @@ pub record RefusedPacket (t : Terms) (asked : List Asked) (clean given : List Gi
 -- no packet is refused, but the bytes after the packets are no packet and cannot become one, or the input ended in one
 pub record RefusedBytes (t : Terms) (asked : List Asked) (clean given : List Given) (rest : List ℕ) (end : ℕ) (fault : Fault) : Type 0 where
   pub cut : given ≡ clean
-  pub due : HasDue t asked (nearest clean [])
+  pub expected : HasExpected t asked (nearest clean [])
   pub by : StopsBy (end - length rest) rest end fault.kind fault.offset
 
 -- the input ended after a whole packet, although more was expected
 pub record EndedEarly (t : Terms) (asked : List Asked) (clean given : List Given) (rest : List ℕ) (end : ℕ) (fault : Fault) : Type 0 where
   pub cut : given ≡ clean
   pub nothing : rest ≡ []
-  pub due : HasDue t asked (nearest clean [])
+  pub expected : HasExpected t asked (nearest clean [])
   pub kind : fault.kind ≡ Truncated
   pub at : fault.offset ≡ end
 
@@ -281,7 +281,7 @@ StandsIn (FailedPhase fault) t asked clean given rest end question reader =
 StandsIn phase t asked clean given rest end question reader = Goes t asked clean given rest question phase reader
 
 -- the events of a result of `feed`
-abbrev pub events_of : HeardGot → List EventValue
+abbrev pub events_of : ReceivedGot → List EventValue
 events_of More = []
 events_of (EventGot event) = values_of event
 events_of (Failed fault) = []
@@ -296,13 +296,13 @@ abbrev pub phase_judged : ℕ → Result Turn Kind → Phase
 phase_judged offset (Ok turn) = phase_in turn
 phase_judged offset (Err kind) = FailedPhase (record { kind = kind; offset = offset })
 
-abbrev pub outcome_said : Said → Outcome
-outcome_said Nothing = NothingYet
-outcome_said said = EventNow
+abbrev pub outcome_sent : LineContent → Outcome
+outcome_sent Nothing = NothingYet
+outcome_sent content = EventNow
 
-abbrev pub outcome_judged : ℕ → Said → Result Turn Kind → Outcome
-outcome_judged offset said (Ok turn) = outcome_said said
-outcome_judged offset said (Err kind) = FailedNow (record { kind = kind; offset = offset })
+abbrev pub outcome_judged : ℕ → LineContent → Result Turn Kind → Outcome
+outcome_judged offset content (Ok turn) = outcome_sent content
+outcome_judged offset content (Err kind) = FailedNow (record { kind = kind; offset = offset })
 
 module _ {A : Type 0} where
   -- the conditions on a client with these terms after this history
@@ -319,7 +319,7 @@ module _ {A : Type 0} where
     pub notes : caps_of client ≡ noted_of (advertisement_of (nearest clean []))
     pub stands : StandsIn (phase_of client) t h.asked clean given rest (length h.used) (question_in (request_of client)) (reader_of client)
     pub left : h.left ≡ has_left client
-    pub spoken : h.given ++ spelled (left_to_say client) ≡ spelled (said_of t.format (caps_of client) h.asked h.left)
+    pub spoken : h.given ++ spelled (left_to_send client) ≡ spelled (sent_of t.format (caps_of client) h.asked h.left)
 
   -- whatever the history was, it continues with a request
   abbrev pub AsksOn : Client A → Asked → Client A → Type 0
@@ -331,13 +331,13 @@ module _ {A : Type 0} where
   LeavesOn old new = (t : Terms) (h : History) → Converses t h old → Converses t (record h { left = true }) new
 
   -- it continues with the bytes used and the events returned
-  abbrev pub HearsOn : Client A → List ℕ → List EventValue → Client A → Type 0
-  HearsOn old used more new =
+  abbrev pub ReceivesOn : Client A → List ℕ → List EventValue → Client A → Type 0
+  ReceivesOn old used more new =
       (t : Terms) (h : History) → Converses t h old → Converses t (record h { used = h.used ++ used; events = h.events ++ more }) new
 
   -- it continues with the bytes sent
-  abbrev pub SaysOn : Client A → List ℕ → Client A → Type 0
-  SaysOn old more new = (t : Terms) (h : History) → Converses t h old → Converses t (record h { given = h.given ++ more }) new
+  abbrev pub SendsOn : Client A → List ℕ → Client A → Type 0
+  SendsOn old more new = (t : Terms) (h : History) → Converses t h old → Converses t (record h { given = h.given ++ more }) new
 
   -- the reasons to refuse a request: its format, then its command and its arguments if they are not advertised, and then the checks
   -- at a request's end
@@ -352,7 +352,7 @@ module _ {A : Type 0} where
   pub record Asks (old : Client A) (request : Request A) (new : Client A) : Type 0 where
     pub passes : Passes (ask_checks (format_of old) (caps_of old) request)
     pub asks : AsksOn old (asked_of request) new
-    pub owes : left_to_say new ≡ written_of request (caps_of old)
+    pub has_unsent : left_to_send new ≡ written_of request (caps_of old)
     pub no_more : can_ask new ≡ false
     pub credit : credit_of (reader_of new) ≤ credit_of (reader_of old)
 
@@ -366,7 +366,7 @@ module _ {A : Type 0} where
   -- the effect of a call of `leave`
   pub record Leaves (old new : Client A) : Type 0 where
     pub leaves : LeavesOn old new
-    pub owes : left_to_say new ≡ flush ∷ []
+    pub has_unsent : left_to_send new ≡ flush ∷ []
     pub no_more : has_left new ≡ true
     pub credit : credit_of (reader_of new) ≤ credit_of (reader_of old)
 
@@ -377,71 +377,71 @@ module _ {A : Type 0} where
   LeavesAfter event new = wants_input new ≡ true
 
   -- bytes that passed: they are the last ones of those used, and all bytes of their packet from there on that the chunk, or the stream, has
-  pub record IsPassed (bytes : List ℕ) (used : ℕ) (piece : List ℕ) (new : Client A) : Type 0 where
+  pub record IsPassed (bytes : List ℕ) (used : ℕ) (chunk : List ℕ) (new : Client A) : Type 0 where
     pub front : List ℕ
-    pub lies : take used piece ≡ front ++ bytes
-    pub all : is_open (reader_of new) ≡ true → (used ≡ length piece) ⊎ (bytes_used new ≡ last_position)
+    pub lies : take used chunk ≡ front ++ bytes
+    pub all : is_open (reader_of new) ≡ true → (used ≡ length chunk) ⊎ (bytes_used new ≡ last_position)
 
   -- after an event no packet is open, but after bytes of the pack or of the progress more of their packet may come
   abbrev pub EndsAt : Event → ℕ → List ℕ → Client A → Type 0
-  EndsAt (PackEvent bytes) used piece new = IsPassed bytes.now used piece new
-  EndsAt (ProgressEvent bytes) used piece new = IsPassed bytes.now used piece new
-  EndsAt event used piece new = is_open (reader_of new) ≡ false
+  EndsAt (PackEvent bytes) used chunk new = IsPassed bytes.now used chunk new
+  EndsAt (ProgressEvent bytes) used chunk new = IsPassed bytes.now used chunk new
+  EndsAt event used chunk new = is_open (reader_of new) ≡ false
 
   -- the meaning of each result of `feed`; no event is empty
-  abbrev pub Tells : HeardGot → ℕ → List ℕ → Client A → Client A → Type 0
-  Tells More used piece old new = wants_input old ≡ true → (used ≡ length piece) × (wants_input new ≡ true)
-  Tells (EventGot event) used piece old new =
-      (0 < used) × EndsAt event used piece new × (values_of event ≢ []) × LeavesAfter event new
-  Tells (Failed fault) used piece old new = fault_of new ≡ Some fault
+  abbrev pub Announces : ReceivedGot → ℕ → List ℕ → Client A → Client A → Type 0
+  Announces More used chunk old new = wants_input old ≡ true → (used ≡ length chunk) × (wants_input new ≡ true)
+  Announces (EventGot event) used chunk old new =
+      (0 < used) × EndsAt event used chunk new × (values_of event ≢ []) × LeavesAfter event new
+  Announces (Failed fault) used chunk old new = fault_of new ≡ Some fault
 
   -- a client that had no error reports only an error that the chunk shows
-  abbrev pub IsNews : Client A → List ℕ → Heard → Type 0
-  IsNews old piece heard = (f : Fault) → fault_of old ≡ None → heard.got ≡ Failed f → ShownByFeed f heard.used piece
+  abbrev pub IsNews : Client A → List ℕ → Received → Type 0
+  IsNews old chunk arrived = (f : Fault) → fault_of old ≡ None → arrived.got ≡ Failed f → ShownByFeed f arrived.used chunk
 
   -- a client with this error uses nothing and returns the error again
-  abbrev pub Repeats : Client A → Heard → Client A → Type 0
-  Repeats old heard new = (f : Fault) → fault_of old ≡ Some f → (heard.used ≡ 0) × (heard.got ≡ Failed f) × (new ≡ old)
+  abbrev pub Repeats : Client A → Received → Client A → Type 0
+  Repeats old arrived new = (f : Fault) → fault_of old ≡ Some f → (arrived.used ≡ 0) × (arrived.got ≡ Failed f) × (new ≡ old)
 
   -- a client that waits for no input uses nothing
-  abbrev pub Waits : Client A → Heard → Client A → Type 0
-  Waits old heard new =
-      wants_input old ≡ false → fault_of old ≡ None → (heard.used ≡ 0) × (heard.got ≡ More) × (new ≡ old)
+  abbrev pub Waits : Client A → Received → Client A → Type 0
+  Waits old arrived new =
+      wants_input old ≡ false → fault_of old ≡ None → (arrived.used ≡ 0) × (arrived.got ≡ More) × (new ≡ old)
 
   -- the effect of a call of `feed`
-  pub record Feeds (old : Client A) (piece : List ℕ) (heard : Heard) (new : Client A) : Type 0 where
-    pub hears : HearsOn old (take heard.used piece) (events_of heard.got) new
-    pub tells : Tells heard.got heard.used piece old new
-    pub news : IsNews old piece heard
-    pub stays : Repeats old heard new
-    pub waits : Waits old heard new
+  pub record Feeds (old : Client A) (chunk : List ℕ) (arrived : Received) (new : Client A) : Type 0 where
+    pub arrives : ReceivesOn old (take arrived.used chunk) (events_of arrived.got) new
+    pub announces : Announces arrived.got arrived.used chunk old new
+    pub news : IsNews old chunk arrived
+    pub stays : Repeats old arrived new
+    pub waits : Waits old arrived new
 
   -- one of the packets that had to be sent was sent; after the last one of a request the client receives, and after the flush it has left
   pub record GivesOne (old new : Client A) (bytes : List ℕ) : Type 0 where
     pub packet : Pkt
-    pub first : left_to_say old ≡ packet ∷ left_to_say new
+    pub first : left_to_send old ≡ packet ∷ left_to_send new
     pub written : bytes ≡ spelling_of packet
     pub same_leaving : has_left new ≡ has_left old
     pub sound : fault_of new ≡ None
     pub not_ready : can_ask new ≡ false
 
   -- the meaning of each result of `pull`
-  abbrev pub TellsSent : Sent → Client A → Client A → Type 0
-  TellsSent (Packet bytes) old new = GivesOne old new bytes.now
-  TellsSent NeedInput old new = (wants_input old ≡ true) × (new ≡ old)
-  TellsSent CanAsk old new = (can_ask old ≡ true) × (new ≡ old)
-  TellsSent Finished old new = (has_left old ≡ true) × (left_to_say old ≡ []) × (new ≡ old)
-  TellsSent (FailedSent fault) old new = (fault_of old ≡ Some fault) × (new ≡ old)
+  abbrev pub AnnouncesSent : Sent → Client A → Client A → Type 0
+  AnnouncesSent (Packet bytes) old new = GivesOne old new bytes.now
+  AnnouncesSent NeedInput old new = (wants_input old ≡ true) × (new ≡ old)
+  AnnouncesSent CanAsk old new = (can_ask old ≡ true) × (new ≡ old)
+  AnnouncesSent Finished old new = (has_left old ≡ true) × (left_to_send old ≡ []) × (new ≡ old)
+  AnnouncesSent (FailedSent fault) old new = (fault_of old ≡ Some fault) × (new ≡ old)
 
   -- the effect of a call of `pull`
   pub record Pulls (old : Client A) (sent : Sent) (new : Client A) : Type 0 where
-    pub says : SaysOn old (given_by sent) new
-    pub tells : TellsSent sent old new
+    pub conveys : SendsOn old (given_by sent) new
+    pub announces : AnnouncesSent sent old new
     pub credit : credit_of (reader_of new) ≤ credit_of (reader_of old)
 
   -- a client that has a packet to send has put it into its buffer
   pub record Puts (old new : Client A) : Type 0 where
-    pub says : SaysOn old (held_of (reader_of new)) new
+    pub conveys : SendsOn old (held_of (reader_of new)) new
     pub gives : GivesOne old new (held_of (reader_of new))
     pub credit : credit_of (reader_of new) ≡ 0
 
@@ -461,29 +461,29 @@ pub record EndsWithMessage (t : Terms) (asked : List Asked) (bytes message : Lis
   pub splits : Splits 0 bytes (clean ++ bad ∷ []) rest
   pub refused : RefusesAt t asked (nearest clean []) bad.packet kind
   pub packet : bad.packet ≡ payload line
-  pub says : IsMessage kind line message
+  pub conveys : IsMessage kind line message
 
 -- the names of the errors that the server reports itself
-abbrev pub is_told : Kind → Bool
-is_told RemoteError = true
-is_told RemoteFatal = true
-is_told kind = false
+abbrev pub is_announced : Kind → Bool
+is_announced RemoteError = true
+is_announced RemoteFatal = true
+is_announced kind = false
 
 module _ {A : Type 0} where
   -- the conversation was not ended by an error that the server reported
   abbrev pub EndsWithoutMessage : Client A → Type 0
-  EndsWithoutMessage client = (f : Fault) → fault_of client ≡ Some f → is_told f.kind ≡ false
+  EndsWithoutMessage client = (f : Fault) → fault_of client ≡ Some f → is_announced f.kind ≡ false
 
   -- the events of an outcome; their bytes are in the buffer, or are the last of those used
   abbrev pub Comes : Outcome → List EventValue → ℕ → List ℕ → Client A → Type 0
-  Comes NothingYet events used piece new = events ≡ []
-  Comes (PassedNow passed) events used piece new =
-      (bytes : List ℕ) × (length bytes ≡ passed.count) × (0 < passed.count) × (passed.band ≢ Fatal) × IsPassed bytes used piece new
+  Comes NothingYet events used chunk new = events ≡ []
+  Comes (PassedNow passed) events used chunk new =
+      (bytes : List ℕ) × (length bytes ≡ passed.count) × (0 < passed.count) × (passed.band ≢ Fatal) × IsPassed bytes used chunk new
       × (events ≡ events_on (map (on passed.band) bytes))
-  Comes EventNow events used piece new =
-      (events ≡ events_at (said_last new) (drop 4 (held_of (reader_of new)))) × (said_last new ≢ Nothing)
-      × Fits (said_last new) (drop 4 (held_of (reader_of new)))
-  Comes (FailedNow fault) events used piece new = events ≡ []
+  Comes EventNow events used chunk new =
+      (events ≡ events_at (content_last new) (drop 4 (held_of (reader_of new)))) × (content_last new ≢ Nothing)
+      × Fits (content_last new) (drop 4 (held_of (reader_of new)))
+  Comes (FailedNow fault) events used chunk new = events ≡ []
 
   -- a packet that was judged is settled; the reader stays unchanged
   pub record Settles (old : Client A) (judged : Result Turn Kind) (offset : ℕ) (outcome : Outcome) (new : Client A) : Type 0 where
@@ -493,26 +493,26 @@ module _ {A : Type 0} where
     pub request : request_of new ≡ request_of old
     pub phase : phase_of new ≡ phase_judged offset judged
     pub caps : caps_of new ≡ caps_of old
-    pub said : said_last new ≡ said_last old
-    pub tells : outcome ≡ outcome_judged offset (said_last old) judged
+    pub content : content_last new ≡ content_last old
+    pub announces : outcome ≡ outcome_judged offset (content_last old) judged
 
   -- whether the client can ask or receives more, after a packet with these contents
-  abbrev pub StandsAfter : Said → Client A → Type 0
-  StandsAfter OfferedSaid new = can_ask new ≡ true
-  StandsAfter EndedSaid new = can_ask new ≡ true
-  StandsAfter said new = wants_input new ≡ true
+  abbrev pub StandsAfter : LineContent → Client A → Type 0
+  StandsAfter OfferedContent new = can_ask new ≡ true
+  StandsAfter EndedContent new = can_ask new ≡ true
+  StandsAfter content new = wants_input new ≡ true
 
   -- the state that a step leaves the client in
   abbrev pub LeavesStep : Outcome → ℕ → List ℕ → Client A → Type 0
-  LeavesStep NothingYet used piece new = (wants_input new ≡ true) × (0 < length piece → 0 < used)
-  LeavesStep EventNow used piece new = (0 < used) × (is_open (reader_of new) ≡ false) × StandsAfter (said_last new) new
-  LeavesStep (PassedNow passed) used piece new = (0 < used) × (wants_input new ≡ true)
-  LeavesStep (FailedNow fault) used piece new = (fault_of new ≡ Some fault) × ShownByFeed fault used piece
+  LeavesStep NothingYet used chunk new = (wants_input new ≡ true) × (0 < length chunk → 0 < used)
+  LeavesStep EventNow used chunk new = (0 < used) × (is_open (reader_of new) ≡ false) × StandsAfter (content_last new) new
+  LeavesStep (PassedNow passed) used chunk new = (0 < used) × (wants_input new ≡ true)
+  LeavesStep (FailedNow fault) used chunk new = (fault_of new ≡ Some fault) × ShownByFeed fault used chunk
 
   -- a client that waits for input has used some bytes of the chunk
-  pub record Takes (old : Client A) (piece : List ℕ) (step : Advance) (new : Client A) : Type 0 where
+  pub record Takes (old : Client A) (chunk : List ℕ) (step : Advance) (new : Client A) : Type 0 where
     pub events : List EventValue
-    pub comes : Comes step.outcome events step.used piece new
-    pub hears : HearsOn old (take step.used piece) events new
-    pub leaves : LeavesStep step.outcome step.used piece new
+    pub comes : Comes step.outcome events step.used chunk new
+    pub arrives : ReceivesOn old (take step.used chunk) events new
+    pub leaves : LeavesStep step.outcome step.used chunk new
     pub fits : all_parts_length events ≤ longest_payload

@@ -6,8 +6,8 @@ use Rattle.git_client.specs.declared.client.Outcome.{Outcome}
 use Rattle.git_client.specs.declared.client.Outcome.TheVariants.{More, Event, Passed, Failed}
 use Rattle.git_client.specs.declared.events.Event.{Event as EventLent}
 use Rattle.git_client.specs.declared.events.Event.TheVariants.{Pack as PackEvent, Progress as ProgressEvent}
-use Rattle.git_client.specs.declared.events.HeardGot.{HeardGot}
-use Rattle.git_client.specs.declared.events.HeardGot.TheVariants.{More as MoreGot, Event as EventGot, Failed as FailedGot}
+use Rattle.git_client.specs.declared.events.ReceivedGot.{ReceivedGot}
+use Rattle.git_client.specs.declared.events.ReceivedGot.TheVariants.{More as MoreGot, Event as EventGot, Failed as FailedGot}
 
 -- the bytes that passed are among those used, and are on a band whose bytes pass
 abbrev pub HasPart : Outcome → ℕ → Type 0
@@ -21,12 +21,12 @@ Shows Progress bytes (ProgressEvent shown) = shown.now ≡ bytes
 Shows band bytes event = ⊥
 
 -- the result of a step is returned: if bytes passed, they are the last of those used of the chunk
-abbrev pub HandsOut : Outcome → ℕ → List ℕ → HeardGot → Type 0
-HandsOut (Passed passed) used piece (EventGot event) = Shows passed.band (take (used - (used - passed.count)) (drop (used - passed.count) piece)) event
-HandsOut (Failed f) used piece (FailedGot g) = f ≡ g
-HandsOut More used piece MoreGot = Unit {0}
-HandsOut Event used piece MoreGot = Unit {0}
-HandsOut outcome used piece got = ⊥
+abbrev pub HandsOut : Outcome → ℕ → List ℕ → ReceivedGot → Type 0
+HandsOut (Passed passed) used chunk (EventGot event) = Shows passed.band (take (used - (used - passed.count)) (drop (used - passed.count) chunk)) event
+HandsOut (Failed f) used chunk (FailedGot g) = f ≡ g
+HandsOut More used chunk MoreGot = Unit {0}
+HandsOut Event used chunk MoreGot = Unit {0}
+HandsOut outcome used chunk got = ⊥
 
 -- the event is borrowed from the client: it is not one of bytes that pass
 abbrev pub IsLent : EventLent → Type 0

@@ -14,11 +14,11 @@ use Rattle.git_msg.specs.declared.requests.Request.{Request}
 use Rattle.git_client.specs.Parts.{Terms}
 use Rattle.git_client.specs.Events.{EventValue, offered, ended as response_ended, pack_bytes, progress_bytes}
 use Rattle.git_client.specs.Transcript.{transcript_from, asked_line}
-use Rattle.git_client.specs.Machine.Client.{History, Converses, HearsOn, SaysOn, ask_checks, bytes_used, can_ask, caps_of, fault_of, format_of}
-use Rattle.git_client.specs.Machine.Client.{has_left, left_to_say, wants_input}
+use Rattle.git_client.specs.Machine.Client.{History, Converses, ReceivesOn, SendsOn, ask_checks, bytes_used, can_ask, caps_of, fault_of, format_of}
+use Rattle.git_client.specs.Machine.Client.{has_left, left_to_send, wants_input}
 use Rattle.git_client.specs.declared.client.Client.{Client}
-use Rattle.git_client.specs.declared.hearing.Counts.{Counts}
-use Rattle.git_client.specs.declared.hearing.Window.{Window}
+use Rattle.git_client.specs.declared.receiving.Counts.{Counts}
+use Rattle.git_client.specs.declared.receiving.Window.{Window}
 
 abbrev pub no_counts : Counts
 no_counts = record { pack = 0; progress = 0 }
@@ -44,7 +44,7 @@ IsOneTurn (event ∷ events) asks = IsOneTurn events asks
 
 -- the bytes of a chunk that were not used yet
 abbrev pub window_of : Window → List ℕ → List ℕ
-window_of window piece = take (window.end - window.start) (drop window.start piece)
+window_of window chunk = take (window.end - window.start) (drop window.start chunk)
 
 -- all packets before the last were written whole, and of the last a prefix
 pub record BreaksOff (stream : Flow) (given : List ℕ) : Type 0 where
@@ -58,99 +58,102 @@ pub record BreaksOff (stream : Flow) (given : List ℕ) : Type 0 where
 module _ {A : Type 0} where
   -- These bytes were received, and the client has nothing to send: the transcript lines for them were written, with the counts of the
   -- response so far, and their bytes of the pack and of the progress
-  pub record HearsBytes (broken : Bool) (old new : Client A) (counts counts_after : Counts) (used : List ℕ) (out packs progress : Flow) : Type 0 where
+  pub record ReceivesBytes (broken : Bool) (old new : Client A) (counts counts_after : Counts) (used : List ℕ) (out packs progress : Flow) : Type 0 where
     pub events : List EventValue
-    pub hears : HearsOn old used events new
+    pub arrives : ReceivesOn old used events new
     pub one_turn : IsOneTurn events (can_ask new)
-    pub owes : left_to_say new ≡ []
+    pub has_unsent : left_to_send new ≡ []
     pub counted : CanCount counts events → counts_after ≡ counts_with counts events
-    pub told : CanCount counts events → WrittenAs broken out (transcript_from [] counts.pack counts.progress events)
+    pub announced : CanCount counts events → WrittenAs broken out (transcript_from [] counts.pack counts.progress events)
     pub sent : WrittenAs broken packs (pack_bytes events)
     pub reported : WrittenAs broken progress (progress_bytes events)
 
   -- all of the chunk was used, or the client can ask
-  pub record HearsInPiece (old new : Client A) (counts counts_after : Counts) (piece : List ℕ) (used : ℕ) (out packs progress : Flow) : Type 0 where
-    pub hears : HearsBytes false old new counts counts_after (take used piece) out packs progress
-    pub within : used ≤ length piece
-    pub all : wants_input new ≡ true → used ≡ length piece
+  pub record ReceivesInChunk (old new : Client A) (counts counts_after : Counts) (chunk : List ℕ) (used : ℕ) (out packs progress : Flow) : Type 0 where
+    pub arrives : ReceivesBytes false old new counts counts_after (take used chunk) out packs progress
+    pub within : used ≤ length chunk
+    pub all : wants_input new ≡ true → used ≡ length chunk
     pub sound : fault_of new ≡ None
     pub whole : wants_input new ≡ false → can_ask new ≡ true
-    pub moves : 0 < length piece → 0 < used
+    pub moves : 0 < length chunk → 0 < used
 
   -- there was an error in the chunk
-  pub record HearsToFault (fault : Fault) (old new : Client A) (counts counts_after : Counts) (piece : List ℕ) (out packs progress : Flow) : Type 0 where
+  pub record ReceivesToFault (fault : Fault) (old new : Client A) (counts counts_after : Counts) (chunk : List ℕ) (out packs progress : Flow) : Type 0 where
     pub used : ℕ
-    pub hears : HearsBytes false old new counts counts_after (take used piece) out packs progress
-    pub told : fault_of new ≡ Some fault
-    pub shown : ShownByFeed fault used piece
+    pub arrives : ReceivesBytes false old new counts counts_after (take used chunk) out packs progress
+    pub announced : fault_of new ≡ Some fault
+    pub shown : ShownByFeed fault used chunk
 
   -- a write or a flush failed; if the client has an error, the chunk shows it
-  pub record HearsPieceBroken (old new : Client A) (counts counts_after : Counts) (piece : List ℕ) (out packs progress : Flow) : Type 0 where
+  pub record ReceivesChunkBroken (old new : Client A) (counts counts_after : Counts) (chunk : List ℕ) (out packs progress : Flow) : Type 0 where
     pub used : ℕ
-    pub hears : HearsBytes true old new counts counts_after (take used piece) out packs progress
-    pub shown : (fault : Fault) → fault_of new ≡ Some fault → ShownByFeed fault used piece
+    pub arrives : ReceivesBytes true old new counts counts_after (take used chunk) out packs progress
+    pub shown : (fault : Fault) → fault_of new ≡ Some fault → ShownByFeed fault used chunk
 
   -- how a chunk was received
-  abbrev pub HearsPieceTo : Result ℕ RunFault → Client A → Client A → Counts → Counts → List ℕ → Flow → Flow → Flow → Type 0
-  HearsPieceTo (Ok used) old new counts counts_after piece out packs progress = HearsInPiece old new counts counts_after piece used out packs progress
-  HearsPieceTo (Err WriteFault) old new counts counts_after piece out packs progress = HearsPieceBroken old new counts counts_after piece out packs progress
-  HearsPieceTo (Err (Refused fault)) old new counts counts_after piece out packs progress =
-      HearsToFault fault old new counts counts_after piece out packs progress
-  HearsPieceTo (Err fault) old new counts counts_after piece out packs progress = ⊥
+  abbrev pub ReceivesChunkTo : Result ℕ RunFault → Client A → Client A → Counts → Counts → List ℕ → Flow → Flow → Flow → Type 0
+  ReceivesChunkTo (Ok used) old new counts counts_after chunk out packs progress = ReceivesInChunk old new counts counts_after chunk used out packs progress
+  ReceivesChunkTo (Err WriteFault) old new counts counts_after chunk out packs progress =
+      ReceivesChunkBroken old new counts counts_after chunk out packs progress
+  ReceivesChunkTo (Err (Refused fault)) old new counts counts_after chunk out packs progress =
+      ReceivesToFault fault old new counts counts_after chunk out packs progress
+  ReceivesChunkTo (Err fault) old new counts counts_after chunk out packs progress = ⊥
 
   -- an error of the client is that of truncation only if the input has ended, and that of a stream too long only if one more byte was read
   abbrev pub FaultsInTime : Client A → Bool → List ℕ → Type 0
   FaultsInTime client ended unused = (fault : Fault) → fault_of client ≡ Some fault → IsTimely fault.kind ended unused
 
   -- a prefix of the waiting and the newly read bytes was received
-  pub record HearsFrom (broken : Bool) (old new : Client A) (waiting unused : List ℕ) (reader out packs progress : Flow) : Type 0 where
+  pub record ReceivesFrom (broken : Bool) (old new : Client A) (waiting unused : List ℕ) (reader out packs progress : Flow) : Type 0 where
     pub came : List ℕ
     pub used : List ℕ
     pub counts : Counts
     pub read : Consumes reader.before reader.after came
     pub parts : waiting ++ came ≡ used ++ unused
-    pub bytes : HearsBytes broken old new no_counts counts used out packs progress
+    pub bytes : ReceivesBytes broken old new no_counts counts used out packs progress
 
   -- a response was received whole
-  pub record HearsWhole (window : Window) (old new : Client A) (waiting piece : List ℕ) (reader out packs progress : Flow) : Type 0 where
-    pub hears : HearsFrom false old new waiting (window_of window piece) reader out packs progress
+  pub record ReceivesWholeResponse (window : Window) (old new : Client A) (waiting chunk : List ℕ) (reader out packs progress : Flow) : Type 0 where
+    pub arrives : ReceivesFrom false old new waiting (window_of window chunk) reader out packs progress
     pub ordered : window.start ≤ window.end
-    pub within : window.end ≤ length piece
+    pub within : window.end ≤ length chunk
     pub can_ask_on : can_ask new ≡ true
 
   -- all bytes were received, and more are expected
-  pub record HearsAll (old new : Client A) (waiting : List ℕ) (reader out packs progress : Flow) : Type 0 where
-    pub hears : HearsFrom false old new waiting [] reader out packs progress
-    pub due : wants_input new ≡ true
+  pub record ReceivesAllInput (old new : Client A) (waiting : List ℕ) (reader out packs progress : Flow) : Type 0 where
+    pub arrives : ReceivesFrom false old new waiting [] reader out packs progress
+    pub expected : wants_input new ≡ true
 
   -- there was an error
-  pub record HearsFault (fault : Fault) (ended : Bool) (old new : Client A) (waiting : List ℕ) (reader out packs progress : Flow) : Type 0 where
+  pub record ReceivesUntilFault (fault : Fault) (ended : Bool) (old new : Client A) (waiting : List ℕ) (reader out packs progress : Flow) : Type 0 where
     pub unused : List ℕ
-    pub hears : HearsFrom false old new waiting unused reader out packs progress
-    pub told : fault_of new ≡ Some fault
+    pub arrives : ReceivesFrom false old new waiting unused reader out packs progress
+    pub announced : fault_of new ≡ Some fault
     pub timely : IsTimely fault.kind ended unused
 
   -- a write or a flush failed; if the client has an error, it came in time
-  pub record HearsBroken (ended : Bool) (old new : Client A) (waiting : List ℕ) (reader out packs progress : Flow) : Type 0 where
+  pub record ReceivesUntilBroken (ended : Bool) (old new : Client A) (waiting : List ℕ) (reader out packs progress : Flow) : Type 0 where
     pub unused : List ℕ
-    pub hears : HearsFrom true old new waiting unused reader out packs progress
+    pub arrives : ReceivesFrom true old new waiting unused reader out packs progress
     pub timely : FaultsInTime new ended unused
 
   -- how a response was received
-  abbrev pub HearsTo : Result Window RunFault → Bool → Client A → Client A → List ℕ → List ℕ → Flow → Flow → Flow → Flow → Type 0
-  HearsTo (Ok window) ended old new waiting piece reader out packs progress = HearsWhole window old new waiting piece reader out packs progress
-  HearsTo (Err ReadFault) ended old new waiting piece reader out packs progress = HearsAll old new waiting reader out packs progress
-  HearsTo (Err ReadLimit) ended old new waiting piece reader out packs progress = HearsAll old new waiting reader out packs progress
-  HearsTo (Err WriteFault) ended old new waiting piece reader out packs progress = HearsBroken ended old new waiting reader out packs progress
-  HearsTo (Err (Refused fault)) ended old new waiting piece reader out packs progress = HearsFault fault ended old new waiting reader out packs progress
+  abbrev pub ReceivesResponse : Result Window RunFault → Bool → Client A → Client A → List ℕ → List ℕ → Flow → Flow → Flow → Flow → Type 0
+  ReceivesResponse (Ok window) ended old new waiting chunk reader out packs progress =
+      ReceivesWholeResponse window old new waiting chunk reader out packs progress
+  ReceivesResponse (Err ReadFault) ended old new waiting chunk reader out packs progress = ReceivesAllInput old new waiting reader out packs progress
+  ReceivesResponse (Err ReadLimit) ended old new waiting chunk reader out packs progress = ReceivesAllInput old new waiting reader out packs progress
+  ReceivesResponse (Err WriteFault) ended old new waiting chunk reader out packs progress = ReceivesUntilBroken ended old new waiting reader out packs progress
+  ReceivesResponse (Err (Refused fault)) ended old new waiting chunk reader out packs progress =
+      ReceivesUntilFault fault ended old new waiting reader out packs progress
 
   -- packets that had to be sent were taken and written; all of them, unless a write failed, and then no more were taken after that
-  pub record Says (broken : Bool) (old new : Client A) (writer : Flow) : Type 0 where
+  pub record SendsPackets (broken : Bool) (old new : Client A) (writer : Flow) : Type 0 where
     pub given : List ℕ
     pub written : WrittenAs broken writer given
     pub last : broken ≡ true → BreaksOff writer given
-    pub says : SaysOn old given new
-    pub all : broken ≡ false → left_to_say new ≡ []
+    pub conveys : SendsOn old given new
+    pub all : broken ≡ false → left_to_send new ≡ []
     pub same_leaving : has_left new ≡ has_left old
     pub sound : fault_of new ≡ None
     pub not_ready : can_ask new ≡ false
@@ -160,8 +163,8 @@ module _ {A : Type 0} where
   pub record AsksNext (broken : Bool) (old new : Client A) (request : Request A) (writer out : Flow) : Type 0 where
     pub passes : Passes (ask_checks (format_of old) (caps_of old) request)
     pub given : List ℕ
-    pub said : WrittenAs broken writer given
-    pub told : WrittenAs broken out (asked_line (command_asked (asked_of request)))
+    pub content : WrittenAs broken writer given
+    pub announced : WrittenAs broken out (asked_line (command_asked (asked_of request)))
     pub last : broken ≡ true → BreaksOff writer given
     pub sound : fault_of new ≡ None
     pub not_ready : can_ask new ≡ false
@@ -173,8 +176,8 @@ module _ {A : Type 0} where
     pub refused : RefusesBy (ask_checks (format_of old) (caps_of old) request) fault.kind
     pub at : fault.offset ≡ bytes_used old
     pub stays : new ≡ old
-    pub said : WrittenAs false writer []
-    pub told : WrittenAs false out []
+    pub content : WrittenAs false writer []
+    pub announced : WrittenAs false out []
 
   -- how a request was asked
   abbrev pub AsksTo : Result (Unit {0}) RunFault → Client A → Client A → Request A → Flow → Flow → Type 0

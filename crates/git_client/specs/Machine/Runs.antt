@@ -12,7 +12,7 @@ use Rattle.git_client.specs.Parts.{Terms}
 use Rattle.git_client.specs.Events.{pack_bytes, progress_bytes, turns_of}
 use Rattle.git_client.specs.Conversation.{HasNoted, FirstMalformed, GoesOn, IsConversation}
 use Rattle.git_client.specs.Transcript.{transcript_of}
-use Rattle.git_client.specs.Machine.Client.{History, Converses, ask_checks, can_ask, fault_of, said_of, spelled, wants_input}
+use Rattle.git_client.specs.Machine.Client.{History, Converses, ask_checks, can_ask, fault_of, sent_of, spelled, wants_input}
 use Rattle.git_client.specs.Machine.RunSteps.{FaultsInTime}
 use Rattle.git_client.specs.declared.client.Client.{Client}
 use Rattle.git_client.specs.declared.events.Ending.{Ending}
@@ -24,10 +24,10 @@ leaves_last FlushOnly = true
 leaves_last ResponseEnd = false
 
 -- everything expected was sent: the written form of each request, and the flush after leaving
-pub record HasSaid (t : Terms) (h : History) : Type 0 where
+pub record HasSent (t : Terms) (h : History) : Type 0 where
   pub caps : Caps
   pub noted : HasNoted t h.asked h.used caps
-  pub said : h.given ≡ spelled (said_of t.format caps h.asked h.left)
+  pub content : h.given ≡ spelled (sent_of t.format caps h.asked h.left)
 
 -- the received bytes are refused for their first error: truncated only if the input has ended, too long only if one more byte was read
 pub record IsMalformed (t : Terms) (ended : Bool) (unused : List ℕ) (h : History) (fault : Fault) : Type 0 where
@@ -39,7 +39,7 @@ pub record IsInterrupted (t : Terms) (unused : List ℕ) (h : History) : Type 0 
   pub all : unused ≡ []
   pub goes_on : GoesOn t h.asked h.used h.events
   pub stays : h.left ≡ false
-  pub said : HasSaid t h
+  pub content : HasSent t h
 
 module _ {A : Type 0} where
   -- the requests in `rest` were not asked, and all before them were: the advertisement allows each of those, and there is at most one of
@@ -67,7 +67,7 @@ module _ {A : Type 0} where
     pub all : rest ≡ []
     pub whole : IsConversation t h.asked h.used h.events
     pub leaves : h.left ≡ leaves_last t.ending
-    pub said : HasSaid t h
+    pub content : HasSent t h
 
   -- a write failed: the client has left only after the response to the last request, and not if each request has a connection of its own
   pub record IsBrokenRun (t : Terms) (rest : List (Request A)) (h : History) : Type 0 where
@@ -80,7 +80,7 @@ module _ {A : Type 0} where
   EndsAs t (Err ReadLimit) ended unused rest h = IsInterrupted t unused h
   EndsAs t (Err WriteFault) ended unused rest h = IsBrokenRun t rest h
   EndsAs t (Err (Refused fault)) ended unused rest h =
-      (IsMalformed t ended unused h fault ⊎ IsRefusedRequest t rest h fault) × (h.left ≡ false) × HasSaid t h
+      (IsMalformed t ended unused h fault ⊎ IsRefusedRequest t rest h fault) × (h.left ≡ false) × HasSent t h
 
   -- the client that a run returns: it waits for more, has the error that was reported, or can ask a request other than the
   -- refused one
@@ -98,8 +98,8 @@ module _ {A : Type 0} where
     pub h : History
     pub unused : List ℕ
     pub rest : List (Request A)
-    pub heard : read ≡ (h.used ++ unused) ∷ []
-    pub told : given ≡ h.given ∷ transcript_of h.asked h.events ∷ pack_bytes h.events ∷ progress_bytes h.events ∷ []
+    pub arrived : read ≡ (h.used ++ unused) ∷ []
+    pub announced : given ≡ h.given ∷ transcript_of h.asked h.events ∷ pack_bytes h.events ∷ progress_bytes h.events ∷ []
     pub stands : Converses t h client
     pub asked : HasAsked t requests rest h
     pub ends : EndsAs t result ended unused rest h

@@ -21,7 +21,7 @@ use Rattle.git_client.specs.Sections.{section_named, next_allowed, acks_with, al
 use Rattle.git_client.specs.Places.{Place, version, capabilities, references, header, acknowledgments, shallow_info, wanted_refs, packfile}
 use Rattle.git_client.specs.Places.{size_line, sizes, response_end}
 use Rattle.git_client.specs.Events.{EventValue, capability, offered, reference, ack, nak, ready, shallow, unshallow, wanted_ref, pack, progress, info, ended}
-use Rattle.git_client.specs.Events.{SaysLine, Gives, Refuses, IsLineFault}
+use Rattle.git_client.specs.Events.{MeansEvents, Gives, Refuses, IsLineFault}
 use Rattle.git_client.specs.declared.events.Ending.{Ending}
 use Rattle.git_client.specs.declared.events.Ending.TheVariants.{FlushOnly, ResponseEnd as WithResponseEnd}
 use Rattle.git_client.specs.declared.events.Event.{Event}
@@ -35,36 +35,36 @@ use Rattle.git_client.specs.declared.sections.Section.TheVariants.{WantedRefs as
 use Rattle.git_client.specs.declared.sections.Allowed.{Allowed}
 use Rattle.git_pkt.specs.declared.fault.Kind.{Kind}
 use Rattle.git_client.specs.declared.phase.Phase.{Phase}
-use Rattle.git_client.specs.declared.phase.Phase.TheVariants.{Hearing, Ready as ReadyPhase, Asking, Leaving, Left, Failed}
-use Rattle.git_client.specs.declared.phase.Due.{Due}
-use Rattle.git_client.specs.declared.phase.Due.TheVariants.{Version, Capabilities, References, Header, Acknowledgments, ShallowInfo, WantedRefs}
-use Rattle.git_client.specs.declared.phase.Due.TheVariants.{Packfile, SizeLine, Sizes, ResponseEnd}
-use Rattle.git_client.specs.declared.phase.Said.{Said}
-use Rattle.git_client.specs.declared.phase.Said.TheVariants.{Nothing, Capability as SaidCapability, Offered, Reference, Ack, Nak, Ready}
-use Rattle.git_client.specs.declared.phase.Said.TheVariants.{Shallow, Unshallow, WantedRef, Info as SaidInfo, Ended}
+use Rattle.git_client.specs.declared.phase.Phase.TheVariants.{Receiving, Ready as ReadyPhase, Asking, Leaving, Left, Failed}
+use Rattle.git_client.specs.declared.phase.Expected.{Expected}
+use Rattle.git_client.specs.declared.phase.Expected.TheVariants.{Version, Capabilities, References, Header, Acknowledgments, ShallowInfo, WantedRefs}
+use Rattle.git_client.specs.declared.phase.Expected.TheVariants.{Packfile, SizeLine, Sizes, ResponseEnd}
+use Rattle.git_client.specs.declared.phase.LineContent.{LineContent}
+use Rattle.git_client.specs.declared.phase.LineContent.TheVariants.{Nothing, Capability as CapabilityContent, Offered, Reference, Ack, Nak, Ready}
+use Rattle.git_client.specs.declared.phase.LineContent.TheVariants.{Shallow, Unshallow, WantedRef, Info as InfoContent, Ended}
 use Rattle.git_client.specs.declared.phase.CapabilityPlaces.{CapabilityPlaces}
 use Rattle.git_client.specs.declared.phase.Turn.{Turn}
-use Rattle.git_client.specs.declared.phase.Turn.TheVariants.{Hearing as HearingTurn, Ready as ReadyTurn}
+use Rattle.git_client.specs.declared.phase.Turn.TheVariants.{Receiving as ReceivingTurn, Ready as ReadyTurn}
 
 -- the place at which this is expected
-abbrev pub place_due : Caps → Format → Due → Place
-place_due caps format Version = version
-place_due caps format Capabilities = capabilities (is_spoken caps format)
-place_due caps format References = references
-place_due caps format (Header allowed) = header allowed
-place_due caps format (Acknowledgments told) = acknowledgments told
-place_due caps format (ShallowInfo allowed) = shallow_info
-place_due caps format (WantedRefs allowed) = wanted_refs
-place_due caps format Packfile = packfile
-place_due caps format SizeLine = size_line
-place_due caps format Sizes = sizes
-place_due caps format ResponseEnd = response_end
+abbrev pub place_expected : Caps → Format → Expected → Place
+place_expected caps format Version = version
+place_expected caps format Capabilities = capabilities (is_spoken caps format)
+place_expected caps format References = references
+place_expected caps format (Header allowed) = header allowed
+place_expected caps format (Acknowledgments announced) = acknowledgments announced
+place_expected caps format (ShallowInfo allowed) = shallow_info
+place_expected caps format (WantedRefs allowed) = wanted_refs
+place_expected caps format Packfile = packfile
+place_expected caps format SizeLine = size_line
+place_expected caps format Sizes = sizes
+place_expected caps format ResponseEnd = response_end
 
 -- text lines are expected
-abbrev pub TakesLines : Due → Type 0
+abbrev pub TakesLines : Expected → Type 0
 TakesLines Packfile = ⊥
 TakesLines ResponseEnd = ⊥
-TakesLines due = Unit {0}
+TakesLines expected = Unit {0}
 
 -- the value of a capability line with its parts at these places
 abbrev pub value_at : CapabilityPlaces → List ℕ → Option (List ℕ)
@@ -74,9 +74,9 @@ abbrev pub wanted_at : ObjectName → List ℕ → Wanted
 wanted_at id text = wanted_of id (drop (digits_of id.format + 1) text)
 
 -- the events that a text line was found to give
-abbrev pub line_events : Said → List ℕ → List EventValue
+abbrev pub line_events : LineContent → List ℕ → List EventValue
 line_events Nothing text = []
-line_events (SaidCapability places) text = capability (take places.key_length text) (value_at places text) ∷ []
+line_events (CapabilityContent places) text = capability (take places.key_length text) (value_at places text) ∷ []
 line_events Offered text = offered ∷ []
 line_events (Reference places) text = reference (reference_at places text) ∷ []
 line_events (Ack id) text = ack id ∷ []
@@ -85,12 +85,12 @@ line_events Ready text = ready ∷ []
 line_events (Shallow id) text = shallow id ∷ []
 line_events (Unshallow id) text = unshallow id ∷ []
 line_events (WantedRef id) text = wanted_ref (wanted_at id text) ∷ []
-line_events (SaidInfo told) text = info told ∷ []
+line_events (InfoContent announced) text = info announced ∷ []
 line_events Ended text = ended ∷ []
 
 -- the events that a payload was found to give
-abbrev pub events_at : Said → List ℕ → List EventValue
-events_at said bytes = line_events said (text_of bytes)
+abbrev pub events_at : LineContent → List ℕ → List EventValue
+events_at content bytes = line_events content (text_of bytes)
 
 -- the parts of a capability line lie within it
 pub record LiesIn (places : CapabilityPlaces) (text : List ℕ) : Type 0 where
@@ -98,20 +98,20 @@ pub record LiesIn (places : CapabilityPlaces) (text : List ℕ) : Type 0 where
   pub value : places.has_value ≡ true → places.key_length < length text
 
 -- the places found in a text line are within it
-abbrev pub FitsLine : Said → List ℕ → Type 0
-FitsLine (SaidCapability places) text = LiesIn places text
+abbrev pub FitsLine : LineContent → List ℕ → Type 0
+FitsLine (CapabilityContent places) text = LiesIn places text
 FitsLine (Reference places) text = FitsIn places (length text)
 FitsLine (WantedRef id) text = digits_of id.format < length text
-FitsLine said text = Unit {0}
+FitsLine content text = Unit {0}
 
 -- the places found in a payload are within it
-abbrev pub Fits : Said → List ℕ → Type 0
-Fits said bytes = FitsLine said (text_of bytes)
+abbrev pub Fits : LineContent → List ℕ → Type 0
+Fits content bytes = FitsLine content (text_of bytes)
 
 -- a text line at the place was found to have these contents
-pub record Says (place : Place) (format : Format) (text : List ℕ) (said : Said) : Type 0 where
-  pub says : SaysLine place format text (line_events said text)
-  pub fits : FitsLine said text
+pub record HasContent (place : Place) (format : Format) (text : List ℕ) (content : LineContent) : Type 0 where
+  pub conveys : MeansEvents place format text (line_events content text)
+  pub fits : FitsLine content text
 
 -- a capability line was found, and these capabilities are noted after it
 pub record FindsCapability (caps : Caps) (text : List ℕ) (places : CapabilityPlaces) (after : Caps) : Type 0 where
@@ -120,94 +120,95 @@ pub record FindsCapability (caps : Caps) (text : List ℕ) (places : CapabilityP
   pub notes : (packets : List Pkt) (line : List ℕ) → text_of line ≡ text → caps ≡ noted_of packets → after ≡ noted_of (payload line ∷ packets)
 
 -- what is expected after the header of a section
-abbrev pub due_in : Allowed → Section → Due
-due_in allowed AcknowledgmentsSection = Acknowledgments (record { any = false; nak = false; ready = false })
-due_in allowed ShallowInfoSection = ShallowInfo (next_allowed allowed ShallowInfoSection)
-due_in allowed WantedRefsSection = WantedRefs (next_allowed allowed WantedRefsSection)
-due_in allowed PackfileSection = Packfile
+abbrev pub expected_in : Allowed → Section → Expected
+expected_in allowed AcknowledgmentsSection = Acknowledgments (record { any = false; nak = false; ready = false })
+expected_in allowed ShallowInfoSection = ShallowInfo (next_allowed allowed ShallowInfoSection)
+expected_in allowed WantedRefsSection = WantedRefs (next_allowed allowed WantedRefsSection)
+expected_in allowed PackfileSection = Packfile
 
-abbrev pub due_after_header : Allowed → Option Section → Due
-due_after_header allowed None = Header allowed
-due_after_header allowed (Some section) = due_in allowed section
+abbrev pub expected_after_header : Allowed → Option Section → Expected
+expected_after_header allowed None = Header allowed
+expected_after_header allowed (Some section) = expected_in allowed section
 
 -- what is expected after a text line
-abbrev pub due_after_line : Due → List ℕ → Due
-due_after_line Version text = Capabilities
-due_after_line (Header allowed) text = due_after_header allowed (section_named text)
-due_after_line (Acknowledgments told) text = Acknowledgments (acks_with told text)
-due_after_line SizeLine text = Sizes
-due_after_line due text = due
+abbrev pub expected_after_line : Expected → List ℕ → Expected
+expected_after_line Version text = Capabilities
+expected_after_line (Header allowed) text = expected_after_header allowed (section_named text)
+expected_after_line (Acknowledgments announced) text = Acknowledgments (acks_with announced text)
+expected_after_line SizeLine text = Sizes
+expected_after_line expected text = expected
 
 -- after the acknowledgments every other section may come
 abbrev pub after_acknowledgments : Allowed
 after_acknowledgments = record { acknowledgments = false; shallow_info = true; wanted_refs = true }
 
 -- what is expected after a delimiter
-abbrev pub due_after_delimiter : Due → Due
-due_after_delimiter (Acknowledgments told) = Header after_acknowledgments
-due_after_delimiter (ShallowInfo allowed) = Header allowed
-due_after_delimiter (WantedRefs allowed) = Header allowed
-due_after_delimiter due = due
+abbrev pub expected_after_delimiter : Expected → Expected
+expected_after_delimiter (Acknowledgments announced) = Header after_acknowledgments
+expected_after_delimiter (ShallowInfo allowed) = Header allowed
+expected_after_delimiter (WantedRefs allowed) = Header allowed
+expected_after_delimiter expected = expected
 
 -- the phase of a conversation in this turn
 abbrev pub phase_in : Turn → Phase
-phase_in (HearingTurn due) = Hearing due
+phase_in (ReceivingTurn expected) = Receiving expected
 phase_in ReadyTurn = ReadyPhase
 
 -- the phase of a conversation after the flush of a response
 abbrev pub phase_after_response : Ending → Phase
 phase_after_response FlushOnly = ReadyPhase
-phase_after_response WithResponseEnd = Hearing ResponseEnd
+phase_after_response WithResponseEnd = Receiving ResponseEnd
 
 -- the phase of a conversation after a packet without an error
-abbrev pub phase_after : Ending → Due → Pkt → Phase
-phase_after ending due (payload bytes) = Hearing (due_after_line due (text_of bytes))
-phase_after ending due delim = Hearing (due_after_delimiter due)
+abbrev pub phase_after : Ending → Expected → Pkt → Phase
+phase_after ending expected (payload bytes) = Receiving (expected_after_line expected (text_of bytes))
+phase_after ending expected delim = Receiving (expected_after_delimiter expected)
 phase_after ending Capabilities flush = ReadyPhase
-phase_after ending due flush = phase_after_response ending
-phase_after ending due resp_end = ReadyPhase
+phase_after ending expected flush = phase_after_response ending
+phase_after ending expected resp_end = ReadyPhase
 
 -- the contents of a response's flush
-abbrev pub said_after_flush : Ending → Said
-said_after_flush FlushOnly = Ended
-said_after_flush WithResponseEnd = Nothing
+abbrev pub content_after_flush : Ending → LineContent
+content_after_flush FlushOnly = Ended
+content_after_flush WithResponseEnd = Nothing
 
 -- the capabilities noted after a packet without an error: a line of the advertisement adds to them
-abbrev pub NotesAfter : Due → Caps → Pkt → Caps → Type 0
+abbrev pub NotesAfter : Expected → Caps → Pkt → Caps → Type 0
 NotesAfter Capabilities caps (payload line) after = (packets : List Pkt) → caps ≡ noted_of packets → after ≡ noted_of (payload line ∷ packets)
-NotesAfter due caps p after = after ≡ caps
+NotesAfter expected caps p after = after ≡ caps
 
 -- the findings of the judge for a packet without an error: its contents, the capabilities noted after it, and whose turn it is then
-pub record IsTurn (format : Format) (ending : Ending) (due : Due) (caps : Caps) (p : Pkt) (said : Said) (after : Caps) (turn : Turn) : Type 0 where
-  pub gives : Gives format ending (place_due caps format due) p (events_at said (body_of p))
-  pub fits : Fits said (body_of p)
-  pub notes : NotesAfter due caps p after
-  pub next : phase_in turn ≡ phase_after ending due p
+pub record IsTurn (format : Format) (ending : Ending) (expected : Expected) (caps : Caps) (p : Pkt) (content : LineContent) (after : Caps)
+    (turn : Turn) : Type 0 where
+  pub gives : Gives format ending (place_expected caps format expected) p (events_at content (body_of p))
+  pub fits : Fits content (body_of p)
+  pub notes : NotesAfter expected caps p after
+  pub next : phase_in turn ≡ phase_after ending expected p
 
 -- the judge's result for a packet: a refused packet adds nothing to the noted capabilities
-abbrev pub Judges : Format → Ending → Due → Caps → Pkt → Said → Caps → Result Turn Kind → Type 0
-Judges format ending due caps p said after (Ok turn) = IsTurn format ending due caps p said after turn
-Judges format ending due caps p said after (Err kind) = Refuses format ending (place_due caps format due) p kind × (after ≡ caps)
+abbrev pub Judges : Format → Ending → Expected → Caps → Pkt → LineContent → Caps → Result Turn Kind → Type 0
+Judges format ending expected caps p content after (Ok turn) = IsTurn format ending expected caps p content after turn
+Judges format ending expected caps p content after (Err kind) = Refuses format ending (place_expected caps format expected) p kind × (after ≡ caps)
 
 -- its findings for a text line
-pub record IsLineTurn (format : Format) (due : Due) (caps : Caps) (text : List ℕ) (said : Said) (after : Caps) (turn : Turn) : Type 0 where
-  pub says : Says (place_due caps format due) format text said
-  pub notes : (line : List ℕ) → text_of line ≡ text → NotesAfter due caps (payload line) after
-  pub next : phase_in turn ≡ Hearing (due_after_line due text)
+pub record IsLineTurn (format : Format) (expected : Expected) (caps : Caps) (text : List ℕ) (content : LineContent) (after : Caps) (turn : Turn) : Type 0 where
+  pub conveys : HasContent (place_expected caps format expected) format text content
+  pub notes : (line : List ℕ) → text_of line ≡ text → NotesAfter expected caps (payload line) after
+  pub next : phase_in turn ≡ Receiving (expected_after_line expected text)
 
 -- its result for a text line
-abbrev pub JudgesLine : Format → Due → Caps → List ℕ → Said → Caps → Result Turn Kind → Type 0
-JudgesLine format due caps text said after (Ok turn) = IsLineTurn format due caps text said after turn
-JudgesLine format due caps text said after (Err kind) = IsLineFault (place_due caps format due) format text kind × (after ≡ caps)
+abbrev pub JudgesLine : Format → Expected → Caps → List ℕ → LineContent → Caps → Result Turn Kind → Type 0
+JudgesLine format expected caps text content after (Ok turn) = IsLineTurn format expected caps text content after turn
+JudgesLine format expected caps text content after (Err kind) = IsLineFault (place_expected caps format expected) format text kind × (after ≡ caps)
 
 -- the phase takes packets
 abbrev pub takes_packets : Phase → Bool
-takes_packets (Hearing due) = true
+takes_packets (Receiving expected) = true
 takes_packets _ = false
 
 -- the phase takes bytes on bands
 abbrev pub takes_bands : Phase → Bool
-takes_bands (Hearing Packfile) = true
+takes_bands (Receiving Packfile) = true
 takes_bands _ = false
 
 -- the error of a phase
@@ -240,10 +241,10 @@ question_in None = None
 question_in (Some request) = Some (asked_of request)
 
 -- what is expected first of a response
-abbrev pub first_due : Asked → Due
-first_due (ls_refs q) = References
-first_due (fetch q) = Header (allowed_after q.done [])
-first_due (object_info q) = SizeLine
+abbrev pub first_expected : Asked → Expected
+first_expected (ls_refs q) = References
+first_expected (fetch q) = Header (allowed_after q.done [])
+first_expected (object_info q) = SizeLine
 
 -- the capability that a borrowed one shows
 abbrev pub capability_value : Capability → EventValue

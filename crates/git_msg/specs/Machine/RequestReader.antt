@@ -14,7 +14,7 @@ use Rattle.git_msg.specs.Arguments.{Arg, HasName, shown, written_text}
 use Rattle.git_msg.specs.Asked.{asked_by}
 use Rattle.git_msg.specs.Machine.HeldRequest.{asked_of, command_of, format_of, keep_checks, kept_of, limit_of, stored_of, IsRefused, Keeps}
 use Rattle.git_msg.specs.Lines.{Line, commands_of, arguments_of, kept_in, has_format, has_delimiter, IsArgumentText}
-use Rattle.git_msg.specs.Requests.{AreLines, IsPlainLine, Asks, FirstFault, IsTold, IsStop}
+use Rattle.git_msg.specs.Requests.{AreLines, IsPlainLine, Asks, FirstFault, IsAnnounced, IsStop}
 
 -- no line yet
 abbrev pub is_nil : List Line → Bool
@@ -120,7 +120,7 @@ module _ {A : Type 0} where
   TakesIn Capabilities packets r = StandsBehind packets InCapabilities r
   TakesIn Arguments packets r = StandsBehind packets InArguments r
   TakesIn (Waiting offset long) packets r = (arg : Arg) × WaitsBehind packets offset long arg r
-  TakesIn (Failed f) packets r = IsTold r.offer (limit_in r) packets f
+  TakesIn (Failed f) packets r = IsAnnounced r.offer (limit_in r) packets f
 
   -- the packets are what the reader has taken since the last request began
   pub record Takes (packets : List Given) (r : RequestReader A) : Type 0 where
@@ -174,7 +174,7 @@ module _ {A : Type 0} where
   -- the argument was kept, or refused at its offset
   abbrev pub Settles : List Given → Result (Unit {0}) Fault → RequestReader A → Type 0
   Settles packets (Ok done) new = Takes packets new
-  Settles packets (Err f) new = Takes packets new × IsTold (offer_of new) (limit_in new) packets f
+  Settles packets (Err f) new = Takes packets new × IsAnnounced (offer_of new) (limit_in new) packets f
 
   abbrev pub LeavesKept : Result (Unit {0}) Fault → RequestReader A → Type 0
   LeavesKept (Ok done) new = (fault_of new ≡ None) × (is_waiting new ≡ false)

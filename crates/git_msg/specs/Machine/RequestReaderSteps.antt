@@ -50,7 +50,7 @@ module _ {A : Type 0} where
     pub new_is : IsSame new (with_line line old)
 
   -- the command is there, and the format is right
-  pub record IsDue (r : RequestReader A) (c : Command) : Type 0 where
+  pub record IsExpected (r : RequestReader A) (c : Command) : Type 0 where
     pub there : r.command ≡ Some c
     pub passes : Passes (part_checks r.offer (option_to_list r.command) r.has_format)
 

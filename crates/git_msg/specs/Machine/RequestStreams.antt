@@ -13,7 +13,7 @@ use Rattle.git_msg.specs.declared.offers.Offer.{Offer}
 use Rattle.git_msg.specs.declared.requests.Request.{Request}
 use Rattle.git_msg.specs.Asked.{Asked}
 use Rattle.git_msg.specs.Machine.HeldRequest.{asked_of, format_of, kept_of, limit_of as request_limit}
-use Rattle.git_msg.specs.Requests.{Asks, IsTold, IsStop}
+use Rattle.git_msg.specs.Requests.{Asks, IsAnnounced, IsStop}
 use Rattle.git_msg.specs.WholeRequests.{AreRequests}
 use Rattle.git_msg.specs.Machine.StreamStages.{AreBegun, fault_in, takes_bytes, stage_is_between}
 use Rattle.git_msg.specs.Machine.RequestReader.{Takes, offer_of as offer_in, limit_in, kept_so_far, stored_so_far, fault_of as reader_fault, is_waiting}
@@ -40,7 +40,7 @@ pub record IsRefusedLast (offer : Offer) (limit : ℕ) (left : List Given) (rest
   pub last : Given
   pub whole : left ≡ front ++ last ∷ []
   pub begun : AreBegun offer limit front
-  pub told : IsTold offer limit left fault
+  pub announced : IsAnnounced offer limit left fault
   pub no_rest : rest ≡ []
 
 -- no packet is refused, and the bytes after them belong to no packet
@@ -177,32 +177,32 @@ module _ {A : Type 0} where
 
   -- the state of the reader after each answer
   abbrev pub Leaves : ReadGot A → ℕ → List ℕ → RequestStream A → RequestStream A → Type 0
-  Leaves More used piece old new = wants_input old ≡ true → (used ≡ length piece) × (wants_input new ≡ true)
-  Leaves (RequestGot request) used piece old new =
+  Leaves More used chunk old new = wants_input old ≡ true → (used ≡ length chunk) × (wants_input new ≡ true)
+  Leaves (RequestGot request) used chunk old new =
       (0 < used) × (is_between new ≡ true) × (is_within_packet new ≡ false) × (format_of request ≡ (offer_of new).format)
       × (kept_of request ≤ limit_of new) × (request_limit request ≡ limit_of new)
-  Leaves StopGot used piece old new = (0 < used) × (wants_input new ≡ false) × (fault_of new ≡ None)
-  Leaves (FailedGot fault) used piece old new = fault_of new ≡ Some fault
+  Leaves StopGot used chunk old new = (0 < used) × (wants_input new ≡ false) × (fault_of new ≡ None)
+  Leaves (FailedGot fault) used chunk old new = fault_of new ≡ Some fault
 
   -- a reader that had no fault never reports the end of the input, and reports that the stream is too long only if the chunk has one more byte
   abbrev pub IsNews : RequestStream A → List ℕ → ReadRequest A → Type 0
-  IsNews old piece read = (fault : Fault) → fault_of old ≡ None → read.got ≡ FailedGot fault → ShownByFeed fault read.used piece
+  IsNews old chunk read = (fault : Fault) → fault_of old ≡ None → read.got ≡ FailedGot fault → ShownByFeed fault read.used chunk
 
   -- the answer of a reader that has stopped or failed
-  abbrev pub told_again : Option Fault → ReadGot A
-  told_again None = More
-  told_again (Some fault) = FailedGot fault
+  abbrev pub announced_again : Option Fault → ReadGot A
+  announced_again None = More
+  announced_again (Some fault) = FailedGot fault
 
   -- a reader that has stopped or failed uses nothing, stays as it is, and returns the same answer again
   abbrev pub Stays : RequestStream A → ReadRequest A → RequestStream A → Type 0
-  Stays old read new = wants_input old ≡ false → (read.used ≡ 0) × (read.got ≡ told_again (fault_of old)) × (new ≡ old)
+  Stays old read new = wants_input old ≡ false → (read.used ≡ 0) × (read.got ≡ announced_again (fault_of old)) × (new ≡ old)
 
   -- the effect of a call of `feed`, whatever was read before
-  pub record Feeds (old : RequestStream A) (piece : List ℕ) (read : ReadRequest A) (new : RequestStream A) : Type 0 where
-    pub reads : (used : List ℕ) (asked : List Asked) → HasRead used asked old → HasRead (used ++ take read.used piece) (asked ++ asked_by read.got) new
-    pub counts : (used : List ℕ) (asked : List Asked) → HasRead used asked old → EndsWith read.got (used ++ take read.used piece) new
-    pub leaves : Leaves read.got read.used piece old new
-    pub news : IsNews old piece read
+  pub record Feeds (old : RequestStream A) (chunk : List ℕ) (read : ReadRequest A) (new : RequestStream A) : Type 0 where
+    pub reads : (used : List ℕ) (asked : List Asked) → HasRead used asked old → HasRead (used ++ take read.used chunk) (asked ++ asked_by read.got) new
+    pub counts : (used : List ℕ) (asked : List Asked) → HasRead used asked old → EndsWith read.got (used ++ take read.used chunk) new
+    pub leaves : Leaves read.got read.used chunk old new
+    pub news : IsNews old chunk read
     pub stays : Stays old read new
     pub offer : offer_of new ≡ offer_of old
     pub limit : limit_of new ≡ limit_of old

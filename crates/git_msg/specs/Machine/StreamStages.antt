@@ -4,7 +4,7 @@ use Rattle.git_pkt.specs.Splits.{Given}
 use Rattle.git_pkt.specs.declared.fault.Fault.{Fault}
 use Rattle.git_pkt.specs.declared.fault.Kind.{Kind}
 use Rattle.git_msg.specs.declared.offers.Offer.{Offer}
-use Rattle.git_msg.specs.Admission.{IsToldFor, IsUnbarred}
+use Rattle.git_msg.specs.Admission.{IsAnnouncedFor, IsUnbarred}
 use Rattle.git_msg.specs.Arguments.{Arg}
 use Rattle.git_msg.specs.Machine.HeldRequest.{asked_of, format_of, kept_of, limit_of, stored_of}
 use Rattle.git_msg.specs.Lines.{Line}
@@ -56,7 +56,7 @@ module _ {A : Type 0} where
   IsBrought barred packets (Request request) new =
       Takes [] new × Asks (offer_of new) (limit_in new) packets (asked_of request) (kept_of request) × (format_of request ≡ (offer_of new).format)
   IsBrought barred packets Stop new = Takes [] new × IsStop packets
-  IsBrought barred packets (Failed fault) new = IsToldFor (offer_of new) (limit_in new) barred packets fault
+  IsBrought barred packets (Failed fault) new = IsAnnouncedFor (offer_of new) (limit_in new) barred packets fault
 
   -- the bytes stored of a whole request are at most those kept of it
   abbrev pub IsCovered : ReadGot A → Type 0

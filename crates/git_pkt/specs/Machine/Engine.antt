@@ -1,9 +1,9 @@
 -- The meaning of each end of a run over a reader and a writer.
 use Rattle.std.specs.Prelude.{◌≡◌, ℕ, Bool, true, false, Result, Ok, Err}
-use Rattle.git_pkt.specs.declared.told.Told.{Told}
+use Rattle.git_pkt.specs.declared.recorded.Recorded.{Recorded}
 use Rattle.git_pkt.specs.declared.fault.RunFault.{RunFault}
 use Rattle.git_pkt.specs.declared.fault.RunFault.TheVariants.{ReadFault, WriteFault, ReadLimit, Refused}
-use Rattle.git_pkt.specs.Machine.Told.{reads_of, has_ended}
+use Rattle.git_pkt.specs.Machine.Recorded.{reads_of, has_ended}
 
 -- which of a run's streams failed, by its result: the one that it reports, or else none
 abbrev pub FailsAs : {T : Type 0} → Result T RunFault → Bool → Bool → Type 0
@@ -14,7 +14,7 @@ FailsAs (Err ReadLimit) read_failed write_failed = (read_failed ≡ false) × (w
 FailsAs (Err (Refused fault)) read_failed write_failed = (read_failed ≡ false) × (write_failed ≡ false)
 
 -- all reads that were allowed were made, but the input had not ended
-pub record IsSpent {R : Type 0} (reader : Told R) (turns : ℕ) : Type 0 where
+pub record IsSpent {R : Type 0} (reader : Recorded R) (turns : ℕ) : Type 0 where
   pub reads : reads_of reader ≡ turns
   pub open_ended : has_ended reader ≡ false
 

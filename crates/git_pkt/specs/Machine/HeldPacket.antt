@@ -26,8 +26,8 @@ pub record IsWhole (s : List ℕ) (field : ℕ) : Type 0 where
   pub long : length s ≡ max 4 field
 
 -- the error of a number that no packet may have
-abbrev pub TellsField : ℕ → Option Kind → Type 0
-TellsField n None = IsLengthField n
-TellsField n (Some BadLength) = n ≡ 3
-TellsField n (Some TooLong) = 65520 < n
-TellsField n (Some _) = ⊥
+abbrev pub AnnouncesField : ℕ → Option Kind → Type 0
+AnnouncesField n None = IsLengthField n
+AnnouncesField n (Some BadLength) = n ≡ 3
+AnnouncesField n (Some TooLong) = 65520 < n
+AnnouncesField n (Some _) = ⊥

@@ -93,21 +93,21 @@ ReadsOn old used more new =
     → (later : List ℕ) × Reads new start (bytes ++ used) (given ++ more) later
 
 -- the meaning of each answer of `feed` for the reader
-abbrev pub Tells : Got → ℕ → List ℕ → PacketReader → Type 0
-Tells More used piece new = (used ≡ length piece) × (fault_of new ≡ None)
-Tells (Packet p offset) used piece new =
+abbrev pub Announces : Got → ℕ → List ℕ → PacketReader → Type 0
+Announces More used chunk new = (used ≡ length chunk) × (fault_of new ≡ None)
+Announces (Packet p offset) used chunk new =
     (0 < used) × (fault_of new ≡ None) × (is_open new ≡ false) × Spells (seen p) (held_of new)
     × (offset + length (held_of new) ≡ position_of new)
-Tells (Failed f) used piece new = fault_of new ≡ Some f
+Announces (Failed f) used chunk new = fault_of new ≡ Some f
 
 -- a fault that the bytes of a chunk show: past the last position there is one more byte, which is not used
-pub record ShownByFeed (f : Fault) (used : ℕ) (piece : List ℕ) : Type 0 where
+pub record ShownByFeed (f : Fault) (used : ℕ) (chunk : List ℕ) : Type 0 where
   pub not_the_end : f.kind ≢ Truncated
-  pub one_more : f.kind ≡ StreamTooLong → used < length piece
+  pub one_more : f.kind ≡ StreamTooLong → used < length chunk
 
 -- a reader that had no fault reports only a fault that the chunk shows
 abbrev pub IsNews : PacketReader → List ℕ → Fed → Type 0
-IsNews old piece fed = (f : Fault) → fault_of old ≡ None → fed.got ≡ Failed f → ShownByFeed f fed.used piece
+IsNews old chunk fed = (f : Fault) → fault_of old ≡ None → fed.got ≡ Failed f → ShownByFeed f fed.used chunk
 
 -- a reader with this fault uses nothing and returns the fault again
 abbrev pub Repeats : PacketReader → Fed → PacketReader → Type 0
@@ -126,12 +126,12 @@ Counts old used (Packet p offset) new = (length (body_of (seen p)) + 4 ≡ open_
 Counts old used (Failed f) new = open_length new ≡ 0
 
 -- the effect of a call of `feed`
-pub record Feeds (old : PacketReader) (piece : List ℕ) (fed : Fed) (new : PacketReader) : Type 0 where
-  pub reads : ReadsOn old (take fed.used piece) (given_by fed.got) new
-  pub tells : Tells fed.got fed.used piece new
-  pub news : IsNews old piece fed
+pub record Feeds (old : PacketReader) (chunk : List ℕ) (fed : Fed) (new : PacketReader) : Type 0 where
+  pub reads : ReadsOn old (take fed.used chunk) (given_by fed.got) new
+  pub announces : Announces fed.got fed.used chunk new
+  pub news : IsNews old chunk fed
   pub stays : Repeats old fed new
   pub keeps : fed.used ≡ 0 → held_of new ≡ held_of old
-  pub held : HoldsAsItCame old (take fed.used piece) fed.got new
+  pub held : HoldsAsItCame old (take fed.used chunk) fed.got new
   pub counts : Counts old fed.used fed.got new
   pub gathers : passes_of new ≡ false

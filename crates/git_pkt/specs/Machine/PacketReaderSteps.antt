@@ -26,7 +26,7 @@ pub record IsHeld (rest : List ℕ) (new : PacketReader) : Type 0 where
 
 -- the rest has a fault, which ends the reading
 pub record Stops (rest : List ℕ) (f : Fault) (new : PacketReader) : Type 0 where
-  pub told : fault_of new ≡ Some f
+  pub announced : fault_of new ≡ Some f
   pub closed : is_open new ≡ false
   pub none : NoneBegins rest
   pub by : StopsBy (position_of new - length rest) rest (position_of new) f.kind f.offset
@@ -44,7 +44,7 @@ pub record Moves (old : PacketReader) (u : List ℕ) (progress : Progress) (new 
 -- the reader ended with this fault, and is otherwise as it was
 pub record IsStopped (old : PacketReader) (kind : Kind) (offset : ℕ) (progress : Progress) (new : PacketReader) : Type 0 where
   pub progress_is : progress ≡ Failed (record { kind = kind; offset = offset })
-  pub told : fault_of new ≡ Some (record { kind = kind; offset = offset })
+  pub announced : fault_of new ≡ Some (record { kind = kind; offset = offset })
   pub closed : is_open new ≡ false
   pub position : position_of new ≡ position_of old
 
@@ -56,6 +56,6 @@ IsOfPacket (Failed f) = (f.kind ≢ Truncated) × (f.kind ≢ StreamTooLong)
 
 -- a fault that bytes of the chunk show; past the last position the byte that shows it is not used
 abbrev pub IsShown : Progress → ℕ → List ℕ → Type 0
-IsShown Open used piece = Unit {0}
-IsShown Whole used piece = Unit {0}
-IsShown (Failed f) used piece = ShownByFeed f used piece
+IsShown Open used chunk = Unit {0}
+IsShown Whole used chunk = Unit {0}
+IsShown (Failed f) used chunk = ShownByFeed f used chunk

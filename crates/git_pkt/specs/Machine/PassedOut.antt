@@ -12,10 +12,10 @@ HasPart progress used = Unit {0}
 
 -- the result of a step is handed out: bytes that passed are the last of the chunk's used ones
 abbrev pub HandsOut : BandProgress → ℕ → List ℕ → BandGot → Type 0
-HandsOut (Part part) used piece (PartGot band bytes) =
-    (band ≡ part.band) × (bytes.now ≡ take (used - (used - part.count)) (drop (used - part.count) piece))
-HandsOut (Failed f) used piece (FailedGot g) = f ≡ g
-HandsOut Open used piece More = Unit {0}
-HandsOut Empty used piece More = Unit {0}
-HandsOut Whole used piece More = Unit {0}
-HandsOut progress used piece got = ⊥
+HandsOut (Part part) used chunk (PartGot band bytes) =
+    (band ≡ part.band) × (bytes.now ≡ take (used - (used - part.count)) (drop (used - part.count) chunk))
+HandsOut (Failed f) used chunk (FailedGot g) = f ≡ g
+HandsOut Open used chunk More = Unit {0}
+HandsOut Empty used chunk More = Unit {0}
+HandsOut Whole used chunk More = Unit {0}
+HandsOut progress used chunk got = ⊥

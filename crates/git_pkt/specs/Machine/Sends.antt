@@ -3,13 +3,14 @@ use Rattle.std.specs.Prelude.{◌≡◌, ◌||◌, ◌++◌, ℕ, List, Option, 
 use Rattle.std.specs.Io.KnownBytes.{Appends}
 use Rattle.git_pkt.specs.declared.fault.RunFault.{RunFault}
 use Rattle.git_pkt.specs.declared.fault.RunFault.TheVariants.{WriteFault}
-use Rattle.git_pkt.specs.declared.told.Told.{Told}
-use Rattle.git_pkt.specs.Machine.Told.{inner_of, has_failed, ReadsNothing}
+use Rattle.git_pkt.specs.declared.recorded.Recorded.{Recorded}
+use Rattle.git_pkt.specs.Machine.Recorded.{inner_of, has_failed, ReadsNothing}
 use Rattle.git_pkt.specs.Streams.{AppendsFront}
 
 -- The bytes were appended to what the writer holds. If that failed, a prefix of them was, and the fault is `WriteFault`. The
 -- writer has failed if it had before, or if this call failed; nothing was read.
-pub record Sends {W T : Type 0} (contents : W → Option (List ℕ)) (old : Told W) (bytes : List ℕ) (result : Result T RunFault) (new : Told W) : Type 0 where
+pub record Sends {W T : Type 0} (contents : W → Option (List ℕ)) (old : Recorded W) (bytes : List ℕ) (result : Result T RunFault)
+    (new : Recorded W) : Type 0 where
   pub ok : OnOk result (Appends (contents (inner_of old)) (contents (inner_of new)) bytes)
   pub err : OnErr result (AppendsFront (contents (inner_of old)) (contents (inner_of new)) bytes)
   pub fault : IfErr result (λ fault. fault ≡ WriteFault)
@@ -17,7 +18,7 @@ pub record Sends {W T : Type 0} (contents : W → Option (List ℕ)) (old : Told
   pub reads : ReadsNothing old new
 
 -- The bytes joined those that waited for the writer: some of all these were sent, and the others wait.
-pub record Puts {W T : Type 0} (contents : W → Option (List ℕ)) (old : Told W) (before bytes : List ℕ) (result : Result T RunFault) (new : Told W)
+pub record Puts {W T : Type 0} (contents : W → Option (List ℕ)) (old : Recorded W) (before bytes : List ℕ) (result : Result T RunFault) (new : Recorded W)
     (after : List ℕ) : Type 0 where
   pub sent : List ℕ
   pub rest : List ℕ

@@ -10,8 +10,8 @@ module _ {M : Type 0} where
   HasRefusedLine reader = HasFailed reader.progress
 
   -- there is no space for so many bytes after the line that is open
-  abbrev pub LacksRoom : RepositoryReader M → ℕ → Type 0
-  LacksRoom reader bytes = vec_capacity reader.begun < length reader.begun.items + bytes
+  abbrev pub LacksBuffer : RepositoryReader M → ℕ → Type 0
+  LacksBuffer reader bytes = vec_capacity reader.begun < length reader.begun.items + bytes
 
   -- the number of buffered bytes of the line that is open
   abbrev pub open_bytes : RepositoryReader M → ℕ
@@ -25,4 +25,4 @@ module _ {M : Type 0} where
   pub record Stays (old new : RepositoryReader M) : Type 0 where
     pub progress : new.progress ≡ old.progress
     pub begun : new.begun.items ≡ old.begun.items
-    pub room : vec_capacity new.begun ≡ vec_capacity old.begun
+    pub space : vec_capacity new.begun ≡ vec_capacity old.begun

@@ -81,7 +81,7 @@ references_after q repo None = []
 pub record AnswersOne (asked : LsRefsAsked) (repo : Repository) (place : ReferencesPlace) (old : PacketReader) (after : Option ReferencesPlace)
     (new : PacketReader) : Type 0 where
   pub packet : Pkt
-  pub owed : references_from asked repo place ≡ packet ∷ references_after asked repo after
+  pub unsent : references_from asked repo place ≡ packet ∷ references_after asked repo after
   pub writes : Writes old packet new
 
 -- the packets from a place on, or none if the answer ended
@@ -91,10 +91,10 @@ sizes_after q repo None = []
 
 -- the packet is the next one from a place on; there are fewer packets to send after it, or the answer ends with it
 abbrev pub IsNext : {P : Type 0} → (Manner → P → List Pkt → Type 0) → (P → ℕ) → P → Answered → P → Pkt → Type 0
-IsNext OwesFrom most old Part new packet =
-    ((manner : Manner) (later : List Pkt) → OwesFrom manner new later → OwesFrom manner old (packet ∷ later)) × (most new < most old)
-IsNext OwesFrom most old Whole new packet = OwesFrom whole old (packet ∷ [])
-IsNext OwesFrom most old Broken new packet = OwesFrom broken old (packet ∷ [])
+IsNext AreUnsentFrom most old Part new packet =
+    ((manner : Manner) (later : List Pkt) → AreUnsentFrom manner new later → AreUnsentFrom manner old (packet ∷ later)) × (most new < most old)
+IsNext AreUnsentFrom most old Whole new packet = AreUnsentFrom whole old (packet ∷ [])
+IsNext AreUnsentFrom most old Broken new packet = AreUnsentFrom broken old (packet ∷ [])
 
 -- a read failed if and only if the answer broke off
 abbrev pub FailsBy : Answered → ℕ → ℕ → Type 0
@@ -107,11 +107,11 @@ pub record ReadsPack (answered : Answered) (old new : RepoState) : Type 0 where
   pub failures : FailsBy answered old.failures new.failures
 
 -- the next packet from a place on was written
-pub record WritesNext {P : Type 0} (OwesFrom : Manner → P → List Pkt → Type 0) (most : P → ℕ) (repo_old : RepoState) (old : P) (reader_old : PacketReader)
+pub record WritesNext {P : Type 0} (AreUnsentFrom : Manner → P → List Pkt → Type 0) (most : P → ℕ) (repo_old : RepoState) (old : P) (reader_old : PacketReader)
     (answered : Answered) (repo_new : RepoState) (new : P) (reader_new : PacketReader) : Type 0 where
   pub packet : Pkt
   pub writes : Writes reader_old packet reader_new
-  pub is_next : IsNext OwesFrom most old answered new packet
+  pub is_next : IsNext AreUnsentFrom most old answered new packet
   pub reads : ReadsPack answered repo_old repo_new
 
 -- the next packet of the section of this pack was written

@@ -8,7 +8,7 @@ use Rattle.git_pkt.specs.declared.fault.Kind.TheVariants.{StreamTooLong}
 use Rattle.git_server.specs.Repository.{RepoState}
 use Rattle.git_server.specs.Sessions.{FirstMalformed, GoesOn, IsAnswered, IsEnding, IsOfTheBytes, IsRunning, IsSession, Setting}
 use Rattle.git_server.specs.Machine.Server.{bytes_held, kept_by, outcome_of, reader_of, stored_by, wants_input}
-use Rattle.git_server.specs.Machine.ServerCalls.{Closes, EndsByRefusal, Goes, KeepsToMemory, OwesNow, Pulls, given_by}
+use Rattle.git_server.specs.Machine.ServerCalls.{Closes, EndsByRefusal, Goes, KeepsToMemory, AreUnsentNow, Pulls, given_by}
 use Rattle.git_server.specs.declared.outcome.Outcome.{Outcome}
 use Rattle.git_server.specs.declared.outcome.Outcome.TheVariants.{Refused}
 use Rattle.git_server.specs.declared.server.Pulled.{Pulled}
@@ -22,19 +22,19 @@ pub data Call : Type 0 where
 
 -- the bytes that the call used
 abbrev pub used_by : Call → List ℕ
-used_by (feed piece used) = take used piece
+used_by (feed chunk used) = take used chunk
 used_by (pull answer) = []
 used_by close = []
 
 -- the bytes that the call returned to send
 abbrev pub given_with : Call → List ℕ
-given_with (feed piece used) = []
+given_with (feed chunk used) = []
 given_with (pull answer) = given_by answer
 given_with close = []
 
 -- 1 for a call of `feed`
 abbrev pub feeds_by : Call → ℕ
-feeds_by (feed piece used) = 1
+feeds_by (feed chunk used) = 1
 feeds_by (pull answer) = 0
 feeds_by close = 0
 
@@ -58,9 +58,9 @@ closes (call ∷ calls) = closes calls
 
 module _ {R A : Type 0} (state : R → RepoState) (refuses : ℕ → Type 0) where
   -- the guarantees of `feed` for this chunk and the number of bytes used: the counter of steps rose from `before` to `after`
-  pub record Feeds (piece : List ℕ) (used before : ℕ) (old : Server R A) (after : ℕ) (new : Server R A) : Type 0 where
-    pub within : used ≤ length piece
-    pub goes : Goes state (take used piece) [] old new
+  pub record Feeds (chunk : List ℕ) (used before : ℕ) (old : Server R A) (after : ℕ) (new : Server R A) : Type 0 where
+    pub within : used ≤ length chunk
+    pub goes : Goes state (take used chunk) [] old new
     pub pays : Pays used before after (credit_of (reader_of old)) (credit_of (reader_of new))
     pub memory : KeepsToMemory state refuses old new
 
@@ -72,7 +72,7 @@ module _ {R A : Type 0} (state : R → RepoState) (refuses : ℕ → Type 0) whe
 
   -- the contract of the call as a relation between the counter and the server before the call and after it
   abbrev pub Makes : Call → ℕ → Server R A → ℕ → Server R A → Type 0
-  Makes (feed piece used) before old after new = Feeds piece used before old after new
+  Makes (feed chunk used) before old after new = Feeds chunk used before old after new
   Makes (pull answer) before old after new = Pulls state old answer new × (after ≡ before)
   Makes close before old after new = Ends old new × (after ≡ before)
 
@@ -96,9 +96,9 @@ module _ {R A : Type 0} (state : R → RepoState) (refuses : ℕ → Type 0) whe
     pub waits : (wants_input server ≡ true) ↔ ((outcome_of server ≡ None) × IsAnswered s (used_in calls) (given_in calls))
     -- with one it ended so
     pub ends : (outcome : Outcome) → outcome_of server ≡ Some outcome
-        → (owed : List Pkt) × IsEnding s (used_in calls) (closes calls) (given_in calls) outcome owed
+        → (unsent : List Pkt) × IsEnding s (used_in calls) (closes calls) (given_in calls) outcome unsent
     -- if it has ended, and nothing is left to send, that is all of it
-    pub session : (outcome : Outcome) → outcome_of server ≡ Some outcome → OwesNow state server []
+    pub session : (outcome : Outcome) → outcome_of server ≡ Some outcome → AreUnsentNow state server []
         → IsSession s (used_in calls) (closes calls) (given_in calls) outcome
     -- a refused packet is the first malformed one, at its offset and by its name, unless memory ran out or the source of a pack failed
     pub refused : (fault : Fault) → outcome_of server ≡ Some (Refused fault) → IsOfTheBytes (Refused fault)

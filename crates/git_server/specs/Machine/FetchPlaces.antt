@@ -35,7 +35,7 @@ acks_by false ids = nak_or_acks ids
 -- the section of acknowledgments from a place on, without its end
 abbrev pub acknowledgments_from : Repository → FetchAsked → AcknowledgmentsPlace → List Pkt
 acknowledgments_from repo q AcknowledgmentsHeader = acknowledgments repo q
-acknowledgments_from repo q (Have next told) = acks_by told (common repo.has (drop next q.haves))
+acknowledgments_from repo q (Have next announced) = acks_by announced (common repo.has (drop next q.haves))
 acknowledgments_from repo q Through = []
 
 -- the packet is the next one of the section, or its end: the result shows whether the pack follows
@@ -75,9 +75,9 @@ wanted_from repo names (Line next) = filter_map (wanted_packet repo) (drop next 
 
 -- the next packet of a section, which has these packets by place, was written, or the answer does not have the section
 abbrev pub WritesSection : (SectionPlace → List Pkt) → SectionPlace → PacketReader → SectionPart → PacketReader → Type 0
-WritesSection owed place old Absent new = (owed place ≡ []) × (new ≡ old)
-WritesSection owed place old (WroteLine next) new = WritesFirst (owed place) old (owed (Line next)) new
-WritesSection owed place old Over new = WritesFirst (owed place) old [] new
+WritesSection unsent place old Absent new = (unsent place ≡ []) × (new ≡ old)
+WritesSection unsent place old (WroteLine next) new = WritesFirst (unsent place) old (unsent (Line next)) new
+WritesSection unsent place old Over new = WritesFirst (unsent place) old [] new
 
 -- The pack.
 

@@ -50,10 +50,10 @@ module _ {A : Type 0} where
   HasNoPack repo (Sizes request place) = Unit {0}
 
   -- nor have the packets that are sent in this phase
-  abbrev pub OwesNoPackIn : Repository → Phase A → Type 0
-  OwesNoPackIn repo (Answering answer offset) = HasNoPack repo answer
-  OwesNoPackIn repo (Advertising line) = Unit {0}
-  OwesNoPackIn repo Between = Unit {0}
-  OwesNoPackIn repo Within = Unit {0}
-  OwesNoPackIn repo (Refusing fault) = Unit {0}
-  OwesNoPackIn repo (Ended outcome) = Unit {0}
+  abbrev pub HasNoPackUnsentIn : Repository → Phase A → Type 0
+  HasNoPackUnsentIn repo (Answering answer offset) = HasNoPack repo answer
+  HasNoPackUnsentIn repo (Advertising line) = Unit {0}
+  HasNoPackUnsentIn repo Between = Unit {0}
+  HasNoPackUnsentIn repo Within = Unit {0}
+  HasNoPackUnsentIn repo (Refusing fault) = Unit {0}
+  HasNoPackUnsentIn repo (Ended outcome) = Unit {0}

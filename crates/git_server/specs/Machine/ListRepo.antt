@@ -4,11 +4,11 @@ use Rattle.std.proofs.Common.{refl}
 use Rattle.std.specs.Option.{ForSome}
 use Rattle.git_server.specs.declared.list_repo.ListRepo.{ListRepo}
 use Rattle.git_msg.specs.Asked.{FetchAsked, is_empty}
-use Rattle.git_server.specs.BoundaryLaws.{told_keep, told_unshallow}
+use Rattle.git_server.specs.BoundaryLaws.{announced_keep, announced_unshallow}
 use Rattle.git_server.specs.Repository.{IsSound, RepoState, Repository}
 use Rattle.git_server.specs.Lists.{Lists, lists_in, pack_for}
 use Rattle.git_server.specs.Objects.{has_object, object_of, size_among}
-use Rattle.git_server.specs.ToldBoundary.{boundary_for, is_enough}
+use Rattle.git_server.specs.AnnouncedBoundary.{boundary_for, is_enough}
 
 -- the lists that it consists of
 abbrev pub lists_of : ListRepo → Lists
@@ -38,9 +38,9 @@ is_sound repo = record {
   named = repo.named;
   of_format = repo.fit.of_format.by_refs;
   unborn = repo.fit.unborn_head;
-  boundaries_of_format = λ request. told_keep (λ line. (object_of line).format ≡ repo.lists.format) (lists_of repo).boundaries request
+  boundaries_of_format = λ request. announced_keep (λ line. (object_of line).format ≡ repo.lists.format) (lists_of repo).boundaries request
       repo.fit.of_format.by_boundaries;
-  unshallow = λ request. told_unshallow (lists_of repo).boundaries request;
+  unshallow = λ request. announced_unshallow (lists_of repo).boundaries request;
 }
 
 -- the pack that a request gets, of one or two, is short if both are

@@ -22,21 +22,21 @@ answered_by Failed = Broken
 
 -- the packet that reports it: the bytes at the front of the buffer, or that there are no more, or that the source failed
 abbrev pub part_packet : List ℕ → PartRead → Pkt
-part_packet room (Bytes count) = band_packet PackBand (take count room)
-part_packet room End = flush
-part_packet room Failed = pack_source_packet
+part_packet space (Bytes count) = band_packet PackBand (take count space)
+part_packet space End = flush
+part_packet space Failed = pack_source_packet
 
 -- the bytes fit into a packet
-abbrev pub FitsRoom : PartRead → Type 0
-FitsRoom (Bytes count) = count ≤ 65515
-FitsRoom End = Unit {0}
-FitsRoom Failed = Unit {0}
+abbrev pub FitsBuffer : PartRead → Type 0
+FitsBuffer (Bytes count) = count ≤ 65515
+FitsBuffer End = Unit {0}
+FitsBuffer Failed = Unit {0}
 
 -- the part read from the pack from an offset on, to the front of the buffer
 abbrev pub IsPartRead : List ℕ → ℕ → List ℕ → PartRead → Type 0
-IsPartRead pack offset room (Bytes count) = (0 < count) × IsPackPart pack offset count room
-IsPartRead pack offset room End = length pack ≤ offset
-IsPartRead pack offset room Failed = Unit {0}
+IsPartRead pack offset space (Bytes count) = (0 < count) × IsPackPart pack offset count space
+IsPartRead pack offset space End = length pack ≤ offset
+IsPartRead pack offset space Failed = Unit {0}
 
 -- a read into all of the buffer may return it
 abbrev pub IsGiven : (ℕ → ℕ → Type 0) → PartRead → Type 0
@@ -46,27 +46,27 @@ IsGiven gives Failed = Unit {0}
 
 -- a part was read into the buffer
 pub record ReadsPart (gives : ℕ → ℕ → Type 0) (pack : List ℕ) (offset : ℕ)
-    (repo_old : RepoState) (part : PartRead) (repo_new : RepoState) (room : List ℕ) : Type 0 where
-  pub is_read : IsPartRead pack offset room part
+    (repo_old : RepoState) (part : PartRead) (repo_new : RepoState) (space : List ℕ) : Type 0 where
+  pub is_read : IsPartRead pack offset space part
   pub given : IsGiven gives part
   pub reads : ReadsPack (answered_by part) repo_old repo_new
 
 -- a part was read, and the buffer begins with its packet
 pub record PutsPart (gives : ℕ → ℕ → Type 0) (pack : List ℕ) (offset : ℕ)
     (repo_old : RepoState) (part : PartRead) (repo_new : RepoState) (held : List ℕ) : Type 0 where
-  pub room : List ℕ
-  pub full : length room ≡ 65515
-  pub is_read : IsPartRead pack offset room part
+  pub space : List ℕ
+  pub full : length space ≡ 65515
+  pub is_read : IsPartRead pack offset space part
   pub given : IsGiven gives part
   pub reads : ReadsPack (answered_by part) repo_old repo_new
-  pub begins : StartsWith held (spelling_of (part_packet room part))
+  pub begins : StartsWith held (spelling_of (part_packet space part))
 
 -- a part was read, and its packet was written
 pub record WritesPart (gives : ℕ → ℕ → Type 0) (pack : List ℕ) (offset : ℕ) (repo_old : RepoState) (old : PacketReader)
     (part : PartRead) (repo_new : RepoState) (new : PacketReader) : Type 0 where
-  pub room : List ℕ
-  pub full : length room ≡ 65515
-  pub is_read : IsPartRead pack offset room part
+  pub space : List ℕ
+  pub full : length space ≡ 65515
+  pub is_read : IsPartRead pack offset space part
   pub given : IsGiven gives part
   pub reads : ReadsPack (answered_by part) repo_old repo_new
-  pub writes : Writes old (part_packet room part) new
+  pub writes : Writes old (part_packet space part) new

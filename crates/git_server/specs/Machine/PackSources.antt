@@ -1,10 +1,10 @@
 -- The values of a `PackSources` that contracts refer to.
 use Rattle.std.specs.Prelude.{◌≡◌, ◌||◌, ℕ, Bool, false, Option, Some, None, IfSome, List}
 use Rattle.std.specs.Option.{option_map}
-use Rattle.git_pkt.specs.Machine.Told.{has_failed, inner_of as in_told}
+use Rattle.git_pkt.specs.Machine.Recorded.{has_failed, inner_of as in_announced}
 use Rattle.git_pkt.specs.Machine.Retries.{inner_of as in_retries}
 use Rattle.git_pkt.specs.declared.retries.Retries.{Retries}
-use Rattle.git_pkt.specs.declared.told.Told.{Told}
+use Rattle.git_pkt.specs.declared.recorded.Recorded.{Recorded}
 use Rattle.git_server.specs.Machine.Growths.{has_refused}
 use Rattle.git_server.specs.declared.pack_sources.PackSources.{PackSources}
 
@@ -13,16 +13,16 @@ abbrev pub IsReadFrom : Option (List ℕ) → List ℕ → Type 0
 IsReadFrom remaining read = IfSome remaining (λ bytes. read ≡ bytes)
 
 module _ {P : Type 0} where
-  abbrev pub reader_of : Told (Retries P) → P
-  reader_of told = in_retries (in_told told)
+  abbrev pub reader_of : Recorded (Retries P) → P
+  reader_of announced = in_retries (in_announced announced)
 
   -- the reader of the pack, and that of the filtered one
   abbrev pub readers_of : PackSources P → P × Option P
   readers_of sources = (reader_of sources.pack, option_map reader_of sources.filtered)
 
-  abbrev pub has_failed_filtered : Option (Told (Retries P)) → Bool
+  abbrev pub has_failed_filtered : Option (Recorded (Retries P)) → Bool
   has_failed_filtered None = false
-  has_failed_filtered (Some told) = has_failed told
+  has_failed_filtered (Some announced) = has_failed announced
 
   -- a read of one of the packs failed, other than by an interruption, or memory for the bytes was refused
   abbrev pub has_failure : PackSources P → Bool

@@ -18,7 +18,7 @@ use Rattle.git_server.specs.declared.advertisement.AdvertisementLine.{Advertisem
 use Rattle.git_server.specs.declared.outcome.Outcome.{Outcome}
 use Rattle.git_server.specs.declared.outcome.Outcome.TheVariants.{Flush, Refused}
 use Rattle.git_server.specs.declared.server.Turn.{Turn}
-use Rattle.git_server.specs.declared.server.Turn.TheVariants.{NeedInput, Finished, Packet as OwesPacket}
+use Rattle.git_server.specs.declared.server.Turn.TheVariants.{NeedInput, Finished, Packet as IsUnsentPacket}
 use Rattle.git_server.specs.declared.server.Phase.{Phase}
 use Rattle.git_server.specs.declared.server.Phase.TheVariants.{Advertising, Between, Within, Answering, Refusing, Ended}
 
@@ -39,11 +39,11 @@ module _ {A : Type 0} where
   reads_in _ = false
 
   -- a packet waits to be pulled
-  abbrev pub owes_in : Phase A → Bool
-  owes_in (Advertising line) = true
-  owes_in (Answering answer offset) = true
-  owes_in (Refusing fault) = true
-  owes_in _ = false
+  abbrev pub has_unsent_in : Phase A → Bool
+  has_unsent_in (Advertising line) = true
+  has_unsent_in (Answering answer offset) = true
+  has_unsent_in (Refusing fault) = true
+  has_unsent_in _ = false
 
   -- the outcome, once there is one
   abbrev pub outcome_in : Phase A → Option Outcome
@@ -52,11 +52,11 @@ module _ {A : Type 0} where
   outcome_in _ = None
 
   -- in this phase these packets may be all that still have to be pulled, in this order
-  abbrev pub Owes : Offer → Repository → Phase A → List Pkt → Type 0
-  Owes offer repo (Advertising line) later = later ≡ advertisement_from offer line
-  Owes offer repo (Answering answer offset) later = IsAnswerFrom whole repo answer later
-  Owes offer repo (Refusing fault) later = later ≡ error_packet fault ∷ []
-  Owes offer repo _ later = later ≡ []
+  abbrev pub AreUnsent : Offer → Repository → Phase A → List Pkt → Type 0
+  AreUnsent offer repo (Advertising line) later = later ≡ advertisement_from offer line
+  AreUnsent offer repo (Answering answer offset) later = IsAnswerFrom whole repo answer later
+  AreUnsent offer repo (Refusing fault) later = later ≡ error_packet fault ∷ []
+  AreUnsent offer repo _ later = later ≡ []
 
   -- with these packets the answer may break off
   abbrev pub MayBreak : Repository → Phase A → List Pkt → Type 0
@@ -64,11 +64,11 @@ module _ {A : Type 0} where
   MayBreak repo _ later = ⊥
 
   -- the maximum number of packets that wait
-  abbrev pub most_owed : Offer → Repository → Phase A → ℕ
-  most_owed offer repo (Advertising line) = length (advertisement_from offer line)
-  most_owed offer repo (Answering answer offset) = most_from repo answer
-  most_owed offer repo (Refusing fault) = 1
-  most_owed offer repo _ = 0
+  abbrev pub most_unsent : Offer → Repository → Phase A → ℕ
+  most_unsent offer repo (Advertising line) = length (advertisement_from offer line)
+  most_unsent offer repo (Answering answer offset) = most_from repo answer
+  most_unsent offer repo (Refusing fault) = 1
+  most_unsent offer repo _ = 0
 
   -- the number of bytes in the argument lines of the request that is being answered
   abbrev pub kept_in : Phase A → ℕ
@@ -117,4 +117,4 @@ module _ {A : Type 0} where
   turn_in Between = NeedInput
   turn_in Within = NeedInput
   turn_in (Ended outcome) = Finished outcome
-  turn_in _ = OwesPacket
+  turn_in _ = IsUnsentPacket

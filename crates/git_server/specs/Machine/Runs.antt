@@ -39,9 +39,9 @@ pub record Served {R A : Type 0} (state : R → RepoState) (s : Setting) (used_b
   pub used : List ℕ
   pub unused : List ℕ
   pub over : Bool
-  pub said : List ℕ
-  pub heard : read ≡ (used ++ unused) ∷ []
-  pub told : given ≡ said ∷ []
-  pub stands : Running state s (used_before ++ used) over (given_before ++ said) server
+  pub content : List ℕ
+  pub arrived : read ≡ (used ++ unused) ∷ []
+  pub announced : given ≡ content ∷ []
+  pub stands : Running state s (used_before ++ used) over (given_before ++ content) server
   pub whole : over ≡ true → (unused ≡ []) × (ended ≡ true)
-  pub ends : EndsRun s result turns used_before used unused over (given_before ++ said)
+  pub ends : EndsRun s result turns used_before used unused over (given_before ++ content)

@@ -11,7 +11,7 @@ use Rattle.git_server.specs.Repository.{RepoState}
 use Rattle.git_server.specs.Answers.{AllFit, spelled}
 use Rattle.git_server.specs.Packs.{broken}
 use Rattle.git_server.specs.Sessions.{Setting, Begins, IsRequest, IsSent, IsAnswering, IsEnding}
-use Rattle.git_server.specs.Machine.Phases.{FlushIsAt, LeftIn, kept_in, outcome_in, MayBreak, Owes, reads_in, stored_in}
+use Rattle.git_server.specs.Machine.Phases.{FlushIsAt, LeftIn, kept_in, outcome_in, MayBreak, AreUnsent, reads_in, stored_in}
 use Rattle.git_server.specs.declared.outcome.Outcome.{Outcome}
 use Rattle.git_server.specs.declared.outcome.Outcome.TheVariants.{Refused}
 use Rattle.git_pkt.specs.declared.fault.Fault.{Fault}
@@ -88,15 +88,15 @@ module _ {R A : Type 0} where
     pub begins : Begins s left
     pub left_is : LeftIn server.phase left
     pub flush_at : FlushIsAt server.phase packets
-    pub is_sent : (owed : List Pkt) → Owes server.offer s.repo server.phase owed → IsSent s asked sent owed
-    pub breaks : (owed : List Pkt) → MayBreak s.repo server.phase owed → IsAnswering broken s asked sent owed
+    pub is_sent : (unsent : List Pkt) → AreUnsent server.offer s.repo server.phase unsent → IsSent s asked sent unsent
+    pub breaks : (unsent : List Pkt) → MayBreak s.repo server.phase unsent → IsAnswering broken s asked sent unsent
     pub given_is : given ≡ spelled sent
     pub fit : AllFit sent
 
   abbrev pub StandsBy : Option Outcome → Setting → List ℕ → Bool → List ℕ → Server R A → Type 0
   StandsBy None s used over given server = (over ≡ false) × Serves s used given server
   StandsBy (Some outcome) s used over given server =
-      (owed : List Pkt) → Owes server.offer s.repo server.phase owed → IsEnding s used over given outcome owed
+      (unsent : List Pkt) → AreUnsent server.offer s.repo server.phase unsent → IsEnding s used over given outcome unsent
 
   -- the server has used these bytes, with `over` if the input ended with them, and has sent those
   pub record Running (state : R → RepoState) (s : Setting) (used : List ℕ) (over : Bool) (given : List ℕ) (server : Server R A) : Type 0 where

@@ -8,10 +8,10 @@ use Rattle.git_pkt.specs.Machine.PacketReader.{ReadsOn, held_of}
 use Rattle.git_msg.specs.Asked.{FetchAsked}
 use Rattle.git_msg.specs.Memory.{FaultNeedsRefusal}
 use Rattle.git_server.specs.Machine.FullParts.{FillsPhase}
-use Rattle.git_server.specs.Machine.LatePacks.{OwesNoPackIn, setting_with, state_with}
+use Rattle.git_server.specs.Machine.LatePacks.{HasNoPackUnsentIn, setting_with, state_with}
 use Rattle.git_server.specs.Repository.{RepoState}
 use Rattle.git_server.specs.Sessions.{Setting, IsSession}
-use Rattle.git_server.specs.Machine.Phases.{MayBreak, Owes, most_owed, refusal_in}
+use Rattle.git_server.specs.Machine.Phases.{MayBreak, AreUnsent, most_unsent, refusal_in}
 use Rattle.git_server.specs.Machine.Server.{IsPackLost, Running, outcome_of, wants_input}
 use Rattle.git_pkt.specs.declared.fault.Fault.{Fault}
 use Rattle.git_pkt.specs.declared.fault.Kind.TheVariants.{StreamTooLong, Truncated}
@@ -67,13 +67,13 @@ module _ {R A : Type 0} where
   RunsUnread state s used over given server = (packs : FetchAsked → List ℕ) → Running (state_with packs state) (setting_with packs s) used over given server
 
   -- no byte of a pack has to be sent
-  abbrev pub OwesNoPack : (R → RepoState) → Server R A → Type 0
-  OwesNoPack state server = OwesNoPackIn (state server.repo).answers server.phase
+  abbrev pub HasNoPackUnsent : (R → RepoState) → Server R A → Type 0
+  HasNoPackUnsent state server = HasNoPackUnsentIn (state server.repo).answers server.phase
 
   -- these bytes were sent whatever the packs are, and no byte of a pack has to be sent after them
   pub record GivesUnread (state : R → RepoState) (old : Server R A) (given : List ℕ) (new : Server R A) : Type 0 where
     pub goes : GoesUnread state [] given old new
-    pub owes : OwesNoPack state new
+    pub has_unsent : HasNoPackUnsent state new
 
   -- the input ended here: the session was closed between two requests, or cut short inside one
   abbrev pub Closes : (R → RepoState) → Server R A → Server R A → Type 0
@@ -87,32 +87,32 @@ module _ {R A : Type 0} where
 
   -- the stream is too long only if there was one byte more than was used
   abbrev pub StopsInTime : (R → RepoState) → Server R A → ℕ → List ℕ → Option Outcome → Type 0
-  StopsInTime state old used piece outcome =
+  StopsInTime state old used chunk outcome =
       (s : Setting) (so_far : List ℕ) (over : Bool) (before : List ℕ) → Running state s so_far over before old → wants_input old ≡ true
-      → (fault : Fault) → outcome ≡ Some (Refused fault) → fault.kind ≡ StreamTooLong → used < length piece
+      → (fault : Fault) → outcome ≡ Some (Refused fault) → fault.kind ≡ StreamTooLong → used < length chunk
 
   -- these packets may be all that still have to be pulled, in this order
-  abbrev pub OwesNow : (R → RepoState) → Server R A → List Pkt → Type 0
-  OwesNow state server later = Owes server.offer (state server.repo).answers server.phase later
+  abbrev pub AreUnsentNow : (R → RepoState) → Server R A → List Pkt → Type 0
+  AreUnsentNow state server later = AreUnsent server.offer (state server.repo).answers server.phase later
 
   -- the maximum number of packets that wait
   abbrev pub most_left : (R → RepoState) → Server R A → ℕ
-  most_left state server = most_owed server.offer (state server.repo).answers server.phase
+  most_left state server = most_unsent server.offer (state server.repo).answers server.phase
 
   -- the packet that waits: if it is one of a pack, it has all that the repository returns for a packet
-  abbrev pub FillsOwed : (R → FetchAsked → ℕ → ℕ → ℕ → Type 0) → Server R A → (Pkt → Type 0) → Type 0
-  FillsOwed gives server Is = FillsPhase (gives server.repo) server.phase Is
+  abbrev pub FillsUnsent : (R → FetchAsked → ℕ → ℕ → ℕ → Type 0) → Server R A → (Pkt → Type 0) → Type 0
+  FillsUnsent gives server Is = FillsPhase (gives server.repo) server.phase Is
 
   -- the packet comes before whatever waits now
   abbrev pub ComesBefore : (R → RepoState) → Pkt → Server R A → Server R A → Type 0
-  ComesBefore state packet old new = (later : List Pkt) → OwesNow state new later → OwesNow state old (packet ∷ later)
+  ComesBefore state packet old new = (later : List Pkt) → AreUnsentNow state new later → AreUnsentNow state old (packet ∷ later)
 
   -- with the packet the answer breaks off, and the session ends
   pub record BreaksOff (state : R → RepoState) (packet : Pkt) (old new : Server R A) : Type 0 where
     pub went_on : outcome_of old ≡ None
     pub breaks : MayBreak (state old.repo).answers old.phase (packet ∷ [])
     pub lost : IsPackLost (outcome_of new)
-    pub nothing : OwesNow state new []
+    pub nothing : AreUnsentNow state new []
 
   -- the packet comes before whatever waits now, or with it the answer breaks off
   abbrev pub ComesFirst : (R → RepoState) → Pkt → Server R A → Server R A → Type 0
@@ -124,18 +124,18 @@ module _ {R A : Type 0} where
       (s : Setting) (used : List ℕ) (over : Bool) (given : List ℕ) → Running state s used over given server → IsSession s used over given outcome
 
   -- the meaning of each result of `pull`
-  abbrev pub TellsPulled : (R → RepoState) → Server R A → Pulled → Server R A → Type 0
-  TellsPulled state old (Packet bytes) new =
+  abbrev pub AnnouncesPulled : (R → RepoState) → Server R A → Pulled → Server R A → Type 0
+  AnnouncesPulled state old (Packet bytes) new =
       (packet : Pkt) × ComesFirst state packet old new × (bytes.now ≡ spelling_of packet) × (most_left state new < most_left state old)
-  TellsPulled state old NeedInput new = (wants_input old ≡ true) × (new ≡ old)
-  TellsPulled state old (Finished outcome) new =
-      (outcome_of old ≡ Some outcome) × OwesNow state old [] × (new ≡ old) × EndsAs state old outcome
+  AnnouncesPulled state old NeedInput new = (wants_input old ≡ true) × (new ≡ old)
+  AnnouncesPulled state old (Finished outcome) new =
+      (outcome_of old ≡ Some outcome) × AreUnsentNow state old [] × (new ≡ old) × EndsAs state old outcome
 
   -- the effect of a call of `pull`
   pub record Pulls (state : R → RepoState) (old : Server R A) (pulled : Pulled) (new : Server R A) : Type 0 where
     pub goes : Goes state [] (given_by pulled) old new
-    pub unread : OwesNoPack state old → GivesUnread state old (given_by pulled) new
-    pub tells : TellsPulled state old pulled new
+    pub unread : HasNoPackUnsent state old → GivesUnread state old (given_by pulled) new
+    pub announces : AnnouncesPulled state old pulled new
     pub outcome : IsAfterPull (outcome_of old) (outcome_of new)
     pub fits : length (given_by pulled) ≤ 65520
     pub credit : credit_of new.reader ≤ credit_of old.reader
@@ -155,11 +155,11 @@ module _ {R A : Type 0} where
   -- the buffer begins with the next packet that has to be sent, which counts as sent
   pub record Gives (state : R → RepoState) (old new : Server R A) : Type 0 where
     pub packet : Pkt
-    pub owed : ComesFirst state packet old new
+    pub unsent : ComesFirst state packet old new
     pub less : most_left state new < most_left state old
     pub held : StartsWith (held_of new.reader) (spelling_of packet)
     pub fits : length (body_of packet) ≤ longest_payload
     pub credit : credit_of new.reader ≡ 0
     pub goes : Goes state [] (spelling_of packet) old new
-    pub unread : OwesNoPack state old → GivesUnread state old (spelling_of packet) new
+    pub unread : HasNoPackUnsent state old → GivesUnread state old (spelling_of packet) new
     pub outcome : IsAfterPull (outcome_of old) (outcome_of new)

@@ -22,7 +22,7 @@ pub record Writes (old : PacketReader) (packet : Pkt) (new : PacketReader) : Typ
   pub reads : (start : ℕ) (bytes : List ℕ) (given : List Given) (rest : List ℕ) → Reads old start bytes given rest → Reads new start bytes given rest
 
 -- the first of the packets that have to be sent was written, and these others are left
-pub record WritesFirst (owed : List Pkt) (old : PacketReader) (others : List Pkt) (new : PacketReader) : Type 0 where
+pub record WritesFirst (unsent : List Pkt) (old : PacketReader) (others : List Pkt) (new : PacketReader) : Type 0 where
   pub packet : Pkt
-  pub comes_first : owed ≡ packet ∷ others
+  pub comes_first : unsent ≡ packet ∷ others
   pub writes : Writes old packet new

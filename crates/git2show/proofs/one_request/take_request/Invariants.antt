@@ -1,6 +1,6 @@
 -- Each turn is one read that returned some bytes, nothing has failed or ended, and all bytes read were used.
 use Rattle.std.proofs.Common.{◌≡◌, false, true}
-use Rattle.git_pkt.specs.Machine.Told.{inner_of, reads_of, has_failed, has_ended, has_wasted}
+use Rattle.git_pkt.specs.Machine.Recorded.{inner_of, reads_of, has_failed, has_ended, has_wasted}
 use Rattle.git_pkt.specs.Streams.{flow}
 use Rattle.git_server.specs.Machine.Server.{wants_input}
 use Rattle.git2show.proofs.OneRequestTaken.{Taken}

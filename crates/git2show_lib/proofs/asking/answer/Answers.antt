@@ -12,10 +12,10 @@ returns-in_err-at_place-clause-answered g c =
 pub returns-clause-answered : goal.returns-clause-answered
 returns-clause-answered g c =
     let asked = rw (well_placed c.args.before.passed c.ask_judged.result _ (sym c.in_ok-at_place.ensures)) at c.ask_judged.ensures.asked in
-    answered c.args.format c.hear_response.result (record {
+    answered c.args.format c.receive_answer.result (record {
       middle = c.ask_judged.new.client;
       asked = _;
       asks = asked.0;
-      due = asked.1;
-      receives = rw c.form-form.ensures at c.hear_response.ensures.received;
+      expected = asked.1;
+      receives = rw c.form-form.ensures at c.receive_answer.ensures.received;
     })

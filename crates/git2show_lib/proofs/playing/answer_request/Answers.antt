@@ -1,7 +1,7 @@
 use Rattle.std.proofs.Common.{Bool, ◌||◌, ◌≡◌, inr, false, refl, sym, ap, ◌∙◌}
 use Rattle.std.proofs.lemmas.Result.{err_from_is_err_and}
 use Rattle.std.proofs.Math.Bool.{or-false}
-use Rattle.git_pkt.specs.Machine.Told.{has_failed}
+use Rattle.git_pkt.specs.Machine.Recorded.{has_failed}
 use Rattle.git_client.proofs.ClientRuns.{fails_at, shown_at}
 use Rattle.git2show_lib.proofs.PlayServers.{answers}
 use Rattle.git2show_lib.proofs.playing.answer_request.Goals as goal
@@ -20,12 +20,12 @@ returns-in_err-ask_server-clause-fault g c =
     (λ none. none) (sound_pack (has_failed c.ask_server.new.out) (g.P.Output.failed c.args.pack.now) c.requires.sound_pack)
     c.in_err-ask_server.ensures.fault
 
-pub returns-in_err-ask_server-clause-told : goal.returns-in_err-ask_server-clause-told
-returns-in_err-ask_server-clause-told g c =
+pub returns-in_err-ask_server-clause-announced : goal.returns-in_err-ask_server-clause-announced
+returns-in_err-ask_server-clause-announced g c =
     fails_at c.from_residual.result c.in_err-ask_server.field-0.0 false _ (has_failed c.ask_server.new.out) _ c.from_residual.ensures.1 refl
-    (sound_pack (has_failed c.ask_server.new.out) (g.P.Output.failed c.args.pack.now) c.requires.sound_pack) c.in_err-ask_server.ensures.told
+    (sound_pack (has_failed c.ask_server.new.out) (g.P.Output.failed c.args.pack.now) c.requires.sound_pack) c.in_err-ask_server.ensures.announced
 
 pub returns-clause-answered : goal.returns-clause-answered
 returns-clause-answered g c =
-    answers g.R.Repo.state c.hear_message.result c.args.end.now c.args.client.now c.ask_server.new.client c.hear_message.new.client c.args.request
-    c.args.server.now c.ask_server.new.server c.hear_message.new.server _ _ _ _ c.in_ok-ask_server.ensures.asked c.hear_message.ensures.heard
+    answers g.R.Repo.state c.receive_message.result c.args.end.now c.args.client.now c.ask_server.new.client c.receive_message.new.client c.args.request
+    c.args.server.now c.ask_server.new.server c.receive_message.new.server _ _ _ _ c.in_ok-ask_server.ensures.asked c.receive_message.ensures.arrived

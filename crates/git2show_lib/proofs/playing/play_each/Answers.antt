@@ -11,17 +11,17 @@ pub returns-in-Err-clause-played : goal.returns-in-Err-clause-played
 returns-in-Err-clause-played g c =
     rw (c.into_repo.ensures)
     (advertising_stopped _ _ _ _ c.new-client.ensures.waits (rw c.format.ensures at c.new-client.ensures.converses)
-    c.new_server-server.ensures.begins c.in-Err.ensures.heard)
+    c.new_server-server.ensures.begins c.in-Err.ensures.arrived)
 
 pub loop-request-init : goal.loop-request-init
 loop-request-init g c = record {
   plays = advertised_many c.new-client.ensures.waits (rw c.format.ensures at c.new-client.ensures.converses)
-      c.new_server-server.ensures.begins c.in_default.ensures.heard;
+      c.new_server-server.ensures.begins c.in_default.ensures.arrived;
   left_to_ask = sym c.into_iter-request-iterator.ensures.into_iter_gives.0;
   counted = search rules;
   cut = c.requires.cut;
-  sound_out = (or_parts _ _ c.in_default.ensures.told.1).0;
-  sound_pack = (or_parts _ _ c.in_default.ensures.told.1).1;
+  sound_out = (or_parts _ _ c.in_default.ensures.announced.1).0;
+  sound_pack = (or_parts _ _ c.in_default.ensures.announced.1).1;
 }
 
 pub returns-in-Err-answer_request-clause-played : goal.returns-in-Err-answer_request-clause-played
@@ -43,8 +43,8 @@ loop-request-preserved g c =
       left_to_ask = one_more _ at.yielded _ _ c.in-Some.request at.invariant.left_to_ask c.in-Some.ensures.steps.0;
       counted = search rules;
       cut = at.invariant.cut;
-      sound_out = (or_parts _ _ c.in_default-answer_request.ensures.told.1).0;
-      sound_pack = (or_parts _ _ c.in_default-answer_request.ensures.told.1).1;
+      sound_out = (or_parts _ _ c.in_default-answer_request.ensures.announced.1).0;
+      sound_pack = (or_parts _ _ c.in_default-answer_request.ensures.announced.1).1;
     }
 
 pub returns-clause-played : goal.returns-clause-played

@@ -1,7 +1,7 @@
 use Rattle.std.proofs.Common.{◌≡◌, ◌<◌, ◌++◌, length, false}
 use Rattle.std.specs.Vec.Iter.{into_iter_items, into_iter_len}
 use Rattle.git_msg.specs.declared.limits.TheConstants.Limits.{USUAL}
-use Rattle.git_pkt.specs.Machine.Told.{inner_of, has_failed}
+use Rattle.git_pkt.specs.Machine.Recorded.{inner_of, has_failed}
 use Rattle.git_pkt.specs.Streams.{flow}
 use Rattle.git_client.specs.Parts.{terms_of}
 use Rattle.git_client.specs.declared.events.Ending.TheVariants.{ResponseEnd}

@@ -10,4 +10,4 @@ returns-clause-put c =
     let front : take c.min.result c.text-text.result.now ≡ take 1024 text =
     rw (c.min.ensures, c.text-text.ensures) (ap (λ (n : ℕ). take n text) (omega arith) ∙ take_min 1024 text) in
     let shown = c.escape_into-end.ensures.escaped ∙ ap escaped_of (c.shorten-length.ensures.shortened ∙ ap shortened front) in
-    c.put_in_column.ensures.put ∙ ap (λ (l : List ℕ). take c.args.at c.args.out.now ++ in_column c.args.label c.args.room l) shown
+    c.put_in_column.ensures.put ∙ ap (λ (l : List ℕ). take c.args.at c.args.out.now ++ in_column c.args.label c.args.space l) shown

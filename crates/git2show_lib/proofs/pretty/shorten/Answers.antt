@@ -1,5 +1,5 @@
 use Rattle.std.proofs.Common.{rules}
-use Rattle.git_pkt.proofs.Pieces.{left_of}
+use Rattle.git_pkt.proofs.Chunks.{left_of}
 use Rattle.git2show_lib.proofs.PrettyTexts.{run_on}
 use Rattle.git2show_lib.proofs.pretty.shorten.Goals as goal
 

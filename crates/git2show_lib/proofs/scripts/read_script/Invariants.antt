@@ -9,7 +9,7 @@ use Rattle.git2show_lib.proofs.scripts.read_script.Given as goal
 abbrev pub invariant-lines : goal.invariant-lines
 invariant-lines g l = record {
   reading : ReadsScript l.fn.text (everything l.fn.format) l.fn.limits.args (held l.script) l.line (option_copied l.rest);
-  room : l.line + bytes_left (option_copied l.rest) ≤ length l.fn.text + 1;
+  space : l.line + bytes_left (option_copied l.rest) ≤ length l.fn.text + 1;
 }
 
 abbrev pub decreases-lines : goal.decreases-lines

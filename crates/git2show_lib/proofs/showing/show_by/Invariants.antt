@@ -1,6 +1,6 @@
 -- Each turn is one read that brought some bytes, nothing has failed or ended, and the lines of what was read were written.
 use Rattle.std.proofs.Common.{◌≡◌, false, None, []}
-use Rattle.git_pkt.specs.Machine.Told.{inner_of, reads_of, has_failed, has_ended, has_wasted}
+use Rattle.git_pkt.specs.Machine.Recorded.{inner_of, reads_of, has_failed, has_ended, has_wasted}
 use Rattle.git_pkt.specs.Machine.PacketReader.{fault_of, passes_of}
 use Rattle.git_pkt.specs.Streams.{flow}
 use Rattle.git_pkt.proofs.EngineLemmas.{Moved}

@@ -1,14 +1,14 @@
 use Rattle.std.proofs.Common.{rules, ◌≡◌, ◌∙◌, inl, refl, sym, true}
-use Rattle.git_pkt.specs.Machine.Told.{inner_of}
+use Rattle.git_pkt.specs.Machine.Recorded.{inner_of}
 use Rattle.git_pkt.specs.Packets.{seen}
 use Rattle.git_pkt.specs.Splits.{Given}
 use Rattle.git_pkt.specs.Streams.{flow}
 use Rattle.git_pkt.proofs.EngineLemmas.{at_fault}
 use Rattle.git_msg.proofs.StreamSteps.{feeds_with}
 use Rattle.git_client.specs.Machine.Client.{wants_input}
-use Rattle.git2show_lib.specs.Machine.Sieving.{SievesPieceTo, stage}
+use Rattle.git2show_lib.specs.Machine.Sieving.{SievesChunkTo, stage}
 use Rattle.git2show_lib.proofs.SievedPackets.{sieves_nothing}
-use Rattle.git2show_lib.proofs.SievedPieces.{packet_ends, packet_further, piece_breaks, piece_used, ready_behind, within_further}
+use Rattle.git2show_lib.proofs.SievedChunks.{packet_ends, packet_further, chunk_breaks, chunk_used, ready_behind, within_further}
 use Rattle.git2show_lib.proofs.sieved_response.receive_packets.Goals as goal
 
 pub loop-used-init : goal.loop-used-init
@@ -32,8 +32,8 @@ returns-in-More-clause-received g c =
     let was = c.loop-used.invariant in
     let new = c.feed-fed.follows.lender-at-none in
     let feeds = feeds_with c.loop-used.packets new _ c.feed-fed.result _ c.in-More.is c.feed-fed.follows.holds-at-none in
-    piece_used c.args.sieve.now.form old mid c.args.piece.now c.loop-used.used was.within was.sieves waits new c.feed-fed.result.used feeds.tells.0
-    feeds.reads feeds.tells.1 c.feed-fed.follows.holds-at-none.gathers
+    chunk_used c.args.sieve.now.form old mid c.args.chunk.now c.loop-used.used was.within was.sieves waits new c.feed-fed.result.used feeds.announces.0
+    feeds.reads feeds.announces.1 c.feed-fed.follows.holds-at-none.gathers
 
 pub returns-in-Failed-clause-received : goal.returns-in-Failed-clause-received
 returns-in-Failed-clause-received g c =
@@ -43,8 +43,8 @@ returns-in-Failed-clause-received g c =
     let was = c.loop-used.invariant in
     let new = c.feed-fed.follows.lender-at-none in
     let feeds = feeds_with c.loop-used.packets new _ c.feed-fed.result _ c.in-Failed.is c.feed-fed.follows.holds-at-none in
-    inl (piece_breaks c.args.sieve.now.form old mid c.args.piece.now c.loop-used.used was.within was.sieves waits new c.in-Failed.fault
-    c.feed-fed.result.used feeds.reads feeds.tells (c.feed-fed.follows.holds-at-none.news c.in-Failed.fault was.sound c.in-Failed.is))
+    inl (chunk_breaks c.args.sieve.now.form old mid c.args.chunk.now c.loop-used.used was.within was.sieves waits new c.in-Failed.fault
+    c.feed-fed.result.used feeds.reads feeds.announces (c.feed-fed.follows.holds-at-none.news c.in-Failed.fault was.sound c.in-Failed.is))
 
 pub returns-in_err-receive_packet-in-Packet-clause-received : goal.returns-in_err-receive_packet-in-Packet-clause-received
 returns-in_err-receive_packet-in-Packet-clause-received g c =
@@ -58,10 +58,10 @@ returns-in_err-receive_packet-in-Packet-clause-received g c =
     let feeds = feeds_with c.loop-used.packets new _ c.feed-fed.result _ c.in-Packet.is c.feed-fed.follows.holds-at-none in
     let fault = c.in_err-receive_packet-in-Packet.field-0.0 in
     at_fault c.from_residual.result fault fault
-    (λ result. SievesPieceTo result c.args.sieve.now.form old after c.args.piece.now
+    (λ result. SievesChunkTo result c.args.sieve.now.form old after c.args.chunk.now
     (flow (g.O.Write.contents (inner_of c.args.out.now)) (g.O.Write.contents (inner_of c.receive_packet.new.out)))) refl c.from_residual.ensures.1
-    (packet_ends c.args.sieve.now.form old mid c.args.piece.now c.loop-used.used was.within was.sieves waits c.loop-used.sieve.form fault after _ given
-    c.feed-fed.result.used was.same_form feeds.reads feeds.tells.1 feeds.tells.2 c.in_err-receive_packet-in-Packet.ensures.received)
+    (packet_ends c.args.sieve.now.form old mid c.args.chunk.now c.loop-used.used was.within was.sieves waits c.loop-used.sieve.form fault after _ given
+    c.feed-fed.result.used was.same_form feeds.reads feeds.announces.1 feeds.announces.2 c.in_err-receive_packet-in-Packet.ensures.received)
 
 pub loop-used-preserved : goal.loop-used-preserved
 loop-used-preserved g c =
@@ -76,14 +76,14 @@ loop-used-preserved g c =
     let step = c.in_ok-receive_packet-in-Packet.ensures in
     record {
       within =
-          within_further c.args.sieve.now.form old mid c.args.piece.now c.loop-used.used was.within was.sieves waits c.feed-fed.result.used
+          within_further c.args.sieve.now.form old mid c.args.chunk.now c.loop-used.used was.within was.sieves waits c.feed-fed.result.used
           c.feed-fed.ensures.used;
-      sound = feeds.tells.1;
+      sound = feeds.announces.1;
       gathers = c.feed-fed.follows.holds-at-none.gathers;
       sound_out = search rules;
       same_form = step.form ∙ was.same_form;
-      ends = λ ready. (ready_behind step.received ready, feeds.tells.2);
+      ends = λ ready. (ready_behind step.received ready, feeds.announces.2);
       sieves =
-          packet_further c.args.sieve.now.form old mid c.args.piece.now c.loop-used.used was.within was.sieves waits c.loop-used.sieve.form after _ given
+          packet_further c.args.sieve.now.form old mid c.args.chunk.now c.loop-used.used was.within was.sieves waits c.loop-used.sieve.form after _ given
           c.feed-fed.result.used was.same_form feeds.reads step.spot step.received;
     }

@@ -1,21 +1,21 @@
 use Rattle.std.proofs.Common.{rules, arith, ◌≡◌, ◌∙◌, [], take, true, false, refl}
 use Rattle.std.proofs.lemmas.List.{drop_all}
 use Rattle.std.specs.Io.KnownBytes.{Consumes, Keeps}
-use Rattle.git_pkt.specs.Machine.Told.{inner_of, has_ended}
+use Rattle.git_pkt.specs.Machine.Recorded.{inner_of, has_ended}
 use Rattle.git_pkt.specs.Streams.{flow}
 use Rattle.git_pkt.specs.declared.fault.RunFault.TheVariants.{ReadFault, WriteFault}
 use Rattle.git_pkt.proofs.EngineLemmas.{at_fault}
-use Rattle.git_client.proofs.HearingBytes.{rest_of_window, window_length}
+use Rattle.git_client.proofs.ReceivingBytes.{rest_of_window, window_length}
 use Rattle.git_client.specs.Machine.Client.{wants_input}
 use Rattle.git_client.specs.Machine.RunSteps.{window_of}
 use Rattle.git2show_lib.specs.Machine.Sieving.{SievesTo, stage}
-use Rattle.git2show_lib.proofs.SievedResponses.{came_in_front, came_not, closed_response, fault_met, flush_failed, more_response, piece_passed}
+use Rattle.git2show_lib.proofs.SievedResponses.{came_in_front, came_not, closed_response, fault_met, flush_failed, more_response, chunk_passed}
 use Rattle.git2show_lib.proofs.SievedResponses.{sieved_nothing, whole_response}
 use Rattle.git2show_lib.proofs.sieved_response.receive_sieved.Goals as goal
 
 pub response-init : goal.response-init
 response-init g c = record {
-  room = refl;
+  space = refl;
   ordered = c.requires.ordered;
   within = c.requires.within;
   waits = c.requires.waits;
@@ -39,7 +39,7 @@ returns-in_err-flush-clause-received g c =
     c.receive_packets-received.new.packets in
     at_fault c.from_residual.result c.in_err-flush.field-0.0 WriteFault
     (λ result. SievesTo c.args.form result (has_ended c.response.reader) c.args.client.now c.receive_packets-received.new.client
-    (window_of c.args.waiting c.args.piece.now) c.response.piece
+    (window_of c.args.waiting c.args.chunk.now) c.response.chunk
     (flow (g.R.Read.remaining (inner_of c.args.reader.now)) (g.R.Read.remaining (inner_of c.response.reader)))
     (flow (g.O.Write.contents (inner_of c.args.out.now)) (g.O.Write.contents (inner_of c.flush.new.writer)))) c.in_err-flush.ensures.fault
     c.from_residual.ensures.1
@@ -53,7 +53,7 @@ returns-in_err-left-clause-received g c =
     c.receive_packets-received.new.packets in
     at_fault c.from_residual-in_err-left.result c.in_err-left.field-0.0 c.in_err-left.field-0.0
     (λ result. SievesTo c.args.form result (has_ended c.response.reader) c.args.client.now c.receive_packets-received.new.client
-    (window_of c.args.waiting c.args.piece.now) c.response.piece
+    (window_of c.args.waiting c.args.chunk.now) c.response.chunk
     (flow (g.R.Read.remaining (inner_of c.args.reader.now)) (g.R.Read.remaining (inner_of c.response.reader)))
     (flow (g.O.Write.contents (inner_of c.args.out.now)) (g.O.Write.contents (inner_of c.flush.new.writer)))) refl
     c.from_residual-in_err-left.ensures.1
@@ -71,9 +71,9 @@ returns-then-not-wants_input-clause-received g c =
     let ready : wants_input c.receive_packets-received.new.client ≡ false = search rules in
     let (asks, shut) = step.ends ready in
     whole_response
-    (piece_passed was.so_far was.waits c.response.sieve.form was.same_form new _ _ c.in_ok-flush.ensures.bytes used _ refl step)
-    _ _ step.sound shut (rest_of_window at.start at.end used c.response.piece step.within) c.position-count.ensures
-    (omega (arith, step.within, window_length at c.response.piece was.ordered was.within)) was.within asks
+    (chunk_passed was.so_far was.waits c.response.sieve.form was.same_form new _ _ c.in_ok-flush.ensures.bytes used _ refl step)
+    _ _ step.sound shut (rest_of_window at.start at.end used c.response.chunk step.within) c.position-count.ensures
+    (omega (arith, step.within, window_length at c.response.chunk was.ordered was.within)) was.within asks
 
 pub returns-then-reads-turns-clause-received : goal.returns-then-reads-turns-clause-received
 returns-then-reads-turns-clause-received g c =
@@ -83,7 +83,7 @@ returns-then-reads-turns-clause-received g c =
     let step = c.in_ok-left.ensures.received in
     let waits : wants_input c.receive_packets-received.new.client ≡ true = search rules in
     more_response
-    (piece_passed was.so_far was.waits c.response.sieve.form was.same_form new _ _ c.in_ok-flush.ensures.bytes c.in_ok-left.field-0 []
+    (chunk_passed was.so_far was.waits c.response.sieve.form was.same_form new _ _ c.in_ok-flush.ensures.bytes c.in_ok-left.field-0 []
     (drop_all c.in_ok-left.field-0 _ (omega (arith, step.all waits))) step) step.sound waits
 
 pub returns-in_err-end-clause-received : goal.returns-in_err-end-clause-received
@@ -96,13 +96,13 @@ returns-in_err-end-clause-received g c =
     let kept : Keeps (g.R.Read.remaining (inner_of c.response.reader)) (g.R.Read.remaining (inner_of c.receive.new.reader)) = search rules in
     at_fault c.from_residual-in_err-end.result c.in_err-end.field-0.0 ReadFault
     (λ result. SievesTo c.args.form result (has_ended c.receive.new.reader) c.args.client.now c.receive_packets-received.new.client
-    (window_of c.args.waiting c.args.piece.now) c.receive.new.piece
+    (window_of c.args.waiting c.args.chunk.now) c.receive.new.chunk
     (flow (g.R.Read.remaining (inner_of c.args.reader.now)) (g.R.Read.remaining (inner_of c.receive.new.reader)))
     (flow (g.O.Write.contents (inner_of c.args.out.now)) (g.O.Write.contents (inner_of c.flush.new.writer)))) c.in_err-end.ensures.fault
     c.from_residual-in_err-end.ensures.1
     (more_response
     (came_not
-    (piece_passed was.so_far was.waits c.response.sieve.form was.same_form new _ _ c.in_ok-flush.ensures.bytes c.in_ok-left.field-0 []
+    (chunk_passed was.so_far was.waits c.response.sieve.form was.same_form new _ _ c.in_ok-flush.ensures.bytes c.in_ok-left.field-0 []
     (drop_all c.in_ok-left.field-0 _ (omega (arith, step.all waits))) step) kept) step.sound waits)
 
 pub returns-then-end-eq0-clause-received : goal.returns-then-end-eq0-clause-received
@@ -113,10 +113,10 @@ returns-then-end-eq0-clause-received g c =
     let step = c.in_ok-left.ensures.received in
     let waits : wants_input c.receive_packets-received.new.client ≡ true = search rules in
     let read : Consumes (g.R.Read.remaining (inner_of c.response.reader)) (g.R.Read.remaining (inner_of c.receive.new.reader))
-    (take c.in_ok-end.end c.receive.new.piece) = search rules in
+    (take c.in_ok-end.end c.receive.new.chunk) = search rules in
     let at_end : has_ended c.receive.new.reader ≡ true = search rules in
-    closed_response c.in_ok-end.end c.receive.new.piece c.if-end-eq0.true read at_end
-    (piece_passed was.so_far was.waits c.response.sieve.form was.same_form new _ _ c.in_ok-flush.ensures.bytes c.in_ok-left.field-0 []
+    closed_response c.in_ok-end.end c.receive.new.chunk c.if-end-eq0.true read at_end
+    (chunk_passed was.so_far was.waits c.response.sieve.form was.same_form new _ _ c.in_ok-flush.ensures.bytes c.in_ok-left.field-0 []
     (drop_all c.in_ok-left.field-0 _ (omega (arith, step.all waits))) step) waits c.close.ensures
 
 pub response-preserved : goal.response-preserved
@@ -127,9 +127,9 @@ response-preserved g c =
     let step = c.in_ok-left.ensures.received in
     let waits : wants_input c.receive_packets-received.new.client ≡ true = search rules in
     let read : Consumes (g.R.Read.remaining (inner_of c.response.reader)) (g.R.Read.remaining (inner_of c.receive.new.reader))
-    (take c.in_ok-end.end c.receive.new.piece) = search rules in
+    (take c.in_ok-end.end c.receive.new.chunk) = search rules in
     record {
-      room = search rules;
+      space = search rules;
       ordered = search rules;
       within = search rules;
       waits = waits;
@@ -143,6 +143,6 @@ response-preserved g c =
       sound_out = search rules;
       so_far =
           came_in_front
-          (piece_passed was.so_far was.waits c.response.sieve.form was.same_form new _ _ c.in_ok-flush.ensures.bytes c.in_ok-left.field-0 []
-          (drop_all c.in_ok-left.field-0 _ (omega (arith, step.all waits))) step) c.in_ok-end.end c.receive.new.piece read;
+          (chunk_passed was.so_far was.waits c.response.sieve.form was.same_form new _ _ c.in_ok-flush.ensures.bytes c.in_ok-left.field-0 []
+          (drop_all c.in_ok-left.field-0 _ (omega (arith, step.all waits))) step) c.in_ok-end.end c.receive.new.chunk read;
     }

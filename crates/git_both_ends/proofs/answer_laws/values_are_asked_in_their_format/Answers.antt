@@ -1,4 +1,4 @@
-use Rattle.git_both_ends.proofs.PlaysTold.{asks_in}
+use Rattle.git_both_ends.proofs.PlaysAnnounced.{asks_in}
 use Rattle.git_both_ends.proofs.answer_laws.values_are_asked_in_their_format.Goals as goal
 
 pub returns : goal.returns

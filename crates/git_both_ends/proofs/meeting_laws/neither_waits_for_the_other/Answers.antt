@@ -1,9 +1,9 @@
-use Rattle.git_both_ends.proofs.NeitherWaits.{front_heard, nothing_refused, one_goes_on}
+use Rattle.git_both_ends.proofs.NeitherWaits.{front_received, nothing_refused, one_goes_on}
 use Rattle.git_both_ends.proofs.meeting_laws.neither_waits_for_the_other.Goals as goal
 
 pub returns : goal.returns
 returns g c = record {
-  front = λ format limit before calls now met kept. front_heard g.R.Repo.state g.A.Memory.refuses format limit before calls now met kept;
+  front = λ format limit before calls now met kept. front_received g.R.Repo.state g.A.Memory.refuses format limit before calls now met kept;
   goes_on = λ format limit before calls now met sound stays goes.
       one_goes_on g.R.Repo.state g.A.Memory.refuses format limit before calls now met sound stays goes;
   sound = λ format limit before calls now fault met clean failed.

@@ -1,6 +1,6 @@
 use Rattle.std.proofs.Common.{◌≡◌, ◌≤◌, ◌<◌, ◌++◌, length, true, false}
 use Rattle.std.specs.Vec.Iter.{into_iter_items, into_iter_len}
-use Rattle.git_pkt.specs.Machine.Told.{inner_of, reads_of, has_failed, has_ended, has_wasted}
+use Rattle.git_pkt.specs.Machine.Recorded.{inner_of, reads_of, has_failed, has_ended, has_wasted}
 use Rattle.git_pkt.specs.Streams.{flow}
 use Rattle.git_client.specs.Parts.{Terms}
 use Rattle.git_client.specs.Machine.Client.{History, Converses, nothing_yet, can_ask}
@@ -13,7 +13,7 @@ use Rattle.git_client.proofs.conversing.converse.Given as goal
 abbrev pub invariant-loop-request : goal.invariant-loop-request
 invariant-loop-request g l = record {
   runs : (t : Terms) → Converses t nothing_yet l.fn.client
-      → (h : History) × Running false t h l.yielded l.client no_counts (window_of l.waiting l.piece)
+      → (h : History) × Running false t h l.yielded l.client no_counts (window_of l.waiting l.chunk)
       (flow (g.R.Read.remaining (inner_of l.fn.reader)) (g.R.Read.remaining (inner_of l.reader)))
       (flow (g.W.Write.contents (inner_of l.fn.writer)) (g.W.Write.contents (inner_of l.writer)))
       (flow (g.O.Write.contents (inner_of l.fn.out)) (g.O.Write.contents (inner_of l.out)))
@@ -23,8 +23,8 @@ invariant-loop-request g l = record {
   left_to_ask : l.fn.requests.items ≡ l.yielded ++ into_iter_items l.request-iterator;
   counted : into_iter_len l.request-iterator ≡ length (into_iter_items l.request-iterator);
   ordered : l.waiting.start ≤ l.waiting.end;
-  within : l.waiting.end ≤ length l.piece;
-  room : 0 < length l.piece;
+  within : l.waiting.end ≤ length l.chunk;
+  space : 0 < length l.chunk;
   reads : reads_of l.reader ≤ l.turns;
   sound_reader : has_failed l.reader ≡ false;
   open_ended : has_ended l.reader ≡ false;

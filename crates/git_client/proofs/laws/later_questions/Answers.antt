@@ -1,4 +1,4 @@
-use Rattle.git_client.proofs.EventsHeard.{later_questions}
+use Rattle.git_client.proofs.EventsReceived.{later_questions}
 use Rattle.git_client.proofs.laws.later_questions.Goals as goal
 
 pub returns : goal.returns

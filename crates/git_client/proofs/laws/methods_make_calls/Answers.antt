@@ -7,7 +7,7 @@ returns g c = record {
   refused = λ old new request back fault steps refuses. (refuses, refl);
   left = λ old new steps leaves. (leaves, refl);
   pulled = λ old new sent steps pulls. (pulls, refl);
-  fed = λ old new piece answer before after feeds used pays. (feeds, used, pays);
+  fed = λ old new chunk answer before after feeds used pays. (feeds, used, pays);
   closed = λ old new fault steps waits carries refused kind offset credit. (
     record { waits = waits; carries = carries; refused = refused; kind = kind; offset = offset; credit = credit },
     refl,

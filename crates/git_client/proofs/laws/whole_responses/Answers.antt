@@ -1,4 +1,4 @@
-use Rattle.git_client.proofs.EventsHeard.{is_whole}
+use Rattle.git_client.proofs.EventsReceived.{is_whole}
 use Rattle.git_client.proofs.laws.whole_responses.Goals as goal
 
 pub returns : goal.returns

@@ -11,7 +11,7 @@ stays_same old new same s used over reported given h = subst (λ (x : HostServer
 
 pub returns : goal.returns
 returns g c = record {
-  fed = λ old new piece used before after within feeds pays memory.
+  fed = λ old new chunk used before after within feeds pays memory.
       record { within = within; begun_is = refl; feeds = feeds; pays = pays; memory = memory };
   closed = λ old new steps closes credit. (closes, record { steps = refl; credit = credit });
   unclosed = λ old new steps closes. (

@@ -1,6 +1,6 @@
 -- What the machine sent was written, and nothing has failed since the call began.
 use Rattle.std.proofs.Common.{◌≡◌, false, []}
-use Rattle.git_pkt.specs.Machine.Told.{inner_of, has_failed}
+use Rattle.git_pkt.specs.Machine.Recorded.{inner_of, has_failed}
 use Rattle.git_pkt.specs.Streams.{flow}
 use Rattle.git_loop.specs.Machines.{Writes}
 use Rattle.git_loop.proofs.running.drain.Given as goal

@@ -1,5 +1,5 @@
 use Rattle.std.proofs.Common.{rules, true, false, arith, ap, length, length-drop}
-use Rattle.git_pkt.proofs.Pieces.{left_of}
+use Rattle.git_pkt.proofs.Chunks.{left_of}
 use Rattle.git_loop.proofs.RunLemmas.{on_err_at, fed_on, fed_part, fed_end, writes_nothing}
 use Rattle.git_loop.proofs.running.feed_all.Goals as goal
 

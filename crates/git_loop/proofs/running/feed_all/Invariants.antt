@@ -1,6 +1,6 @@
 -- The bytes up to `used` were used, what the machine sent for them was written, and nothing has failed since the call began.
 use Rattle.std.proofs.Common.{◌≡◌, ◌-◌, ◌≤◌, false, length, take}
-use Rattle.git_pkt.specs.Machine.Told.{inner_of, has_failed}
+use Rattle.git_pkt.specs.Machine.Recorded.{inner_of, has_failed}
 use Rattle.git_pkt.specs.Streams.{flow}
 use Rattle.git_loop.specs.Machines.{Writes}
 use Rattle.git_loop.proofs.running.feed_all.Given as goal

@@ -119,7 +119,7 @@ loop-preserved g c = record {
   useful = search rules;
   writer_sound = search rules;
   needs_input = rw c.if-branch-2.false at c.in_ok-feed_all.ensures.at;
-  run = turns_on g.met.M.Machine.reaches_further c.loop.counter c.in_ok-count.count c.receive.new.piece _ c.loop.machine
+  run = turns_on g.met.M.Machine.reaches_further c.loop.counter c.in_ok-count.count c.receive.new.chunk _ c.loop.machine
       c.feed_all.new.machine c.loop.invariant.run c.in_ok-flush-2.ensures.bytes c.in_ok-count.ensures.bytes.0
       (rw c.if-branch-2.false at c.in_ok-feed_all.ensures.ok) (search rules) (search rules);
 }

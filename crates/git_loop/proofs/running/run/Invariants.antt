@@ -1,6 +1,6 @@
 -- Each turn is one read that brought some bytes, nothing has failed or ended, and all that the machine sent for what was read was written.
 use Rattle.std.proofs.Common.{◌≡◌, false}
-use Rattle.git_pkt.specs.Machine.Told.{inner_of, reads_of, has_failed, has_ended, has_wasted}
+use Rattle.git_pkt.specs.Machine.Recorded.{inner_of, reads_of, has_failed, has_ended, has_wasted}
 use Rattle.git_pkt.specs.Streams.{flow}
 use Rattle.git_pkt.proofs.EngineLemmas.{Moved}
 use Rattle.git_loop.proofs.RunLemmas.{After}

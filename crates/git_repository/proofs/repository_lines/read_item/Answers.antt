@@ -1,4 +1,4 @@
-use Rattle.git_repository.proofs.Saying.{line_read, no_object}
+use Rattle.git_repository.proofs.LineContents.{line_read, no_object}
 use Rattle.git_repository.proofs.repository_lines.read_item.Goals as goal
 
 pub returns-in-Some : goal.returns-in-Some

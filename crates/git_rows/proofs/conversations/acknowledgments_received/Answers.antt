@@ -6,19 +6,19 @@ use Rattle.git_rows.proofs.TextsByComputing.{differ, no_error_by}
 use Rattle.git_rows.proofs.conversations.acknowledgments_received.Goals as goal
 
 pub returns-clause-header : goal.returns-clause-header
-returns-clause-header c = gives_at _ _ _ _ _ _ refl (record { no_error = no_error_by (codes "acknowledgments") refl; says = refl })
+returns-clause-header c = gives_at _ _ _ _ _ _ refl (record { no_error = no_error_by (codes "acknowledgments") refl; conveys = refl })
 
 pub returns-clause-none : goal.returns-clause-none
-returns-clause-none c = gives_at _ _ _ _ _ _ refl (record { no_error = no_error_by (codes "NAK") refl; says = (refl, refl) })
+returns-clause-none c = gives_at _ _ _ _ _ _ refl (record { no_error = no_error_by (codes "NAK") refl; conveys = (refl, refl) })
 
 pub returns-clause-one : goal.returns-clause-one
 returns-clause-one c = gives_at _ _ _ _ _ _ refl (record {
   no_error = no_error_by (codes "ACK " ++ all_a) refl;
-  says = (record { value = all_a; spelled = refl; holds = all_a_is_name }, refl);
+  conveys = (record { value = all_a; spelled = refl; holds = all_a_is_name }, refl);
 })
 
 pub returns-clause-is_ready : goal.returns-clause-is_ready
-returns-clause-is_ready c = gives_at _ _ _ _ _ _ refl (record { no_error = no_error_by (codes "ready") refl; says = (refl, refl) })
+returns-clause-is_ready c = gives_at _ _ _ _ _ _ refl (record { no_error = no_error_by (codes "ready") refl; conveys = (refl, refl) })
 
 pub returns-clause-end : goal.returns-clause-end
 returns-clause-end c = gives_at _ _ _ _ _ _ refl refl

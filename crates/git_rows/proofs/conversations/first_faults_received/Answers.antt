@@ -66,7 +66,7 @@ cut_short = inr (inr (record {
   splits = splits_written 0 (text_line (codes "version 2") ∷ []) (codes "00") refl (none_begins_short (codes "00") (omega arith));
   sound = ([], [], refl, gives_version terms [], refl);
   still_open = open_by (codes "00") refl;
-  due = (capabilities true, refl);
+  expected = (capabilities true, refl);
   kind = refl;
   at = refl;
 }))
@@ -103,7 +103,7 @@ returns-clause-no_digit c = inr (inl (record {
   events = [];
   splits = record { spelled = refl; ends = none_begins_short (codes "00g") (omega arith) };
   sound = refl;
-  due = (version, refl);
+  expected = (version, refl);
   by = stops_at_letter;
 }))
 

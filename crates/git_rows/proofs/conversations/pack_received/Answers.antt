@@ -28,7 +28,7 @@ begun band more =
 
 gives_header : GivesAt terms asked_fetch offered_before (text_line (codes "packfile")) []
 gives_header = gives_at terms asked_fetch offered_before (text_line (codes "packfile")) [] _ refl
-    (record { no_error = no_error_by (codes "packfile") refl; says = refl })
+    (record { no_error = no_error_by (codes "packfile") refl; conveys = refl })
 
 gives_pack : (more : List Given) (later : List EventValue)
     → GiveAll terms asked_fetch (payload (1 ∷ codes "A") ∷ after_header (codes "packfile")) more later
@@ -130,7 +130,7 @@ returns-clause-whole c = record {
   splits = whole_splits 1;
   gives = gives_pack (at 37 flush ∷ []) (ended ∷ []) (gives_end 1);
   all_flushes = refl;
-  no_end_due = refl;
+  no_end_expected = refl;
 }
 
 pub returns-clause-begun : goal.returns-clause-begun

@@ -18,7 +18,7 @@ use Rattle.git_rows.proofs.conversations.reference_received.Goals as goal
 
 gives_line : GivesAt terms asked_refs offered_before (text_line (all_a ++ codes " HEAD")) (reference head_ref ∷ [])
 gives_line = gives_at terms asked_refs offered_before (text_line (all_a ++ codes " HEAD")) (reference head_ref ∷ []) _ refl
-    (record { no_error = no_error_by (all_a ++ codes " HEAD") refl; says = head_line })
+    (record { no_error = no_error_by (all_a ++ codes " HEAD") refl; conveys = head_line })
 
 abbrev begun_packets : List Given
 begun_packets = at 0 (text_line (codes "version 2")) ∷ at 14 flush ∷ at 18 (text_line (all_a ++ codes " HEAD")) ∷ []
@@ -54,7 +54,7 @@ returns-clause-whole c = record {
   gives = offer_then asked_refs (at 18 (text_line (all_a ++ codes " HEAD")) ∷ at 68 flush ∷ []) (reference head_ref ∷ ended ∷ [])
       (reference head_ref ∷ [], ended ∷ [], refl, gives_line, (ended ∷ [], [], refl, gives_at _ _ _ flush (ended ∷ []) _ refl refl, refl));
   all_flushes = refl;
-  no_end_due = refl;
+  no_end_expected = refl;
 }
 
 pub returns-clause-begun : goal.returns-clause-begun

@@ -9,19 +9,19 @@ use Rattle.git_rows.proofs.conversations.sections_received.Goals as goal
 pub returns-clause-cut_history : goal.returns-clause-cut_history
 returns-clause-cut_history c = gives_at _ _ _ _ _ _ refl (record {
   no_error = no_error_by (codes "shallow " ++ all_a) refl;
-  says = record { value = all_a; spelled = refl; holds = all_a_is_name };
+  conveys = record { value = all_a; spelled = refl; holds = all_a_is_name };
 })
 
 pub returns-clause-more_history : goal.returns-clause-more_history
 returns-clause-more_history c = gives_at _ _ _ _ _ _ refl (record {
   no_error = no_error_by (codes "unshallow " ++ all_a) refl;
-  says = record { value = all_a; spelled = refl; holds = all_a_is_name };
+  conveys = record { value = all_a; spelled = refl; holds = all_a_is_name };
 })
 
 pub returns-clause-wanted : goal.returns-clause-wanted
 returns-clause-wanted c = gives_at _ _ _ _ _ _ refl (record {
   no_error = no_error_by (all_a ++ codes " refs/x") refl;
-  says = record { id = all_a; spelled = refl; id_is = all_a_is_name; name_is = ref_by (codes "refs/x") refl refl };
+  conveys = record { id = all_a; spelled = refl; id_is = all_a_is_name; name_is = ref_by (codes "refs/x") refl refl };
 })
 
 pub returns-clause-bytes : goal.returns-clause-bytes

@@ -9,7 +9,7 @@ use Rattle.git_client.specs.Conversation.{HasEvents}
 use Rattle.git_client.specs.Events.{offered}
 use Rattle.git_client.specs.Parts.{terms_of}
 use Rattle.git_client.specs.declared.events.Ending.TheVariants.{FlushOnly}
-use Rattle.git_client.proofs.EventsHeard.{later_questions}
+use Rattle.git_client.proofs.EventsReceived.{later_questions}
 use Rattle.git_rows.specs.Worked.{at}
 use Rattle.git_rows.specs.WorkedConversations.{asked_refs, offer_bytes, terms}
 use Rattle.git_rows.proofs.OpenRests.{open_nothing}

@@ -7,12 +7,12 @@ use Rattle.git_rows.proofs.TextsByComputing.{no_error_by}
 use Rattle.git_rows.proofs.conversations.sizes_and_response_ends_received.Goals as goal
 
 pub returns-clause-line : goal.returns-clause-line
-returns-clause-line c = gives_at _ _ _ _ _ _ refl (record { no_error = no_error_by (codes "size") refl; says = refl })
+returns-clause-line c = gives_at _ _ _ _ _ _ refl (record { no_error = no_error_by (codes "size") refl; conveys = refl })
 
 pub returns-clause-size : goal.returns-clause-size
 returns-clause-size c = gives_at _ _ _ _ _ _ refl (record {
   no_error = no_error_by (all_a ++ codes " 12") refl;
-  says = record {
+  conveys = record {
     id = all_a;
     size = codes "12";
     spelled = refl;

@@ -13,14 +13,14 @@ use Rattle.git_client.specs.Conversation.{GiveAll, HasNoted, IsConversation}
 use Rattle.git_client.specs.Events.{EventValue}
 use Rattle.git_client.specs.Machine.Client.{ask_checks}
 use Rattle.git_client.specs.Parts.{nearest}
-use Rattle.git_client.proofs.EventsHeard.{later_questions}
+use Rattle.git_client.proofs.EventsReceived.{later_questions}
 use Rattle.git_msg.specs.Checks.{Passes}
 use Rattle.git_server.specs.Admission.{barred}
 use Rattle.git_server.specs.Answers.{advertisement_of, spelled}
 use Rattle.git_server.specs.Sessions.{IsAnswered, IsEnding, Setting}
 use Rattle.git_server.specs.declared.outcome.Outcome.TheVariants.{Flush}
 use Rattle.git_both_ends.specs.Plays.{setting_of}
-use Rattle.git_both_ends.specs.ToldAnswers.{told_offer}
+use Rattle.git_both_ends.specs.AnnouncedAnswers.{announced_offer}
 use Rattle.git_rows.specs.Worked.{at, offer_all}
 use Rattle.git_rows.specs.WorkedConversations.{terms}
 use Rattle.git_rows.specs.WorkedRuns.{repo_state}
@@ -37,13 +37,13 @@ abbrev given : List Given
 given = placed 0 offer
 
 abbrev events : List EventValue
-events = told_offer offer_all
+events = announced_offer offer_all
 
 offer_splits : Splits 0 (spelled offer) given []
 offer_splits = splits_written 0 offer [] refl none_begins_nothing
 
 whole : GiveAll terms [] [] given events → IsConversation terms [] (spelled offer) events
-whole gives = record { given = given; splits = offer_splits; gives = gives; all_flushes = refl; no_end_due = refl }
+whole gives = record { given = given; splits = offer_splits; gives = gives; all_flushes = refl; no_end_expected = refl }
 
 noted : GiveAll terms [] [] given events → HasNoted terms [] (spelled offer) (noted_of (nearest given []))
 noted gives = (
@@ -89,12 +89,12 @@ ending = record {
 
 pub returns-clause-whole : goal.returns-clause-whole
 unfolding escape_of lower_digit
-returns-clause-whole g c = let gives = c.heard_offer.ensures.heard terms [] offer_all given refl refl in record {
+returns-clause-whole g c = let gives = c.received_offer.ensures.arrived terms [] offer_all given refl refl in record {
   h = record { asked = []; left = true; used = spelled offer; events = events; given = codes "0000" };
   rest = [];
   nothing_read = refl;
-  told = refl;
-  heard = later_questions terms [] [] (spelled offer) events (whole gives);
+  announced = refl;
+  arrived = later_questions terms [] [] (spelled offer) events (whole gives);
   asked = record {
     front = [];
     all = refl;
@@ -103,10 +103,16 @@ returns-clause-whole g c = let gives = c.heard_offer.ensures.heard terms [] offe
     in_turn = omega arith;
   };
   ends = record {
-    first = record { said = codes "0000"; given = spelled offer };
+    first = record { content = codes "0000"; given = spelled offer };
     later = [];
-    run = record { all = refl; whole = whole gives; leaves = refl; said = record { caps = noted_of (nearest given []); noted = noted gives; said = refl } };
-    served = record { said = λ caps is. (refl, refl); gave = refl };
+    run = record {
+      all = refl;
+      whole = whole gives;
+      leaves = refl;
+      content = record
+          { caps = noted_of (nearest given []); noted = noted gives; content = refl };
+    };
+    served = record { content = λ caps is. (refl, refl); gave = refl };
     sessions = record {
       questions = [];
       parts = refl;

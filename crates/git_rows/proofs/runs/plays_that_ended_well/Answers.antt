@@ -7,7 +7,7 @@ use Rattle.git_msg.specs.Asked.{Asked, HasValues, ls_refs}
 use Rattle.git_msg.specs.Machine.HeldRequest.{asked_of, format_of}
 use Rattle.git_msg.specs.declared.requests.Request.{Request}
 use Rattle.git_server.specs.Repository.{IsSound}
-use Rattle.git_both_ends.specs.ToldAnswers.{CanBeWritten}
+use Rattle.git_both_ends.specs.AnnouncedAnswers.{CanBeWritten}
 use Rattle.git_rows.specs.Worked.{asked_with}
 use Rattle.git_rows.specs.WorkedConversations.{terms}
 use Rattle.git_rows.specs.WorkedRuns.{bare_repo, bare_state, offer_transcript}
@@ -36,12 +36,12 @@ own_values {A} request asked =
 pub returns-clause-nothing_asked : goal.returns-clause-nothing_asked
 unfolding escape_of lower_digit
 returns-clause-nothing_asked g c = λ given played.
-    c.played_as_told.ensures.told 0 terms 0 bare_state [] tt [] given played sound written refl (All-nil _)
+    c.played_as_answered.ensures.announced 0 terms 0 bare_state [] tt [] given played sound written refl (All-nil _)
 
 pub returns-clause-references_asked : goal.returns-clause-references_asked
 unfolding digits escape_of lower_digit
 returns-clause-references_asked g c = λ request given asked played.
-    rw asked at (c.played_as_told.ensures.told 0 terms 0 bare_state (request ∷ []) tt [] given played sound written refl (own_values request asked))
+    rw asked at (c.played_as_answered.ensures.announced 0 terms 0 bare_state (request ∷ []) tt [] given played sound written refl (own_values request asked))
 
 pub returns-clause-not_unanswered : goal.returns-clause-not_unanswered
 unfolding digits escape_of lower_digit
@@ -49,7 +49,7 @@ returns-clause-not_unanswered g c = λ request asked played.
     let given = offer_transcript ∷ [] ∷ [] in
     let more = codes "request ls-refs\nend 0 0\n" in
     let just : given ≡ (offer_transcript ++ more) ∷ [] ∷ [] =
-    rw asked at (c.played_as_told.ensures.told 0 terms 0 bare_state (request ∷ []) tt [] given played sound written refl (own_values request asked)) in
+    rw asked at (c.played_as_answered.ensures.announced 0 terms 0 bare_state (request ∷ []) tt [] given played sound written refl (own_values request asked)) in
     let head : offer_transcript ≡ offer_transcript ++ more = cc in
     omega (arith, ap length head, length-append offer_transcript more)
 
@@ -57,5 +57,6 @@ pub returns-clause-not_with_a_pack : goal.returns-clause-not_with_a_pack
 unfolding escape_of lower_digit
 returns-clause-not_with_a_pack g c = λ played.
     let given = offer_transcript ∷ codes "PACK" ∷ [] in
-    let just : given ≡ offer_transcript ∷ [] ∷ [] = c.played_as_told.ensures.told 0 terms 0 bare_state [] tt [] given played sound written refl (All-nil _) in
+    let just : given ≡ offer_transcript ∷ []
+    ∷ [] = c.played_as_answered.ensures.announced 0 terms 0 bare_state [] tt [] given played sound written refl (All-nil _) in
     cc

@@ -12,7 +12,7 @@ use Rattle.git_msg.specs.WrittenRequest.{text_line}
 use Rattle.git_client.specs.Events.{EventValue, offered}
 use Rattle.git_names.specs.declared.object_format.Format.TheVariants.{Sha1}
 use Rattle.git_pkt.specs.Packets.{flush}
-use Rattle.git_client.proofs.EventsHeard.{later_questions}
+use Rattle.git_client.proofs.EventsReceived.{later_questions}
 use Rattle.git2show_lib.specs.Others.{Advertised, is_other_line, is_own_key, judged_of, line_kept}
 use Rattle.git2show_lib.specs.OtherLines.{Question}
 use Rattle.git2show_lib.specs.Machine.CheckedStreams.{ComeInTurn, HasEnded, Turn, bytes_begun, bytes_in, received_in}
@@ -30,9 +30,9 @@ returns-clause-whole g c = record {
   by = record { offer = noted_offer (noted_of (flush ∷ text_line (codes "version 2") ∷ [])) Sha1; text = [] };
   r = record { opening = offer_bytes; greeting = offered ∷ []; turns = []; begun = None };
   were_read = refl;
-  told = refl;
+  announced = refl;
   received = record { asked_is = refl; used_is = refl; events_are = refl; one_turn = (true, (refl, refl)); in_turn = tt };
-  heard = later_questions terms [] [] offer_bytes (offered ∷ []) whole_offer;
+  arrived = later_questions terms [] [] offer_bytes (offered ∷ []) whole_offer;
   may_be = λ caps noted. All-nil (λ (q : Asked). offers_command caps (command_asked q) ≡ true);
   in_turn = omega arith;
   offered = inl (record {

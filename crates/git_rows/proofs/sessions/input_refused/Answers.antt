@@ -97,7 +97,7 @@ returns-clause-unknown_command c = record {
     last = at 0 (text_line (codes "command=bundle-uri"));
     whole = refl;
     begins = nothing_begun;
-    told = inr (
+    announced = inr (
       first_is_unbarred offer_all 49 (barred repo) (at 0 (text_line (codes "command=bundle-uri"))),
       inl (record {
         front = [];
@@ -141,7 +141,7 @@ returns-clause-not_ours c = record {
     last = at 22 (text_line (codes "want " ++ all_b));
     whole = refl;
     begins = record { lines = fetch_begun; taken = (fetch_command 49, ((refl, (tt, tt)), tt)); admitted = All-nil (IsAdmitted (barred repo)) };
-    told = inl (record {
+    announced = inl (record {
       front = at 0 (text_line (codes "command=fetch")) ∷ at 18 delim ∷ [];
       last = at 22 (text_line (codes "want " ++ all_b));
       lines = fetch_begun;

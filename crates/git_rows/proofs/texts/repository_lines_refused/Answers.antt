@@ -3,7 +3,7 @@ use Rattle.git_names.specs.declared.object_format.Format.{Format}
 use Rattle.git_names.specs.declared.object_format.Format.TheVariants.{Sha1, Sha256}
 use Rattle.git_msg.specs.declared.Boundary.TheVariants.{Shallow, Unshallow}
 use Rattle.git_repository.specs.Packs.{no_packs}
-use Rattle.git_repository.specs.RepositoryLines.{SaysNothing, boundary, format_line, object, ready, reference, unborn}
+use Rattle.git_repository.specs.RepositoryLines.{HasNoContent, boundary, format_line, object, ready, reference, unborn}
 use Rattle.git_repository.specs.RepositoryText.{IsFirstBad}
 use Rattle.git_repository.proofs.TextLaws.{one_first_bad, repository_or_bad}
 use Rattle.git_rows.specs.Worked.{name_a}
@@ -16,13 +16,13 @@ no_line : (format : Format) → [] ≢ format_line format
 no_line Sha1 = differ [] (codes "format sha1") refl
 no_line Sha256 = differ [] (codes "format sha256") refl
 
-nothing_said : SaysNothing Sha1 (codes "x")
-nothing_said (reference entry) says = begins_otherwise (codes "ref ") (codes "x") refl says.value says.spelled
-nothing_said (unborn target) says = begins_otherwise (codes "ref ") (codes "x") refl says.value says.spelled
-nothing_said (object id size) says = begins_otherwise (codes "object ") (codes "x") refl says.value says.spelled
-nothing_said (ready count) says = begins_otherwise (codes "ready ") (codes "x") refl says.value says.spelled
-nothing_said (boundary (Shallow id)) says = begins_otherwise (codes "shallow ") (codes "x") refl says.value says.spelled
-nothing_said (boundary (Unshallow id)) says = begins_otherwise (codes "unshallow ") (codes "x") refl says.value says.spelled
+nothing_stated : HasNoContent Sha1 (codes "x")
+nothing_stated (reference entry) conveys = begins_otherwise (codes "ref ") (codes "x") refl conveys.value conveys.spelled
+nothing_stated (unborn target) conveys = begins_otherwise (codes "ref ") (codes "x") refl conveys.value conveys.spelled
+nothing_stated (object id size) conveys = begins_otherwise (codes "object ") (codes "x") refl conveys.value conveys.spelled
+nothing_stated (ready count) conveys = begins_otherwise (codes "ready ") (codes "x") refl conveys.value conveys.spelled
+nothing_stated (boundary (Shallow id)) conveys = begins_otherwise (codes "shallow ") (codes "x") refl conveys.value conveys.spelled
+nothing_stated (boundary (Unshallow id)) conveys = begins_otherwise (codes "unshallow ") (codes "x") refl conveys.value conveys.spelled
 
 bad_word : IsFirstBad (codes "format sha1\nx\n") 2
 bad_word = inr (record {
@@ -32,14 +32,14 @@ bad_word = inr (record {
   behind = [];
   whole = refl;
   at_number = refl;
-  said = [];
+  content = [];
   begins = record {
     others = [];
     spelled = refl;
-    say_all = tt;
+    send_each = tt;
     may_stand = record { rising_names = λ k d lt. absurd (omega arith); rising_objects = λ k d lt. absurd (omega arith); one_count = omega arith };
   };
-  refused = λ next is_line may_stand. nothing_said next is_line.1;
+  refused = λ next is_line may_stand. nothing_stated next is_line.1;
 })
 
 pub returns-clause-no_format : goal.returns-clause-no_format
@@ -48,8 +48,8 @@ returns-clause-no_format c = inl (record { at_first = refl; first = []; others =
 pub returns-clause-no_word : goal.returns-clause-no_word
 returns-clause-no_word c = bad_word
 
-pub returns-clause-nothing_said : goal.returns-clause-nothing_said
-returns-clause-nothing_said c = nothing_said
+pub returns-clause-nothing_stated : goal.returns-clause-nothing_stated
+returns-clause-nothing_stated c = nothing_stated
 
 pub returns-clause-not_the_format : goal.returns-clause-not_the_format
 returns-clause-not_the_format c = λ h.

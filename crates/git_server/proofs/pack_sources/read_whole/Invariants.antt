@@ -1,7 +1,7 @@
 -- What was read so far is in the list.
 use Rattle.std.proofs.Common.{◌-◌, ◌^◌, vec_len}
 use Rattle.std.specs.Io.KnownBytes.{Consumes}
-use Rattle.git_pkt.specs.Machine.Told.{inner_of}
+use Rattle.git_pkt.specs.Machine.Recorded.{inner_of}
 use Rattle.git_server.proofs.pack_sources.read_whole.Given as goal
 
 abbrev pub invariant-loop-read : goal.invariant-loop-read

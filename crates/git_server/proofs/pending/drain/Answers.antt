@@ -1,6 +1,6 @@
 use Rattle.std.proofs.Common.{rules, true, false}
 use Rattle.git_server.proofs.Outcomes.{pulls_on}
-use Rattle.git_server.proofs.OwedLemmas.{on_err_at, all_in_part, unread_end, unread_nothing, unread_packet, unread_waits, writes_packet, writes_end}
+use Rattle.git_server.proofs.UnsentLemmas.{on_err_at, all_in_part, unread_end, unread_nothing, unread_packet, unread_waits, writes_packet, writes_end}
 use Rattle.git_server.proofs.pending.drain.Goals as goal
 
 pub loop-bytes-preserved : goal.loop-bytes-preserved

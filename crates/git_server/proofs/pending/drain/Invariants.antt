@@ -1,10 +1,10 @@
 -- What was pulled was written, and nothing has failed since the call began.
 use Rattle.std.proofs.Common.{◌≡◌, false, []}
-use Rattle.git_pkt.specs.Machine.Told.{inner_of, has_failed}
+use Rattle.git_pkt.specs.Machine.Recorded.{inner_of, has_failed}
 use Rattle.git_pkt.specs.Streams.{flow}
-use Rattle.git_server.specs.Machine.ServerCalls.{IsAfterPull, OwesNoPack, most_left}
+use Rattle.git_server.specs.Machine.ServerCalls.{IsAfterPull, HasNoPackUnsent, most_left}
 use Rattle.git_server.specs.Machine.Server.{outcome_of}
-use Rattle.git_server.specs.Machine.Owed.{WritesOn, WritesUnread}
+use Rattle.git_server.specs.Machine.Unsent.{WritesOn, WritesUnread}
 use Rattle.git_server.proofs.pending.drain.Given as goal
 
 abbrev pub invariant-loop-bytes : goal.invariant-loop-bytes
@@ -13,7 +13,7 @@ invariant-loop-bytes g l = record {
   outcome : IsAfterPull (outcome_of l.fn.server) (outcome_of l.server);
   writes : WritesOn false g.R.Repo.state l.fn.server l.server []
       (flow (g.W.Write.contents (inner_of l.fn.writer)) (g.W.Write.contents (inner_of l.writer)));
-  unread : OwesNoPack g.R.Repo.state l.fn.server → WritesUnread false g.R.Repo.state l.fn.server l.server
+  unread : HasNoPackUnsent g.R.Repo.state l.fn.server → WritesUnread false g.R.Repo.state l.fn.server l.server
       (flow (g.W.Write.contents (inner_of l.fn.writer)) (g.W.Write.contents (inner_of l.writer)));
 }
 

@@ -1,4 +1,4 @@
-use Rattle.git_server.proofs.OwedLemmas.{flushed_for, on_err_at, unread_flushed, written_part}
+use Rattle.git_server.proofs.UnsentLemmas.{flushed_for, on_err_at, unread_flushed, written_part}
 use Rattle.git_server.proofs.pending.write_pending.Goals as goal
 
 pub returns-clause-unread : goal.returns-clause-unread

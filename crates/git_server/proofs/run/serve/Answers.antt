@@ -17,5 +17,5 @@ returns-clause-served g c =
 
 pub returns-clause-ends : goal.returns-clause-ends
 returns-clause-ends g c =
-    let tells = (ends_now g.R.Repo.state c.run.new.machine c.in-Finished.outcome (sym c.turn.ensures ∙ c.in-Finished.is)).tells in
-    (tells.0, tells.1)
+    let announces = (ends_now g.R.Repo.state c.run.new.machine c.in-Finished.outcome (sym c.turn.ensures ∙ c.in-Finished.is)).announces in
+    (announces.0, announces.1)

@@ -4,7 +4,7 @@ use Rattle.git_pkt.specs.Packets.{Pkt, delim}
 use Rattle.git_pkt.specs.declared.reader.PacketReader.{PacketReader}
 use Rattle.git_msg.specs.WrittenRequest.{text_line}
 use Rattle.git_server.specs.Machine.WrittenPackets.{Writes}
-use Rattle.git_server.proofs.WantedLines.{found_named, no_more_lines, passed_over, told, within_names}
+use Rattle.git_server.proofs.WantedLines.{found_named, no_more_lines, passed_over, announced, within_names}
 use Rattle.git_server.proofs.wanted_refs.write_from.Goals as goal
 
 pub write_wanted-requires-clause-named : goal.write_wanted-requires-clause-named
@@ -15,7 +15,7 @@ pub returns-in-Some-find : goal.returns-in-Some-find
 returns-in-Some-find g c =
     let repo = (g.R.Repo.state c.args.repo.now).answers in
     let line = text_line (hex_of c.in-Some-find.id ++ 32 ∷ c.in-Some.name.now) in
-    let lines = told repo (g.met.R.Repo.sound c.args.repo.now) c.args.request.now.asked.want_refs c.loop-name.at
+    let lines = announced repo (g.met.R.Repo.sound c.args.repo.now) c.args.request.now.asked.want_refs c.loop-name.at
     c.in-Some.name.now c.in-Some.ensures.value c.in-Some-find.id c.in-Some-find.ensures in
     record {
       packet = line;

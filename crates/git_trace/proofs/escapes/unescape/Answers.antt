@@ -1,5 +1,5 @@
 use Rattle.std.proofs.Common.{◌+◌, ◌∙◌, ap, arith}
-use Rattle.git_pkt.proofs.Pieces.{left_of}
+use Rattle.git_pkt.proofs.Chunks.{left_of}
 use Rattle.git_trace.specs.Escapes.{escape_at}
 use Rattle.git_trace.proofs.Reading.{read_escape}
 use Rattle.git_trace.proofs.escapes.unescape.Goals as goal

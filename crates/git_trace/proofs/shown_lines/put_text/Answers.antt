@@ -10,5 +10,5 @@ returns c =
     let front : take c.min.result c.text-text.result.now ≡ take 1024 text =
     rw (c.min.ensures, c.text-text.ensures) (ap (λ (n : ℕ). take n text) (omega arith) ∙ take_min 1024 text) in
     let shown = c.escape_into-end.ensures.escaped ∙ ap escaped_of front in
-    let room : c.saturating_sub-room.result ≡ min c.args.width 200 - 28 = search rules in
-    rw (← shown, ← room) c.put_in_column.ensures
+    let space : c.saturating_sub-space.result ≡ min c.args.width 200 - 28 = search rules in
+    rw (← shown, ← space) c.put_in_column.ensures

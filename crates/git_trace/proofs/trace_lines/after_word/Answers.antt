@@ -1,6 +1,6 @@
 use Rattle.std.proofs.Common.{◌+◌, ◌≤◌, ◌∙◌, ap, sym, Some, length, drop, arith, rules}
 use Rattle.std.proofs.lemmas.List.{length-drop}
-use Rattle.git_pkt.proofs.Pieces.{left_of}
+use Rattle.git_pkt.proofs.Chunks.{left_of}
 use Rattle.git_trace.proofs.Words.{word_here, word_later}
 use Rattle.git_trace.proofs.trace_lines.after_word.Goals as goal
 

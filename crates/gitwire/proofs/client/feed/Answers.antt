@@ -2,8 +2,8 @@ use Rattle.std.proofs.Common.{arith, ◌≤◌, ◌≡◌, ◌∙◌, subst, sym
 use Rattle.git_pkt.specs.Packets.{longest_payload}
 use Rattle.git_client.specs.Machine.Client.{events_of, wants_input}
 use Rattle.git_client.specs.Events.{all_parts_length}
-use Rattle.git_client.specs.declared.events.HeardGot.{HeardGot}
-use Rattle.gitwire.specs.ClientAnswers.{LieInPiece, answer_of, filled_by}
+use Rattle.git_client.specs.declared.events.ReceivedGot.{ReceivedGot}
+use Rattle.gitwire.specs.ClientAnswers.{LieInChunk, answer_of, filled_by}
 use Rattle.gitwire.specs.EventAnswers.{copied_of}
 use Rattle.gitwire.proofs.ListedEvents.{copied_fits, passed_fits}
 use Rattle.gitwire.proofs.ShownLengths.{answer_fits}
@@ -12,34 +12,34 @@ use Rattle.gitwire.proofs.client.feed.Goals as goal
 
 pub list-requires-clause-copied : goal.list-requires-clause-copied
 list-requires-clause-copied c =
-    let fits = subst (λ (got : HeardGot). all_parts_length (events_of got) ≤ longest_payload) c.in-Event.is c.feed-heard.ensures.fits in
-    omega (arith, copied_fits c.in-Event.event, fits, c.if-room-lt-LONGEST_PARTS.false)
+    let fits = subst (λ (got : ReceivedGot). all_parts_length (events_of got) ≤ longest_payload) c.in-Event.is c.feed-arrived.ensures.fits in
+    omega (arith, copied_fits c.in-Event.event, fits, c.if-buffer-lt-LONGEST_PARTS.false)
 
 pub list-requires-clause-passed : goal.list-requires-clause-passed
 list-requires-clause-passed c =
-    let used = c.feed-heard.result.used in
-    let piece = c.args.piece.now in
-    let feeds = c.feed-heard.follows.holds-at-none.0 in
-    let there = lies c.args.client.now c.feed-heard.follows.lender-at-none piece used c.feed-heard.result.got feeds in
-    omega (arith, passed_fits c.in-Event.event used piece (subst (λ (got : HeardGot). LieInPiece got used piece) c.in-Event.is there))
+    let used = c.feed-arrived.result.used in
+    let chunk = c.args.chunk.now in
+    let feeds = c.feed-arrived.follows.holds-at-none.0 in
+    let there = lies c.args.client.now c.feed-arrived.follows.lender-at-none chunk used c.feed-arrived.result.got feeds in
+    omega (arith, passed_fits c.in-Event.event used chunk (subst (λ (got : ReceivedGot). LieInChunk got used chunk) c.in-Event.is there))
 
 pub returns-in-Event : goal.returns-in-Event
 returns-in-Event c =
-    let used = c.feed-heard.result.used in
-    let got = c.feed-heard.result.got in
-    let feeds = c.feed-heard.follows.holds-at-none.0 in
-    let fits = subst (λ (got : HeardGot). all_parts_length (events_of got) ≤ longest_payload) c.in-Event.is c.feed-heard.ensures.fits in
-    let room = c.list.ensures.room ∙ placed_first (copied_of c.in-Event.event) c.args.room.now in
-    let answered_as = λ (g : HeardGot). c.list.result.event ≡ answer_of (wants_input c.args.client.now) used g in
+    let used = c.feed-arrived.result.used in
+    let got = c.feed-arrived.result.got in
+    let feeds = c.feed-arrived.follows.holds-at-none.0 in
+    let fits = subst (λ (got : ReceivedGot). all_parts_length (events_of got) ≤ longest_payload) c.in-Event.is c.feed-arrived.ensures.fits in
+    let buffer = c.list.ensures.buffer ∙ placed_first (copied_of c.in-Event.event) c.args.buffer.now in
+    let answered_as = λ (g : ReceivedGot). c.list.result.event ≡ answer_of (wants_input c.args.client.now) used g in
     record {
-      small = λ short. absurd (omega (arith, short, c.if-room-lt-LONGEST_PARTS.false));
+      small = λ short. absurd (omega (arith, short, c.if-buffer-lt-LONGEST_PARTS.false));
       large = λ _. record {
-        heard = c.feed-heard.result;
+        arrived = c.feed-arrived.result;
         feeds = feeds;
-        within = c.feed-heard.ensures.used;
+        within = c.feed-arrived.ensures.used;
         fits = answer_fits used 0 c.in-Event.event c.list.result.event fits c.list.ensures.event;
         answer_is = subst answered_as (sym c.in-Event.is) c.list.ensures.event;
-        room_is = subst (λ (g : HeardGot). c.list.new.room ≡ filled_by g c.args.room.now) (sym c.in-Event.is) room;
-        lies = lies c.args.client.now c.feed-heard.follows.lender-at-none c.args.piece.now used got feeds;
+        buffer_is = subst (λ (g : ReceivedGot). c.list.new.buffer ≡ filled_by g c.args.buffer.now) (sym c.in-Event.is) buffer;
+        lies = lies c.args.client.now c.feed-arrived.follows.lender-at-none c.args.chunk.now used got feeds;
       };
     }

@@ -2,8 +2,8 @@ use Rattle.std.proofs.Common.{arith, ◌≡◌, ◌∙◌, ℕ, List, ◌++◌, 
 use Rattle.std.proofs.lemmas.List.{append-nil, length-take-le}
 use Rattle.git_pkt.specs.Escape.{escape_of, escaped_of}
 use Rattle.git_pkt.proofs.Escapes.{escaped_more}
-use Rattle.gitwire.specs.Rooms.{put_before}
-use Rattle.gitwire.proofs.FilledRooms.{filled_more}
+use Rattle.gitwire.specs.Buffers.{put_before}
+use Rattle.gitwire.proofs.FilledBuffers.{filled_more}
 use Rattle.gitwire.proofs.escape.gitwire_escape.Goals as goal
 
 pub loop-used-preserved : goal.loop-used-preserved
@@ -20,9 +20,9 @@ loop-used-preserved c =
     (omega (arith, c.escape_into-length.auto.out, c.escape_into-length.ensures.within)) in
     record {
       ends = c.put_at-end.ensures.end ∙ ap (λ (n : ℕ). n + length escape) so_far.ends ∙ sym (length-append front escape) ∙ ap length more;
-      fits = omega (arith, long, so_far.fits, c.put_at-end.ensures.end, c.if-room-end.false);
+      fits = omega (arith, long, so_far.fits, c.put_at-end.ensures.end, c.if-buffer-end.false);
       filled =
-          filled_more c.args.room.now front escape c.loop-used.room c.put_at-end.new.slice c.loop-used.end so_far.ends so_far.filled
+          filled_more c.args.buffer.now front escape c.loop-used.buffer c.put_at-end.new.slice c.loop-used.end so_far.ends so_far.filled
           c.put_at-end.ensures.placed
-          ∙ ap (λ (l : List ℕ). put_before l c.args.room.now) more;
+          ∙ ap (λ (l : List ℕ). put_before l c.args.buffer.now) more;
     }

@@ -2,16 +2,16 @@ use Rattle.std.proofs.Common.{arith, ◌≡◌, ◌∙◌, ◌<◌, ◌+◌, ◌
 use Rattle.git_pkt.specs.Packets.{longest_payload}
 use Rattle.gitwire.proofs.ListedEvents.{end_within, listed_more, nothing_listed, some_listed, stopped_full, stopped_none, stopped_turn}
 use Rattle.gitwire.proofs.event_list.fill_events.Goals as goal
-use Rattle.gitwire.proofs.event_list.fill_events.Goals.{then-loop-so_far-test+else-room-so_far-ge-LONGEST_PARTS, else-loop-so_far-test}
+use Rattle.gitwire.proofs.event_list.fill_events.Goals.{then-loop-so_far-test+else-buffer-so_far-ge-LONGEST_PARTS, else-loop-so_far-test}
 
 pub loop-so_far-init : goal.loop-so_far-init
 loop-so_far-init c = record {
   within = omega arith;
   same_places = refl;
-  same_room = refl;
+  same_buffer = refl;
   count_fits = omega arith;
   texts_fit = omega arith;
-  so_far = nothing_listed c.args.client.now c.args.piece.now c.args.events.now c.args.room.now;
+  so_far = nothing_listed c.args.client.now c.args.chunk.now c.args.events.now c.args.buffer.now;
   begins = λ _. refl;
   turn = λ some. absurd (omega (arith, some));
 }
@@ -21,15 +21,15 @@ returns-then-can_ask c =
     let before = c.loop-so_far.invariant in
     let place : c.loop-so_far.so_far.count < length c.args.events.now = omega (arith, before.same_places, c.loop-so_far-test.true) in
     let more =
-    listed_more c.args.client.now c.loop-so_far.client c.next.new.client c.args.piece.now c.args.events.now c.args.room.now c.loop-so_far.so_far.used
+    listed_more c.args.client.now c.loop-so_far.client c.next.new.client c.args.chunk.now c.args.events.now c.args.buffer.now c.loop-so_far.so_far.used
     c.loop-so_far.so_far.count c.loop-so_far.so_far.texts c.loop-so_far.events
     (slice_set c.loop-so_far.events c.loop-so_far.so_far.count c.in-Ok.listed.event)
-    c.loop-so_far.room c.next.new.room c.in-Ok.listed before.so_far place c.in-Ok.ensures refl in
-    stopped_turn c.args.client.now c.next.new.client c.args.piece.now c.args.events.now c.args.room.now c.in-Ok.listed.event.used
-    (c.loop-so_far.so_far.count + 1) c.in-Ok.listed.texts c.answer.result _ c.next.new.room more
+    c.loop-so_far.buffer c.next.new.buffer c.in-Ok.listed before.so_far place c.in-Ok.ensures refl in
+    stopped_turn c.args.client.now c.next.new.client c.args.chunk.now c.args.events.now c.args.buffer.now c.in-Ok.listed.event.used
+    (c.loop-so_far.so_far.count + 1) c.in-Ok.listed.texts c.answer.result _ c.next.new.buffer more
     (end_within _ _ _ _ _ _ _ _ c.in-Ok.ensures)
     (omega (arith, place))
-    (omega (arith, c.in-Ok.ensures.texts_fit, before.same_room))
+    (omega (arith, c.in-Ok.ensures.texts_fit, before.same_buffer))
     (omega arith)
     (sym c.can_ask.ensures.value ∙ c.if-can_ask.true)
     c.answer.ensures
@@ -42,13 +42,13 @@ loop-so_far-preserved c =
     record {
       within = end_within _ _ _ _ _ _ _ _ c.in-Ok.ensures;
       same_places = length-set c.loop-so_far.events c.loop-so_far.so_far.count c.in-Ok.listed.event ∙ before.same_places;
-      same_room = omega (arith, c.next.auto.room, before.same_room);
+      same_buffer = omega (arith, c.next.auto.buffer, before.same_buffer);
       count_fits = omega (arith, place);
-      texts_fit = omega (arith, c.in-Ok.ensures.texts_fit, before.same_room);
+      texts_fit = omega (arith, c.in-Ok.ensures.texts_fit, before.same_buffer);
       so_far =
-          listed_more c.args.client.now c.loop-so_far.client c.next.new.client c.args.piece.now c.args.events.now c.args.room.now c.loop-so_far.so_far.used
+          listed_more c.args.client.now c.loop-so_far.client c.next.new.client c.args.chunk.now c.args.events.now c.args.buffer.now c.loop-so_far.so_far.used
           c.loop-so_far.so_far.count c.loop-so_far.so_far.texts c.loop-so_far.events filled
-          c.loop-so_far.room c.next.new.room c.in-Ok.listed before.so_far place c.in-Ok.ensures refl;
+          c.loop-so_far.buffer c.next.new.buffer c.in-Ok.listed before.so_far place c.in-Ok.ensures refl;
       begins = λ none. absurd (omega (arith, none));
       turn = λ _. sym c.can_ask.ensures.value ∙ c.if-can_ask.false;
     }
@@ -56,26 +56,26 @@ loop-so_far-preserved c =
 pub returns-in-Err : goal.returns-in-Err
 returns-in-Err c =
     let before = c.loop-so_far.invariant in
-    stopped_none c.args.client.now c.loop-so_far.client c.next.new.client c.args.piece.now c.args.events.now c.args.room.now c.loop-so_far.so_far.used
-    c.loop-so_far.so_far.count c.loop-so_far.so_far.texts c.in-Err.answer c.loop-so_far.events c.loop-so_far.room c.next.new.room
+    stopped_none c.args.client.now c.loop-so_far.client c.next.new.client c.args.chunk.now c.args.events.now c.args.buffer.now c.loop-so_far.so_far.used
+    c.loop-so_far.so_far.count c.loop-so_far.so_far.texts c.in-Err.answer c.loop-so_far.events c.loop-so_far.buffer c.next.new.buffer
     before.so_far before.count_fits before.texts_fit c.in-Err.ensures
 
 pub returns : goal.returns
 returns c =
     let before = c.loop-so_far.invariant in
     let some : 0 < c.loop-so_far.so_far.count = elim c.loop-so_far-test.branch [
-      | then-loop-so_far-test+else-room-so_far-ge-LONGEST_PARTS w ↦
+      | then-loop-so_far-test+else-buffer-so_far-ge-LONGEST_PARTS w ↦
           some_listed c.loop-so_far.so_far.count c.loop-so_far.so_far.texts before.begins
-          (λ none. omega (arith, none, w.if-room-so_far-ge-LONGEST_PARTS.false, before.same_room, c.requires.suffices))
+          (λ none. omega (arith, none, w.if-buffer-so_far-ge-LONGEST_PARTS.false, before.same_buffer, c.requires.suffices))
       | else-loop-so_far-test w ↦ omega (arith, w.loop-so_far-test.false, before.same_places, c.requires.place)
     ] in
     let count = c.loop-so_far.so_far.count in
     let texts = c.loop-so_far.so_far.texts in
-    let why : (count ≡ length c.args.events.now) ⊎ (length c.args.room.now < texts + longest_payload) = elim c.loop-so_far-test.branch [
-      | then-loop-so_far-test+else-room-so_far-ge-LONGEST_PARTS w ↦
-          inr (omega (arith, w.if-room-so_far-ge-LONGEST_PARTS.false, before.same_room))
+    let why : (count ≡ length c.args.events.now) ⊎ (length c.args.buffer.now < texts + longest_payload) = elim c.loop-so_far-test.branch [
+      | then-loop-so_far-test+else-buffer-so_far-ge-LONGEST_PARTS w ↦
+          inr (omega (arith, w.if-buffer-so_far-ge-LONGEST_PARTS.false, before.same_buffer))
       | else-loop-so_far-test w ↦ inl (omega (arith, w.loop-so_far-test.false, before.same_places, before.count_fits))
     ] in
-    stopped_full c.args.client.now c.loop-so_far.client c.args.piece.now c.args.events.now c.args.room.now c.loop-so_far.so_far.used
-    c.loop-so_far.so_far.count c.loop-so_far.so_far.texts c.answer-2.result c.loop-so_far.events c.loop-so_far.room before.so_far before.within
+    stopped_full c.args.client.now c.loop-so_far.client c.args.chunk.now c.args.events.now c.args.buffer.now c.loop-so_far.so_far.used
+    c.loop-so_far.so_far.count c.loop-so_far.so_far.texts c.answer-2.result c.loop-so_far.events c.loop-so_far.buffer before.so_far before.within
     before.count_fits before.texts_fit some (before.turn some) why c.answer-2.ensures

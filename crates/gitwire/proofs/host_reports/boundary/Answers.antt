@@ -10,7 +10,7 @@ use Rattle.gitwire.proofs.host_reports.boundary.Goals as goal
 
 pub returns-in-Ok : goal.returns-in-Ok
 returns-in-Ok c =
-    reported_in _ (Ok (Report.Boundary c.boundary_of.result)) _ _ _ _ _ (omega (arith, c.if-room-lt-LONGEST_PACKET.false)) (
+    reported_in _ (Ok (Report.Boundary c.boundary_of.result)) _ _ _ _ _ (omega (arith, c.if-buffer-lt-LONGEST_PACKET.false)) (
       c.in-Ok.id,
       ap (λ (line : Boundary). Report.Boundary line) c.boundary_of.ensures,
       subst (λ (format : Format). IsObjectName format c.args.id.now c.in-Ok.id) c.format.ensures c.in-Ok.ensures.name,
@@ -19,6 +19,6 @@ returns-in-Ok c =
 
 pub returns-in-Err : goal.returns-in-Err
 returns-in-Err c =
-    reported_in _ (Err (Unread.Refused BadObjectName)) _ _ _ _ _ (omega (arith, c.if-room-lt-LONGEST_PACKET.false))
+    reported_in _ (Err (Unread.Refused BadObjectName)) _ _ _ _ _ (omega (arith, c.if-buffer-lt-LONGEST_PACKET.false))
     (refl, subst (λ (format : Format). IsNoObjectName format c.args.id.now) c.format.ensures c.in-Err.ensures.name.1)
     (c.refused_as.ensures, refl, refl)

@@ -19,7 +19,7 @@ returns-in-Ok c =
         reports = reports;
         answer_is = c.show.ensures.answer
             ∙ ap (λ (part : ℕ). reporting c.in-Ok.reported part 0 (length (bytes_of c.plain_reference.new.self))) (sym no_part);
-        room_is = c.show.ensures.room;
+        buffer_is = c.show.ensures.buffer;
       };
     }
 

@@ -11,12 +11,12 @@ use Rattle.gitwire.proofs.host_reports.want_ref.Goals as goal
 
 pub returns-in-Ok : goal.returns-in-Ok
 returns-in-Ok c =
-    reported_in _ (Ok (Report.WantRef c.in-Ok.id)) _ _ _ _ _ (omega (arith, c.if-room-lt-LONGEST_PACKET.false))
+    reported_in _ (Ok (Report.WantRef c.in-Ok.id)) _ _ _ _ _ (omega (arith, c.if-buffer-lt-LONGEST_PACKET.false))
     (c.in-Ok.id, refl, subst (λ (format : Format). IsMaybeObjectName format (given c.args.id.now) c.in-Ok.id) c.format.ensures c.in-Ok.ensures)
     c.report_to.ensures
 
 pub returns-in-Err : goal.returns-in-Err
 returns-in-Err c =
-    reported_in _ (Err (Unread.Refused BadObjectName)) _ _ _ _ _ (omega (arith, c.if-room-lt-LONGEST_PACKET.false))
+    reported_in _ (Err (Unread.Refused BadObjectName)) _ _ _ _ _ (omega (arith, c.if-buffer-lt-LONGEST_PACKET.false))
     (refl, c.in-Err.ensures.1, subst (λ (format : Format). IsNoObjectName format c.args.id.now) c.format.ensures c.in-Err.ensures.2)
     (c.refused_as.ensures, refl, refl)

@@ -6,9 +6,9 @@ pub loop-count-init : goal.loop-count-init
 loop-count-init c = record {
   within = omega arith;
   same_places = refl;
-  same_room = refl;
+  same_buffer = refl;
   count_fits = omega arith;
-  so_far = nothing_listed c.args.gatherer.now.reader c.args.piece.now c.args.packets.now c.args.room.now;
+  so_far = nothing_listed c.args.gatherer.now.reader c.args.chunk.now c.args.packets.now c.args.buffer.now;
 }
 
 pub loop-count-preserved : goal.loop-count-preserved
@@ -19,23 +19,24 @@ loop-count-preserved c =
     record {
       within = end_within _ _ _ _ _ _ _ c.in-Ok.ensures;
       same_places = length-set c.loop-count.packets c.loop-count.count c.in-Ok.packet ∙ before.same_places;
-      same_room = omega (arith, c.next.auto.room, before.same_room);
+      same_buffer = omega (arith, c.next.auto.buffer, before.same_buffer);
       count_fits = omega (arith, place);
       so_far =
-          listed_more c.args.gatherer.now.reader c.loop-count.gatherer.reader c.next.new.gatherer.reader c.args.piece.now c.args.packets.now c.args.room.now
-          c.loop-count.used c.loop-count.count c.loop-count.packets filled c.loop-count.room c.next.new.room c.in-Ok.packet c.loop-count.gatherer.gathers
+          listed_more c.args.gatherer.now.reader c.loop-count.gatherer.reader c.next.new.gatherer.reader c.args.chunk.now c.args.packets.now c.args.buffer.now
+          c.loop-count.used c.loop-count.count c.loop-count.packets filled c.loop-count.buffer c.next.new.buffer c.in-Ok.packet c.loop-count.gatherer.gathers
           c.requires.suffices place before.so_far c.in-Ok.ensures refl;
     }
 
 pub returns-in-Err : goal.returns-in-Err
 returns-in-Err c =
     let before = c.loop-count.invariant in
-    stopped_none c.args.gatherer.now.reader c.loop-count.gatherer.reader c.next.new.gatherer.reader c.args.piece.now c.args.packets.now c.args.room.now
-    c.loop-count.used c.loop-count.count c.in-Err.answer c.loop-count.packets c.loop-count.room c.next.new.room before.so_far before.count_fits c.in-Err.ensures
+    stopped_none c.args.gatherer.now.reader c.loop-count.gatherer.reader c.next.new.gatherer.reader c.args.chunk.now c.args.packets.now c.args.buffer.now
+    c.loop-count.used c.loop-count.count c.in-Err.answer c.loop-count.packets c.loop-count.buffer c.next.new.buffer before.so_far before.count_fits
+    c.in-Err.ensures
 
 pub returns : goal.returns
 returns c =
     let before = c.loop-count.invariant in
-    stopped_full c.args.gatherer.now.reader c.loop-count.gatherer.reader c.args.piece.now c.args.packets.now c.args.room.now c.loop-count.used
-    c.loop-count.count c.of_packet.result c.loop-count.packets c.loop-count.room before.so_far before.within
+    stopped_full c.args.gatherer.now.reader c.loop-count.gatherer.reader c.args.chunk.now c.args.packets.now c.args.buffer.now c.loop-count.used
+    c.loop-count.count c.of_packet.result c.loop-count.packets c.loop-count.buffer before.so_far before.within
     (omega (arith, before.same_places, before.count_fits, c.loop-count-test.false)) c.of_packet.ensures

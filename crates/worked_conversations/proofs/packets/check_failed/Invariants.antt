@@ -2,5 +2,5 @@ use Rattle.std.proofs.Common.{◌≡◌, false}
 use Rattle.git_pkt.specs.Machine.PacketReader.{passes_of}
 use Rattle.worked_conversations.proofs.packets.check_failed.Given as goal
 
-abbrev pub invariant-loop-piece : goal.invariant-loop-piece
-invariant-loop-piece l = passes_of l.reader ≡ false
+abbrev pub invariant-loop-chunk : goal.invariant-loop-chunk
+invariant-loop-chunk l = passes_of l.reader ≡ false

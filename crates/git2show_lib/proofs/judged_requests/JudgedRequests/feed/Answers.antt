@@ -1,5 +1,5 @@
 use Rattle.std.proofs.Common.{arith, ◌++◌, ◌+◌, ◌∙◌, ap, subst, take, length, length-drop, append-nil, List}
-use Rattle.git_pkt.proofs.Pieces.{left_of}
+use Rattle.git_pkt.proofs.Chunks.{left_of}
 use Rattle.git2show_lib.specs.OtherLines.{Question}
 use Rattle.git2show_lib.specs.Machine.JudgedRequests.{HasRead}
 use Rattle.git2show_lib.specs.declared.judged_requests.JudgedGot.TheVariants.{More}
@@ -12,15 +12,15 @@ loop-used-preserved g c =
     let mid = c.loop-used.self in
     let new = c.step-step.new.self in
     let done = c.loop-used.used in
-    let piece = c.args.piece.now in
+    let chunk = c.args.chunk.now in
     let read = c.step-step.result in
     let was = c.loop-used.invariant in
     let steps = steps_with mid new _ read More c.in-More.is c.step-step.ensures.steps in
     record {
-      within = omega (arith, c.step-step.ensures.used, ap length (left_of piece done was.within), length-drop done piece);
+      within = omega (arith, c.step-step.ensures.used, ap length (left_of chunk done was.within), length-drop done chunk);
       reads = λ used asked h.
-          subst (λ (qs : List Question). HasRead (used ++ take (done + read.used) piece) qs new) (append-nil asked)
-          (reads_further old mid new piece done was.within read.used More steps was.reads used asked h);
+          subst (λ (qs : List Question). HasRead (used ++ take (done + read.used) chunk) qs new) (append-nil asked)
+          (reads_further old mid new chunk done was.within read.used More steps was.reads used asked h);
       ready = steps.leaves.1;
       by = steps.by ∙ was.by;
       limit = steps.limit ∙ was.limit;
@@ -32,16 +32,16 @@ returns-in_default g c =
     let mid = c.loop-used.self in
     let new = c.step-step.new.self in
     let done = c.loop-used.used in
-    let piece = c.args.piece.now in
+    let chunk = c.args.chunk.now in
     let read = c.step-step.result in
     let was = c.loop-used.invariant in
     let steps = c.step-step.ensures.steps in
     record {
-      used = omega (arith, c.step-step.ensures.used, ap length (left_of piece done was.within), length-drop done piece);
+      used = omega (arith, c.step-step.ensures.used, ap length (left_of chunk done was.within), length-drop done chunk);
       feeds = record {
-        reads = reads_further old mid new piece done was.within read.used read.got steps was.reads;
-        leaves = leaves_further new piece done read.used read.got c.in_default.not-More steps.leaves;
-        news = λ fault is. shows_further old mid new piece done was.within read.used read.got steps fault is;
+        reads = reads_further old mid new chunk done was.within read.used read.got steps was.reads;
+        leaves = leaves_further new chunk done read.used read.got c.in_default.not-More steps.leaves;
+        news = λ fault is. shows_further old mid new chunk done was.within read.used read.got steps fault is;
         by = steps.by ∙ was.by;
         limit = steps.limit ∙ was.limit;
       };

@@ -29,13 +29,13 @@ returns-in-Some-refused g c =
     let kind = c.in-Some-refused.kind in
     let shown = shown_at old.advertised.items old.place given.packet in
     let why : IsNotKept kind all limit_now shown = rw c.in-Some-refused.is at kept_within in
-    rw (c.fail.ensures.got, c.fail.ensures.failed) (λ before after piece used some ends. record {
+    rw (c.fail.ensures.got, c.fail.ensures.failed) (λ before after chunk used some ends. record {
       reads = λ read asked h.
-          unkept_read (record { packets = before; judge = old }) _ (take used piece) ready.wants refl refl read asked h c.requires.lines given ends.reads
+          unkept_read (record { packets = before; judge = old }) _ (take used chunk) ready.wants refl refl read asked h c.requires.lines given ends.reads
           kind (omega (arith, ready.within, ready.same_limit)) (subst (λ (n : ℕ). IsNotKept kind all n shown) ready.same_limit why) refl
           ends.sound ends.shut;
       leaves = refl;
-      news = λ fault is. unkept_news kind c.args.offset all limit_now shown why fault used piece (cc);
+      news = λ fault is. unkept_news kind c.args.offset all limit_now shown why fault used chunk (cc);
       by = refl;
       limit = refl;
     })
@@ -60,9 +60,9 @@ returns-in_default g c =
     ap (λ (l : List ℕ). judged_packet l old.place given.packet) (sym c.deref-3.ensures.value) ∙ c.in_default.ensures in
     let fine : c.keep_within-refused.result ≡ None = search rules in
     let (within, noted) = rw fine at keeps in
-    λ before after piece used some ends. record {
+    λ before after chunk used some ends. record {
       reads = λ read asked h.
-          passed_read (record { packets = before; judge = old }) _ (take used piece) ready.wants refl refl read asked h c.requires.lines given ends.reads
+          passed_read (record { packets = before; judge = old }) _ (take used chunk) ready.wants refl refl read asked h c.requires.lines given ends.reads
           c.requires.unnamed none c.after-next.ensures (kept_is fine) noted refl refl;
       leaves =
           passed_leaves (record { packets = before; judge = old }) _ used ready some ends.sound ends.gathers refl refl refl within refl;
@@ -103,9 +103,9 @@ returns g c =
     let place = c.place_brought-self.ensures ∙ same_place _ _ _ so ∙ ap (place_brought (limited_got refused c.args.offset taken)) c.after-next.ensures in
     let kept = c.kept_brought-self.ensures ∙ same_kept _ _ _ so in
     let noted = c.judged_got.ensures.noted ∙ same_noted _ _ _ so in
-    rw (c.judged_got.ensures.got, so) (λ before after piece used some ends. record {
+    rw (c.judged_got.ensures.got, so) (λ before after chunk used some ends. record {
       reads = λ read asked h.
-          packet_read (record { packets = before; judge = old }) _ (take used piece) ready.wants by brings.limit read asked h c.requires.lines given
+          packet_read (record { packets = before; judge = old }) _ (take used chunk) ready.wants by brings.limit read asked h c.requires.lines given
           ends.reads c.requires.unnamed (seen c.in-Some.judged) judged taken refused brings before_now others
           (subst (λ (n : ℕ). KeepsWithin refused old.advertised.items old.place given.packet all n (noted_in old.others) (noted_in others)) limit
           kept_within) c.saturating_add-kept.result kept_is stage place kept noted ends.sound ends.shut;
@@ -114,7 +114,7 @@ returns g c =
           c.args.offset c.saturating_add-kept.result others brings (λ fine. (rw fine at keeps).0) stage kept;
       news = λ fault is.
           packet_news (record { packets = before; judge = old }) c.take_packet-taken.new.requests own taken refused old.advertised.items old.place
-          given.packet all limit_old (noted_in old.others) (noted_in others) c.args.offset others kept_within ready brings fault used piece is;
+          given.packet all limit_old (noted_in old.others) (noted_in others) c.args.offset others kept_within ready brings fault used chunk is;
       by = by;
       limit = brings.limit;
     })

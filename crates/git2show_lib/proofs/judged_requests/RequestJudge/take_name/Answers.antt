@@ -13,12 +13,12 @@ returns-then-is_err g c =
     let given : Given = record { packet = seen c.args.packet; offset = c.args.offset } in
     let judging = c.requires.judging in
     let within : old.kept ≤ limit_in old.requests = subst (λ (n : ℕ). old.kept ≤ n) judging.same_limit judging.within in
-    rw (c.fail.ensures.got, c.fail.ensures.failed) (λ before after piece used some ends. record {
+    rw (c.fail.ensures.got, c.fail.ensures.failed) (λ before after chunk used some ends. record {
       reads = λ read asked h.
-          unnamed_read (record { packets = before; judge = old }) _ (take used piece) judging.wants refl refl read asked h c.requires.lines given
+          unnamed_read (record { packets = before; judge = old }) _ (take used chunk) judging.wants refl refl read asked h c.requires.lines given
           ends.reads c.requires.names within refl ends.sound ends.shut;
       leaves = refl;
-      news = λ fault is. unnamed_news c.args.offset fault used piece (cc);
+      news = λ fault is. unnamed_news c.args.offset fault used chunk (cc);
       by = refl;
       limit = refl;
     })
@@ -35,9 +35,9 @@ returns g c =
     let within : old.kept ≤ limit_in c.new.result = subst (λ (n : ℕ). old.kept ≤ n) (sym fresh.limit) judging.within in
     let noted : noted_in c.keep_name.new.self
     ≡ record { lines = (noted_in old.others).lines ++ name_shown given.packet; asks = (noted_in old.others).asks } = search rules in
-    λ before after piece used some ends. record {
+    λ before after chunk used some ends. record {
       reads = λ read asked h.
-          named_read (record { packets = before; judge = old }) _ (take used piece) judging.wants by limit read asked h c.requires.lines given
+          named_read (record { packets = before; judge = old }) _ (take used chunk) judging.wants by limit read asked h c.requires.lines given
           ends.reads c.requires.names within refl c.first-self.ensures refl noted fresh.takes;
       leaves =
           named_leaves (record { packets = before; judge = old }) _ used judging some ends.sound ends.gathers refl refl refl fresh.open fresh.ready

@@ -1,7 +1,7 @@
 use Rattle.std.proofs.Common.{arith, ◌++◌, ◌-◌, ap, length, length-drop, take, drop}
 use Rattle.git_pkt.specs.Packets.{seen}
 use Rattle.git_pkt.specs.Splits.{Given}
-use Rattle.git_pkt.proofs.Pieces.{left_of}
+use Rattle.git_pkt.proofs.Chunks.{left_of}
 use Rattle.git_msg.proofs.StreamSteps.{feeds_with}
 use Rattle.git2show_lib.proofs.AdvertisementNoted.{noted_further, noted_packet}
 use Rattle.git2show_lib.proofs.noting.Noting.note.Goals as goal

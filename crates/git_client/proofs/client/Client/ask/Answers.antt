@@ -15,7 +15,7 @@ returns-in-Ok g c = record {
       format = c.in-Ok.ensures.0;
       writes = c.new.ensures;
     });
-    owes = c.new.ensures;
+    has_unsent = c.new.ensures;
     no_more = refl;
     credit = omega arith;
   };

@@ -1,4 +1,4 @@
-use Rattle.git_client.proofs.EventsHeard.{has_noted}
+use Rattle.git_client.proofs.EventsReceived.{has_noted}
 use Rattle.git_client.proofs.client.Client.caps.Goals as goal
 
 pub returns-clause-noted : goal.returns-clause-noted

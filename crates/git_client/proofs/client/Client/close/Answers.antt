@@ -22,7 +22,7 @@ returns-clause-carries g c =
           (search (rules, w.self-is)) refl
       | in-Err w ↦
           closes old _ reader c.match-close.fault c.requires c.close.ensures.carries
-          (inr (subst (λ (f : Fault). reader_fault_of reader ≡ Some f) (sym w.fault-is) w.in-Err.ensures.told))
+          (inr (subst (λ (f : Fault). reader_fault_of reader ≡ Some f) (sym w.fault-is) w.in-Err.ensures.announced))
           (search (rules, w.self-is)) refl
     ]
 
@@ -54,6 +54,6 @@ returns-clause-credit g c =
           let same = ap credit_of w.in-Ok.ensures.between.0 in
           no_more old c.match-close.self.1.0 reader (search (rules, w.self-is)) (omega (arith, same))
       | in-Err w ↦
-          let none = failed_counts_none reader w.in-Err.fault w.in-Err.ensures.told in
+          let none = failed_counts_none reader w.in-Err.fault w.in-Err.ensures.announced in
           no_more old c.match-close.self.1.0 reader (search (rules, w.self-is)) (omega (arith, none))
     ]

@@ -2,9 +2,9 @@ use Rattle.std.proofs.Common.{arith, ◌≡◌, ◌⊎◌, inl, inr, ℕ, ◌+�
 use Rattle.std.specs.List.{slice_range}
 use Rattle.git_pkt.specs.Packets.{text_of}
 use Rattle.git_pkt.specs.declared.fault.Kind.TheVariants.{RemoteError, RemoteFatal}
-use Rattle.git_pkt.proofs.Pieces.{left_of}
-use Rattle.git_client.specs.Machine.Client.{is_told}
-use Rattle.git_client.proofs.Held.{HoldsMessage, holds_message, error_told, fatal_told}
+use Rattle.git_pkt.proofs.Chunks.{left_of}
+use Rattle.git_client.specs.Machine.Client.{is_announced}
+use Rattle.git_client.proofs.Held.{HoldsMessage, holds_message, error_announced, fatal_announced}
 use Rattle.git_client.proofs.client.Client.message.Goals as goal
 
 -- what the look-up of all bytes after the first finds
@@ -21,8 +21,8 @@ returns-in-RemoteError g c =
     λ t h v.
     let holds : HoldsMessage t h c.args.self.now RemoteError =
     subst (HoldsMessage t h c.args.self.now) c.in-RemoteError.is
-    (holds_message t h c.args.self.now c.in-Failed.fault v c.in-Failed.is (ap is_told c.in-RemoteError.is)) in
-    error_told t h c.args.self.now c.text.result.now c.error_message.result holds (c.text.ensures ∙ ap text_of c.payload.ensures)
+    (holds_message t h c.args.self.now c.in-Failed.fault v c.in-Failed.is (ap is_announced c.in-RemoteError.is)) in
+    error_announced t h c.args.self.now c.text.result.now c.error_message.result holds (c.text.ensures ∙ ap text_of c.payload.ensures)
     c.error_message.ensures.message
 
 pub returns-in-RemoteFatal : goal.returns-in-RemoteFatal
@@ -30,7 +30,7 @@ returns-in-RemoteFatal g c =
     λ t h v.
     let holds : HoldsMessage t h c.args.self.now RemoteFatal =
     subst (HoldsMessage t h c.args.self.now) c.in-RemoteFatal.is
-    (holds_message t h c.args.self.now c.in-Failed.fault v c.in-Failed.is (ap is_told c.in-RemoteFatal.is)) in
+    (holds_message t h c.args.self.now c.in-Failed.fault v c.in-Failed.is (ap is_announced c.in-RemoteFatal.is)) in
     let payload = c.payload-in-RemoteFatal in
-    fatal_told t h c.args.self.now payload.result.now c.get.result holds payload.ensures
+    fatal_announced t h c.args.self.now payload.result.now c.get.result holds payload.ensures
     (after_first payload.result.now c.get.result c.get.ensures.lookup.0)

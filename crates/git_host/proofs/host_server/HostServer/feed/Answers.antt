@@ -15,7 +15,7 @@ returns-in-More-clause-feeds g c s so_far over reported given h =
     let old = c.args.self.now in
     let reading = is_reading_now old (sym c.wants_input.ensures ∙ c.if-not-wants_input.false) in
     let stands = subst (λ (p : Phase g.row.A.Denot). HostsIn p s so_far over reported given old.stream old.flush) reading h.stands in
-    let used = so_far ++ take c.feed-read.result.used c.args.piece.now in
+    let used = so_far ++ take c.feed-read.result.used c.args.chunk.now in
     subst (λ (p : Phase g.row.A.Denot). Hosts s used over (reported ++ begun_in p p) given
     (record { alloc = old.alloc; offer = old.offer; limits = old.limits; stream = c.feed-read.new.self; flush = old.flush; phase = p }))
     (sym reading) (record {
@@ -23,7 +23,7 @@ returns-in-More-clause-feeds g c s so_far over reported given h =
       limit = h.limit;
       reads_within = c.feed-read.ensures.feeds.limit ∙ h.reads_within;
       stands = brought_more s so_far over reported given old.stream c.feed-read.new.self
-          c.args.piece.now c.feed-read.result c.feed-read.ensures.feeds stands c.in-More.is;
+          c.args.chunk.now c.feed-read.result c.feed-read.ensures.feeds stands c.in-More.is;
     })
 
 pub returns-in-Request-clause-feeds : goal.returns-in-Request-clause-feeds
@@ -31,7 +31,7 @@ returns-in-Request-clause-feeds g c s so_far over reported given h =
     let old = c.args.self.now in
     let reading = is_reading_now old (sym c.wants_input.ensures ∙ c.if-not-wants_input.false) in
     let stands = subst (λ (p : Phase g.row.A.Denot). HostsIn p s so_far over reported given old.stream old.flush) reading h.stands in
-    let used = so_far ++ take c.feed-read.result.used c.args.piece.now in
+    let used = so_far ++ take c.feed-read.result.used c.args.chunk.now in
     let flush = c.saturating_sub-self.result in
     let request = c.in-Request.request in
     subst (λ (r : Request g.row.A.Denot). Hosts s used over (reported ++ begun_in old.phase (Whole r)) given
@@ -43,7 +43,7 @@ returns-in-Request-clause-feeds g c s so_far over reported given h =
       offer = h.offer;
       limit = h.limit;
       reads_within = c.feed-read.ensures.feeds.limit ∙ h.reads_within;
-      stands = brought_request s so_far over reported given old.stream c.feed-read.new.self c.args.piece.now c.feed-read.result
+      stands = brought_request s so_far over reported given old.stream c.feed-read.new.self c.args.chunk.now c.feed-read.result
           c.feed-read.ensures.feeds stands request flush c.in-Request.is
           (omega (arith, c.saturating_sub-self.ensures, c.position.ensures))
           (subst (λ (r : Request g.row.A.Denot). stored_of r ≤ kept_of r) c.in-Request.request-is c.kept.ensures.stored);
@@ -54,14 +54,14 @@ returns-in-Stop-clause-feeds g c s so_far over reported given h =
     let old = c.args.self.now in
     let reading = is_reading_now old (sym c.wants_input.ensures ∙ c.if-not-wants_input.false) in
     let stands = subst (λ (p : Phase g.row.A.Denot). HostsIn p s so_far over reported given old.stream old.flush) reading h.stands in
-    let used = so_far ++ take c.feed-read.result.used c.args.piece.now in
+    let used = so_far ++ take c.feed-read.result.used c.args.chunk.now in
     subst (λ (p : Phase g.row.A.Denot). Hosts s used over (reported ++ begun_in p (Ended Flush)) given
     (record { alloc = old.alloc; offer = old.offer; limits = old.limits; stream = c.feed-read.new.self; flush = old.flush; phase = Ended Flush })) (sym reading)
     (record {
       offer = h.offer;
       limit = h.limit;
       reads_within = c.feed-read.ensures.feeds.limit ∙ h.reads_within;
-      stands = brought_stop s so_far over reported given old.stream c.feed-read.new.self c.args.piece.now
+      stands = brought_stop s so_far over reported given old.stream c.feed-read.new.self c.args.chunk.now
           c.feed-read.result c.feed-read.ensures.feeds stands c.in-Stop.is;
     })
 
@@ -70,11 +70,11 @@ returns-in-Failed-clause-feeds g c s so_far over reported given h =
     let old = c.args.self.now in
     let reading = is_reading_now old (sym c.wants_input.ensures ∙ c.if-not-wants_input.false) in
     let stands = subst (λ (p : Phase g.row.A.Denot). HostsIn p s so_far over reported given old.stream old.flush) reading h.stands in
-    let used = so_far ++ take c.feed-read.result.used c.args.piece.now in
+    let used = so_far ++ take c.feed-read.result.used c.args.chunk.now in
     let fault = c.in-Failed.fault in
     subst (λ (fs : List Facts). Hosts s used over fs given c.stop.new.self) (sym (none_now _ c.stop.new.self fault c.stop.ensures old reported reading))
     (stopped_hosts _ c.stop.new.self fault c.stop.ensures s used over (reported ++ []) given h.offer h.limit
-    (brought_fault s so_far over reported given old.stream c.feed-read.new.self c.args.piece.now c.feed-read.result c.feed-read.ensures.feeds stands
+    (brought_fault s so_far over reported given old.stream c.feed-read.new.self c.args.chunk.now c.feed-read.result c.feed-read.ensures.feeds stands
     fault c.in-Failed.is))
 
 pub returns-in-More-clause-moves : goal.returns-in-More-clause-moves
@@ -82,7 +82,7 @@ returns-in-More-clause-moves g c s so_far over reported given h reads some =
     let old = c.args.self.now in
     let reading = is_reading_now old (sym c.wants_input.ensures ∙ c.if-not-wants_input.false) in
     let stands = subst (λ (p : Phase g.row.A.Denot). HostsIn p s so_far over reported given old.stream old.flush) reading h.stands in
-    elim (some_used c.args.self.now.stream c.feed-read.new.self c.args.piece.now c.feed-read.result c.feed-read.ensures.feeds stands.reads.wants
+    elim (some_used c.args.self.now.stream c.feed-read.new.self c.args.chunk.now c.feed-read.result c.feed-read.ensures.feeds stands.reads.wants
     _ c.in-More.is some) [
       | inl used ↦ inl used
       | inr (fault, is) ↦ absurd (cc)
@@ -103,5 +103,5 @@ returns-in-Failed-clause-memory g c s so_far over reported given h needed =
     let old = c.args.self.now in
     let reading = is_reading_now old (sym c.wants_input.ensures ∙ c.if-not-wants_input.false) in
     let stands = subst (λ (p : Phase g.row.A.Denot). HostsIn p s so_far over reported given old.stream old.flush) reading h.stands in
-    needed_by old.stream c.feed-read.new.self c.args.piece.now c.feed-read.result c.feed-read.ensures.feeds stands.reads.wants g.A.Memory.refuses s.limit
+    needed_by old.stream c.feed-read.new.self c.args.chunk.now c.feed-read.result c.feed-read.ensures.feeds stands.reads.wants g.A.Memory.refuses s.limit
     c.stop.new.self.phase c.in-Failed.fault c.in-Failed.is c.stop.ensures.phase stands.reads.limit c.feed-read.ensures.memory

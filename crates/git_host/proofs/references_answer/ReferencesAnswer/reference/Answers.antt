@@ -56,7 +56,8 @@ returns-then-not-shows g c = (
       (sym c.refuses_head.ensures ∙ c.if-refuses_head.false) h.stands) in
       record {
         alike = alike;
-        stands = subst (λ (p : ReferencesPlace). StandsAtReferences p old.format q (with_ref entry t) (Some entry.name) given) (sym c.after_reference-self.ensures)
+        stands = subst (λ (p : ReferencesPlace). StandsAtReferences p old.format q (with_ref entry t) (Some entry.name) given)
+            (sym c.after_reference-self.ensures)
             (stands_after old.place old.format q t (last_name old.last) given entry given c.in_default.not-Whole h.stands
             (after_hidden old.format q t (last_name old.last) given at entry sound hidden));
       },

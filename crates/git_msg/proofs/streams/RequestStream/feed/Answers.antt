@@ -1,6 +1,6 @@
 use Rattle.std.proofs.Common.{◌≡◌, ◌+◌, ◌<◌, ◌⊎◌, ℕ, inl, inr, subst, true, false, length, append-nil, length-drop, arith, ap, sym, ◌∙◌, rules}
 use Rattle.git_pkt.proofs.Credits.{paid_on}
-use Rattle.git_pkt.proofs.Pieces.{left_of}
+use Rattle.git_pkt.proofs.Chunks.{left_of}
 use Rattle.git_msg.specs.Memory.{FaultNeedsRefusal}
 use Rattle.git_msg.specs.Machine.RequestStreams.{fault_of, wants_input}
 use Rattle.git_msg.proofs.StreamSteps.{counts_further, leaves_further, reads_further, shows_further, steps_with}
@@ -22,18 +22,18 @@ returns-in_default-got g c =
     let mid = c.loop-used.self in
     let new = c.step-step.new.self in
     let done = c.loop-used.used in
-    let piece = c.args.piece.now in
+    let chunk = c.args.chunk.now in
     let read = c.step-step.result in
     let was = c.loop-used.invariant in
     let loud : wants_input mid ≡ true = sym c.wants_input.ensures ∙ c.if-wants_input.true in
     let steps = c.step-step.ensures.steps in
     record {
-      used = omega (arith, c.step-step.ensures.used, ap length (left_of piece done was.within), length-drop done piece);
+      used = omega (arith, c.step-step.ensures.used, ap length (left_of chunk done was.within), length-drop done chunk);
       feeds = record {
-        reads = reads_further old mid new piece done was.within read.used read.got steps was.reads;
-        counts = counts_further old mid new piece done was.within read.used read.got steps was.reads;
-        leaves = leaves_further old mid new piece _ done read.used read.got c.in_default-got.not-More steps.leaves;
-        news = λ fault none is. shows_further old mid new piece done was.within read.used read.got steps loud fault is;
+        reads = reads_further old mid new chunk done was.within read.used read.got steps was.reads;
+        counts = counts_further old mid new chunk done was.within read.used read.got steps was.reads;
+        leaves = leaves_further old mid new chunk _ done read.used read.got c.in_default-got.not-More steps.leaves;
+        news = λ fault none is. shows_further old mid new chunk done was.within read.used read.got steps loud fault is;
         stays = λ quiet. absurd (true_not_false (sym loud ∙ was.same ∙ quiet));
         offer = steps.offer ∙ was.offer;
         limit = steps.limit ∙ was.limit;

@@ -8,8 +8,8 @@ use Rattle.git_msg.proofs.streams.RequestStream.feed.Given as goal
 -- the bytes used so far completed nothing, and input is needed if it was needed before
 abbrev pub invariant-loop-used : goal.invariant-loop-used
 invariant-loop-used g l = record {
-  within : l.used ≤ length l.piece;
-  reads : (used : List ℕ) (asked : List Asked) → HasRead used asked l.fn.self → HasRead (used ++ take l.used l.piece) asked l.self;
+  within : l.used ≤ length l.chunk;
+  reads : (used : List ℕ) (asked : List Asked) → HasRead used asked l.fn.self → HasRead (used ++ take l.used l.chunk) asked l.self;
   same : wants_input l.self ≡ wants_input l.fn.self;
   nothing : wants_input l.fn.self ≡ false → (l.used ≡ 0) × (l.self ≡ l.fn.self);
   memory : FaultNeedsRefusal g.A.Memory.refuses (limit_of l.fn.self) (fault_of l.fn.self)
@@ -17,9 +17,9 @@ invariant-loop-used g l = record {
   offer : offer_of l.self ≡ offer_of l.fn.self;
   limit : limit_of l.self ≡ limit_of l.fn.self;
   cost : Pays l.used l.fn.steps l.steps (credit_of l.fn.self) (credit_of l.self);
-  paid : wants_input l.self ≡ true → l.used < length l.piece → l.steps + credit_of l.self ≤ l.fn.steps + credit_of l.fn.self + 64 * l.used;
+  paid : wants_input l.self ≡ true → l.used < length l.chunk → l.steps + credit_of l.self ≤ l.fn.steps + credit_of l.fn.self + 64 * l.used;
 }
 
 -- a step uses bytes or stops
 abbrev pub decreases-loop-used : goal.decreases-loop-used
-decreases-loop-used g l = length l.piece - l.used
+decreases-loop-used g l = length l.chunk - l.used

@@ -18,9 +18,9 @@ invariant_of-self-in-Packet g c =
     let given : Given = record { packet = seen c.in-Packet.packet; offset = c.in-Packet.offset } in
     let got = c.take_packet-got.result in
     let stage = c.stage_after-self.result in
-    let feeds = feeds_with old.packets c.feed-fed.follows.lender-at-none c.args.piece.now c.feed-fed.result _ c.in-Packet.is c.feed-fed.follows.holds-at-none in
+    let feeds = feeds_with old.packets c.feed-fed.follows.lender-at-none c.args.chunk.now c.feed-fed.result _ c.in-Packet.is c.feed-fed.follows.holds-at-none in
     record {
-      sound = λ on. feeds.tells.1;
+      sound = λ on. feeds.announces.1;
       open_ended = sound_behind old new given got stage c.requires.waits c.take_packet-got.ensures.brings c.stage_after-self.ensures;
       ready = ready_behind old new given got stage c.requires.waits c.take_packet-got.ensures.brings c.stage_after-self.ensures;
       gathers = c.feed-fed.follows.holds-at-none.gathers;
@@ -31,23 +31,23 @@ invariant_of-self-in-Packet g c =
 pub returns-in-Packet-clause-steps : goal.returns-in-Packet-clause-steps
 returns-in-Packet-clause-steps g c =
     let old = c.args.self.now in
-    let piece = c.args.piece.now in
+    let chunk = c.args.chunk.now in
     let fed = c.feed-fed.result in
     let given : Given = record { packet = seen c.in-Packet.packet; offset = c.in-Packet.offset } in
     let got = c.take_packet-got.result in
     let brings = c.take_packet-got.ensures.brings in
-    let feeds = feeds_with old.packets c.feed-fed.follows.lender-at-none piece fed _ c.in-Packet.is c.feed-fed.follows.holds-at-none in
+    let feeds = feeds_with old.packets c.feed-fed.follows.lender-at-none chunk fed _ c.in-Packet.is c.feed-fed.follows.holds-at-none in
     record {
       reads = λ used asked h.
-          packet_read old _ (take fed.used piece) c.requires.waits brings.offer brings.limit used asked h given got brings c.stage_after-self.ensures
-          feeds.tells.1 feeds.tells.2 feeds.reads;
+          packet_read old _ (take fed.used chunk) c.requires.waits brings.offer brings.limit used asked h given got brings c.stage_after-self.ensures
+          feeds.announces.1 feeds.announces.2 feeds.reads;
       counts = λ used asked h.
-          packet_counts old _ (take fed.used piece) c.requires.waits brings.offer brings.limit used asked h given got brings
-          feeds.tells.1 feeds.tells.2 feeds.reads;
-      leaves = packet_leaves old _ given fed.used piece c.requires.waits feeds.tells.0 feeds.tells.2 got brings c.stage_after-self.ensures;
+          packet_counts old _ (take fed.used chunk) c.requires.waits brings.offer brings.limit used asked h given got brings
+          feeds.announces.1 feeds.announces.2 feeds.reads;
+      leaves = packet_leaves old _ given fed.used chunk c.requires.waits feeds.announces.0 feeds.announces.2 got brings c.stage_after-self.ensures;
       news = λ fault none is.
           packet_news old c.take_packet-got.new.requests given got c.stage_after-self.result c.requires.waits brings c.stage_after-self.ensures
-          fault fed.used piece is;
+          fault fed.used chunk is;
       offer = brings.offer;
       limit = brings.limit;
     }
@@ -55,17 +55,17 @@ returns-in-Packet-clause-steps g c =
 pub returns-in-Failed-clause-steps : goal.returns-in-Failed-clause-steps
 returns-in-Failed-clause-steps g c =
     let old = c.args.self.now in
-    let piece = c.args.piece.now in
+    let chunk = c.args.chunk.now in
     let fed = c.feed-fed.result in
     let fault = c.in-Failed.fault in
-    let feeds = feeds_with old.packets c.feed-fed.follows.lender-at-none piece fed _ c.in-Failed.is c.feed-fed.follows.holds-at-none in
+    let feeds = feeds_with old.packets c.feed-fed.follows.lender-at-none chunk fed _ c.in-Failed.is c.feed-fed.follows.holds-at-none in
     let news = c.feed-fed.follows.holds-at-none.news fault (old.sound c.requires.waits) c.in-Failed.is in
     record {
       reads = λ used asked h.
-          refused_read old _ (take fed.used piece) c.requires.waits refl refl used asked h fault refl feeds.tells news.not_the_end feeds.reads;
+          refused_read old _ (take fed.used chunk) c.requires.waits refl refl used asked h fault refl feeds.announces news.not_the_end feeds.reads;
       counts = λ used asked h. tt;
       leaves = refl;
-      news = λ other none is. subst (λ (f : Fault). ShownByFeed f fed.used piece) (cc) news;
+      news = λ other none is. subst (λ (f : Fault). ShownByFeed f fed.used chunk) (cc) news;
       offer = refl;
       limit = refl;
     }
@@ -85,11 +85,11 @@ returns-in-Packet-clause-memory g c =
 pub returns-in-Failed-clause-memory : goal.returns-in-Failed-clause-memory
 returns-in-Failed-clause-memory g c =
     let old = c.args.self.now in
-    let feeds = feeds_with old.packets c.feed-fed.follows.lender-at-none c.args.piece.now c.feed-fed.result _ c.in-Failed.is c.feed-fed.follows.holds-at-none in
+    let feeds = feeds_with old.packets c.feed-fed.follows.lender-at-none c.args.chunk.now c.feed-fed.result _ c.in-Failed.is c.feed-fed.follows.holds-at-none in
     let fits : bytes_held old.packets ≤ 65520 = rw c.hold.ensures.value at c.hold.ensures.fits in
     λ name.
     absurd (fault_of_bytes old.packets c.feed-fed.follows.lender-at-none _ _ (old.sound c.requires.waits) old.gathers fits feeds.reads
-    c.in-Failed.fault feeds.tells name)
+    c.in-Failed.fault feeds.announces name)
 
 pub returns-in-More-clause-moves : goal.returns-in-More-clause-moves
 returns-in-More-clause-moves g c = search (rules, feeds_with)

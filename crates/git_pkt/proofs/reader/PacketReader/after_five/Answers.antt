@@ -12,12 +12,12 @@ use Rattle.git_pkt.proofs.reader.PacketReader.after_five.Goals as goal
 
 pub returns-then-is_some-clause-moves : goal.returns-then-is_some-clause-moves
 returns-then-is_some-clause-moves c =
-    bands_after c.args.self.now c.begin_passing-left.new.self c.pass.new.self [] c.args.piece.now c.args.piece.now c.pass.result.used c.pass.result.used
+    bands_after c.args.self.now c.begin_passing-left.new.self c.pass.new.self [] c.args.chunk.now c.args.chunk.now c.pass.result.used c.pass.result.used
     refl (omega arith) (omega (arith, c.begin_passing-left.ensures.rises)) c.begin_passing-left.ensures.goes c.pass.result.progress c.pass.ensures.moves
 
 pub returns-in-Open-clause-moves : goal.returns-in-Open-clause-moves
 returns-in-Open-clause-moves c =
-    let u = take c.step-step.result.used c.args.piece.now in
+    let u = take c.step-step.result.used c.args.chunk.now in
     let moves : Moves c.args.self.now u Open c.step-step.new.self =
     subst (λ (p : Progress). Moves c.args.self.now u p c.step-step.new.self) c.in-Open.is c.step-step.ensures.moves in
     let fits : bytes_held c.step-step.new.self ≤ 65520 = omega (arith, c.len.ensures.value, c.len.ensures.fits) in
@@ -27,7 +27,7 @@ returns-in-Open-clause-moves c =
     record {
       passes = open_free c.args.self.now c.step-step.new.self u fits c.requires.sound c.requires.gathers unbanded five moves;
       rises = open_rises c.args.self.now c.step-step.new.self u fits c.requires.sound c.requires.gathers unbanded c.step-step.result.used
-          (length-take-le c.step-step.result.used c.args.piece.now c.step-step.ensures.used) moves;
+          (length-take-le c.step-step.result.used c.args.chunk.now c.step-step.ensures.used) moves;
       comes = record {
         all = c.step-step.ensures.all c.in-Open.is;
         no_fault = moves.arrives.no_fault;
@@ -38,7 +38,7 @@ returns-in-Open-clause-moves c =
 
 pub returns-in-Whole-clause-moves : goal.returns-in-Whole-clause-moves
 returns-in-Whole-clause-moves c =
-    let u = take c.step-step.result.used c.args.piece.now in
+    let u = take c.step-step.result.used c.args.chunk.now in
     let moves : Moves c.args.self.now u Whole c.step-step.new.self =
     subst (λ (p : Progress). Moves c.args.self.now u p c.step-step.new.self) c.in-Whole.is c.step-step.ensures.moves in
     let fits : bytes_held c.step-step.new.self ≤ 65520 = omega (arith, c.len.ensures.value, c.len.ensures.fits) in
@@ -48,14 +48,14 @@ returns-in-Whole-clause-moves c =
     record {
       passes = may_pass_shut c.step-step.new.self moves.arrives.closed;
       rises = shut_rises c.step-step.new.self _ moves.arrives.closed;
-      comes = whole_comes c.args.self.now c.step-step.new.self u fits c.requires.sound c.requires.gathers unbanded c.args.piece.now c.step-step.result.used
+      comes = whole_comes c.args.self.now c.step-step.new.self u fits c.requires.sound c.requires.gathers unbanded c.args.chunk.now c.step-step.result.used
           refl c.step-step.ensures.used moves
           (whole_free c.args.self.now c.step-step.new.self u fits c.requires.sound c.requires.gathers unbanded five moves);
     }
 
 pub returns-in-Failed-clause-moves : goal.returns-in-Failed-clause-moves
 returns-in-Failed-clause-moves c =
-    let u = take c.step-step.result.used c.args.piece.now in
+    let u = take c.step-step.result.used c.args.chunk.now in
     let moves : Moves c.args.self.now u (Failed c.in-Failed.fault) c.step-step.new.self =
     subst (λ (p : Progress). Moves c.args.self.now u p c.step-step.new.self) c.in-Failed.is c.step-step.ensures.moves in
     let fits : bytes_held c.step-step.new.self ≤ 65520 = omega (arith, c.len.ensures.value, c.len.ensures.fits) in
@@ -66,8 +66,8 @@ returns-in-Failed-clause-moves c =
       passes = may_pass_shut c.step-step.new.self moves.arrives.closed;
       rises = shut_rises c.step-step.new.self _ moves.arrives.closed;
       comes = record {
-        told = moves.arrives.told;
-        shown = subst (λ (p : Progress). IsShown p c.step-step.result.used c.args.piece.now) c.in-Failed.is c.step-step.ensures.shown;
+        announced = moves.arrives.announced;
+        shown = subst (λ (p : Progress). IsShown p c.step-step.result.used c.args.chunk.now) c.in-Failed.is c.step-step.ensures.shown;
         goes = failed_goes c.args.self.now c.step-step.new.self u fits c.requires.sound c.requires.gathers unbanded c.in-Failed.fault moves
             (none_longer c.args.self.now c.step-step.new.self u fits c.requires.sound c.requires.gathers unbanded five);
       };

@@ -6,13 +6,13 @@ use Rattle.git_pkt.proofs.reader.PacketReader.feed_band.Goals as goal
 
 pub returns-in-Failed : goal.returns-in-Failed
 returns-in-Failed c = (
-  (refl, (λ _. tt), feeds_again c.args.self.now c.args.piece.now c.in-Failed.fault (ap fault_in c.in-Failed.is) c.requires.passes),
+  (refl, (λ _. tt), feeds_again c.args.self.now c.args.chunk.now c.in-Failed.fault (ap fault_in c.in-Failed.is) c.requires.passes),
   record { after = tt; used = omega arith; cost = record { rises = omega arith; within = omega arith } },
 )
 
 pub fed-requires : goal.fed-requires
 fed-requires c = record {
-  part = has_part c.args.self.now c.band_steps-step.new.self c.args.piece.now c.band_steps-step.result.used
+  part = has_part c.args.self.now c.band_steps-step.new.self c.args.chunk.now c.band_steps-step.result.used
       (sound_unless c.args.self.now.state c.in_default.not-Failed) c.band_steps-step.ensures.keeps c.band_steps-step.result.progress
       c.band_steps-step.ensures.moves
       c.band_steps-step.ensures.used;
@@ -24,7 +24,7 @@ returns-in_default-progress c = (
   (
     refl,
     (λ _. tt),
-    feeds_step c.args.self.now c.band_steps-step.new.self c.args.piece.now c.band_steps-step.result.used
+    feeds_step c.args.self.now c.band_steps-step.new.self c.args.chunk.now c.band_steps-step.result.used
         (sound_unless c.args.self.now.state c.in_default.not-Failed) c.band_steps-step.ensures.keeps c.band_steps-step.result.progress c.fed.result
         c.band_steps-step.ensures.moves
         c.band_steps-step.ensures.used c.in_default-progress.not-Whole c.band_steps-step.ensures.some c.fed.ensures.used c.fed.ensures.got,

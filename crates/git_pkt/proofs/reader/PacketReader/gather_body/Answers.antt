@@ -11,19 +11,19 @@ invariant_of-self-clause-gathered c = λ e.
     let count = c.gathered-count.result in
     let kept = c.gathered-count.ensures.kept (omega arith) in
     let counted = length-take-le count c.args.self.now.hold.items kept.within in
-    let taken : length (take c.min-used.result c.args.piece.now) ≡ c.min-used.result =
-    length-take-le c.min-used.result c.args.piece.now (omega arith) in
+    let taken : length (take c.min-used.result c.args.chunk.now) ≡ c.min-used.result =
+    length-take-le c.min-used.result c.args.chunk.now (omega arith) in
     let placed : take (count + c.min-used.result) c.place.new.hold.items
-    ≡ take count c.args.self.now.hold.items ++ take c.min-used.result c.args.piece.now =
+    ≡ take count c.args.self.now.hold.items ++ take c.min-used.result c.args.chunk.now =
     subst (λ (n : ℕ). take (count + n) c.place.new.hold.items
-    ≡ take count c.args.self.now.hold.items ++ take c.min-used.result c.args.piece.now) taken c.place.ensures.placed in
+    ≡ take count c.args.self.now.hold.items ++ take c.min-used.result c.args.chunk.now) taken c.place.ensures.placed in
     let four : 4 ≤ length (take count c.args.self.now.hold.items) = omega arith in
     record {
       within = omega (arith, c.place.ensures.long, taken);
       gathering =
           subst (λ (l : List ℕ). IsGathering l c.args.self.now.field) (sym placed)
           (gathering_more (take count c.args.self.now.hold.items) _ _ kept.gathering four
-          (omega (arith, counted, length-append (take count c.args.self.now.hold.items) (take c.min-used.result c.args.piece.now))));
+          (omega (arith, counted, length-append (take count c.args.self.now.hold.items) (take c.min-used.result c.args.chunk.now))));
       behind = omega (arith, kept.behind);
     }
 
@@ -32,19 +32,19 @@ returns-clause-moves c =
     let count = c.gathered-count.result in
     let kept = c.gathered-count.ensures.kept (omega arith) in
     let counted = length-take-le count c.args.self.now.hold.items kept.within in
-    let taken : length (take c.min-used.result c.args.piece.now) ≡ c.min-used.result =
-    length-take-le c.min-used.result c.args.piece.now (omega arith) in
+    let taken : length (take c.min-used.result c.args.chunk.now) ≡ c.min-used.result =
+    length-take-le c.min-used.result c.args.chunk.now (omega arith) in
     let placed : take (count + c.min-used.result) c.place.new.hold.items
-    ≡ take count c.args.self.now.hold.items ++ take c.min-used.result c.args.piece.now =
+    ≡ take count c.args.self.now.hold.items ++ take c.min-used.result c.args.chunk.now =
     subst (λ (n : ℕ). take (count + n) c.place.new.hold.items
-    ≡ take count c.args.self.now.hold.items ++ take c.min-used.result c.args.piece.now) taken c.place.ensures.placed in
+    ≡ take count c.args.self.now.hold.items ++ take c.min-used.result c.args.chunk.now) taken c.place.ensures.placed in
     let four : 4 ≤ length (take count c.args.self.now.hold.items) = omega arith in
-    let long : length (take count c.args.self.now.hold.items ++ take c.min-used.result c.args.piece.now) ≡ c.args.self.now.field =
+    let long : length (take count c.args.self.now.hold.items ++ take c.min-used.result c.args.chunk.now) ≡ c.args.self.now.field =
     omega (
       arith,
       counted,
       kept.gathering.partial four,
-      length-append (take count c.args.self.now.hold.items) (take c.min-used.result c.args.piece.now),
+      length-append (take count c.args.self.now.hold.items) (take c.min-used.result c.args.chunk.now),
     ) in
     moves_from c.args.self.now _ (take count c.args.self.now.hold.items) _ Whole
     (ap (λ (n : ℕ). take n c.args.self.now.hold.items) (sym c.gathered-count.ensures.value)) (omega arith) (record {

@@ -24,12 +24,12 @@ returns-then-most-eq0-clause-moves c = record {
 
 pub returns-then-used-eq0-clause-moves : goal.returns-then-used-eq0-clause-moves
 returns-then-used-eq0-clause-moves c =
-    let stopped = c.stop-fault.ensures.told in
+    let stopped = c.stop-fault.ensures.announced in
     record {
       passes = may_pass_shut c.stop-fault.new.self stopped.closed;
       rises = shut_rises c.stop-fault.new.self _ stopped.closed;
       comes = record {
-        told = stopped_fault c.args.self.now c.stop-fault.new.self _ _ _ stopped;
+        announced = stopped_fault c.args.self.now c.stop-fault.new.self _ _ _ stopped;
         shown = shown_at_last c.args.self.now c.stop-fault.new.self _ _ _ _ stopped (omega arith);
         goes = bands_stop c.args.self.now c.stop-fault.new.self c.args.left _ c.requires.passing stopped c.stop-fault.ensures.held
             (omega (arith, c.args.self.now.within));
@@ -40,12 +40,12 @@ pub returns-then-used-left-clause-moves : goal.returns-then-used-left-clause-mov
 returns-then-used-left-clause-moves c =
     let kept = kept_in c.args.self.now (Passing c.args.left) c.requires.passing in
     let used = c.min-used.result in
-    let taken : length (take used c.args.piece.now) ≡ used = length-take-le used c.args.piece.now (omega arith) in
+    let taken : length (take used c.args.chunk.now) ≡ used = length-take-le used c.args.chunk.now (omega arith) in
     record {
       passes = λ gathers. absurd (cc);
       rises = omega (arith, kept.fits, ap (λ (s : State). come_in s c.args.self.now.field) c.requires.passing);
       comes = record {
-        bytes = take used c.args.piece.now;
+        bytes = take used c.args.chunk.now;
         not_fatal = never_fatal (drop 4 (held_of c.args.self.now)) c.in-Some.band (sym c.band.ensures.value ∙ c.in-Some.is);
         long = taken;
         is_part = record {
@@ -55,13 +55,13 @@ returns-then-used-left-clause-moves c =
           front = [];
           lies = refl;
           no_fault = refl;
-          all = λ _. elim (cases_lt used (length c.args.piece.now)) [
+          all = λ _. elim (cases_lt used (length c.args.chunk.now)) [
             | inl less ↦ inr (omega (arith, c.args.self.now.within))
             | inr all ↦ inl (omega arith)
           ];
           few = omega (arith, kept.five);
         };
-        goes = bands_pass_open c.args.self.now _ c.args.left (c.args.left - used) (take used c.args.piece.now) c.in-Some.band (record {
+        goes = bands_pass_open c.args.self.now _ c.args.left (c.args.left - used) (take used c.args.chunk.now) c.in-Some.band (record {
           was = c.requires.passing;
           hold = refl;
           field = refl;
@@ -75,12 +75,12 @@ pub returns-clause-moves : goal.returns-clause-moves
 returns-clause-moves c =
     let kept = kept_in c.args.self.now (Passing c.args.left) c.requires.passing in
     let used = c.min-used.result in
-    let taken : length (take used c.args.piece.now) ≡ used = length-take-le used c.args.piece.now (omega arith) in
+    let taken : length (take used c.args.chunk.now) ≡ used = length-take-le used c.args.chunk.now (omega arith) in
     record {
       passes = λ gathers. refl;
       rises = omega arith;
       comes = record {
-        bytes = take used c.args.piece.now;
+        bytes = take used c.args.chunk.now;
         not_fatal = never_fatal (drop 4 (held_of c.args.self.now)) c.in-Some.band (sym c.band.ensures.value ∙ c.in-Some.is);
         long = taken;
         is_part = record {
@@ -93,7 +93,7 @@ returns-clause-moves c =
           all = λ e. absurd (cc);
           few = omega (arith, kept.five);
         };
-        goes = bands_pass_whole c.args.self.now _ c.args.left (take used c.args.piece.now) c.in-Some.band (record {
+        goes = bands_pass_whole c.args.self.now _ c.args.left (take used c.args.chunk.now) c.in-Some.band (record {
           was = c.requires.passing;
           hold = refl;
           field = refl;

@@ -11,15 +11,15 @@ use Rattle.git_pkt.proofs.reader.PacketReader.step.Goals as goal
 
 pub returns-in-Open-clause-moves : goal.returns-in-Open-clause-moves
 returns-in-Open-clause-moves c =
-    let room : ℕ = 9223372036854775807 - c.args.self.now.position in
-    let fits : length (take room c.args.piece.now) ≡ room = length-take-le _ _ (omega arith) in
-    let used : c.gather-step.result.used ≡ room = c.gather-step.ensures.all c.in-Open.is ∙ fits in
-    let taken : take c.gather-step.result.used (take room c.args.piece.now) ≡ take c.gather-step.result.used c.args.piece.now =
+    let space : ℕ = 9223372036854775807 - c.args.self.now.position in
+    let fits : length (take space c.args.chunk.now) ≡ space = length-take-le _ _ (omega arith) in
+    let used : c.gather-step.result.used ≡ space = c.gather-step.ensures.all c.in-Open.is ∙ fits in
+    let taken : take c.gather-step.result.used (take space c.args.chunk.now) ≡ take c.gather-step.result.used c.args.chunk.now =
     grind (arith, common_steps) in
-    let moves : Moves c.args.self.now (take c.gather-step.result.used c.args.piece.now) Open c.gather-step.new.self =
+    let moves : Moves c.args.self.now (take c.gather-step.result.used c.args.chunk.now) Open c.gather-step.new.self =
     subst (λ (l : List ℕ). Moves c.args.self.now l Open c.gather-step.new.self) taken
-    (subst (λ (p : Progress). Moves c.args.self.now (take c.gather-step.result.used (take room c.args.piece.now)) p c.gather-step.new.self)
+    (subst (λ (p : Progress). Moves c.args.self.now (take c.gather-step.result.used (take space c.args.chunk.now)) p c.gather-step.new.self)
     c.in-Open.is c.gather-step.ensures.moves) in
-    let long : length (take c.gather-step.result.used c.args.piece.now) ≡ c.gather-step.result.used = length-take-le _ _ (omega arith) in
+    let long : length (take c.gather-step.result.used c.args.chunk.now) ≡ c.gather-step.result.used = length-take-le _ _ (omega arith) in
     let last : position_of c.gather-step.new.self ≡ last_position = omega (arith, moves.position, c.args.self.now.within) in
-    stopped_at_last c.args.self.now c.gather-step.new.self _ _ _ moves c.stop-fault.ensures.told last
+    stopped_at_last c.args.self.now c.gather-step.new.self _ _ _ moves c.stop-fault.ensures.announced last

@@ -1,8 +1,8 @@
 use Rattle.std.proofs.Common.{arith}
 use Rattle.git_repository.specs.Machine.DraftLists.{drafted}
 use Rattle.git_repository.specs.RepositoryLines.{shown}
-use Rattle.git_repository.proofs.Reading.{memory_ran_out_at, may_not_stand_at, says_nothing_at, stepped, too_long_at}
-use Rattle.git_repository.proofs.Saying.{fit_of_says}
+use Rattle.git_repository.proofs.Reading.{memory_ran_out_at, may_not_stand_at, conveys_nothing_at, stepped, too_long_at}
+use Rattle.git_repository.proofs.LineContents.{fit_of_content}
 use Rattle.git_repository.proofs.drafts.Draft.read.Goals as goal
 
 pub returns-then-line-gt-LONGEST_LINE : goal.returns-then-line-gt-LONGEST_LINE
@@ -12,11 +12,11 @@ returns-then-line-gt-LONGEST_LINE g c lines h =
 
 pub returns-in_default : goal.returns-in_default
 returns-in_default g c lines h =
-    says_nothing_at g.M.RepoMemory.refuses lines (drafted c.args.self.now) c.args.line.now c.next_line-line_number.result
+    conveys_nothing_at g.M.RepoMemory.refuses lines (drafted c.args.self.now) c.args.line.now c.next_line-line_number.result
     c.next_line-line_number.ensures c.in_default.ensures h
 
 pub keep-requires : goal.keep-requires
-keep-requires g c = fit_of_says c.args.self.now.lists.format c.args.line.now (shown c.in-Some.item) c.in-Some.ensures
+keep-requires g c = fit_of_content c.args.self.now.lists.format c.args.line.now (shown c.in-Some.item) c.in-Some.ensures
 
 pub returns-in-Ok : goal.returns-in-Ok
 returns-in-Ok g c lines h =

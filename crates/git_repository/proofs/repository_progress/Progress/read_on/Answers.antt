@@ -9,7 +9,7 @@ lines-init g c = record {
   reads = λ lines h. at_first c.args.text.now lines c.split_at_first.result.0.now (option_copied c.split_at_first.result.1) (drafted c.args.draft)
       c.split_at_first.ensures.parts h;
   within = cut_within c.args.text.now c.split_at_first.result.0.now (option_copied c.split_at_first.result.1) c.split_at_first.ensures.cut;
-  room = rest_within c.args.text.now c.split_at_first.result.1 c.split_at_first.ensures.shorter;
+  space = rest_within c.args.text.now c.split_at_first.result.1 c.split_at_first.ensures.shorter;
 }
 
 pub returns-in-Err-clause-reads : goal.returns-in-Err-clause-reads
@@ -29,12 +29,12 @@ lines-preserved g c =
       within =
           let short = cut_within c.in-Some.left.now c.split_at_first-in-Some.result.0.now (option_copied c.split_at_first-in-Some.result.1)
           c.split_at_first-in-Some.ensures.cut in
-          let room = now.room in
-          omega (arith, short, room);
-      room =
+          let space = now.space in
+          omega (arith, short, space);
+      space =
           let less = rest_within c.in-Some.left.now c.split_at_first-in-Some.result.1 c.split_at_first-in-Some.ensures.shorter in
-          let room = now.room in
-          omega (arith, less, room);
+          let space = now.space in
+          omega (arith, less, space);
     }
 
 pub returns-clause-reads : goal.returns-clause-reads

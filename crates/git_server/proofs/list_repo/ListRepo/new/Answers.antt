@@ -14,10 +14,10 @@ returns-then-not-are_refs_of c = inr (
       elim c.then-not-are_refs_of.branch [
         | then-not-are_refs_of-via-then-not-are_refs_of w ↦ (λ h. search rules)
         | then-not-are_refs_of-via-else-not-are_refs_of+then-not-are_objects_of w ↦ (λ h.
-            let told = w.are_objects_of.ensures.1 (rw w.deref-else-not-are_refs_of.ensures.value h.by_objects) in
+            let announced = w.are_objects_of.ensures.1 (rw w.deref-else-not-are_refs_of.ensures.value h.by_objects) in
             search rules)
         | then-not-are_refs_of-via-else-not-are_refs_of+else-not-are_objects_of+then-not-are_boundaries_of w ↦ (λ h.
-            let told = w.are_boundaries_of.ensures.1 (rw w.deref-else-not-are_objects_of.ensures.value h.by_boundaries) in
+            let announced = w.are_boundaries_of.ensures.1 (rw w.deref-else-not-are_objects_of.ensures.value h.by_boundaries) in
             search rules)
       ],
     ),

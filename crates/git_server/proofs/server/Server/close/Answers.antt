@@ -32,7 +32,7 @@ returns-clause-closes g c =
     (c.position.ensures ∙ ap position_of between.0)
 
 pub returns-in-Err-clause-credit : goal.returns-in-Err-clause-credit
-returns-in-Err-clause-credit g c = let none = failed_counts_none c.close-closed.new.self c.in-Err.fault c.in-Err.ensures.told in omega (arith, none)
+returns-in-Err-clause-credit g c = let none = failed_counts_none c.close-closed.new.self c.in-Err.fault c.in-Err.ensures.announced in omega (arith, none)
 
 pub returns-in-Between-clause-credit : goal.returns-in-Between-clause-credit
 returns-in-Between-clause-credit g c = let same = ap credit_of c.in_default.ensures.between.0 in omega (arith, same)

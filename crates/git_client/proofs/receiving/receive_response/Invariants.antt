@@ -1,0 +1,33 @@
+use Rattle.std.proofs.Common.{◌≡◌, ◌-◌, ◌≤◌, length, true, false}
+use Rattle.git_pkt.specs.Machine.Recorded.{inner_of, reads_of, has_failed, has_ended, has_wasted}
+use Rattle.git_pkt.specs.Streams.{flow}
+use Rattle.git_client.specs.Machine.Client.{can_ask, wants_input}
+use Rattle.git_client.specs.Machine.RunSteps.{window_of}
+use Rattle.git_client.proofs.ReceivingBytes.{ReceivedSoFar}
+use Rattle.git_client.proofs.receiving.receive_response.Given as goal
+
+-- nothing has failed or ended; while input is needed all bytes so far are used
+abbrev pub invariant-loop-left : goal.invariant-loop-left
+invariant-loop-left g l = record {
+  space : length l.chunk ≡ length l.fn.chunk;
+  ordered : l.left.start ≤ l.left.end;
+  within : l.left.end ≤ length l.chunk;
+  all : wants_input l.client ≡ true → l.left.start ≡ l.left.end;
+  stands : wants_input l.client ≡ false → can_ask l.client ≡ true;
+  reads : reads_of l.reader ≤ l.turns;
+  sound_reader : has_failed l.reader ≡ false;
+  open_ended : has_ended l.reader ≡ false;
+  useful : has_wasted l.reader ≡ has_wasted l.fn.reader;
+  sound_out : has_failed l.out ≡ false;
+  sound_pack : g.P.Output.failed l.pack ≡ false;
+  sound_progress : g.E.Output.failed l.progress ≡ false;
+  arrived : ReceivedSoFar false l.fn.client l.client l.counts (window_of l.fn.waiting l.fn.chunk) (window_of l.left l.chunk)
+      (flow (g.R.Read.remaining (inner_of l.fn.reader)) (g.R.Read.remaining (inner_of l.reader)))
+      (flow (g.O.Write.contents (inner_of l.fn.out)) (g.O.Write.contents (inner_of l.out)))
+      (flow (g.P.Output.contents l.fn.pack) (g.P.Output.contents l.pack))
+      (flow (g.E.Output.contents l.fn.progress) (g.E.Output.contents l.progress));
+}
+
+-- each turn is one read
+abbrev pub decreases-loop-left : goal.decreases-loop-left
+decreases-loop-left g l = l.turns - reads_of l.reader

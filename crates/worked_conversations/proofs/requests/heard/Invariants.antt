@@ -1,6 +1,0 @@
-use Rattle.std.proofs.Common.{◌≡◌, false}
-use Rattle.git_pkt.specs.Machine.PacketReader.{passes_of}
-use Rattle.worked_conversations.proofs.requests.heard.Given as goal
-
-abbrev pub invariant-loop-piece : goal.invariant-loop-piece
-invariant-loop-piece l = passes_of l.packets ≡ false
