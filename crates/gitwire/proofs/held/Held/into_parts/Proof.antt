@@ -19,7 +19,7 @@ use types.Run.{stop, fld, no_more, and_then, of_opd, returns, enter}
 use types.ByLocal.{alloc_all, pass_all, free_all, look_at, get, get_in, sets}
 use denote.Exit.{yes}
 use denote.Signature.{type_at}
-use denote.Steps.{arrived, nothing}
+use denote.Steps.{heard, nothing}
 use denote.Triple.Spec.{triple_of}
 use denote.Triple.Table.{entered}
 use denote.Triple.Walked.{says, Stays, stay_dropped, walk_of, ends_at, Goes-dropped, walk_Meets}
@@ -75,7 +75,7 @@ module _ {M : Type 1} {𝓤 : Ura M} (𝓛 : Logic 𝓤) (at_mem : Memory → SP
       (F.clauses 𝓛 at_mem run)).post z))
   entry z =
       qed 𝓛 ((‵ ftrue ⊛ ‵ (fsep ((Held-row.the_row).own_val z.0.3.0 z.0.4.0) ftrue)) ∷ raw (fact 𝓤 (IsSome z.0.3.0.machine)) ∷ []) ∵
-      move ! (1 ∷ []) $ arrived ! _ (λ some. split ! $ drop ! $ fsplit ! $ keep ! (0 ∷ []) $ by ! (walk z.0.3.0.at z.0.3.0.alloc z.0.3.0.machine z.0.4.0 some))
+      move ! (1 ∷ []) $ heard ! _ (λ some. split ! $ drop ! $ fsplit ! $ keep ! (0 ∷ []) $ by ! (walk z.0.3.0.at z.0.3.0.alloc z.0.3.0.machine z.0.4.0 some))
 
 pub into_parts_spec : {M : Type 1} → stated.statement M
 unfolding tables_of

@@ -20,7 +20,7 @@ use types.Run.{stop, fld, of_opd, unit_lit, returns, enter}
 use types.ByLocal.{alloc_all, pass_all, free_all, look_at, get_in, sets}
 use denote.Exit.{yes}
 use denote.RawPtr.{Ptr, block_ptr, null_ptr, ptr_val}
-use denote.Steps.{arrived, nothing}
+use denote.Steps.{heard, nothing}
 use denote.Triple.Spec.{triple_of}
 use denote.Triple.Table.{entered}
 use denote.Triple.Walked.{Stays, stay_dropped, walk_of, ends_at, Goes-dropped, walk_Meets}
@@ -89,7 +89,7 @@ module _ {M : Type 1} {𝓤 : Ura M} (𝓛 : Logic 𝓤) (at_mem : Memory → SP
       (F.clauses 𝓛 at_mem run)).post z))
   entry z =
       qed 𝓛 ((‵ ftrue ⊛ ‵ (fsep ((Held-row.the_row).own_val z.0.3.0 z.0.4.0) ftrue)) ∷ raw (fact 𝓤 (z.0.3.0.machine ≡ None)) ∷ []) ∵
-      move ! (1 ∷ []) $ arrived ! _ (λ none. split ! $ drop ! $ fsplit ! $ keep ! (0 ∷ []) $ by ! (walk z.0.3.0.at z.0.3.0.alloc z.0.3.0.machine z.0.4.0 none))
+      move ! (1 ∷ []) $ heard ! _ (λ none. split ! $ drop ! $ fsplit ! $ keep ! (0 ∷ []) $ by ! (walk z.0.3.0.at z.0.3.0.alloc z.0.3.0.machine z.0.4.0 none))
 
 pub leave_spec : {M : Type 1} → stated.statement M
 unfolding tables_of
