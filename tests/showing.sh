@@ -558,9 +558,10 @@ case_check_shows_the_packets_up_to_the_refused_one() {
     explained_check "git2show: requests: UnknownArgument at 34" 'the packets of `requests` up to 34:' \
         '       0    14  command   command=fetch' '      18     8  data      agent=x' '      30        delim' \
         '      34     8  data      nothing'
-    mkfifo pipe
-    cat requests > pipe &
-    run git2show check --explain pipe responses
+    mkfifo once
+    cat requests > once &
+    run git2show check --explain once responses
+    rm once
     expect_same 'what is explained of a pipe' <(echo 'git2show: requests: UnknownArgument at 34') err
     printf 00g0 > requests
     explained_check 'git2show: requests: BadDigit at 2'
