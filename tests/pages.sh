@@ -123,7 +123,8 @@ case_no_definition_of_the_protocol_cites_a_machine() {
     local crate definitions
     for crate in "$top"/crates/*/specs/Machine; do
         for definitions in "$(dirname "$crate")"/*.antt; do
-            ! grep -F 'specs.Machine.' "$definitions" | grep -q -v -F 'StreamStages.{AreBegun}' || differs "${definitions#"$top/"} cites a definition of specs/Machine"
+            ! grep -F 'specs.Machine.' "$definitions" | grep -q -v -F 'StreamStages.{AreBegun}' ||
+                differs "${definitions#"$top/"} cites a definition of specs/Machine"
         done
     done
 }
