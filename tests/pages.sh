@@ -118,12 +118,11 @@ case_no_comment_has_a_word_that_is_retired() {
 }
 
 # In a crate with machines, the definitions of its protocol do not cite them. The laws on both ends, the program and C state only calls.
-# `AreBegun` is among the definitions of a stream's stages, and speaks of packets alone.
 case_no_definition_of_the_protocol_cites_a_machine() {
     local crate definitions
     for crate in "$top"/crates/*/specs/Machine; do
         for definitions in "$(dirname "$crate")"/*.antt; do
-            ! grep -F 'specs.Machine.' "$definitions" | grep -q -v -F 'StreamStages.{AreBegun}' ||
+            ! grep -q -F 'specs.Machine.' "$definitions" ||
                 differs "${definitions#"$top/"} cites a definition of specs/Machine"
         done
     done

@@ -5,7 +5,7 @@ use Rattle.git_pkt.specs.Packets.{Pkt, flush, delim, resp_end, payload, text_of 
 use Rattle.git_pkt.specs.Splits.{Given}
 use Rattle.git_pkt.specs.declared.fault.Fault.{Fault}
 use Rattle.git_msg.specs.Machine.RequestStreams.{IsLeftIn}
-use Rattle.git_msg.specs.Machine.StreamStages.{AreBegun}
+use Rattle.git_msg.specs.Requests.{AreBegun}
 use Rattle.git_msg.specs.declared.streams.Stage.TheVariants as OfRequests
 use Rattle.git_msg.proofs.StreamSteps.{left_begins}
 use Rattle.git2show_lib.specs.Others.{Advertised, AreCutOff, AreNoPacket, NoneNames, first_place}

@@ -14,7 +14,8 @@ use Rattle.git_pkt.proofs.Streams.{one_split}
 use Rattle.git_msg.specs.Admission.{nothing_barred}
 use Rattle.git_msg.specs.Machine.HeldRequest.{asked_of, kept_of}
 use Rattle.git_msg.specs.Machine.RequestReader.{Takes, fault_of as reader_fault, is_waiting, limit_in, offer_of as offer_in}
-use Rattle.git_msg.specs.Machine.StreamStages.{AreBegun, Brings, HasTaken, IsBrought, goes_on}
+use Rattle.git_msg.specs.Machine.StreamStages.{Brings, HasTaken, IsBrought, goes_on}
+use Rattle.git_msg.specs.Requests.{AreBegun}
 use Rattle.git_msg.specs.declared.offers.Offer.{Offer}
 use Rattle.git_msg.specs.declared.reader.RequestReader.{RequestReader}
 use Rattle.git_msg.specs.declared.streams.ReadGot.{ReadGot}

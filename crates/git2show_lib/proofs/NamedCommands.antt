@@ -5,7 +5,7 @@ use Rattle.std.specs.Str.{bytes_eq}
 use Rattle.git_pkt.specs.Packets.{Pkt, flush, delim, resp_end, payload, text_of}
 use Rattle.git_pkt.specs.Splits.{Given}
 use Rattle.git_msg.specs.Advertisement.{key_of, value_of}
-use Rattle.git_msg.specs.Machine.StreamStages.{AreBegun}
+use Rattle.git_msg.specs.Requests.{AreBegun}
 use Rattle.git_msg.specs.declared.arguments.Command.{Command}
 use Rattle.git_msg.proofs.WholeRequests.{NoFlush, lines_have_no_flush}
 use Rattle.git2show_lib.specs.Others.{Advertised, BeginWithOther, NoneIs, NoneNames, command_named, first_place, given_as, is_advertised, is_other_command}

@@ -16,7 +16,7 @@ use Rattle.git_msg.specs.Texts.{parts_of, spaced_words}
 use Rattle.git_msg.specs.declared.arguments.Command.{Command}
 use Rattle.git_msg.specs.declared.arguments.Command.TheVariants.{LsRefs, Fetch}
 use Rattle.git_msg.specs.declared.offers.Offer.{Offer}
-use Rattle.git_msg.specs.Machine.StreamStages.{AreBegun}
+use Rattle.git_msg.specs.Requests.{AreBegun}
 use Rattle.git_client.specs.declared.events.Ending.{Ending}
 use Rattle.git_client.specs.declared.events.Ending.TheVariants.{FlushOnly, ResponseEnd}
 use Rattle.git2show_lib.specs.declared.others.Place.{Place}

@@ -11,7 +11,8 @@ use Rattle.git_msg.specs.declared.streams.RequestStream.{RequestStream}
 use Rattle.git_msg.specs.declared.streams.Stage.{Stage}
 use Rattle.git_msg.specs.declared.streams.Stage.TheVariants.{Between, Within, Stopped, Failed}
 use Rattle.git_msg.specs.Machine.RequestStreams.{IsLeftIn, limit_of, offer_of}
-use Rattle.git_msg.specs.Machine.StreamStages.{AreBegun, takes_bytes}
+use Rattle.git_msg.specs.Machine.StreamStages.{takes_bytes}
+use Rattle.git_msg.specs.Requests.{AreBegun}
 use Rattle.git_server.specs.declared.outcome.Outcome.{Outcome}
 use Rattle.git_msg.specs.Asked.{Asked}
 use Rattle.git_msg.specs.Memory.{FaultNeedsRefusal}

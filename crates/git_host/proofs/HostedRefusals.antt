@@ -14,9 +14,8 @@ use Rattle.git_msg.specs.Admission.{AreAdmitted, IsAdmitted, IsUnbarred}
 use Rattle.git_msg.specs.Arguments.{Arg}
 use Rattle.git_msg.specs.Asked.{Asked, fetch, ls_refs, object_info}
 use Rattle.git_msg.specs.Lines.{Line}
-use Rattle.git_msg.specs.Requests.{AreLines}
+use Rattle.git_msg.specs.Requests.{AreBegun, AreLines}
 use Rattle.git_msg.specs.Machine.RequestStreams.{AreAsked, IsOne, IsRefusedAs}
-use Rattle.git_msg.specs.Machine.StreamStages.{AreBegun}
 use Rattle.git_msg.proofs.Admission.{admitted_more}
 use Rattle.git_msg.proofs.LineLists.{lines_snoc}
 use Rattle.git_msg.proofs.PacketFaults.{announced_of_packets}

@@ -10,10 +10,9 @@ use Rattle.git_pkt.specs.declared.fault.Kind.{Kind}
 use Rattle.git_pkt.specs.declared.fault.Kind.TheVariants.{NotOurs, UnknownRef, PackSource, Truncated}
 use Rattle.git_msg.specs.declared.offers.Offer.{Offer}
 use Rattle.git_msg.specs.Asked.{Asked, fetch, ls_refs, object_info}
-use Rattle.git_msg.specs.Requests.{IsStop}
+use Rattle.git_msg.specs.Requests.{AreBegun, IsStop}
 use Rattle.git_msg.specs.WrittenRequest.{text_line}
 use Rattle.git_msg.specs.Machine.RequestStreams.{AreAsked, IsRefusedAs}
-use Rattle.git_msg.specs.Machine.StreamStages.{AreBegun}
 use Rattle.git_server.specs.Packs.{Manner, whole, broken}
 use Rattle.git_server.specs.Answers.{AllFit, advertisement_of, error_packet, refusal_by, spelled}
 use Rattle.git_server.specs.declared.outcome.Outcome.{Outcome}

@@ -6,8 +6,8 @@ use Rattle.git_pkt.specs.declared.fault.Fault.{Fault}
 use Rattle.git_pkt.proofs.KnownRest.{sound_rest}
 use Rattle.git_msg.specs.declared.offers.Offer.{Offer}
 use Rattle.git_msg.specs.Asked.{Asked}
-use Rattle.git_msg.specs.Requests.{IsStop}
-use Rattle.git_msg.specs.Machine.StreamStages.{AreBegun, fault_in, takes_bytes, stage_is_between}
+use Rattle.git_msg.specs.Requests.{AreBegun, IsStop}
+use Rattle.git_msg.specs.Machine.StreamStages.{fault_in, takes_bytes, stage_is_between}
 use Rattle.git_msg.specs.Machine.RequestStreams.{AreAsked, HasRead, IsLeftIn, IsRefusedAs, fault_of}
 use Rattle.git_msg.specs.Machine.RequestStreams.{is_between, is_within_packet, limit_of, offer_of, wants_input}
 use Rattle.git_msg.specs.declared.streams.RequestStream.{RequestStream}

@@ -20,10 +20,10 @@ use Rattle.git_msg.specs.declared.offers.Offer.{Offer}
 use Rattle.git_msg.specs.Admission.{nothing_barred}
 use Rattle.git_msg.specs.Asked.{Asked}
 use Rattle.git_msg.specs.Memory.{FaultNeedsRefusal}
-use Rattle.git_msg.specs.Requests.{IsAnnounced}
+use Rattle.git_msg.specs.Requests.{AreBegun, IsAnnounced}
 use Rattle.git_msg.specs.Machine.RequestReader.{Takes, offer_of as offer_in, limit_in, kept_so_far, fault_of as reader_fault, is_waiting}
 use Rattle.git_msg.specs.WholeRequests.{AreRequests}
-use Rattle.git_msg.specs.Machine.StreamStages.{AreBegun, Brings, GotNeedsRefusal, HasTaken, IsBrought, IsWithin}
+use Rattle.git_msg.specs.Machine.StreamStages.{Brings, GotNeedsRefusal, HasTaken, IsBrought, IsWithin}
 use Rattle.git_msg.specs.Machine.StreamStages.{fault_in, goes_on, stage_brought, takes_bytes, stage_is_between}
 use Rattle.git_msg.specs.Machine.RequestStreams.{EndsWith, HasRead, IsLeftIn, IsOne, Leaves, asked_by, limit_of, offer_of, wants_input}
 use Rattle.git_msg.specs.Machine.RequestStreamSteps.{StepLeaves, Steps}

@@ -13,7 +13,8 @@ use Rattle.git_msg.specs.declared.streams.ReadGot.TheVariants.{More as ReadMore,
 use Rattle.git_msg.specs.Admission.{IsAdmitted, IsBarredAtLast, IsUnbarred}
 use Rattle.git_msg.specs.Arguments.{Arg, shown}
 use Rattle.git_msg.specs.Machine.RequestReader.{KeepsOn, TakesIn, TakesOn, WaitsBehind, WaitsFor, WaitsIn, fault_in, fault_of, limit_in, offer_of, waits_in}
-use Rattle.git_msg.specs.Machine.StreamStages.{AreBegun, Brings}
+use Rattle.git_msg.specs.Machine.StreamStages.{Brings}
+use Rattle.git_msg.specs.Requests.{AreBegun}
 use Rattle.git_msg.proofs.Admission.{barred_after, barred_text, fault_unbarred, plain_unbarred}
 use Rattle.git_msg.proofs.WholeRequests.{last_same}
 

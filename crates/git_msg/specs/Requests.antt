@@ -19,6 +19,10 @@ AreLines offer limit before (g ∷ gs) (line ∷ lines) =
     IsLine offer limit before g.packet line × AreLines offer limit (before ++ line ∷ []) gs lines
 AreLines offer limit before _ _ = ⊥
 
+-- the packets are lines that begin a request
+abbrev pub AreBegun : Offer → ℕ → List Given → Type 0
+AreBegun offer limit packets = (lines : List Line) × AreLines offer limit [] packets lines
+
 -- after these packets, the packet is a line of the request, but no argument
 pub record IsPlainLine (offer : Offer) (limit : ℕ) (packets : List Given) (packet : Pkt) : Type 0 where
   pub lines : List Line

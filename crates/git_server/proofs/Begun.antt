@@ -3,9 +3,8 @@ use Rattle.std.proofs.Common.{◌≡◌, ℕ, List, [], ◌∷◌, ◌++◌, sub
 use Rattle.std.proofs.lemmas.List.Elements.{All-nil}
 use Rattle.git_pkt.specs.Splits.{Given}
 use Rattle.git_msg.specs.Admission.{IsAdmitted, IsUnbarred}
-use Rattle.git_msg.specs.Requests.{AreLines}
+use Rattle.git_msg.specs.Requests.{AreBegun, AreLines}
 use Rattle.git_msg.specs.Machine.RequestReader.{limit_in, offer_of}
-use Rattle.git_msg.specs.Machine.StreamStages.{AreBegun}
 use Rattle.git_msg.specs.declared.offers.Offer.{Offer}
 use Rattle.git_msg.specs.declared.reader.RequestReader.{RequestReader}
 use Rattle.git_msg.proofs.Admission.{admitted_more}

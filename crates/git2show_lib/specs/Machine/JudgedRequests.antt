@@ -10,7 +10,8 @@ use Rattle.git_pkt.specs.declared.fault.Kind.TheVariants.{OutOfMemory, Truncated
 use Rattle.git_msg.specs.Machine.HeldRequest.{asked_of, format_of}
 use Rattle.git_msg.specs.Machine.RequestReader.{Takes, fault_of as reader_fault, is_waiting, limit_in, offer_of as offer_in}
 use Rattle.git_msg.specs.Machine.RequestStreams.{IsLeftIn, IsOne, IsRefusedAs}
-use Rattle.git_msg.specs.Machine.StreamStages.{AreBegun, HasTaken}
+use Rattle.git_msg.specs.Machine.StreamStages.{HasTaken}
+use Rattle.git_msg.specs.Requests.{AreBegun}
 use Rattle.git_msg.specs.declared.offers.Offer.{Offer}
 use Rattle.git_msg.specs.declared.streams.ReadGot.{ReadGot}
 use Rattle.git_msg.specs.declared.streams.ReadGot.TheVariants as OfReader

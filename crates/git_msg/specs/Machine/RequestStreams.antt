@@ -13,9 +13,9 @@ use Rattle.git_msg.specs.declared.offers.Offer.{Offer}
 use Rattle.git_msg.specs.declared.requests.Request.{Request}
 use Rattle.git_msg.specs.Asked.{Asked}
 use Rattle.git_msg.specs.Machine.HeldRequest.{asked_of, format_of, kept_of, limit_of as request_limit}
-use Rattle.git_msg.specs.Requests.{Asks, IsAnnounced, IsStop}
+use Rattle.git_msg.specs.Requests.{AreBegun, Asks, IsAnnounced, IsStop}
 use Rattle.git_msg.specs.WholeRequests.{AreRequests}
-use Rattle.git_msg.specs.Machine.StreamStages.{AreBegun, fault_in, takes_bytes, stage_is_between}
+use Rattle.git_msg.specs.Machine.StreamStages.{fault_in, takes_bytes, stage_is_between}
 use Rattle.git_msg.specs.Machine.RequestReader.{Takes, offer_of as offer_in, limit_in, kept_so_far, stored_so_far, fault_of as reader_fault, is_waiting}
 use Rattle.git_msg.specs.declared.streams.Stage.{Stage}
 use Rattle.git_msg.specs.declared.streams.Stage.TheVariants.{Between, Within, Stopped, Failed}

@@ -7,19 +7,14 @@ use Rattle.git_msg.specs.declared.offers.Offer.{Offer}
 use Rattle.git_msg.specs.Admission.{IsAnnouncedFor, IsUnbarred}
 use Rattle.git_msg.specs.Arguments.{Arg}
 use Rattle.git_msg.specs.Machine.HeldRequest.{asked_of, format_of, kept_of, limit_of, stored_of}
-use Rattle.git_msg.specs.Lines.{Line}
 use Rattle.git_msg.specs.Memory.{NeedsRefusal}
-use Rattle.git_msg.specs.Requests.{AreLines, Asks, IsStop}
+use Rattle.git_msg.specs.Requests.{AreBegun, Asks, IsStop}
 use Rattle.git_msg.specs.Machine.RequestReader.{Takes, offer_of, limit_in, kept_so_far, fault_of, is_waiting}
 use Rattle.git_msg.specs.declared.reader.RequestReader.{RequestReader}
 use Rattle.git_msg.specs.declared.streams.Stage.{Stage}
 use Rattle.git_msg.specs.declared.streams.Stage.TheVariants.{Between, Within, Stopped, Failed as FailedStage}
 use Rattle.git_msg.specs.declared.streams.ReadGot.{ReadGot}
 use Rattle.git_msg.specs.declared.streams.ReadGot.TheVariants.{More, Request, Stop, Failed}
-
--- the packets are lines that begin a request
-abbrev pub AreBegun : Offer → ℕ → List Given → Type 0
-AreBegun offer limit left = (lines : List Line) × AreLines offer limit [] left lines
 
 -- the fault of a stage
 abbrev pub fault_in : Stage → Option Fault
