@@ -116,9 +116,7 @@ mutants:
 
 # Builds the Rattle programs, and measures them beside C and the real Git.
 bench:
-	@cd crates/bench_packets && $(RT) run < stdin > /dev/null
-	@cd crates/bench_client && $(RT) run < stdin > /dev/null
-	@cd crates/bench_names && $(RT) run > /dev/null
+	@cd crates/bench_machines && $(RT) run -- client < stdin > /dev/null
 	@$(MAKE) --no-print-directory program library > /dev/null
 	@bench/run.sh
 

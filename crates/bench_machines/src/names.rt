@@ -1,10 +1,9 @@
-//! Reads and writes a million object names, checks a million reference names, and prints a checksum, for
-//! `bench/run.sh` to measure beside `bench/names.c`.
-#![tactic(auto)]
+//! Reads and writes a million object names, checks a million reference names, and prints a checksum, to be measured beside `bench/names.c`.
 
 use git_names::{Format, Oid, RefName, Steps};
 use std::alloc::{AllocError, Global};
 use std::io;
+use std::process::ExitCode;
 
 /// How often each is done.
 const TURNS: usize = 1_000_000;
@@ -110,9 +109,11 @@ fn run_ref_names(texts: &[Vec<u8>], start: u64) -> u64 {
     sum
 }
 
-fn main(rt: HostRuntime) -> io::Result<()> {
+/// Prints the checksum of both kinds of names. Returns the exit status.
+pub(crate) fn run_names(rt: &HostRuntime) -> io::Result<ExitCode> {
     let texts = Texts::new(rt.alloc())?;
     let sum = run_object_names(texts.object_names.as_slice(), 0);
     let sum = run_ref_names(texts.ref_names.as_slice(), sum);
-    println!(rt; "{sum}")
+    println!(rt; "{sum}")?;
+    Ok(ExitCode::SUCCESS)
 }

@@ -1,11 +1,11 @@
 //! Asks for a pack and receives the answer on standard input, as a client does, and prints one line, `bytes checksum` of the pack, or
-//! reports the first error. This is `Client` as a caller uses it, for `bench/run.sh` to measure beside `bench/client.c`. Neither number
-//! depends on how the pack is cut, which differs with the length of the chunks.
-#![tactic(auto)]
+//! reports the first error. This is `Client` as a caller uses it, to be measured beside `bench/client.c`. Neither number depends on how the
+//! pack is cut, which differs with the length of the chunks.
 
 ghost use Rattle.std.specs.Prelude.{◌≡◌, ◌+◌, ◌≤◌, ◌%◌, ◌^◌, true, length, IfOk};
 ghost use Rattle.git_client.specs.Machine.Client.{can_ask, wants_input};
 
+use crate::CHUNK_BYTES;
 use git_client::{Client, Ending, Event, ReceivedGot, Sent};
 use git_msg::{Argument, Command, Limits, Request};
 use git_names::{Format, Oid, Steps};
@@ -13,9 +13,6 @@ use git_pkt::{Fault, Kind, RunFault};
 use std::alloc::Global;
 use std::io::{self, BufRead, BufReader};
 use std::process::ExitCode;
-
-/// How many bytes of input are read at a time.
-const CHUNK_BYTES: usize = 65_536;
 
 /// The wanted object.
 const WANTED: &[u8] = b"1111111111111111111111111111111111111111";
@@ -169,17 +166,18 @@ fn announce(rt: &HostRuntime, arrived: Result<Counts, RunFault>) -> io::Result<E
             Ok(ExitCode::SUCCESS)
         }
         Err(fault) => {
-            eprintln!(rt; "bench_client: {fault}")?;
+            eprintln!(rt; "bench_machines: {fault}")?;
             Ok(ExitCode::FAILURE)
         }
     }
 }
 
-fn main(rt: HostRuntime) -> io::Result<ExitCode> {
+/// Asks for a pack, and prints the counts of what arrives on standard input. Returns the exit status.
+pub(crate) fn run_client(rt: &HostRuntime) -> io::Result<ExitCode> {
     let mut input = BufReader::with_capacity(rt.alloc(), CHUNK_BYTES, rt.stdin())?;
     let arrived = match request(rt.alloc()) {
         Ok(request) => receive_response(&mut input, request),
         Err(kind) => Err(RunFault::Refused(Fault { kind, offset: 0 })),
     };
-    announce(&rt, arrived)
+    announce(rt, arrived)
 }

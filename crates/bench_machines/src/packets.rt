@@ -1,23 +1,18 @@
 //! Counts the packets of standard input and the bytes of their payloads, and prints one line, `packets bytes checksum`, or reports the
-//! first error. This is `PacketReader` as a caller uses it, for `bench/run.sh` to measure beside `bench/packets.c`. With the word `copied`
-//! after its name it copies each payload into a buffer of its own, as the library for C does, to be measured beside `bench/calls.c`. With
-//! the word `bands` bytes of the pack and of the progress pass uncopied, and each part of them counts as a packet does: this is measured
-//! beside `bench/uncopied.c`.
-#![tactic(auto)]
+//! first error. This is `PacketReader` as a caller uses it, to be measured beside `bench/packets.c`. [`run_copied`] copies each payload into
+//! a buffer of its own, as the library for C does, to be measured beside `bench/calls.c`. In [`run_bands`] bytes of the pack and of the
+//! progress pass uncopied, and each part of them counts as a packet does: this is measured beside `bench/uncopied.c`.
 
 ghost use Rattle.std.specs.Prelude.{◌≡◌, ◌+◌, ◌%◌, ◌^◌, false, length};
 ghost use Rattle.git_pkt.specs.Packets.{body_of, seen};
 ghost use Rattle.git_pkt.specs.Machine.PacketReader.{passes_of};
 ghost use Rattle.git_pkt.specs.Machine.BandReader.{MayPass};
 
+use crate::CHUNK_BYTES;
 use git_names::Steps;
 use git_pkt::{BandGot, Fault, Got, Packet, PacketReader};
-use std::env;
 use std::io::{self, Read};
 use std::process::ExitCode;
-
-/// How many bytes of input are read at a time.
-const CHUNK_BYTES: usize = 65_536;
 
 /// The maximum number of bytes in a payload.
 const PAYLOAD_BYTES: usize = 65_516;
@@ -160,30 +155,49 @@ fn pass_input<R: Read>(
 
 /// Reports an error on standard error.
 fn refuse(rt: &impl Eprint, fault: Fault) -> io::Result<ExitCode> {
-    eprintln!(rt; "bench_packets: {:?} at {}", fault.kind, fault.offset)?;
+    eprintln!(rt; "bench_machines: {:?} at {}", fault.kind, fault.offset)?;
     Ok(ExitCode::FAILURE)
 }
 
-fn main(rt: HostRuntime) -> io::Result<ExitCode> {
-    let mut input = rt.stdin();
-    let mut chunk = vec![in rt.alloc(); 0; CHUNK_BYTES]?;
-    let mut counts = Counts::none();
-    let word = env::args(&rt)?.nth(1);
-    let counted = if word.as_deref() == Some("bands") {
-        pass_input(&mut input, chunk.as_mut_slice(), &mut counts)?
-    } else {
-        let bytes = if word.is_some() { PAYLOAD_BYTES } else { 0 };
-        let mut buffer = vec![in rt.alloc(); 0; bytes]?;
-        count_input(
-            &mut input,
-            chunk.as_mut_slice(),
-            buffer.as_mut_slice(),
-            &mut counts,
-        )?
-    };
+/// Prints the counts, or reports the first error. Returns the exit status.
+fn announce(rt: &HostRuntime, counted: Result<(), Fault>, counts: Counts) -> io::Result<ExitCode> {
     if let Err(fault) = counted {
-        return refuse(&rt, fault);
+        return refuse(rt, fault);
     }
     println!(rt; "{} {} {}", counts.packets, counts.bytes, counts.checksum)?;
     Ok(ExitCode::SUCCESS)
+}
+
+/// Counts the packets of standard input, whose payloads are copied into a buffer of this many bytes if they fit there.
+fn run_buffered(rt: &HostRuntime, buffered: usize) -> io::Result<ExitCode> {
+    let mut input = rt.stdin();
+    let mut chunk = vec![in rt.alloc(); 0; CHUNK_BYTES]?;
+    let mut buffer = vec![in rt.alloc(); 0; buffered]?;
+    let mut counts = Counts::none();
+    let counted = count_input(
+        &mut input,
+        chunk.as_mut_slice(),
+        buffer.as_mut_slice(),
+        &mut counts,
+    )?;
+    announce(rt, counted, counts)
+}
+
+/// Counts the packets of standard input, each as the reader hands it out. Returns the exit status.
+pub(crate) fn run_packets(rt: &HostRuntime) -> io::Result<ExitCode> {
+    run_buffered(rt, 0)
+}
+
+/// Counts the packets of standard input, and copies each payload. Returns the exit status.
+pub(crate) fn run_copied(rt: &HostRuntime) -> io::Result<ExitCode> {
+    run_buffered(rt, PAYLOAD_BYTES)
+}
+
+/// Counts the packets of standard input, and the parts of a pack and of a progress. Returns the exit status.
+pub(crate) fn run_bands(rt: &HostRuntime) -> io::Result<ExitCode> {
+    let mut input = rt.stdin();
+    let mut chunk = vec![in rt.alloc(); 0; CHUNK_BYTES]?;
+    let mut counts = Counts::none();
+    let counted = pass_input(&mut input, chunk.as_mut_slice(), &mut counts)?;
+    announce(rt, counted, counts)
 }

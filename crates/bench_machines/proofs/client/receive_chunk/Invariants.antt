@@ -1,5 +1,5 @@
 use Rattle.std.proofs.Common.{length, ◌-◌, ◌≤◌}
-use Rattle.bench_client.proofs.receive_chunk.Given as goal
+use Rattle.bench_machines.proofs.client.receive_chunk.Given as goal
 
 abbrev pub invariant-loop-used : goal.invariant-loop-used
 invariant-loop-used l = l.used ≤ length l.chunk
