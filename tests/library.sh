@@ -271,7 +271,7 @@ case_library_header_has_a_type_for_each_kind_of_number() {
 
 case_library_programs_compile_without_a_word() {
     local name
-    for name in daemon fetch list packets upload-pack watch library_calls library_arrays library_writers library_host library_threads refused_memory; do
+    for name in daemon fetch list packets upload-pack watch library_calls library_arrays library_writers library_host library_threads library_memory refused_memory; do
         expect_same "what the compiler prints for $name" /dev/null "$name.said"
     done
 }
