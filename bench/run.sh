@@ -42,7 +42,7 @@ for program in packets uncopied show names client generate ask bands check; do
 done
 if [ -z "$c_only" ]; then
     ${CC:-gcc} -O2 -Wall -Wextra -I"$top/include" -c -o "$out/gitwire.o" "$top/c/gitwire.c"
-    taken=("$out/gitwire.o" "$our_library" "$(dirname "$("${RT:-rt}" doc)")/c/liblibc_c.a")
+    taken=("$out/gitwire.o" "$our_library")
     for program in calls client_calls hosts; do
         ${CC:-gcc} -O3 -Wall -Wextra -I"$top/include" -o "$out/$program" "$top/bench/$program.c" "${taken[@]}"
     done
