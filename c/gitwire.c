@@ -28,13 +28,13 @@ static void by_free(void *user, void *block)
 
 /* Where memory comes from: the C library, unless the program has named calls of its own. */
 static struct {
-	gitwire_allocate *allocate;
-	gitwire_reallocate *reallocate;
-	gitwire_deallocate *deallocate;
+	gitwire_allocate allocate;
+	gitwire_reallocate reallocate;
+	gitwire_deallocate deallocate;
 	void *user;
 } memory = { by_malloc, by_realloc, by_free, NULL };
 
-gitwire_result gitwire_set_memory(gitwire_allocate *allocate, gitwire_reallocate *reallocate, gitwire_deallocate *deallocate, void *user)
+gitwire_result gitwire_set_memory(gitwire_allocate allocate, gitwire_reallocate reallocate, gitwire_deallocate deallocate, void *user)
 {
 	bool is_named = allocate != NULL;
 

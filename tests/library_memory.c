@@ -7,7 +7,6 @@
 
 #include <stdio.h>
 #include <stdlib.h>
-#include <string.h>
 
 #define ONE "1111111111111111111111111111111111111111"
 
@@ -73,44 +72,62 @@ static void expect(bool holds, const char *what)
 		fprintf(stderr, "library_memory: not so: %s\n", what);
 }
 
-/* A client that lists the references of a server, both over the memory that is set: whether all of it went well. */
-static bool lists(void)
+/* What the server has to send goes to the client: how many references it receives, or -1 if either failed. */
+static int answered(gitwire_server *server, gitwire_client *client)
 {
-	static const char text[] = "format sha1\n" "ref " ONE " HEAD symref-target:refs/heads/main\n" "ref " ONE " refs/heads/main\n";
 	static uint8_t packet[GITWIRE_PACKET_SIZE], buffer[GITWIRE_PAYLOAD_SIZE];
-	gitwire_repository *repository;
-	gitwire_server *server = NULL;
-	gitwire_client *client = NULL;
-	gitwire_request *request = NULL;
-	gitwire_answer answer;
 	int references = 0;
-	bool is_well = gitwire_repository_new(&repository, text, sizeof text - 1, NULL, 0).kind == GITWIRE_DONE
-		&& gitwire_server_new(&server, repository, 0, true) == GITWIRE_DONE
-		&& gitwire_client_new(&client, GITWIRE_SHA1, GITWIRE_ENDS_BY_FLUSH) == GITWIRE_DONE
-		&& gitwire_request_new(&request, GITWIRE_LS_REFS, GITWIRE_SHA1, 1000) == GITWIRE_DONE
-		&& gitwire_request_add(request, "ref-prefix refs/", 16).kind == GITWIRE_DONE
-		&& gitwire_request_end(request).kind == GITWIRE_DONE;
 
-	while (is_well && references == 0) {
-		answer = gitwire_client_pull(client, packet, sizeof packet);
-		if (answer.kind == GITWIRE_CAN_ASK)
-			is_well = gitwire_client_ask(client, request).kind == GITWIRE_DONE;
-		else if (answer.kind == GITWIRE_PACKET)
-			is_well = gitwire_server_feed(server, packet, answer.length).kind == GITWIRE_MORE;
-		else
-			answer = gitwire_server_pull(server, packet, sizeof packet);
-		if (answer.kind == GITWIRE_NEED_INPUT || answer.kind == GITWIRE_FAILED)
-			is_well = false;
-		for (size_t used = 0; is_well && answer.kind == GITWIRE_PACKET && used < answer.length;) {
+	for (;;) {
+		gitwire_answer answer = gitwire_server_pull(server, packet, sizeof packet);
+
+		if (answer.kind != GITWIRE_PACKET)
+			return answer.kind == GITWIRE_NEED_INPUT ? references : -1;
+		for (size_t used = 0; used < answer.length;) {
 			gitwire_event event = gitwire_client_feed(client, packet + used, answer.length - used, buffer, sizeof buffer);
 
 			used += event.used;
 			references += event.kind == GITWIRE_REFERENCE;
-			is_well = event.kind != GITWIRE_FAILED && event.kind != GITWIRE_NOT_NOW;
-			if (event.used == 0 && event.kind == GITWIRE_MORE)
-				break;
+			if (event.kind == GITWIRE_FAILED || event.kind == GITWIRE_NOT_NOW)
+				return -1;
 		}
 	}
+}
+
+/* What the client has to send goes to the server: whether it was taken. */
+static bool asked(gitwire_client *client, gitwire_server *server)
+{
+	static uint8_t packet[GITWIRE_PACKET_SIZE];
+
+	for (;;) {
+		gitwire_answer answer = gitwire_client_pull(client, packet, sizeof packet);
+
+		if (answer.kind != GITWIRE_PACKET)
+			return answer.kind == GITWIRE_NEED_INPUT;
+		if (gitwire_server_feed(server, packet, answer.length).kind != GITWIRE_MORE)
+			return false;
+	}
+}
+
+/* A client that lists a reference of a server, each over the memory that is set: whether all of it went well. */
+static bool lists(void)
+{
+	static const char text[] = "format sha1\n" "ref " ONE " HEAD symref-target:refs/heads/main\n" "ref " ONE " refs/heads/main\n";
+	gitwire_repository *repository;
+	gitwire_server *server = NULL;
+	gitwire_client *client = NULL;
+	gitwire_request *request = NULL;
+	bool is_well = gitwire_repository_new(&repository, text, sizeof text - 1, NULL, 0).kind == GITWIRE_DONE
+		&& gitwire_server_new(&server, repository, 1000, true) == GITWIRE_DONE
+		&& gitwire_client_new(&client, GITWIRE_SHA1, GITWIRE_ENDS_BY_FLUSH) == GITWIRE_DONE
+		&& gitwire_request_new(&request, GITWIRE_LS_REFS, GITWIRE_SHA1, 1000) == GITWIRE_DONE
+		&& gitwire_request_add(request, "ref-prefix refs/", 16).kind == GITWIRE_DONE
+		&& gitwire_request_end(request).kind == GITWIRE_DONE
+		&& answered(server, client) == 0
+		&& gitwire_client_ask(client, request).kind == GITWIRE_DONE
+		&& asked(client, server)
+		&& answered(server, client) == 1;
+
 	gitwire_request_free(request);
 	gitwire_client_free(client);
 	gitwire_server_free(server);

@@ -218,10 +218,10 @@ gitwire_answer gitwire_escape(const uint8_t *bytes, size_t bytes_length, char *b
  * It is for the whole program: make this call while there is no handle and no other thread is in the library. BAD_VALUE, if some of the
  * three are NULL and others are not; nothing changed then.
  */
-typedef void *gitwire_allocate(void *user, size_t size);
-typedef void *gitwire_reallocate(void *user, void *block, size_t size);
-typedef void gitwire_deallocate(void *user, void *block);
-gitwire_result gitwire_set_memory(gitwire_allocate *allocate, gitwire_reallocate *reallocate, gitwire_deallocate *deallocate, void *user);
+typedef void *(*gitwire_allocate)(void *user, size_t size);
+typedef void *(*gitwire_reallocate)(void *user, void *block, size_t size);
+typedef void (*gitwire_deallocate)(void *user, void *block);
+gitwire_result gitwire_set_memory(gitwire_allocate allocate, gitwire_reallocate reallocate, gitwire_deallocate deallocate, void *user);
 
 /* The layout that the library has. */
 GITWIRE_STATIC_ASSERT(sizeof(size_t) == 8 && sizeof(void *) == 8 && sizeof(bool) == 1, "the library is of 64 bits");
