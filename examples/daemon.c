@@ -11,9 +11,9 @@
  * SIGINT ends it.
  *
  * There is a place for MOST_CLIENTS. If another client comes, the one that has been expected to send a whole request for the longest time
- * is closed: so clients that send little keep nobody out. A client that takes an answer, however slowly, keeps its place: if untrusted
- * clients can reach the host, it has to give each address few places, and limit the time of each session. The memory that a client may take
- * with its place is MOST_KEPT, in client.h.
+ * is closed: so clients that send little keep nobody out. A client that takes an answer, however slowly, keeps its place, and so does one of
+ * FOLDER from its first packet on, if it sends or takes a byte within so many SECONDS: if untrusted clients can reach the host, it has to give
+ * each address few places, and limit the time of each session. The memory that a client may take with its place is MOST_KEPT, in client.h.
  *
  * A client above a limit receives an error packet that states the limit and how much it allows: of a request, of time, of places.
  */
@@ -197,6 +197,7 @@ int main(int count, char **words)
 	if (snprintf(asked_for, sizeof asked_for, "git-upload-pack /%s", words[4]) >= (int)sizeof asked_for)
 		stop("the name is too long");
 	signal(SIGINT, end);
+	signal(SIGCHLD, SIG_DFL); /* whoever started this may have ignored it, and then no end of a process could be waited for */
 	signal(SIGPIPE, SIG_IGN); /* a broken connection is noticed by a write that fails; the reader of standard error may be gone too */
 	if (count == 6)
 		open_folder(words[5]);

@@ -16,13 +16,16 @@ static const char *filter_kind(const char *filter)
 	return "unknown";
 }
 
-/* Cuts the next filter off a combined one, whose parts are separated by `+` and have some bytes as `%` and two digits. */
+/*
+ * Cuts the next filter off a combined one, whose parts are separated by `+` and have some bytes as `%` and two digits. As in Git `%00` stands for
+ * itself: a NUL would hide what comes after it.
+ */
 static void cut_filter(const char **rest, char *part)
 {
 	char digits[3] = "";
 
 	for (; **rest != 0 && **rest != '+'; (*rest)++)
-		if (**rest == '%' && sscanf(*rest + 1, "%2[0-9a-fA-F]", digits) == 1 && digits[1] != 0) {
+		if (**rest == '%' && sscanf(*rest + 1, "%2[0-9a-fA-F]", digits) == 1 && digits[1] != 0 && strcmp(digits, "00") != 0) {
 			*part++ = (char)strtoul(digits, NULL, 16);
 			*rest += 2;
 		} else {

@@ -55,7 +55,10 @@ whole_body() {
 # request: the body as Git wrote it.
 request() {
     case ${HTTP_CONTENT_ENCODING:-} in
-        gzip | x-gzip) whole_body | gzip -dc || printf 'gzip ended with status %s, ' $? >&3 ;;
+        gzip | x-gzip)
+            # 64 MiB are more than a request within the limit has; a small body can become any number of them.
+            { whole_body | gzip -dc || printf 'gzip ended with status %s, ' $? >&3; } | head -c 67108864
+            ;;
         *) whole_body ;;
     esac
 }

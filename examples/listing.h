@@ -46,7 +46,7 @@ static void answer_head(void)
 	struct found found, peeled;
 	struct command head;
 
-	start_head(&head, name, sizeof name);
+	start_head(&head, space, name, sizeof name);
 	receive_head(&head, target, sizeof target);
 	if (!find_head(name, target, &found))
 		answer_unborn(name, target);
@@ -291,7 +291,7 @@ static void answer_all(bool heads, bool tags)
 
 	start_shown(&shown, heads, tags);
 	be_patient(&shown);
-	start_head(&target, head.name, sizeof head.name);
+	start_head(&target, space, head.name, sizeof head.name);
 	is_enough = !lists_symbolic(heads, tags) && is_packed_in_order();
 	receive_head(&target, head.target, sizeof head.target);
 	if (is_enough)

@@ -107,6 +107,7 @@ static uint64_t receive_commit(const char *id, struct names *parents)
 	struct found found;
 	uint64_t date = 0;
 	unsigned long long left;
+	bool is_front = true; /* parents come right after the tree */
 
 	if (!receive_found(&found) || strcmp(found.type, "commit") != 0)
 		fail("a commit cannot be read");
@@ -122,7 +123,8 @@ static uint64_t receive_commit(const char *id, struct names *parents)
 		line[length - 1] = 0;
 		if (strncmp(line, "committer ", 10) == 0 && (end = strrchr(line, '>')) != NULL)
 			date = strtoull(end + 1, NULL, 10);
-		if (strncmp(line, "parent ", 7) != 0 || has_name(&own_boundary, id))
+		is_front = is_front && (strncmp(line, "tree ", 5) == 0 || strncmp(line, "parent ", 7) == 0);
+		if (!is_front || strncmp(line, "parent ", 7) != 0 || has_name(&own_boundary, id))
 			continue;
 		if (strlen(line + 7) != strlen(id) || strspn(line + 7, "0123456789abcdef") != strlen(id))
 			fail("a commit cannot be read");

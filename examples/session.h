@@ -2,6 +2,7 @@
 #include <gitwire.h>
 
 #include <errno.h>
+#include <poll.h>
 #include <stdint.h>
 #include <string.h>
 #include <unistd.h>
@@ -12,6 +13,16 @@ static uint8_t output[8 * GITWIRE_PACKET_SIZE]; /* the bytes to be sent, and aft
 static size_t output_length;
 static unsigned timeout; /* how many seconds a client may take to send or receive some bytes, or 0 */
 
+/* Whether a read or a write can be tried again: a signal came, or the other end has none to give or to take yet, which is waited for. */
+static bool can_try_again(int end, short events)
+{
+	struct pollfd ready = { end, events, 0 };
+
+	if (errno != EAGAIN)
+		return errno == EINTR;
+	return poll(&ready, 1, -1) >= 0 || errno == EINTR;
+}
+
 /* Sends all that there is to send. To a client with a time limit it sends only so much at once: a write ends when all of it is taken. */
 static void flush_output(void)
 {
@@ -21,7 +32,7 @@ static void flush_output(void)
 
 		alarm(timeout);
 		written = write(STDOUT_FILENO, output + at, timeout > 0 && left > 8192 ? 8192 : left);
-		if (written < 0 && errno != EINTR)
+		if (written < 0 && !can_try_again(STDOUT_FILENO, POLLOUT))
 			stop("the answer cannot be written");
 		at += written < 0 ? 0 : (size_t)written;
 	}

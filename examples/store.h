@@ -177,12 +177,12 @@ static bool is_packed_in_order(void)
 	return is_in_order;
 }
 
-/* HEAD of the namespace, whose name fits into `name`. Its target is received next, or an empty text if it is not symbolic. */
-static void start_head(struct command *command, char *name, size_t size)
+/* HEAD of a namespace, whose name fits into `name`. Its target is received next, or an empty text if it is not symbolic. */
+static void start_head(struct command *command, const char *within, char *name, size_t size)
 {
 	const char *const words[] = { "git", "symbolic-ref", "-q", "--", name, NULL };
 
-	snprintf(name, size, "%sHEAD", space);
+	snprintf(name, size, "%sHEAD", within);
 	start_alone(command, TO_ERRORS, words);
 }
 
@@ -244,21 +244,38 @@ static bool find_reference(const struct texts *lines, const char *name, char *id
 	return line != NULL;
 }
 
-/* The object of HEAD by its name and target; false if it is unborn. */
+/*
+ * The object of HEAD by its name and target; false if it is unborn. Git would then take the name for that of another reference, as refs/tags/HEAD, so
+ * what HEAD stands for is looked up by its whole name before.
+ */
 static bool find_head(const char *name, const char *target, struct found *found)
 {
+	const char *whole = *target != 0 ? target : name;
 	struct texts names = { 0 }, lines = { 0 };
-	bool is_there = find(name, found);
+	bool may_be_unborn = is_pattern(whole), is_there;
 
-	if (!is_there && *target != 0) {
-		add_text(&names, "%s", target);
+	if (may_be_unborn) {
+		add_text(&names, "%s", whole);
 		find_references(&names, &lines);
 	}
-	if (!is_there && (lines.length > 0 || (*target == 0 && *space == 0))) /* a namespace may have none */
+	is_there = (!may_be_unborn || lines.length > 0) && find(name, found);
+	if (!is_there && (!may_be_unborn || lines.length > 0))
 		fail("HEAD leads to no object");
 	clear_texts(&names);
 	clear_texts(&lines);
 	return is_there;
+}
+
+/* The object of HEAD of a namespace, or of the repository; false if it is unborn. */
+static bool find_head_in(const char *within, struct found *found)
+{
+	static char target[LINE_SIZE];
+	char name[sizeof space + 4];
+	struct command head;
+
+	start_head(&head, within, name, sizeof name);
+	receive_head(&head, target, sizeof target);
+	return find_head(name, target, found);
 }
 
 /*

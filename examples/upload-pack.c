@@ -57,7 +57,7 @@ static bool find_wanted(const char *name, char *id)
 static const char *find_wanted_references(void)
 {
 	struct texts names = { 0 };
-	char id[GITWIRE_OBJECT_NAME_SIZE + 1], head[sizeof space + 4];
+	char id[GITWIRE_OBJECT_NAME_SIZE + 1];
 	struct found found = { .id = "" };
 	bool wants_head = false;
 	const char *name;
@@ -68,8 +68,7 @@ static const char *find_wanted_references(void)
 		if (is_pattern(name))
 			add_text(&names, "%s%s", space, name);
 	}
-	snprintf(head, sizeof head, "%sHEAD", space);
-	strcpy(wanted_head, wants_head && find(head, &found) ? found.id : "");
+	strcpy(wanted_head, wants_head && find_head_in(space, &found) ? found.id : "");
 	find_references(&names, &wanted_references);
 	clear_texts(&names);
 	for (size_t i = 0; (name = item(GITWIRE_LIST_WANT_REFS, i)) != NULL; add_name(&wants, id), i++)
@@ -100,7 +99,7 @@ static const char *find_excluded(struct names *excluded)
 				add_text(&names, "%s", whole);
 	find_references(&names, &lines);
 	for (size_t i = 0; (name = item(GITWIRE_LIST_DEEPEN_NOTS, i)) != NULL; add_name(excluded, id), i++) {
-		int count = i < MOST_EXCLUDED && strcmp(name, "HEAD") == 0 && find(name, &found);
+		int count = i < MOST_EXCLUDED && strcmp(name, "HEAD") == 0 && find_head_in("", &found);
 
 		if (count == 1)
 			strcpy(id, found.id);
@@ -242,16 +241,35 @@ static void start_pack(struct command *pack, bool is_cut)
 	snprintf(filter, sizeof filter, "--filter=%s", spec == NULL ? "" : spec);
 	if (spec != NULL)
 		words[count++] = filter;
-	start(pack, gitwire_host_flag(host, GITWIRE_FLAG_NO_PROGRESS) ? TO_ERRORS : TO_PIPE, words);
+	start(pack, TO_PIPE, words);
 }
 
-/* Passes on what can be read of the pack, or else of its progress: false at the end. */
+/* Shows the messages of a command to whoever runs this server: they may quote what a client sent. */
+static void show_messages(const uint8_t *bytes, size_t length)
+{
+	while (length > 0) {
+		const uint8_t *end = memchr(bytes, '\n', length);
+		size_t shown = end == NULL ? length : (size_t)(end - bytes), used = shown + (end != NULL);
+
+		fputs(PROGRAM ": ", stderr);
+		show_bytes(stderr, bytes, shown);
+		fputc('\n', stderr);
+		bytes += used;
+		length -= used;
+	}
+}
+
+/* Passes on what can be read of the pack, or else of its progress, which is for the client unless it wants none: false at the end. */
 static bool pass_on(int from, bool is_pack)
 {
 	static uint8_t bytes[GITWIRE_PAYLOAD_SIZE - 1]; /* as much as a packet has after its band */
 	ssize_t length = read(from, bytes, sizeof bytes);
 	gitwire_answer answer;
 
+	if (!is_pack && length > 0 && gitwire_host_flag(host, GITWIRE_FLAG_NO_PROGRESS)) {
+		show_messages(bytes, (size_t)length);
+		return true;
+	}
 	for (size_t at = 0; length > 0 && at < (size_t)length; at += answer.used) {
 		size_t left = (size_t)length - at;
 
@@ -351,7 +369,7 @@ static void receive(void)
 	if (at == length) {
 		flush_output();
 		alarm(timeout);
-		while ((got = read(STDIN_FILENO, bytes, sizeof bytes)) < 0 && errno == EINTR)
+		while ((got = read(STDIN_FILENO, bytes, sizeof bytes)) < 0 && can_try_again(STDIN_FILENO, POLLIN))
 			continue;
 		alarm(0);
 		if (got < 0)

@@ -153,6 +153,20 @@ case_a_daemon_in_c_serves_a_folder() {
     end_daemon
 }
 
+# Whoever starts it may have ignored the signal by which the end of a process is reported: each client's place is free again all the same.
+case_a_daemon_in_c_frees_places_whatever_it_inherits() {
+    local count
+    write_folders
+    mkdir -p uploading
+    ln -sf ../bin/upload-pack uploading/upload-pack
+    start_daemon none bash -c 'trap "" CHLD; PATH=$PWD/uploading:$PATH exec daemon "$1" "$2" "$3" "$4" "$PWD/folders/team/sha1.git"' daemon
+    for ((count = 0; count < 140; count++)); do
+        git -c protocol.version=2 ls-remote "$address" refs/heads/main > out 2> err || break
+    done
+    [ $count = 140 ] || differs "no answer after $count clients" err
+    end_daemon
+}
+
 case_a_daemon_in_c_serves_a_folder_of_sha256() {
     write_folders
     start_folder_daemon folders/team/sha256.git

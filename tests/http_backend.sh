@@ -88,6 +88,19 @@ case_a_body_that_is_not_compressed_as_it_states_is_refused_over_http() {
     grep -q 'not in gzip format' err || differs 'what was reported' err
 }
 
+# A compressed body may become any number of bytes: no more is read than a request can have.
+case_a_body_that_grows_without_end_is_cut_over_http() {
+    {
+        packet command=ls-refs
+        packet "server-option=$(printf '%065000d' 0)" > line
+        for _ in {1..1200}; do cat line; done
+        printf 0000
+    } | gzip -n > body
+    [ "$(wc -c < body)" -lt 1000000 ] || differs 'a body that is not small'
+    ask_backend POST /wanted/git-upload-pack HTTP_GIT_PROTOCOL=version=2 HTTP_CONTENT_ENCODING=gzip < body
+    expect 0 <(answer_head result; packet 'ERR Truncated at 67108864') <(printf 'gzip ended with status 141, '; fault 'Truncated at 67108864')
+}
+
 # An answer is passed on as git2show writes it. Here git2show writes the rest only after the first part has arrived.
 case_an_answer_over_http_is_passed_on_as_it_comes() {
     local asking

@@ -285,6 +285,25 @@ case_upload_pack_under_valgrind() {
     done
 }
 
+# What a client sends gets to the log escaped, also in the messages of Git's programs: no line of it is the client's.
+case_upload_pack_escapes_messages() {
+    configured history-sha1 uploadpack.allowFilter true
+    {
+        packet command=fetch
+        printf 0001
+        packet no-progress
+        packet $'filter blob:limit=1\nJan 01 sshd: FORGED \x9b31m'
+        packet "want $(git -C served rev-parse main)"
+        packet 'done'
+        printf 0000
+    } > body
+    run "$uploading" --stateless-rpc served < body
+    expect_status 128
+    grep -q FORGED err || differs 'no message' err
+    ! grep -q -v '^upload-pack: ' err || differs 'a line of the client' err
+    ! LC_ALL=C grep -q $'[\x80-\xff\x1b]' err || differs 'a control byte' err
+}
+
 case_upload_pack_is_no_shell() {
     local folder='a;touch run-by-a-shell $(touch run-by-a-shell)'
     mkdir -p "$folder"

@@ -202,6 +202,34 @@ case_upload_pack_lists_symbolic_references_wherever_they_are() {
     rm -rf other-tree
 }
 
+# Where HEAD is unborn, no other reference is taken for it, though Git would find one of these by that name.
+case_upload_pack_takes_no_reference_for_head() {
+    local name body
+    configured history-sha1 uploadpack.allowRefInWant true
+    git -C served symbolic-ref HEAD refs/heads/unborn
+    for name in refs/HEAD refs/tags/HEAD refs/heads/HEAD; do
+        git -C served update-ref $name main
+        answers_alike served "$(prefixes HEAD)"
+        answers_alike served "$(prefixes)"
+    done
+    body=$(packet command=fetch; printf 0001; packet 'want-ref HEAD'; packet 'done'; printf 0000)
+    run "$uploading" --stateless-rpc served < <(printf %s "$body")
+    expect_status 128
+    expect_same 'the answer' <(packet 'ERR unknown ref HEAD') out
+}
+
+# The parents of a commit are those right after its tree, whatever comes in later lines.
+case_upload_pack_reads_parents_as_git() {
+    local id
+    configured history-sha1
+    id=$(git -C served cat-file commit main | sed '/^committer /a parent 1111111111111111111111111111111111111111' |
+        git -C served hash-object -t commit -w --literally --stdin)
+    git -C served update-ref refs/heads/main "$id"
+    uploads served --depth=1
+    uploads served --depth=2
+    uploads served
+}
+
 # The references of each namespace are served as those of a repository of its own.
 case_upload_pack_serves_a_namespace() {
     local name
@@ -412,6 +440,11 @@ case_upload_pack_limits_filters() {
         expect_status 128
         expect_same "the answer to $filter" <(packet "ERR filter 'blob:none' not supported") out
     done
+    # `%00` hides nothing that comes after it: Git reads this as `combine:sparse:oid=HEAD^{/!-q%00}:README+tree:9`.
+    filter='combine:combine:sparse:oid=HEAD%255E%257B/%2521-q%00%257D:README%2Btree:9'
+    run "$uploading" --stateless-rpc served < <(fetch_filtered "$filter" "$(git -C served rev-parse main)")
+    expect_status 128
+    grep -a -q '^....ERR tree filter allows max depth 3, but got 9' out || differs "the answer to $filter" out
 }
 
 # misses_nothing_more: that the clone without trees or blobs lacks exactly what Git's own lacks.
