@@ -298,7 +298,7 @@ case_upload_pack_escapes_messages() {
         printf 0000
     } > body
     run "$uploading" --stateless-rpc served < body
-    expect_status 128
+    [ "$status" != 0 ] || differs 'a filter that means nothing'
     grep -q FORGED err || differs 'no message' err
     ! grep -q -v '^upload-pack: ' err || differs 'a line of the client' err
     ! LC_ALL=C grep -q $'[\x80-\xff\x1b]' err || differs 'a control byte' err
