@@ -153,7 +153,7 @@ case_a_daemon_in_c_serves_a_folder() {
     end_daemon
 }
 
-# Whoever starts it may have ignored the signal by which the end of a process is reported: each client's place is free again all the same.
+# Its parent may ignore the signal that reports the end of a process: the place of each client gets free all the same.
 case_a_daemon_in_c_frees_places_whatever_it_inherits() {
     local count
     write_folders
