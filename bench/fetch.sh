@@ -40,11 +40,10 @@ fetch() {
 
 measure_fetch() {
     local start answer packets peak i time
-    c_fetch_time=0 our_fetch_time=0 c_fetch_whole=0 our_fetch_whole=0 their_fetch_whole=0 cat_time=0 fetch_peak=0
+    c_fetch_whole=0 our_fetch_whole=0 their_fetch_whole=0 cat_time=0 fetch_peak=0
     make_pack
     for ((i = 0; i < runs; i++)); do
         fetch "$out/bands" "$pack"
-        keep_least c_fetch_time "$answer"
         keep_least c_fetch_whole $((start + answer))
         fetch "${their_fetch[@]}"
         keep_least their_fetch_whole $((start + answer))
@@ -52,17 +51,16 @@ measure_fetch() {
         keep_least cat_time "$time"
         [ -z "$c_only" ] || continue
         fetch "${our_fetch[@]}"
-        keep_least our_fetch_time "$answer"
         keep_least our_fetch_whole $((start + answer))
         if [ "$peak" -gt "$fetch_peak" ]; then fetch_peak=$peak; fi
     done
-    row 'fetch, a pack of 1 GB' "$(wc -c < "$pack")" "$c_fetch_time" "$our_fetch_time"
+    row 'fetch, a pack of 1 GB' "$(wc -c < "$pack")" "$c_fetch_whole" "$our_fetch_whole"
 }
 
 # Prints what the row does not.
 tell_fetch() {
     awk -v c="$c_fetch_whole" -v ours="$our_fetch_whole" -v theirs="$their_fetch_whole" -v cat="$cat_time" 'BEGIN {
-        printf "From the start to the last byte of the pack: git2show serve %.3f s, bands.c %.3f s, ", ours / 1e6, c / 1e6
+        printf "From the start to the last byte of that pack: git2show serve %.3f s, bands.c %.3f s, ", ours / 1e6, c / 1e6
         printf "git upload-pack %.3f s (ratio %.2f), cat %.3f s (ratio %.2f).\n", theirs / 1e6, theirs / ours, cat / 1e6, cat / ours
     }'
     echo "Peak resident set of git2show serve with that pack: $fetch_peak KiB; the pack and $most_beside_pack KiB are" \
