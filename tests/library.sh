@@ -122,7 +122,7 @@ calls_of_the_header() {
 
 # calls_for_c: the names of the calls that only c/gitwire.c makes: `_clear` of each kind of handle, and what it declares itself.
 calls_for_c() {
-    sed -n -e 's/^FREES(\(gitwire_[a-z_]*\))$/\1_clear/p' -e 's/^[a-z_]* \(gitwire_[a-z_]*_\(init\|init_filtered\|words\|text\)\)(.*/\1/p' "$top/c/gitwire.c"
+    sed -n -e 's/^FREES(\(gitwire_[a-z_]*\))$/\1_clear/p' -e 's/^[a-z_]* \(gitwire_[a-z_]*_\(init\|init_filtered\|clear\|words\|text\)\)(.*/\1/p' "$top/c/gitwire.c"
 }
 
 case_library_has_the_calls_of_its_header() {
@@ -334,7 +334,7 @@ case_library_arrays_have_what_single_calls_give() {
 }
 
 # The thread sanitizer sees what a program and c/gitwire.c touch, and the order of locks and of memory's calls; of the library's own code it sees nothing.
-case_library_serves_in_two_threads() {
+case_library_serves_in_several_threads() {
     local flags
     run library_threads-watched
     expect 0 /dev/null /dev/null
