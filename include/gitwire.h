@@ -13,6 +13,7 @@
  *     gitwire/server.h     a repository in memory, and a server over it
  *     gitwire/host.h       a server over a store of the host's own
  *     gitwire/client.h     a client
+ *     gitwire/greeting.h   the first packet of a connection to `git daemon`
  *     gitwire/writer.h     packets that a host writes itself
  *
  * The library is sans-I/O: it reads and writes no stream, starts no thread and keeps nothing but what its handles have. A
@@ -86,6 +87,7 @@
 
 #include "gitwire/base.h"
 #include "gitwire/client.h"
+#include "gitwire/greeting.h"
 #include "gitwire/host.h"
 #include "gitwire/packets.h"
 #include "gitwire/requests.h"

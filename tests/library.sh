@@ -321,6 +321,8 @@ case_examples_of_the_manual_pages_compile() {
     done
     run of-gitwire
     expect 0 <(echo refs/heads/main) /dev/null
+    run of-gitwire_greeting
+    expect 0 <(echo '/project.git by version 2') /dev/null
     run of-gitwire_packets
     expect 0 <(echo hello) /dev/null
     run of-gitwire_repository
