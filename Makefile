@@ -51,12 +51,12 @@ install: $(PROGRAM) $(LIBRARY)
 		echo "make install: takes $$it as it was built$${newer:+, though $$newer is newer}"; \
 	done
 	@install -D -m 755 "$(PROGRAM)" "$(to)/bin/git2show"
-	@install -D -m 644 docs/git2show.1 "$(to)/share/man/man1/git2show.1"
-	@install -D -m 644 docs/git2show.5 "$(to)/share/man/man5/git2show.5"
+	@install -D -m 644 -t "$(to)/share/man/man1" man/git2show.1
+	@install -D -m 644 -t "$(to)/share/man/man3" $(wildcard man/*.3)
+	@install -D -m 644 -t "$(to)/share/man/man5" man/git2show.5
 	@install -D -m 644 completions/git2show.bash "$(to)/share/bash-completion/completions/git2show"
 	@install -D -m 644 -t "$(to)/share/zsh/site-functions" completions/_git2show
 	@install -D -m 644 -t "$(to)/share/fish/vendor_completions.d" completions/git2show.fish
-	@install -D -m 644 docs/gitwire.3 "$(to)/share/man/man3/gitwire.3"
 	@install -D -m 644 include/gitwire.h "$(to)/include/gitwire.h"
 	@install -D -m 644 -t "$(to)/include/gitwire" include/gitwire/*.h
 	@install -D -m 644 -t "$(to)/share/doc/gitwire" docs/PROTOCOL.md docs/PROMISES.md docs/STEPS.md

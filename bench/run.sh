@@ -8,6 +8,8 @@
 # `bench/run.sh --c-only` measures the C programs and Git alone; without a git the rows `serve`, `prefixes`, `check`, `fetch` and
 # `clone` are left out. The streams lie in a new folder of /tmp (or of $BENCH_FOLDER), which is removed at the end, and take 5 GB. Times are
 # wall-clock seconds, the best of five runs that alternate; a ratio is C's time by ours, so 1.00 is as fast as C and more is faster.
+# ROWS, if set, is an extended regular expression: of the rows over the streams only those whose names it matches are measured, and no others, as
+# `ROWS='calls of C' make bench`.
 set -eu -o pipefail
 shopt -s inherit_errexit
 export LC_ALL=C
@@ -98,6 +100,7 @@ row() {
 measure() {
     local name=$1 input=$streams/$2 c=$3 ours=$4 best_c=0 best_ours=0 time i
     shift 4
+    [[ $name =~ ${ROWS:-} ]] || return 0
     for ((i = 0; i < runs; i++)); do
         time=$(microseconds "$input" "$c")
         keep_least best_c "$time"
@@ -183,13 +186,16 @@ measure 'client, 50 bytes, 200 MB' small_pack "$out/client" "$our_machines" clie
 if [ -z "$c_only" ]; then
     measure 'client by calls of C, 65,515 bytes' large_pack "$out/client" "$out/client_calls"
     measure 'client by calls of C, 50 bytes' small_pack "$out/client" "$out/client_calls"
-    measure_hosts
+    [ -n "${ROWS:-}" ] || measure_hosts
 fi
 measure 'show, 65,515 text, 1 GB' large "$out/show" "$our_show" show
 measure 'show, 50 text, 200 MB' small "$out/show" "$our_show" show
 measure 'show, 65,515 binary, 250 MB' binary "$out/show" "$our_show" show
 head -c 100000000 /dev/zero > "$streams/names" # its size alone counts: about the bytes of the names read and written
 measure 'names, 1,000,000 of each kind' names "$out/names" "$our_machines" names
+if [ -n "${ROWS:-}" ]; then
+    exit
+fi
 [ -z "$has_git" ] || measure_serve
 [ -z "$has_git" ] || measure_prefixes
 [ -z "$has_git" ] || measure_check

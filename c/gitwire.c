@@ -1,10 +1,11 @@
 /*
- * The part of the library that is written in C, since Rattle exports nothing of the kind: memory, also for handles, texts that last, and where
- * the parts of an event and a payload are. Nothing here is proved. It is linked with libgitwire.a, whose calls `_init`, `_clear`, `_words` and
+ * The part of the library that is written in C, since Rattle exports nothing of the kind: memory, also for handles, the lock of a repository's,
+ * texts that last, and where the parts of an event and a payload are. Nothing here is proved. It is linked with libgitwire.a, whose calls `_init`, `_clear`, `_words` and
  * `_text` below are not in the header.
  */
 #include <gitwire.h>
 
+#include <pthread.h>
 #include <stdlib.h>
 #include <string.h>
 
@@ -86,6 +87,15 @@ struct handle {
 };
 GITWIRE_STATIC_ASSERT(sizeof(struct handle) == 2 * sizeof(void *) && offsetof(struct handle, is_made) == sizeof(void *), "a handle");
 
+/*
+ * A repository's handle, and a lock, which a call has while it takes a share of the repository for a server: so threads need none of their own. The
+ * shares are counted by the library, atomically: a server is freed without the lock.
+ */
+struct gitwire_repository {
+	struct handle handle;
+	pthread_mutex_t lock;
+};
+
 /* Gets memory for a handle with nothing in it, or NULL. */
 static void *new_handle(void)
 {
@@ -132,7 +142,6 @@ static void drop_handle(void *made)
 FREES(gitwire_packet_reader)
 FREES(gitwire_request_reader)
 FREES(gitwire_request)
-FREES(gitwire_repository)
 FREES(gitwire_server)
 FREES(gitwire_host)
 FREES(gitwire_client)
@@ -161,10 +170,23 @@ gitwire_result gitwire_request_empty(gitwire_request **request)
 	MAKE(request, GITWIRE_DONE);
 }
 
-gitwire_result gitwire_server_init(gitwire_server *server, gitwire_repository *repository, uint32_t limit, bool advertise);
-gitwire_result gitwire_server_new(gitwire_server **server, gitwire_repository *repository, uint32_t limit, bool advertise)
+gitwire_result gitwire_server_init(gitwire_server *server, struct handle *repository, uint32_t limit, bool advertise);
+
+/* Gives a server a share of the repository. The handle, whose memory is never constant, is the same afterwards. */
+static gitwire_result init_server(gitwire_server *server, const gitwire_repository *repository, uint32_t limit, bool advertise)
 {
-	MAKE(server, gitwire_server_init(made, repository, limit, advertise));
+	gitwire_repository *shared = (gitwire_repository *)repository;
+	gitwire_result result;
+
+	pthread_mutex_lock(&shared->lock);
+	result = gitwire_server_init(server, &shared->handle, limit, advertise);
+	pthread_mutex_unlock(&shared->lock);
+	return result;
+}
+
+gitwire_result gitwire_server_new(gitwire_server **server, const gitwire_repository *repository, uint32_t limit, bool advertise)
+{
+	MAKE(server, init_server(made, repository, limit, advertise));
 }
 
 gitwire_result gitwire_host_init(gitwire_host *host, gitwire_format format, uint32_t features, uint32_t limit, bool advertise);
@@ -185,11 +207,25 @@ gitwire_result gitwire_writer_new(gitwire_writer **writer)
 	MAKE(writer, gitwire_writer_init(made));
 }
 
-/* Keeps a repository's handle if it was made, and otherwise frees its memory. */
-static gitwire_answer kept(gitwire_repository **repository, void *made, gitwire_answer answer)
+/* Memory for a repository's handle with nothing in it, and its lock; NULL if there is no memory. */
+static gitwire_repository *new_repository(void)
+{
+	gitwire_repository *made = memory.allocate(memory.user, sizeof *made);
+
+	if (made == NULL)
+		return NULL;
+	made->handle = (struct handle){ NULL, false };
+	if (pthread_mutex_init(&made->lock, NULL) == 0)
+		return made;
+	drop_handle(made);
+	return NULL;
+}
+
+/* Keeps a repository's handle if it was made, and otherwise frees it. */
+static gitwire_answer kept(gitwire_repository **repository, gitwire_repository *made, gitwire_answer answer)
 {
 	if (answer.kind != GITWIRE_DONE) {
-		drop_handle(made);
+		gitwire_repository_free(made);
 		made = NULL;
 	}
 	*repository = made;
@@ -198,25 +234,34 @@ static gitwire_answer kept(gitwire_repository **repository, void *made, gitwire_
 
 static const gitwire_answer no_memory = { .kind = GITWIRE_OUT_OF_MEMORY };
 
-gitwire_answer gitwire_repository_init(gitwire_repository *repository, const char *text, size_t text_length, const uint8_t *pack,
-	size_t pack_length);
+gitwire_answer gitwire_repository_init(struct handle *repository, const char *text, size_t text_length, const uint8_t *pack, size_t pack_length);
 gitwire_answer gitwire_repository_new(gitwire_repository **repository, const char *text, size_t text_length, const uint8_t *pack,
 	size_t pack_length)
 {
-	void *made = new_handle();
+	gitwire_repository *made = new_repository();
 
-	return kept(repository, made, made == NULL ? no_memory : gitwire_repository_init(made, text, text_length, pack, pack_length));
+	return kept(repository, made, made == NULL ? no_memory : gitwire_repository_init(&made->handle, text, text_length, pack, pack_length));
 }
 
-gitwire_answer gitwire_repository_init_filtered(gitwire_repository *repository, const char *text, size_t text_length, const uint8_t *pack,
+gitwire_answer gitwire_repository_init_filtered(struct handle *repository, const char *text, size_t text_length, const uint8_t *pack,
 	size_t pack_length, const uint8_t *filtered, size_t filtered_length);
 gitwire_answer gitwire_repository_new_filtered(gitwire_repository **repository, const char *text, size_t text_length, const uint8_t *pack,
 	size_t pack_length, const uint8_t *filtered, size_t filtered_length)
 {
-	void *made = new_handle();
+	gitwire_repository *made = new_repository();
 
-	return kept(repository, made, made == NULL ? no_memory : gitwire_repository_init_filtered(made, text, text_length, pack,
+	return kept(repository, made, made == NULL ? no_memory : gitwire_repository_init_filtered(&made->handle, text, text_length, pack,
 		pack_length, filtered, filtered_length));
+}
+
+void gitwire_repository_clear(struct handle *repository);
+void gitwire_repository_free(gitwire_repository *repository)
+{
+	if (repository == NULL)
+		return;
+	gitwire_repository_clear(&repository->handle);
+	pthread_mutex_destroy(&repository->lock);
+	drop_handle(repository);
 }
 
 const uint8_t *gitwire_payload(const gitwire_answer *packet, const uint8_t *chunk, const uint8_t *buffer)

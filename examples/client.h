@@ -17,10 +17,9 @@
 #include <sys/prctl.h>
 #include <sys/socket.h>
 #include <sys/wait.h>
+#include <string.h>
 #include <time.h>
 #include <unistd.h>
-
-#include "greeting.h"
 
 /* The maximum number of clients at a time. */
 #ifndef MOST_CLIENTS
@@ -61,6 +60,7 @@ struct client {
 };
 
 static gitwire_repository *repository; /* one for all */
+static char served_path[4096];         /* what clients call it */
 static const char *folder;             /* or a folder of Git, and how many seconds `upload-pack` is to wait for a client */
 static char timeout[40];
 static gitwire_writer *writer; /* of error packets */
@@ -169,6 +169,19 @@ static void see_off(struct client *c)
 	c->phase = NOBODY;
 }
 
+/* Why a first packet of this payload is not served, or NULL. */
+static const char *why_not(const uint8_t *payload, size_t length)
+{
+	gitwire_greeting greeting = gitwire_greeting_read(payload, length);
+
+	if (greeting.kind != GITWIRE_DONE)
+		return "the first packet is no greeting as in gitprotocol-pack(5)";
+	if (greeting.service != GITWIRE_UPLOAD_PACK || greeting.path_length != strlen(served_path)
+		|| memcmp(payload + greeting.path, served_path, greeting.path_length) != 0)
+		return "nothing but the fetch side of one repository is served here";
+	return greeting.wants_version_2 ? NULL : "nothing but version 2 of the protocol is served here";
+}
+
 /* Reads on to the end of the first packet, whose payload goes to where the answer will be. The bytes after it stay in the connection. */
 static void greet(struct client *c)
 {
@@ -188,7 +201,7 @@ static void greet(struct client *c)
 		c->phase = ENDING;
 	} else if (answer.kind == GITWIRE_FAILED) {
 		refuse(c, text_of(answer));
-	} else if ((why = why_not((const char *)c->out, answer.length)) != NULL) {
+	} else if ((why = why_not(c->out, answer.length)) != NULL) {
 		refuse(c, why);
 	} else if (folder != NULL) {
 		hand_over(c);

@@ -194,7 +194,7 @@ int main(int count, char **words)
 		return 2;
 	}
 	patience = number_of(words[3], 1, 86400);
-	if (snprintf(asked_for, sizeof asked_for, "git-upload-pack /%s", words[4]) >= (int)sizeof asked_for)
+	if (snprintf(served_path, sizeof served_path, "/%s", words[4]) >= (int)sizeof served_path)
 		stop("the name is too long");
 	signal(SIGINT, end);
 	signal(SIGCHLD, SIG_DFL); /* whoever started this may have ignored it, and then no end of a process could be waited for */

@@ -13,6 +13,7 @@
  *     gitwire/server.h     a repository in memory, and a server over it
  *     gitwire/host.h       a server over a store of the host's own
  *     gitwire/client.h     a client
+ *     gitwire/greeting.h   the first packet of a connection to `git daemon`
  *     gitwire/writer.h     packets that a host writes itself
  *
  * The library is sans-I/O: it reads and writes no stream, starts no thread and keeps nothing but what its handles have. A
@@ -57,10 +58,9 @@
  *   - A handle is what a call `_new`, or gitwire_request_empty, has set. Free each handle once, when it is no longer needed;
  *     after that no call gets it.
  *   - No pointer to a handle, to a handle's place, to an event or to a packet of an array is NULL, except in the calls `_free`.
- *   - One thread at a time uses a handle. Each call writes to each of its handles, even a call that only asks: so two
- *     threads that make servers of one repository's handle need a lock. A handle may go from one thread to another by a
- *     lock, a thread's start or end, or an atomic of sequentially consistent order. Servers of one repository may be used at
- *     the same time, and while its handle is used or freed.
+ *   - One thread at a time uses a handle, even for a call that only asks, since each call writes to its handles; but threads share
+ *     a repository's handle without a lock, until one of them frees it, and servers of one repository may be used at the same time.
+ *     A handle may go from one thread to another by a lock, a thread's start or end, or an atomic of sequentially consistent order.
  *   - Each text, buffer and array has its whole length at its pointer, and no pointer is NULL if the length is above 0. No
  *     buffer or array overlaps a text, another buffer or array, or a handle, and no two handles of a call are the same. Nobody
  *     else writes to a text or touches a buffer or an array while the call runs.
@@ -87,6 +87,7 @@
 
 #include "gitwire/base.h"
 #include "gitwire/client.h"
+#include "gitwire/greeting.h"
 #include "gitwire/host.h"
 #include "gitwire/packets.h"
 #include "gitwire/requests.h"

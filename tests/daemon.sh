@@ -264,14 +264,16 @@ case_a_daemon_in_c_refuses_what_it_does_not_serve() {
     local payload
     start_daemon history-sha1
     refuses 'nothing but the fetch side of one repository is served here' "$(greeting there version=2)"
-    refuses 'nothing but the fetch side of one repository is served here' 0000
     refuses 'nothing but the fetch side of one repository is served here' '001bgit-receive-pack /here\0'
     refuses 'nothing but version 2 of the protocol is served here' "$(greeting here version=1)"
-    refuses 'nothing but version 2 of the protocol is served here' '0019git-upload-pack /here'
-    for payload in '/here\0' '/here\0\0' '/here\0host=a\0' '/here\0host=a\0\0' '/here\0\0version=2' '/here\0\0version=2\0rest' \
-        '/here\0junk\0\0version=2\0' '/here\0a\0b\0\0version=2\0' '/here\0host=a\0b\0\0version=2\0' '/here\0\0a\0\0version=2\0' \
-        '/here\0version=2\0' '/here\0\0version=20\0'; do
+    for payload in '/here\0' '/here\0host=a\0' '/here\0\0version=20\0'; do
         refuses 'nothing but version 2 of the protocol is served here' "$(first_packet "git-upload-pack $payload")"
+    done
+    refuses 'the first packet is no greeting as in gitprotocol-pack(5)' 0000
+    refuses 'the first packet is no greeting as in gitprotocol-pack(5)' '0019git-upload-pack /here'
+    for payload in '/here\0\0' '/here\0host=a\0\0' '/here\0\0version=2' '/here\0\0version=2\0rest' '/here\0junk\0\0version=2\0' \
+        '/here\0a\0b\0\0version=2\0' '/here\0host=a\0b\0\0version=2\0' '/here\0\0a\0\0version=2\0' '/here\0version=2\0'; do
+        refuses 'the first packet is no greeting as in gitprotocol-pack(5)' "$(first_packet "git-upload-pack $payload")"
     done
     for payload in '/here\0\0version=2\0' '/here\0\0a\0version=2\0b=c\0' '/here\0host=\0\0version=2\0'; do
         says "$(first_packet "git-upload-pack $payload")" 0000

@@ -60,7 +60,7 @@ under_valgrind() {
 case_library_is_installed_whole() {
     local file line
     for file in bin/git2show lib/libgitwire.a lib/libgitwire.so lib/pkgconfig/gitwire.pc share/man/man1/git2show.1 \
-        share/man/man5/git2show.5 share/man/man3/gitwire.3 share/bash-completion/completions/git2show share/zsh/site-functions/_git2show \
+        share/man/man5/git2show.5 $(cd "$top/man" && printf 'share/man/man3/%s ' *.3) share/bash-completion/completions/git2show share/zsh/site-functions/_git2show \
         share/fish/vendor_completions.d/git2show.fish share/doc/gitwire/{PROTOCOL,PROMISES,STEPS}.md share/doc/gitwire/repository-text.sh \
         $(cd "$top" && printf 'share/doc/gitwire/%s ' examples/* && find include -name '*.h'); do
         [ -s "$installed/$file" ] || differs "no $file"
@@ -98,7 +98,7 @@ case_library_is_installed_below_another_folder() {
 case_library_that_is_not_built_is_told() {
     local told='is not there: it is proved with all that it stands on, and built, which can take half an hour and more'
     mkdir -p unbuilt/crates/{git_names,git_pkt,git2show,gitwire}/src
-    cp -r "$top"/{Makefile,crates.txt,gitwire.map,gitwire.pc.in,c,completions,docs,include,sample,examples} unbuilt
+    cp -r "$top"/{Makefile,crates.txt,gitwire.map,gitwire.pc.in,c,completions,docs,include,man,sample,examples} unbuilt
     printf '%s\n' '#!/bin/sh' 'case $1 in' "doc) exec ${RT:-rt} doc ;;" "lib) it=libgitwire.a from=$library ;;" \
         "run) it=git2show from=$program ;;" esac 'mkdir -p out && cp "$from" "out/$it"' > bin/no-rt
     chmod +x bin/no-rt
@@ -122,7 +122,7 @@ calls_of_the_header() {
 
 # calls_for_c: the names of the calls that only c/gitwire.c makes: `_clear` of each kind of handle, and what it declares itself.
 calls_for_c() {
-    sed -n -e 's/^FREES(\(gitwire_[a-z_]*\))$/\1_clear/p' -e 's/^[a-z_]* \(gitwire_[a-z_]*_\(init\|init_filtered\|words\|text\)\)(.*/\1/p' "$top/c/gitwire.c"
+    sed -n -e 's/^FREES(\(gitwire_[a-z_]*\))$/\1_clear/p' -e 's/^[a-z_]* \(gitwire_[a-z_]*_\(init\|init_filtered\|clear\|words\|text\)\)(.*/\1/p' "$top/c/gitwire.c"
 }
 
 case_library_has_the_calls_of_its_header() {
@@ -298,10 +298,37 @@ is_well_written() {
     expect_same "what man reports on $1" /dev/null err
 }
 
-case_manual_page_has_each_call() {
-    expect_same 'the calls of the manual page' <(calls_of_the_header) \
-        <(sed -n 's/^\.BR \(gitwire_[a-z_]*\) ().*/\1/p' "$installed/share/man/man3/gitwire.3" | sort)
-    is_well_written man3/gitwire.3
+# Each call is in one page of section 3, with the prototype of the installed header.
+case_manual_pages_have_each_call() {
+    local page
+    run "$top/tests/manual_pages.py" "$installed/include/gitwire" "$installed/share/man/man3"
+    expect 0 /dev/null /dev/null
+    for page in "$installed"/share/man/man3/gitwire*.3; do
+        is_well_written "man3/${page##*/}"
+    done
+}
+
+# The examples of these pages compile; those that are whole programs run, and print what the library has them print.
+case_examples_of_the_manual_pages_compile() {
+    local name flags
+    read -r -a flags <<< "$(of_library --cflags) $(of_library --variable=archive)"
+    mkdir -p of_pages
+    "$top/tests/manual_pages.py" --examples "$installed/share/man/man3" of_pages
+    for name in $(cd of_pages && printf '%s\n' *.c | sed 's/\.c$//'); do
+        run gcc -std=c11 -pedantic -Wall -Wextra -Werror -c -o "of_pages/$name.o" "of_pages/$name.c" "-I$installed/include"
+        expect 0 /dev/null /dev/null
+        ! grep -q '^int main' "of_pages/$name.c" || gcc -fsanitize=address,undefined -o "bin/of-$name" "of_pages/$name.c" "${flags[@]}"
+    done
+    run of-gitwire
+    expect 0 <(echo refs/heads/main) /dev/null
+    run of-gitwire_greeting
+    expect 0 <(echo '/project.git by version 2') /dev/null
+    run of-gitwire_packets
+    expect 0 <(echo hello) /dev/null
+    run of-gitwire_repository
+    expect 0 <(echo 'line 2 of the text is refused') /dev/null
+    run of-gitwire_writer
+    expect 0 <(packet 'ERR this server is closed until Monday') /dev/null
 }
 
 case_library_calls_tell_what_the_header_says() {
@@ -334,7 +361,7 @@ case_library_arrays_have_what_single_calls_give() {
 }
 
 # The thread sanitizer sees what a program and c/gitwire.c touch, and the order of locks and of memory's calls; of the library's own code it sees nothing.
-case_library_serves_in_two_threads() {
+case_library_serves_in_several_threads() {
     local flags
     run library_threads-watched
     expect 0 /dev/null /dev/null

@@ -1,7 +1,7 @@
 /*
- * Servers of one repository in two threads at once, each with a client that lists it: a handle of each kind is used in one thread alone, except for the
- * repository's, with a lock around each server that is made of it. It is built with the thread sanitizer too. The status is 1 if a client receives
- * anything else than the references, or a server fails.
+ * Servers of one repository in several threads at once, each with a client that lists it: first in two, then in four. Every handle is made, used and
+ * freed in one thread alone, except for the repository's, which all of them share without a lock. It is built with the thread sanitizer too. The
+ * status is 1 if a client receives anything else than the references, or a server fails.
  */
 #include <gitwire.h>
 
@@ -11,9 +11,9 @@
 
 #define ONE "1111111111111111111111111111111111111111"
 #define ROUNDS 50
+#define MOST_THREADS 4
 
 static const char text[] = "format sha1\n" "ref " ONE " HEAD symref-target:refs/heads/main\n" "ref " ONE " refs/heads/main\n";
-static pthread_mutex_t lock = PTHREAD_MUTEX_INITIALIZER;
 static gitwire_repository *repository;
 
 /* What one thread has. */
@@ -27,12 +27,8 @@ struct side {
 
 static bool begin(struct side *side)
 {
-	gitwire_result made;
-
-	pthread_mutex_lock(&lock);
-	made = gitwire_server_new(&side->server, repository, 1000, true);
-	pthread_mutex_unlock(&lock);
-	return gitwire_client_new(&side->client, GITWIRE_SHA1, GITWIRE_ENDS_BY_FLUSH) == GITWIRE_DONE && made == GITWIRE_DONE;
+	return gitwire_server_new(&side->server, repository, 1000, true) == GITWIRE_DONE
+		&& gitwire_client_new(&side->client, GITWIRE_SHA1, GITWIRE_ENDS_BY_FLUSH) == GITWIRE_DONE;
 }
 
 /* Gives the client a packet of the server, and counts the references in it. */
@@ -74,38 +70,59 @@ static void list(struct side *side, gitwire_request *request)
 	}
 }
 
+/* Lists once over a server of its own. */
+static void serve_once(struct side *side)
+{
+	gitwire_request *request = NULL;
+
+	side->server = NULL;
+	side->client = NULL;
+	side->failed = !begin(side) || gitwire_request_new(&request, GITWIRE_LS_REFS, GITWIRE_SHA1, 100) != GITWIRE_DONE;
+	list(side, request);
+	gitwire_request_free(request);
+	gitwire_client_free(side->client);
+	gitwire_server_free(side->server);
+}
+
+/* Lists often. A further server is left to the thread that frees the repository's handle. */
 static void *list_often(void *of_side)
 {
 	struct side *side = of_side;
 
-	for (int i = 0; i < ROUNDS && !side->failed; i++) {
-		gitwire_request *request = NULL;
-
-		side->failed = !begin(side) || gitwire_request_new(&request, GITWIRE_LS_REFS, GITWIRE_SHA1, 100) != GITWIRE_DONE;
-		list(side, request);
-		gitwire_request_free(request);
-		gitwire_client_free(side->client);
-		gitwire_server_free(side->server);
-	}
+	for (int i = 0; i < ROUNDS && !side->failed; i++)
+		serve_once(side);
+	side->failed |= gitwire_server_new(&side->server, repository, 1000, true) != GITWIRE_DONE;
 	return NULL;
+}
+
+/* Serves one repository in so many threads, and frees its handle before the last servers. False if a client received anything else. */
+static bool serve_in(int count)
+{
+	static struct side sides[MOST_THREADS];
+	pthread_t threads[MOST_THREADS];
+	bool is_well = true;
+
+	memset(sides, 0, sizeof sides);
+	if (gitwire_repository_new(&repository, text, strlen(text), NULL, 0).kind != GITWIRE_DONE)
+		return false;
+	for (int i = 0; i < count; i++)
+		if (pthread_create(&threads[i], NULL, list_often, &sides[i]) != 0)
+			return false;
+	for (int i = 0; i < count; i++)
+		if (pthread_join(threads[i], NULL) != 0)
+			return false;
+	gitwire_repository_free(repository);
+	for (int i = 0; i < count; i++) {
+		is_well &= !sides[i].failed && sides[i].references == 2 * ROUNDS;
+		if (!is_well)
+			printf("thread %d of %d: %d references\n", i, count, sides[i].references);
+		is_well &= gitwire_server_pull(sides[i].server, sides[i].packet, sizeof sides[i].packet).kind == GITWIRE_PACKET;
+		gitwire_server_free(sides[i].server);
+	}
+	return is_well;
 }
 
 int main(void)
 {
-	static struct side sides[2];
-	pthread_t thread;
-
-	if (gitwire_repository_new(&repository, text, strlen(text), NULL, 0).kind != GITWIRE_DONE
-		|| pthread_create(&thread, NULL, list_often, &sides[1]) != 0)
-		return 1;
-	list_often(&sides[0]);
-	if (pthread_join(thread, NULL) != 0)
-		return 1;
-	gitwire_repository_free(repository);
-	for (int i = 0; i < 2; i++)
-		if (sides[i].failed || sides[i].references != 2 * ROUNDS) {
-			printf("thread %d: %d references\n", i, sides[i].references);
-			return 1;
-		}
-	return 0;
+	return serve_in(2) && serve_in(MOST_THREADS) ? 0 : 1;
 }

@@ -1,5 +1,5 @@
 /*
- * Calls each function of the library that writes a packet or a text, as library_calls.c does with the others.
+ * Calls each function of the library that writes a packet or a text, and the reader of greetings, as library_calls.c does with the others.
  */
 #include "library_calls.h"
 
@@ -187,6 +187,60 @@ static void try_escapes(void)
 	}
 }
 
+/* Whether the payload, of a length that has NULs in it, is a greeting of this service, path and host (NULL for none). */
+static bool greets(const char *payload, size_t length, gitwire_service service, const char *path, const char *host, bool wants_version_2)
+{
+	gitwire_greeting it = gitwire_greeting_read((const uint8_t *)payload, length);
+
+	return it.kind == GITWIRE_DONE && it.fault == 0 && it.service == service && it.path_length == strlen(path)
+		&& memcmp(payload + it.path, path, it.path_length) == 0 && it.has_host == (host != NULL)
+		&& it.host_length == (host == NULL ? 0 : strlen(host)) && (host == NULL ? it.host == 0 : memcmp(payload + it.host, host, it.host_length) == 0)
+		&& it.wants_version_2 == wants_version_2;
+}
+
+static bool greets_nobody(const char *payload, size_t length)
+{
+	gitwire_greeting it = gitwire_greeting_read((const uint8_t *)payload, length);
+
+	return it.kind == GITWIRE_FAILED && it.fault == GITWIRE_FAULT_BAD_LINE && it.path == 0 && it.path_length == 0 && it.host == 0
+		&& it.host_length == 0 && it.service == 0 && !it.has_host && !it.wants_version_2;
+}
+
+#define PARTS(text) (text), sizeof (text) - 1
+
+static void try_greetings(void)
+{
+	static const char whole[] = "003egit-upload-pack /project.git\0host=myserver.com\0\0version=2\0";
+	static const char hostless[] = "0022git-upload-pack /a\0\0version=2\0";
+	static char path[GITWIRE_PAYLOAD_SIZE - 27];
+	gitwire_answer answer = gitwire_greeting_write(TEXT("/project.git"), TEXT("myserver.com"), BUFFER);
+
+	EXPECT(tells(answer, GITWIRE_DONE, 0, 0, sizeof whole - 1) && memcmp(buffer, whole, sizeof whole - 1) == 0 && buffer[sizeof whole - 1] == '#');
+	EXPECT(greets((char *)buffer + 4, answer.length - 4, GITWIRE_UPLOAD_PACK, "/project.git", "myserver.com", true));
+	memset(buffer, '#', sizeof buffer);
+	EXPECT(tells(gitwire_greeting_write(TEXT("/project.git"), TEXT("myserver.com"), buffer, sizeof whole - 2), GITWIRE_BUFFER_TOO_SMALL, 0, 0,
+		sizeof whole - 1) && buffer[0] == '#');
+	EXPECT(tells(gitwire_greeting_write(TEXT("/a"), NULL, 0, buffer, sizeof hostless - 1), GITWIRE_DONE, 0, 0, sizeof hostless - 1)
+		&& memcmp(buffer, hostless, sizeof hostless - 1) == 0);
+	EXPECT(tells_fault(gitwire_greeting_write(PARTS("/a\0b"), TEXT("c"), BUFFER), GITWIRE_FAULT_BAD_LINE, 0, 0));
+	EXPECT(tells_fault(gitwire_greeting_write(TEXT("/a"), PARTS("c\0"), BUFFER), GITWIRE_FAULT_BAD_LINE, 0, 0));
+	memset(path, 'a', sizeof path);
+	EXPECT(gitwire_greeting_write(path, sizeof path - 1, NULL, 0, BUFFER).length == GITWIRE_PACKET_SIZE);
+	EXPECT(tells_fault(gitwire_greeting_write(path, sizeof path, NULL, 0, BUFFER), GITWIRE_FAULT_TOO_LONG, 0, 0));
+	EXPECT(tells_fault(gitwire_greeting_write(NULL, 0, path, sizeof path, BUFFER), GITWIRE_FAULT_TOO_LONG, 0, 0));
+	memset(buffer, '#', sizeof buffer);
+
+	EXPECT(greets(PARTS("git-upload-pack /a\0"), GITWIRE_UPLOAD_PACK, "/a", NULL, false));
+	EXPECT(greets(PARTS("git-receive-pack \0host=\0"), GITWIRE_RECEIVE_PACK, "", "", false));
+	EXPECT(greets(PARTS("git-upload-archive /a b\0host=h:1\0\0a\0version=2\0b\0"), GITWIRE_UPLOAD_ARCHIVE, "/a b", "h:1", true));
+	EXPECT(greets(PARTS("git-upload-pack /a\0\0version=20\0version=\0"), GITWIRE_UPLOAD_PACK, "/a", NULL, false));
+	EXPECT(greets_nobody(NULL, 0) && greets_nobody(PARTS("git-upload-pack /a")) && greets_nobody(PARTS("git-upload-pack\0")));
+	EXPECT(greets_nobody(PARTS("git-upload-pack /a\0\0")) && greets_nobody(PARTS("git-upload-pack /a\0host=a\0\0")));
+	EXPECT(greets_nobody(PARTS("git-upload-pack /a\0host=a")) && greets_nobody(PARTS("git-upload-pack /a\0host=a\0b\0")));
+	EXPECT(greets_nobody(PARTS("git-upload-pack /a\0version=2\0")) && greets_nobody(PARTS("git-upload-pack /a\0\0a\0\0version=2\0")));
+	EXPECT(greets_nobody(PARTS("git-upload-pack /a\0\0version=2")) && greets_nobody(PARTS("Git-upload-pack /a\0")));
+}
+
 static void *try_all(void *nothing)
 {
 	memset(buffer, '#', sizeof buffer);
@@ -199,6 +253,7 @@ static void *try_all(void *nothing)
 	try_texts_of_faults();
 	try_names_of_kinds();
 	try_escapes();
+	try_greetings();
 	gitwire_writer_free(writer);
 	gitwire_writer_free(NULL);
 	return nothing;

@@ -31,7 +31,7 @@ case_each_wrong_body_and_test_that_a_page_names_is_there() {
 # A name is a word in backticks, as of a function, a clause, a law, a definition or a file of specs/.
 case_each_name_that_the_promises_and_decisions_cite_is_in_the_sources() {
     (cd "$top" && find crates -name '*.rt' -o -path '*/specs/*.antt') | sed "s|^|$top/|" | tr '\n' '\0' | xargs -0 cat > page_sources
-    cat "$top/include/gitwire.h" "$top"/include/gitwire/*.h "$top/c/gitwire.c" "$top/crates.txt" "$top/Makefile" "$top/docs/git2show.1" >> page_sources
+    cat "$top/include/gitwire.h" "$top"/include/gitwire/*.h "$top/c/gitwire.c" "$top/crates.txt" "$top/Makefile" "$top/man/git2show.1" >> page_sources
     ls "$top" >> page_sources
     grep -o -E '[A-Za-z_][A-Za-z0-9_]*' page_sources | sort -u > page_words
     grep -o -h -E '`[A-Za-z_][A-Za-z0-9_:]*`' "$top/docs/PROMISES.md" "$top/docs/DECISIONS.md" | tr -d '`' | sed 's/.*:://' | sort -u > page_names
@@ -41,7 +41,7 @@ case_each_name_that_the_promises_and_decisions_cite_is_in_the_sources() {
 
 # part_of_the_page SECTION: a section of git2show(5), as it is read.
 part_of_the_page() {
-    sed -n "/^\.SH $1/,/^\.SH/p" "$top/docs/git2show.5" | sed 's/\\-/-/g'
+    sed -n "/^\.SH $1/,/^\.SH/p" "$top/man/git2show.5" | sed 's/\\-/-/g'
 }
 
 # words_of_the_page SECTION: the first words of the lines that a section of git2show(5) describes.

@@ -18,6 +18,10 @@ typedef struct gitwire_server gitwire_server;
  * for fetches with it. No call looks into a pack. docs/PROTOCOL.md has the format of the text, which
  * sample/repository-text.sh writes for a Git repository. A repository never changes, and servers share it: each keeps it for
  * as long as it needs it, even after the handle was freed.
+ *
+ * Threads share the handle: gitwire_server_new may be called for it by several at the same time, without a lock of theirs. It is
+ * freed once, when no thread needs it any more; the servers that were made of it may still be used then, each by one thread at a
+ * time.
  */
 
 /*
@@ -38,7 +42,7 @@ GITWIRE_LOOKED_AT
 gitwire_answer gitwire_repository_new_filtered(gitwire_repository **repository, const char *text, size_t text_length,
 	const uint8_t *pack, size_t pack_length, const uint8_t *filtered, size_t filtered_length);
 
-/* Frees the handle: the servers that share its repository keep that. For NULL it does nothing. */
+/* Frees the handle, which no other thread uses then: the servers that share its repository keep that. For NULL it does nothing. */
 void gitwire_repository_free(gitwire_repository *repository);
 
 /*
@@ -57,10 +61,10 @@ void gitwire_repository_free(gitwire_repository *repository);
 
 /*
  * A server at the beginning of a session, which sends its advertisement first if `advertise` is set. DONE. BAD_VALUE for a limit
- * above GITWIRE_MAXIMUM_LIMIT. OUT_OF_MEMORY. The repository's handle is unchanged.
+ * above GITWIRE_MAXIMUM_LIMIT. OUT_OF_MEMORY. Other threads may do the same with the repository meanwhile.
  */
 GITWIRE_BOTH_LOOKED_AT
-gitwire_result gitwire_server_new(gitwire_server **server, gitwire_repository *repository, uint32_t limit, bool advertise);
+gitwire_result gitwire_server_new(gitwire_server **server, const gitwire_repository *repository, uint32_t limit, bool advertise);
 
 /*
  * Takes bytes of the input: MORE, and `used` is how many: up to the end of a request, a flush instead of one, or an error,

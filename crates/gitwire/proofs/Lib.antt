@@ -3,6 +3,8 @@ pub mod Determined
 pub mod FilledArrays
 pub mod FilledBuffers
 pub mod GivenNames
+pub mod GreetingLaws
+pub mod GreetingParts
 pub mod Handing
 pub mod ListedEvents
 pub mod ListedPackets

@@ -5,6 +5,7 @@ pub mod EscapeAnswers
 pub mod EventAnswers
 pub mod EventLists
 pub mod FaultAnswers
+pub mod Greetings
 pub mod Handles
 pub mod Held
 pub mod HostAnswers

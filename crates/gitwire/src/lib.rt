@@ -10,6 +10,7 @@ mod event;
 mod event_list;
 mod faults;
 mod gatherer;
+mod greetings;
 mod handles;
 mod held;
 mod host;
@@ -38,6 +39,7 @@ mod written;
 
 pub use answer::{GitwireAnswer, What};
 pub use event::GitwireEvent;
+pub use greetings::GitwireGreeting;
 pub use handles::{
     GitwireClient, GitwireHost, GitwirePacketReader, GitwireRepository, GitwireRequest,
     GitwireRequestReader, GitwireServer, GitwireWriter,
