@@ -10,11 +10,15 @@ use crate::{checks, clients, hosts, plays, runs};
 use git_client::Ending;
 use git_msg::Command;
 use git_names::Format;
+use git2show_lib::{Form, Look, View};
 use std::alloc::{AllocError, Global};
 use std::fs;
 
 /// The default limit of a request's arguments.
 const USUAL: u32 = 16_777_216;
+
+/// The default number of columns of a line.
+const COLUMNS: u32 = 80;
 
 /// The files that a case names.
 #[derive(Drop)]
@@ -125,9 +129,10 @@ impl<'a> Words<'a> {
         !self.has("no-features")
     }
 
-    fn start(self) -> Result<u64, Trouble> {
-        match self.after("at") {
-            Some(start) => start
+    // The offset after this word, or 0.
+    fn offset(self, word: &str) -> Result<u64, Trouble> {
+        match self.after(word) {
+            Some(offset) => offset
                 .parse::<u64>()
                 .map_err(|_| Trouble::BadCase("no offset")),
             None => Ok(0),
@@ -211,11 +216,36 @@ fn asking_of(words: Words<'_>) -> Result<Asking, Trouble> {
     })
 }
 
+// What the line of a packet is, by these words.
+fn form_of(words: Words<'_>) -> Result<Form, Trouble> {
+    if words.has("pretty") {
+        return Ok(Form::Columns(Look {
+            colours: false,
+            width: words.number("width")?.unwrap_or(COLUMNS),
+        }));
+    }
+    match words.has("json") {
+        true => Ok(Form::Json),
+        false => Ok(Form::Lines),
+    }
+}
+
+// How packets are shown, by these words.
+fn view_of<'a>(words: Words<'a>) -> Result<View<'a>, Trouble> {
+    Ok(View {
+        form: form_of(words)?,
+        from: words.offset("from")?,
+        no_pack: words.has("no-pack"),
+        only: words.after("only").map(|command| command.as_bytes()),
+    })
+}
+
 // The side that these words name.
-fn end_of<'a>(words: Words<'_>, files: &'a Files) -> Result<End<'a>, Trouble> {
+fn end_of<'a>(words: Words<'a>, files: &'a Files) -> Result<End<'a>, Trouble> {
     let format = words.format();
     match words.text.split_whitespace().next() {
-        Some("packets") => Ok(End::Packets(words.start()?)),
+        Some("packets") => Ok(End::Packets(words.offset("at")?)),
+        Some("view") => Ok(End::View(view_of(words)?)),
         Some("requests") => Ok(End::Requests(format, words.limit()?, words.features())),
         Some("client") => Ok(End::Client(client_of(words, files))),
         Some("check") => Ok(End::Check(check_of(words))),
@@ -226,7 +256,7 @@ fn end_of<'a>(words: Words<'_>, files: &'a Files) -> Result<End<'a>, Trouble> {
 }
 
 // What these words name.
-fn subject_of<'a>(words: Words<'_>, files: &'a Files) -> Result<Subject<'a>, Trouble> {
+fn subject_of<'a>(words: Words<'a>, files: &'a Files) -> Result<Subject<'a>, Trouble> {
     if let Some(table) = table_of(words) {
         return Ok(Subject::Table(table));
     }

@@ -77,9 +77,11 @@ pub fn goes(
     compare(alloc, &run, expected, place)
 }
 
-// How many bytes of the transcript come before the line of the request with this number, from 0.
+// How many bytes of the transcript come before the lines of the request with this number, from 0. A request for another command, which the
+// server advertised and this project does not know, has its capability lines before the line of its command, and a known one after it.
 fn before_request(given: &[u8], number: usize) -> usize {
     let mut before = 0usize;
+    let mut end = 0usize;
     let mut seen = 0usize;
     for line in given.split(|byte| *byte == b'\n') {
         if line.starts_with(b"request ") {
@@ -88,15 +90,19 @@ fn before_request(given: &[u8], number: usize) -> usize {
             }
             seen = seen.saturating_add(1);
         }
-        before = before.saturating_add(line.len()).saturating_add(1);
+        end = end.saturating_add(line.len()).saturating_add(1);
+        if !line.starts_with(b"capability ") {
+            before = end;
+        }
     }
     given.len()
 }
 
-// How many bytes of the responses come before this many bytes of the transcript are written.
+// Where the responses to the requests end that have their lines in this many bytes of the transcript: where the next line is written, since
+// the answer to another command has none of its own.
 fn responses_before(script: &Script, given: usize) -> usize {
     for step in script.steps.as_slice() {
-        if step.given >= given {
+        if step.given > given {
             return step.input;
         }
     }

@@ -4,8 +4,9 @@ use crate::runs::{Expected, compare};
 use crate::script::{Given, Script, append_error};
 use crate::setup::{LAST_POSITION, offer};
 use crate::trouble::Trouble;
-use crate::{checks, clients, host_runs, hosts, packets, requests, sessions};
+use crate::{checks, clients, host_runs, hosts, packets, requests, sessions, views};
 use git_names::Format;
+use git2show_lib::View;
 use std::alloc::{AllocError, Global};
 
 /// A side or a reader, and how it is set up.
@@ -13,6 +14,8 @@ use std::alloc::{AllocError, Global};
 pub enum End<'a> {
     /// The packet reader from this offset on, and `show`.
     Packets(u64),
+    /// `show` with options.
+    View(View<'a>),
     /// A request reader that keeps each argument, within a limit. The features of `fetch` are advertised or not.
     Requests(Format, u32, bool),
     /// A server of a repository's text.
@@ -115,7 +118,7 @@ impl<'a> End<'a> {
     /// Whether its input may end after a whole step, by all output so far and whether the step had output.
     pub fn may_end_after(&self, given: &[u8], is_answered: bool) -> bool {
         match self {
-            End::Packets(_) | End::Requests(..) => true,
+            End::Packets(_) | End::View(_) | End::Requests(..) => true,
             End::Server(_) | End::HostOfRepository(_) | End::Host(_) => is_answered,
             End::Client(_) => false,
             End::Check(_) => is_whole(given),
@@ -163,6 +166,10 @@ impl<'a> End<'a> {
     ) -> Result<(), Trouble> {
         match self {
             End::Packets(start) => packets_go(alloc, *start, script, chunks, expected, place),
+            End::View(view) => {
+                let run = views::viewed(alloc, *view, chunks)?;
+                compare(alloc, &run, expected, place)
+            }
             End::Requests(format, limit, features) => {
                 let offer = offer(*format, *features);
                 let run = requests::arrived(alloc, offer, *limit, chunks)?;

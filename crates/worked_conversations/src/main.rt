@@ -24,6 +24,7 @@ mod setup;
 mod tables;
 mod texts;
 mod trouble;
+mod views;
 mod wordings;
 
 use cases::Count;

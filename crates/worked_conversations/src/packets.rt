@@ -165,6 +165,15 @@ pub fn read(alloc: Global, start: u64, script: &Script, chunks: &[&[u8]]) -> Res
     Ok(Run::new(alloc, lines, ending, Some(used)))
 }
 
+/// How `show` ended.
+pub fn ending_of(alloc: Global, answer: Result<(), RunFault>) -> Result<String, AllocError> {
+    match answer {
+        Ok(()) => String::from_str(alloc, "closed\n"),
+        Err(RunFault::Refused(fault)) => format!(in alloc; "refused {fault}\n"),
+        Err(fault) => format!(in alloc; "{fault}\n"),
+    }
+}
+
 /// Shows the chunks.
 pub fn shown(alloc: Global, chunks: &[&[u8]]) -> Result<Run, Trouble> {
     let mut sink = Sink::new(Vec::new(alloc), usize::MAX, u32::MAX);
@@ -175,10 +184,6 @@ pub fn shown(alloc: Global, chunks: &[&[u8]]) -> Result<Run, Trouble> {
         &mut chunk,
         TURNS,
     );
-    let ending = match answer {
-        Ok(()) => String::from_str(alloc, "closed\n")?,
-        Err(RunFault::Refused(fault)) => format!(in alloc; "refused {fault}\n")?,
-        Err(fault) => format!(in alloc; "{fault}\n")?,
-    };
+    let ending = ending_of(alloc, answer)?;
     Ok(Run::new(alloc, sink.taken, ending, None))
 }
