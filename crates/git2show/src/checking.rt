@@ -48,7 +48,7 @@ pub(crate) fn check_command<'a>(alloc: Global) -> Result<Command<'a>, AllocError
 fn with_columns<'a>(alloc: Global, command: Command<'a>) -> Result<Command<'a>, AllocError> {
     command
         .arg(flag_argument(alloc, "pretty").help(
-            "Instead of the transcript the packets of both files in their order, up to the one that is refused, in the columns of show: > from the client, < from the server",
+            "Lines of columns instead, with the packets of both files up to the one that is refused: > from the client, < from the server",
         ))?
         .arg(width_argument(alloc).requires_arg("pretty")?)?
         .arg(

@@ -235,8 +235,19 @@ pub fn show_packet<W: Write>(
     }
     let mut line = [0; LINE];
     let end = write_pretty(look, in_pack, packet, offset, &mut line);
+    send_marked(writer, mark, &line[..end])
+}
+
+/// Writes a line behind a mark.
+fn send_marked<W: Write>(
+    writer: &mut Recorded<W>,
+    mark: &[u8],
+    line: &[u8],
+) -> Result<(), RunFault>
+    ensures { Sends W.contents writer.old (mark.now ++ line.now) result writer.new }
+{
     send(writer, mark)?;
-    send(writer, &line[..end])
+    send(writer, line)
 }
 
 /// Writes a line with what was counted.
