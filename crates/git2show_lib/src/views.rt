@@ -1,10 +1,11 @@
 //! What is shown of a stream with options, and what is counted.
 
-ghost use Rattle.std.specs.Prelude.{◌≡◌, ◌≤◌, ◌+◌, ◌++◌, None, decimal, length, take};
+ghost use Rattle.std.specs.Prelude.{◌≡◌, ◌≤◌, ◌+◌, ◌++◌, ◌&&◌, None, decimal, length, take};
 ghost use Rattle.git_pkt.specs.Machine.Sends.{Sends};
 ghost use Rattle.git_pkt.specs.Packets.{seen};
-ghost use Rattle.git2show_lib.specs.PacketViews.{begins_request, counted, goes_on, is_asked, is_command, is_flush, leaves_out, marked_line, pack_in};
-ghost use Rattle.git2show_lib.specs.PacketViews.{request_after, request_at, requests_in, stray_after, summary_of};
+ghost use Rattle.git2show_lib.specs.PacketViews.{begins_request, counted, goes_on, is_asked, is_command, is_flush, is_pack, leaves_out, marked_line};
+ghost use Rattle.git2show_lib.specs.PacketViews.{pack_in, request_after, request_at, requests_in, stray_after, summary_of};
+ghost use Rattle.git2show_lib.specs.PrettyLines.{label_of};
 
 use crate::pretty::{LINE, Label, Look, body, write_pretty};
 use git_pkt::{Packet, Recorded, RunFault, put_at, send, text};
@@ -230,7 +231,7 @@ pub fn show_packet<W: Write>(
 {
     let in_pack = tally.in_pack;
     *tally = tally.count(None, packet, offset);
-    if no_pack && Label::of(in_pack, packet) == Label::Pack {
+    if is_left_out(no_pack, in_pack, packet) {
         return Ok(());
     }
     let mut line = [0; LINE];
@@ -238,12 +239,15 @@ pub fn show_packet<W: Write>(
     send_marked(writer, mark, &line[..end])
 }
 
+/// Whether a packet has bytes of a pack, and these are left out.
+fn is_left_out(no_pack: bool, in_pack: bool, packet: Packet<'_>) -> bool
+    ensures { result ≡ (no_pack && is_pack (label_of in_pack (seen packet.entry))) }
+{
+    no_pack && Label::of(in_pack, packet) == Label::Pack
+}
+
 /// Writes a line behind a mark.
-fn send_marked<W: Write>(
-    writer: &mut Recorded<W>,
-    mark: &[u8],
-    line: &[u8],
-) -> Result<(), RunFault>
+fn send_marked<W: Write>(writer: &mut Recorded<W>, mark: &[u8], line: &[u8]) -> Result<(), RunFault>
     ensures { Sends W.contents writer.old (mark.now ++ line.now) result writer.new }
 {
     send(writer, mark)?;
