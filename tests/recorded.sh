@@ -66,7 +66,7 @@ shows_both() {
     expect_same 'the requests' <(head -n -1 requests.columns) <(sed -n 's/^> //p' out)
     expect_same 'the responses' <(head -n -1 responses.columns) <(sed -n 's/^< //p' out)
     expect_same 'the counts' \
-        <(awk '{ bytes += $1; packets += $3; requests += $5; packs += $7 } END { print bytes " bytes, " packets " packets, " requests " requests, " packs " bytes of packs" }' counts) \
+        <(awk '{ $1 += bytes; $3 += packets; $5 += requests; $7 += packs; bytes = $1; packets = $3; requests = $5; packs = $7 } END { print }' counts) \
         <(grep -v '^[<>] ' out)
     # A request comes after the response to the one before it.
     [ "$(sed '/^[<>]/!d; s/^\(.\).*/\1/' out | uniq | wc -l)" -gt 2 ] || differs 'one stream after the other' out

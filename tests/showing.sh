@@ -760,7 +760,7 @@ case_a_damaged_conversation_is_shown_up_to_the_damage() {
     done
 }
 
-# The files are read twice, so a pipe is refused before it is read. A reason is given where it is asked for.
+# The files are read twice, so a pipe is refused before it is read. With --explain the reason is printed.
 case_a_conversation_from_a_pipe_is_not_shown_in_columns() {
     write_conversation
     mkfifo once
