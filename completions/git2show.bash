@@ -23,7 +23,7 @@ _git2show() {
         *)
             case ${COMP_WORDS[1]} in
             show) options='--pretty --json --plain --width --no-pack --from --only --trace --help' ;;
-            check) options='--explain --format --stateless --help' ;;
+            check) options='--explain --pretty --width --no-pack --format --stateless --help' ;;
             serve) options='--repo --pack --filtered --limit --stateless-rpc --http-backend-info-refs --advertise-refs --help' ;;
             fetch) options='--script --pack --transcript --progress --format --stateless --help' ;;
             play) options='--repo --pack --filtered --script --cut --stateless --help' ;;

@@ -24,6 +24,9 @@ for command in check fetch play
     __git2show_option $command -l stateless -d 'Each response ends with a response-end packet'
 end
 __git2show_option check -l explain -d 'Show the packets up to the refused one'
+__git2show_option check -l pretty -d 'The packets of both files in columns'
+__git2show_option check -l width -x -d 'Columns of a line of --pretty'
+__git2show_option check -l no-pack -d 'Leave out bytes of packs'
 __git2show_option check -F
 for command in serve play
     __git2show_option $command -l repo -r -F -d 'Text of the references and objects'

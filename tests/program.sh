@@ -614,6 +614,7 @@ case_a_full_device_is_a_write_fault() {
     expect_device_full --help
     expect_device_full show
     expect_device_full check /dev/null responses
+    expect_device_full check --pretty /dev/null responses
     expect_device_full serve --repo small.repo --pack empty.pack
     expect_device_full serve --repo small.repo --pack empty.pack --http-backend-info-refs
     expect_device_full play --repo small.repo --pack empty.pack --script /dev/null

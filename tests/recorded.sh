@@ -48,7 +48,28 @@ checks() {
     bytes=$(awk '$1 == "end" { bytes += $2 } END { print bytes + 0 }' out)
     [ "$bytes" = "$(wc -c < packs)" ] || differs "$bytes bytes of packs instead of $(wc -c < packs)" out
     cp out transcript
+    shows_both "$@"
     withstands_damage "$@"
+}
+
+# shows_both [OPTION..]: that `check --pretty` shows each packet of both streams as `show --pretty` does, behind its mark, and counts them.
+shows_both() {
+    local stream
+    run git2show check "$@" --pretty requests responses
+    expect_status 0
+    expect_same 'standard error' /dev/null err
+    : > counts
+    for stream in requests responses; do
+        limited git2show show --pretty --width 78 < $stream > $stream.columns
+        tail -n 1 $stream.columns >> counts
+    done
+    expect_same 'the requests' <(head -n -1 requests.columns) <(sed -n 's/^> //p' out)
+    expect_same 'the responses' <(head -n -1 responses.columns) <(sed -n 's/^< //p' out)
+    expect_same 'the counts' \
+        <(awk '{ $1 += bytes; $3 += packets; $5 += requests; $7 += packs; bytes = $1; packets = $3; requests = $5; packs = $7 } END { print }' counts) \
+        <(grep -v '^[<>] ' out)
+    # A request comes after the response to the one before it.
+    [ "$(sed '/^[<>]/!d; s/^\(.\).*/\1/' out | uniq | wc -l)" -gt 2 ] || differs 'one stream after the other' out
 }
 
 # start_of_packet FILE PLACE: the offset of the packet of a stream that has the byte at this place.

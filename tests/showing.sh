@@ -578,3 +578,220 @@ case_check_is_explained_on_a_terminal() {
     run git2show check requests responses
     expect_same 'the error' <(echo 'git2show: requests: BadDigit at 18') err
 }
+
+# write_conversation: one with two requests, sections and bands, and a packet after the flush that ends the requests.
+write_conversation() {
+    {
+        request peel
+        fetch $one
+        printf 0000
+        packet left
+    } > requests
+    {
+        packet 'version 2'
+        packet ls-refs
+        packet fetch
+        printf 0000
+        packet "$one refs/heads/main"
+        printf 0000
+        packet packfile
+        printf '0009\001PACK'
+        printf '000b\002half\r\n0000'
+    } > responses
+}
+
+# Both streams in one, in the order of what was sent. What belongs to no request comes last.
+case_a_conversation_is_shown_in_columns() {
+    write_conversation
+    run git2show check requests responses
+    expect_status 0
+    run git2show check --pretty requests responses
+    cat > wanted << 'END'
+<        0    10  data      version 2
+<       14     8  data      ls-refs
+<       26     6  data      fetch
+<       36        flush
+>        0    16  command   command=ls-refs
+>       20        delim
+>       24     5  data      peel
+>       33        flush
+<       40    57  data      111111111111 refs/heads/main
+<      101        flush
+>       37    14  command   command=fetch
+>       55        delim
+>       59    46  data      want 111111111111
+>      109     5  data      done
+>      118        flush
+<      105     9  section   packfile
+<      118     5  pack      PACK
+<      127     7  progress  half\x0d
+<      138        flush
+>      122        flush
+>      126     5  data      left
+277 bytes, 21 packets, 2 requests, 4 bytes of packs
+END
+    expect 0 wanted /dev/null
+    run git2show check --pretty --explain /dev/stdin responses < requests
+    expect 0 wanted /dev/null
+    run git2show check --pretty --no-pack requests responses
+    expect 0 <(grep -v 'pack  ' wanted) /dev/null
+    run git2show check --pretty --width 40 requests responses
+    expect 0 <(sed -E '$!s/^(.{38}).{3,}/\1../' wanted) /dev/null
+    # What the server sent after the last response: its first packet is refused.
+    { packet more; packet again; } >> responses
+    run git2show check --pretty requests responses
+    expect 1 <(sed '$d' wanted; printf '%s\n' '<      142     5  data      more' '286 bytes, 22 packets, 2 requests, 4 bytes of packs') \
+        <(fault 'responses: UnexpectedPacket at 142')
+    run git2show check --pretty /dev/null <(:)
+    expect 1 /dev/null <(fault File)
+    run git2show check --pretty /dev/null /dev/null
+    expect 1 <(echo '0 bytes, 0 packets, 0 requests, 0 bytes of packs') <(fault 'responses: Truncated at 0')
+}
+
+# Each response goes on to its response-end packet.
+case_a_conversation_without_a_state_is_shown_in_columns() {
+    { request; request; } > requests
+    { packet 'version 2'; packet ls-refs; printf '0000'; printf '00000002'; packet "$one HEAD"; printf '00000002'; } > responses
+    run git2show check --stateless --pretty requests responses
+    expect 0 <(cat << 'END'
+<        0    10  data      version 2
+<       14     8  data      ls-refs
+<       26        flush
+>        0    16  command   command=ls-refs
+>       20        delim
+>       24        flush
+<       30        flush
+<       34        end
+>       28    16  command   command=ls-refs
+>       48        delim
+>       52        flush
+<       38    46  data      111111111111 HEAD
+<       88        flush
+<       92        end
+152 bytes, 14 packets, 2 requests, 0 bytes of packs
+END
+    ) /dev/null
+}
+
+# refused_in_columns FAULT LINE: that the files `requests` and `responses` are refused by this fault, as without columns, that the packet with this
+# line is the last one shown, and that all of it fits a screen.
+refused_in_columns() {
+    run git2show check requests responses
+    expect_status 1
+    expect_same 'what is reported without columns' <(fault "$1") err
+    run git2show check --pretty --explain requests responses
+    expect_status 1
+    expect_same 'what is reported' <(fault "$1") err
+    expect_same 'the last packet' <(echo "$2") <(tail -n 2 out | head -n 1)
+    [ "$(wc -l < out)" -lt 24 ] || differs 'more than a screen' out
+    ! grep -a -q -E '^.{81}|[^ -~]' out || differs 'a line that fits no screen' out
+}
+
+# Requests that are refused at the packet that shows it, and cut off.
+case_a_conversation_with_a_refused_request_is_shown_up_to_it() {
+    write_conversation
+    { request peel; packet command=fetch; packet agent=x; printf 0001; packet nothing; printf 0000; request; } > requests
+    refused_in_columns 'requests: UnknownArgument at 71' '>       71     8  data      nothing'
+    { request peel; packet command=ls-refs; packet session-id=a; printf 0000; } > requests
+    refused_in_columns 'requests: NotAdvertised at 57' '>       57    13  data      session-id=a'
+    { request peel; packet command=bundle-uri; printf 0000; } > requests
+    refused_in_columns 'requests: UnknownCommand at 37' '>       37    19  command   command=bundle-uri'
+    { packet command=ls-refs; packet command=fetch; printf 0000; } > requests
+    refused_in_columns 'requests: TwoCommands at 20' '>       20    14  command   command=fetch'
+    { request peel; packet command=fetch; printf 0001; } > requests
+    refused_in_columns 'requests: Truncated at 59' '>       55        delim'
+    { request peel; printf 00; } > requests
+    refused_in_columns 'requests: Truncated at 37' '<      101        flush'
+    { request peel; packet command=fetch; printf 00g0; } > requests
+    refused_in_columns 'requests: BadDigit at 57' '>       37    14  command   command=fetch'
+    printf 00g0 > requests
+    refused_in_columns 'requests: BadDigit at 2' '<       36        flush'
+}
+
+# Responses that are refused at the packet that shows it, and cut off.
+case_a_conversation_with_a_refused_response_is_shown_up_to_it() {
+    local offered
+    write_conversation
+    head -c 40 responses > advertisement
+    { cat advertisement; packet 'ERR not today'; } > responses
+    refused_in_columns 'responses: RemoteError at 40' '<       40    14  error     ERR not today'
+    { cat advertisement; packet "$one refs/heads/main"; packet nothing; printf 0000; } > responses
+    refused_in_columns 'responses: BadLine at 101' '<      101     8  data      nothing'
+    { cat advertisement; packet "$one refs/heads/main"; printf 0000; packet packfile; printf '0009\001PA'; } > responses
+    refused_in_columns 'responses: Truncated at 118' '<      105     9  section   packfile'
+    { cat advertisement; packet "$one refs/heads/main"; printf 0000; } > responses
+    refused_in_columns 'responses: Truncated at 105' '>      118        flush'
+    head -c 26 advertisement > responses
+    refused_in_columns 'responses: Truncated at 26' '<       14     8  data      ls-refs'
+    { packet 'version 1'; packet ls-refs; printf 0000; } > responses
+    refused_in_columns 'responses: NotVersion2 at 0' '<        0    10  data      version 1'
+    { cat advertisement; printf 'HTTP'; } > responses
+    refused_in_columns 'responses: BadDigit at 40' '>       33        flush'
+    : > requests
+    { cat advertisement; packet nothing; packet nothing; } > responses
+    refused_in_columns 'responses: UnexpectedPacket at 40' '<       40     8  data      nothing'
+}
+
+# A recorded conversation that is damaged is judged as without columns, and up to the damaged packet it is shown as the whole one.
+case_a_damaged_conversation_is_shown_up_to_the_damage() {
+    local stream size number place judged before mark
+    cp "$sessions/clone-requests.pkt" whole-requests
+    cp "$sessions/clone-responses.pkt" whole-responses
+    git2show check --pretty whole-requests whole-responses > whole
+    for stream in requests responses; do
+        git2show show < whole-$stream > whole-$stream.packets
+        size=$(wc -c < whole-$stream)
+        mark='<'
+        [ $stream = responses ] || mark='>'
+        for number in {0..24}; do
+            place=$((size * number / 25))
+            cp whole-requests requests
+            cp whole-responses responses
+            damaged whole-$stream $place > $stream
+            run git2show check requests responses
+            judged=$status
+            cp err reported
+            run git2show check --pretty requests responses
+            expect_status $judged
+            expect_same "what is reported after a damage at $place of the $stream" reported err
+            before=$(sed -n "/^$mark *$(start_of_packet whole-$stream $place) /=" whole)
+            expect_same "what is shown before byte $place of the $stream" <(head -n $((before - 1)) whole) <(head -n $((before - 1)) out)
+        done
+    done
+}
+
+# The files are read twice, so a pipe is refused before it is read. With --explain the reason is printed.
+case_a_conversation_from_a_pipe_is_not_shown_in_columns() {
+    write_conversation
+    mkfifo once
+    cat requests > once &
+    run git2show check --pretty --explain once responses
+    rm once
+    expect 1 /dev/null <(fault File; echo '`once`: Illegal seek (os error 29)')
+    run git2show check --pretty /dev/stdin responses < <(cat requests)
+    expect 1 /dev/null <(fault File)
+    expect_refused check --width 60 requests responses
+    expect_refused check --no-pack requests responses
+    expect_refused check --pretty --width 39 requests responses
+}
+
+# A terminal gets colours, if NO_COLOR does not forbid these, and no packet twice. Without the option it gets the transcript.
+case_a_conversation_in_columns_has_colours_on_a_terminal() {
+    command -v script > /dev/null || return 0
+    write_conversation
+    on_terminal 'git2show check --pretty requests responses'
+    expect_status 0
+    expect_line 'the terminal' $'>        0    16  \e[1;36mcommand\e[0m   command=ls-refs' terminal
+    expect_line 'the terminal' $'<      118     5  \e[34mpack\e[0m      PACK' terminal
+    expect_line 'the terminal' '277 bytes, 21 packets, 2 requests, 4 bytes of packs' terminal
+    on_terminal 'NO_COLOR=1 git2show check --pretty --width 60 requests responses'
+    expect_line 'the terminal' '>        0    16  command   command=ls-refs' terminal
+    run git2show check requests responses
+    on_terminal 'git2show check requests responses'
+    expect_same 'the transcript' out terminal
+    packet command=nothing > requests
+    on_terminal 'git2show check --pretty requests responses > out'
+    expect_status 1
+    expect_same 'what is explained' <(fault 'requests: UnknownCommand at 0') terminal
+    expect_same 'the last packet' <(echo '>        0    16  command   command=nothing') <(tail -n 2 out | head -n 1)
+}

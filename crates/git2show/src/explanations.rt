@@ -38,6 +38,8 @@ pub(crate) fn explain(
         (ProgramFault::Script(number), Cause::ScriptLine(format)) => {
             explain_line(rt, path_of(words, "script"), number, Text::Script(format))
         }
+        // What is shown ends with the packet that is refused.
+        (ProgramFault::Check(_), Cause::Unknown) if shows_packets(words) => Ok(()),
         (ProgramFault::Check(CheckFault::Requests(fault)), _) => {
             show_around(rt, path_of(words, "REQUESTS"), fault.offset)
         }
@@ -55,6 +57,14 @@ fn path_of<'a>(words: Option<&'a ArgMatches<'_>>, argument: &str) -> &'a str {
     match words {
         Some(words) => words.get_str(argument).unwrap_or(""),
         None => "",
+    }
+}
+
+/// Whether the command line asks for the packets on standard output.
+fn shows_packets(words: Option<&ArgMatches<'_>>) -> bool {
+    match words {
+        Some(words) => words.get_flag("pretty"),
+        None => false,
     }
 }
 

@@ -3,6 +3,8 @@
 
 ghost use Rattle.std.specs.Prelude.{◌<◌};
 
+mod checking;
+mod conversation;
 mod explanations;
 mod failures;
 mod fetching;
@@ -15,6 +17,7 @@ mod remote_lines;
 mod showing;
 mod tracing;
 
+use crate::checking::{check_command, run_check};
 use crate::explanations::explain;
 use crate::failures::{Cause, FailedCall, Failure, Stream, Watched};
 use crate::fetching::run_fetch;
@@ -29,7 +32,7 @@ use git_names::Format;
 use git_pkt::{Discard, LONGEST_PACKET, Recorded, Retries, RunFault};
 use git_repository::{LONGEST_LINE, Packs, RepositoryReader, TextFault};
 use git_server::{LateRepo, ListRepo, Outcome, Repo, Server, serve, write_pending};
-use git2show_lib::{ProgramFault, check, play, read_script, report};
+use git2show_lib::{ProgramFault, play, read_script, report};
 use std::alloc::{AllocError, Global};
 use std::fs::File;
 use std::io::{BufWriter, IsTerminal, Read, Stdout, Write};
@@ -74,32 +77,6 @@ fn command<'a>(alloc: Global) -> Result<Command<'a>, AllocError> {
         .subcommand(serve_command(alloc)?)?
         .subcommand(fetch_command(alloc)?)?
         .subcommand(play_command(alloc)?)
-}
-
-/// The words that may follow `check`.
-fn check_command<'a>(alloc: Global) -> Result<Command<'a>, AllocError> {
-    Command::new(alloc, "check")
-        .about(
-            "Checks a recorded conversation, and prints its transcript: the requests and the responses to them",
-        )
-        .arg(
-            Arg::new(alloc, "REQUESTS")
-                .required(true)
-                .help("File of what the client sent"),
-        )?
-        .arg(
-            Arg::new(alloc, "RESPONSES")
-                .required(true)
-                .help("File of what the server sent, its advertisement first"),
-        )?
-        .arg(flag_argument(alloc, "explain").help(
-            "Shows the packets up to the one that is refused, on standard error, also where that is no terminal",
-        ))?
-        .arg(format_argument(alloc))?
-        .arg(stateless_argument(
-            alloc,
-            "Each response ends with a response-end packet, as Git's remote helper for HTTP passes it on to Git",
-        ))
 }
 
 /// The words that may follow `serve`.
@@ -222,28 +199,6 @@ fn stateless_argument<'a>(alloc: Global, help: &'a str) -> Arg<'a> {
 /// An argument that is there or not.
 fn flag_argument<'a>(alloc: Global, name: &'a str) -> Arg<'a> {
     Arg::new(alloc, name).long(name).action(ArgAction::SetTrue)
-}
-
-/// Checks the two named files, and writes the transcript to standard output.
-fn run_check(rt: &HostRuntime, matches: &ArgMatches<'_>) -> Result<(), Failure> {
-    let mut requests = watched_file(rt, matches, "REQUESTS")?;
-    let mut responses = watched_file(rt, matches, "RESPONSES")?;
-    let mut output = buffered_output(rt)?;
-    let mut chunk = [0; CHUNK];
-    let mut other_chunk = [0; CHUNK];
-    let done = check(
-        rt.alloc(),
-        &mut Recorded::new(&mut requests),
-        &mut Recorded::new(&mut responses),
-        format_of(matches),
-        ending_of(matches),
-        &mut chunk,
-        &mut other_chunk,
-        &mut Recorded::new(&mut output),
-        TURNS,
-    );
-    let inputs = requests.failed_call().or(responses.failed_call());
-    done.map_err(|fault| Failure::of_run(fault, inputs.or(output.failed_call())))
 }
 
 /// Opens the file that an argument names, to be read in chunks.

@@ -37,13 +37,7 @@ pub(crate) fn show_command<'a>(alloc: Global) -> Result<Command<'a>, AllocError>
                 .conflicts_with("json")?
                 .help("Lines of text, also on a terminal"),
         )?
-        .arg(
-            Arg::new(alloc, "width")
-                .long("width")
-                .value_name("N")
-                .value_parser(value_parser!(u32).range(NARROWEST..=WIDEST))
-                .help("How many columns a line of --pretty has at most [usual: 80]"),
-        )?
+        .arg(width_argument(alloc))?
         .arg(flag_argument(alloc, "no-pack").help("Leaves out packets with bytes of a pack"))?
         .arg(
             Arg::new(alloc, "from")
@@ -70,6 +64,15 @@ pub(crate) fn show_command<'a>(alloc: Global) -> Result<Command<'a>, AllocError>
                     "Standard input is a text that GIT_TRACE_PACKET wrote: a line for each packet that it names, of both ends",
                 ),
         )
+}
+
+/// The argument for the width of a line of columns.
+pub(crate) fn width_argument<'a>(alloc: Global) -> Arg<'a> {
+    Arg::new(alloc, "width")
+        .long("width")
+        .value_name("N")
+        .value_parser(value_parser!(u32).range(NARROWEST..=WIDEST))
+        .help("How many columns a line of --pretty has at most [usual: 80]")
 }
 
 /// Shows the packets of standard input.

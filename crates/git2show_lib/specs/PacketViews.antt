@@ -10,6 +10,7 @@ use Rattle.git2show_lib.specs.PacketLines.{line_of}
 use Rattle.git2show_lib.specs.PrettyLines.{label_of, pretty_line}
 use Rattle.git2show_lib.specs.JsonLines.{json_line}
 use Rattle.git2show_lib.specs.declared.pretty.Label.{Label}
+use Rattle.git2show_lib.specs.declared.pretty.Look.{Look}
 use Rattle.git2show_lib.specs.declared.views.Form.{Form}
 use Rattle.git2show_lib.specs.declared.views.RequestState.{RequestState}
 use Rattle.git2show_lib.specs.declared.views.Tally.{Tally}
@@ -139,6 +140,11 @@ is_pack label = false
 abbrev pub leaves_out : View → Tally → Given → Bool
 leaves_out view t g =
     nat_lt g.offset view.from || ((view.no_pack && is_pack (label_of t.in_pack g.packet)) || not (is_asked view.only t.request g.packet))
+
+-- the line of columns of a packet behind a mark, after those that were counted; none of bytes of a pack if that is wanted
+abbrev pub marked_line : Look → Bool → List ℕ → Tally → Given → List ℕ
+marked_line look no_pack mark t g =
+    if no_pack && is_pack (label_of t.in_pack g.packet) then [] else mark ++ pretty_line look.colours look.width t.in_pack g
 
 abbrev pub formed : Form → Bool → Given → List ℕ
 formed Form.Lines in_pack g = line_of g

@@ -34,4 +34,4 @@ pub use pretty::Look;
 pub use reports::{ProgramFault, report};
 pub use scripts::read_script;
 pub use showing::{show, show_view};
-pub use views::{Form, RequestState, Tally, View, summarize};
+pub use views::{Form, RequestState, Tally, View, show_packet, summarize};

@@ -1,12 +1,13 @@
 //! What is shown of a stream with options, and what is counted.
 
-ghost use Rattle.std.specs.Prelude.{◌≡◌, ◌≤◌, ◌+◌, ◌++◌, decimal, length, take};
+ghost use Rattle.std.specs.Prelude.{◌≡◌, ◌≤◌, ◌+◌, ◌++◌, ◌&&◌, None, decimal, length, take};
 ghost use Rattle.git_pkt.specs.Machine.Sends.{Sends};
 ghost use Rattle.git_pkt.specs.Packets.{seen};
-ghost use Rattle.git2show_lib.specs.PacketViews.{begins_request, counted, goes_on, is_asked, is_command, is_flush, leaves_out, pack_in, requests_in};
-ghost use Rattle.git2show_lib.specs.PacketViews.{request_after, request_at, stray_after, summary_of};
+ghost use Rattle.git2show_lib.specs.PacketViews.{begins_request, counted, goes_on, is_asked, is_command, is_flush, is_pack, leaves_out, marked_line};
+ghost use Rattle.git2show_lib.specs.PacketViews.{pack_in, request_after, request_at, requests_in, stray_after, summary_of};
+ghost use Rattle.git2show_lib.specs.PrettyLines.{label_of};
 
-use crate::pretty::{Label, Look, body};
+use crate::pretty::{LINE, Label, Look, body, write_pretty};
 use git_pkt::{Packet, Recorded, RunFault, put_at, send, text};
 use itoa::Buffer;
 use std::io::Write;
@@ -211,6 +212,46 @@ impl View<'_> {
             || (self.no_pack && Label::of(before.in_pack, packet) == Label::Pack)
             || !before.request.asks(self.only, packet)
     }
+}
+
+/// Writes the line of columns of a packet, after those that were counted, behind a mark, and counts the packet. With `no_pack` a packet with
+/// bytes of a pack is counted alone. So the packets of several streams, each with a mark and a count of its own, can be shown in one text.
+pub fn show_packet<W: Write>(
+    writer: &mut Recorded<W>,
+    look: Look,
+    no_pack: bool,
+    mark: &[u8],
+    tally: &mut Tally,
+    packet: Packet<'_>,
+    offset: u64,
+) -> Result<(), RunFault>
+    ensures shown { Sends W.contents writer.old
+        (marked_line look no_pack mark.now tally.old (record { packet = seen packet.entry; offset = offset })) result writer.new }
+    ensures tally { tally.new ≡ counted None tally.old (record { packet = seen packet.entry; offset = offset }) }
+{
+    let in_pack = tally.in_pack;
+    *tally = tally.count(None, packet, offset);
+    if is_left_out(no_pack, in_pack, packet) {
+        return Ok(());
+    }
+    let mut line = [0; LINE];
+    let end = write_pretty(look, in_pack, packet, offset, &mut line);
+    send_marked(writer, mark, &line[..end])
+}
+
+/// Whether a packet has bytes of a pack, and these are left out.
+fn is_left_out(no_pack: bool, in_pack: bool, packet: Packet<'_>) -> bool
+    ensures { result ≡ (no_pack && is_pack (label_of in_pack (seen packet.entry))) }
+{
+    no_pack && Label::of(in_pack, packet) == Label::Pack
+}
+
+/// Writes a line behind a mark.
+fn send_marked<W: Write>(writer: &mut Recorded<W>, mark: &[u8], line: &[u8]) -> Result<(), RunFault>
+    ensures { Sends W.contents writer.old (mark.now ++ line.now) result writer.new }
+{
+    send(writer, mark)?;
+    send(writer, line)
 }
 
 /// Writes a line with what was counted.
