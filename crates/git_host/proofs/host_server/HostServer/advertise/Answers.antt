@@ -1,5 +1,5 @@
-use Rattle.std.proofs.Common.{arith, ap, subst, ◌∙◌}
-use Rattle.git_host.specs.HostServer.{HostsIn}
+use Rattle.std.proofs.Common.{arith, ap, refl, subst, sym, ◌∙◌}
+use Rattle.git_host.specs.HostServer.{HostsIn, LeadsTo}
 use Rattle.git_host.specs.declared.host_server.Phase.{Phase}
 use Rattle.git_msg.specs.declared.offers.Offer.{Offer}
 use Rattle.git_server.specs.Answers.{advertisement_of, spelled}
@@ -17,7 +17,11 @@ returns-clause-steps g c s used over reported given h =
     let (is, handed) = advertised_now s used over reported given (c.lend.follows.lender w) old.stream w lent
     (omega (arith, c.len.ensures.value, c.len.ensures.fits))
     (c.put_advertisement.ensures.written ∙ ap (λ (o : Offer). spelled (advertisement_of o)) h.offer) stands in
-    (record { offer = h.offer; limit = h.limit; reads_within = lent_within old.stream w (c.lend.follows.lender w) lent s h.reads_within; stands = is }, handed)
+    let within = lent_within old.stream w (c.lend.follows.lender w) lent s h.reads_within in (
+      record { offer = h.offer; limit = h.limit; reads_within = within; stands = is },
+      handed,
+      subst (λ (p : Phase g.row.A.Denot). LeadsTo p Reading) (sym c.requires) refl,
+    )
 
 pub returns-clause-credit : goal.returns-clause-credit
 returns-clause-credit g c =

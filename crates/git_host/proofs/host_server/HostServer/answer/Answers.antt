@@ -4,12 +4,14 @@ use Rattle.git_server.specs.Answers.{error_packet}
 use Rattle.git_server.specs.declared.outcome.Outcome.{Outcome}
 use Rattle.git_host.specs.HostSessions.{IsHosted}
 use Rattle.git_host.specs.HostAnswers.{StepsAnswer}
-use Rattle.git_host.specs.HostServer.{HostsIn, IsFaultAfter, fault_in}
+use Rattle.git_host.specs.HostServer.{HostsIn, IsFaultAfter, IsLost, fault_in}
 use Rattle.git_host.specs.declared.host_answer.AnswerStep.{AnswerStep}
+use Rattle.git_host.specs.declared.host_answer.AnswerStep.TheVariants as Step
 use Rattle.git_host.specs.declared.host_server.Phase.{Phase}
 use Rattle.git_host.specs.declared.host_server.Phase.TheVariants.{Answering, Ended, Reading}
 use Rattle.git_host.proofs.HostFaults.{lacking_fault}
-use Rattle.git_host.proofs.HostMoves.{answering_credit, answering_no, broken_done, credit_falls, lacking_done, need_done, on_some, packet_done, whole_done}
+use Rattle.git_host.proofs.HostMoves.{answer_leads, answering_credit, answering_no, broken_done, credit_falls, lacking_done, need_done, on_some, other_leads}
+use Rattle.git_host.proofs.HostMoves.{packet_done, whole_done}
 use Rattle.git_host.proofs.LentStreams.{lent_within}
 use Rattle.git_host.proofs.HostMoves.{lent_credit}
 use Rattle.git_host.proofs.LentStreams.{lent_handed, packet_some}
@@ -26,10 +28,15 @@ returns-in-Packet-clause-steps g c s used over reported given h =
     let few : length w.items ≤ 65520 = omega (arith, c.len.ensures.value, c.len.ensures.fits) in
     let stands = subst (λ (p : Phase g.row.A.Denot). HostsIn p s used over reported given old.stream old.flush) c.in-Answering.is h.stands in
     let steps = subst (λ (x : AnswerStep). StepsAnswer c.in-Answering.answer x c.next-step.new.hold.items c.next-step.new.self) c.in-Packet.is
-    c.next-step.ensures in
+    c.next-step.ensures.steps in
     let (is, handed) = packet_done s used over reported given old.flush old.stream
     (c.lend.follows.lender w) w lent few c.in-Answering.answer c.next-step.new.self stands steps in
-    (record { offer = h.offer; limit = h.limit; reads_within = lent_within old.stream w (c.lend.follows.lender w) lent s h.reads_within; stands = is }, handed)
+    let within = lent_within old.stream w (c.lend.follows.lender w) lent s h.reads_within in (
+      record { offer = h.offer; limit = h.limit; reads_within = within; stands = is },
+      handed,
+      other_leads old.phase (Answering c.next-step.new.self) c.in-Answering.answer c.next-step.result Step.Packet c.in-Answering.is
+          c.next-step.ensures.broken c.in-Packet.is (λ is. cc),
+    )
 
 pub returns-in-Need-clause-steps : goal.returns-in-Need-clause-steps
 returns-in-Need-clause-steps g c s used over reported given h =
@@ -39,7 +46,7 @@ returns-in-Need-clause-steps g c s used over reported given h =
     let few : length w.items ≤ 65520 = omega (arith, c.len.ensures.value, c.len.ensures.fits) in
     let stands = subst (λ (p : Phase g.row.A.Denot). HostsIn p s used over reported given old.stream old.flush) c.in-Answering.is h.stands in
     let steps = subst (λ (x : AnswerStep). StepsAnswer c.in-Answering.answer x c.next-step.new.hold.items c.next-step.new.self) c.in-Need.is
-    c.next-step.ensures in (
+    c.next-step.ensures.steps in (
       record {
         offer = h.offer;
         limit = h.limit;
@@ -48,6 +55,8 @@ returns-in-Need-clause-steps g c s used over reported given h =
             (c.lend.follows.lender w) w lent few c.in-Answering.answer c.next-step.new.self stands steps.0;
       },
       steps.1,
+      other_leads old.phase (Answering c.next-step.new.self) c.in-Answering.answer c.next-step.result (Step.Need c.in-Need.need) c.in-Answering.is
+          c.next-step.ensures.broken c.in-Need.is (λ is. cc),
     )
 
 pub returns-in-Whole-clause-steps : goal.returns-in-Whole-clause-steps
@@ -58,7 +67,7 @@ returns-in-Whole-clause-steps g c s used over reported given h =
     let few : length w.items ≤ 65520 = omega (arith, c.len.ensures.value, c.len.ensures.fits) in
     let stands = subst (λ (p : Phase g.row.A.Denot). HostsIn p s used over reported given old.stream old.flush) c.in-Answering.is h.stands in
     let steps = subst (λ (x : AnswerStep). StepsAnswer c.in-Answering.answer x c.next-step.new.hold.items c.next-step.new.self) c.in-Whole.is
-    c.next-step.ensures in (
+    c.next-step.ensures.steps in (
       record {
         offer = h.offer;
         limit = h.limit;
@@ -67,6 +76,8 @@ returns-in-Whole-clause-steps g c s used over reported given h =
             (c.lend.follows.lender w) w lent few c.in-Answering.answer c.next-step.new.self stands steps;
       },
       tt,
+      other_leads old.phase Reading c.in-Answering.answer c.next-step.result Step.Whole c.in-Answering.is
+          c.next-step.ensures.broken c.in-Whole.is (λ is. cc),
     )
 
 pub returns-in-Broken-clause-steps : goal.returns-in-Broken-clause-steps
@@ -77,7 +88,7 @@ returns-in-Broken-clause-steps g c s used over reported given h =
     let few : length w.items ≤ 65520 = omega (arith, c.len.ensures.value, c.len.ensures.fits) in
     let stands = subst (λ (p : Phase g.row.A.Denot). HostsIn p s used over reported given old.stream old.flush) c.in-Answering.is h.stands in
     let steps = subst (λ (x : AnswerStep). StepsAnswer c.in-Answering.answer x c.next-step.new.hold.items c.next-step.new.self) c.in-Broken.is
-    c.next-step.ensures in (
+    c.next-step.ensures.steps in (
       record {
         offer = h.offer;
         limit = h.limit;
@@ -87,6 +98,8 @@ returns-in-Broken-clause-steps g c s used over reported given h =
             (c.lend.follows.lender w) w lent few c.in-Answering.answer c.next-step.new.self stands steps);
       },
       refl,
+      answer_leads old.phase (Ended c.ended_by-outcome.result) c.in-Answering.answer c.in-Answering.is
+          (λ broken. subst IsLost (sym c.ended_by-outcome.ensures) refl),
     )
 
 pub returns-in-Refused-clause-steps : goal.returns-in-Refused-clause-steps
@@ -97,7 +110,7 @@ returns-in-Refused-clause-steps g c s used over reported given h =
     let few : length w.items ≤ 65520 = omega (arith, c.len-in-Refused.ensures.value, c.len-in-Refused.ensures.fits) in
     let stands = subst (λ (p : Phase g.row.A.Denot). HostsIn p s used over reported given old.stream old.flush) c.in-Answering.is h.stands in
     let steps = subst (λ (x : AnswerStep). StepsAnswer c.in-Answering.answer x c.next-step.new.hold.items c.next-step.new.self) c.in-Refused.is
-    c.next-step.ensures in (
+    c.next-step.ensures.steps in (
       record {
         offer = h.offer;
         limit = h.limit;
@@ -108,6 +121,8 @@ returns-in-Refused-clause-steps g c s used over reported given h =
       },
       lent_handed old.stream w (c.lend.follows.lender w) lent
           (packet_some w.items (error_packet (record { kind = c.in-Refused.kind; offset = old.flush })) c.put_error.ensures) few,
+      other_leads old.phase (Ended c.ended_by.result) c.in-Answering.answer c.next-step.result (Step.Refused c.in-Refused.kind) c.in-Answering.is
+          c.next-step.ensures.broken c.in-Refused.is (λ is. cc),
     )
 
 pub returns-in-Packet-clause-credit : goal.returns-in-Packet-clause-credit
@@ -136,7 +151,7 @@ returns-in-Refused-clause-fault g c s used over reported given h =
     let old = c.args.self.now in
     let stands = subst (λ (p : Phase g.row.A.Denot). HostsIn p s used over reported given old.stream old.flush) c.in-Answering.is h.stands in
     let lacks = subst (λ (x : AnswerStep). StepsAnswer c.in-Answering.answer x c.next-step.new.hold.items c.next-step.new.self) c.in-Refused.is
-    c.next-step.ensures in
+    c.next-step.ensures.steps in
     let name = lacking_fault s used over reported given old.flush old.stream c.in-Answering.answer c.in-Refused.kind stands lacks in
     subst (λ (p : Phase g.row.A.Denot). IsFaultAfter (fault_in p) (fault_in {A = g.row.A.Denot} (Ended c.ended_by.result))) (sym c.in-Answering.is)
     (subst (λ (o : Outcome). IsFaultAfter None (fault_in {A = g.row.A.Denot} (Ended o))) (sym c.ended_by.ensures) name)

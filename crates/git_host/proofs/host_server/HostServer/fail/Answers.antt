@@ -5,7 +5,7 @@ use Rattle.git_server.specs.Answers.{error_packet}
 use Rattle.git_server.specs.declared.outcome.Outcome.{Outcome}
 use Rattle.git_host.specs.HostSessions.{Facts, IsHosted}
 use Rattle.git_host.specs.HostAnswers.{FailsBy}
-use Rattle.git_host.specs.HostServer.{HasReason, HostsIn, IsLost, ended_by, with_last}
+use Rattle.git_host.specs.HostServer.{EndsHost, HasReason, HostsIn, IsLost, ended_by, with_last}
 use Rattle.git_host.specs.declared.host_answer.Failing.{Failing}
 use Rattle.git_host.specs.declared.report.HostReported.TheVariants.{NotAsked, Packet as WasGiven}
 use Rattle.git_host.specs.declared.report.Report.TheVariants.{Failed}
@@ -27,12 +27,12 @@ returns-in-NotAsked-clause-reports g c s used over facts given h =
     let few : length w.items ≤ 65520 = omega (arith, c.len.ensures.value, c.len.ensures.fits) in
     let stands = subst (λ (p : Phase g.row.A.Denot). HostsIn p s used over facts given old.stream old.flush) c.in-Answering.is h.stands in
     let fails = subst (λ (x : Failing). FailsBy c.in-Answering.answer x w.items c.fail-failing.new.self) c.in-NotAsked.is c.fail-failing.ensures in
-    let (is, why) = fail_unasked s used over facts given old.flush old.stream (c.lend.follows.lender w) w lent few c.in-Answering.answer
+    let (is, why, ends) = fail_unasked s used over facts given old.flush old.stream (c.lend.follows.lender w) w lent few c.in-Answering.answer
     c.fail-failing.new.self stands fails in (
       record { offer = h.offer; limit = h.limit; reads_within = lent_within old.stream w (c.lend.follows.lender w) lent s h.reads_within; stands = is },
       tt,
       subst (λ (p : Phase g.row.A.Denot). HasReason Failed p NotAsked) (sym c.in-Answering.is) why,
-      tt,
+      subst (λ (p : Phase g.row.A.Denot). EndsHost Failed NotAsked p (Answering c.fail-failing.new.self)) (sym c.in-Answering.is) ends,
     )
 
 pub returns-in-Packet-clause-reports : goal.returns-in-Packet-clause-reports

@@ -1,7 +1,7 @@
 use Rattle.std.proofs.Common.{arith, ◌≡◌, ◌≤◌, ℕ, List, length, sym, ap, subst, ◌∙◌}
 use Rattle.git_names.specs.ObjectName.{hex_of}
 use Rattle.git_pkt.specs.Packets.{spelling_of}
-use Rattle.git_host.specs.HostServer.{HasReason, HostsIn}
+use Rattle.git_host.specs.HostServer.{EndsHost, HasReason, HostsIn}
 use Rattle.git_host.specs.ReferencesPlaces.{plain_entry, plain_line}
 use Rattle.git_host.specs.WrittenDigits.{SpellsId}
 use Rattle.git_host.specs.declared.host_server.Phase.{Phase}
@@ -55,7 +55,7 @@ returns-clause-reports g c =
             record { offer = h.offer; limit = h.limit; reads_within = lent_within old.stream w (c.lend.follows.lender w) lent s h.reads_within; stands = is },
             handed,
             subst (λ (p : Phase g.row.A.Denot). HasReason (Reference entry) p r) (sym c.in-Answering.is) why,
-            ends,
+            subst (λ (p : Phase g.row.A.Denot). EndsHost (Reference entry) r p (Answering c.plain.new.self)) (sym c.in-Answering.is) ends,
           ),
     )
 

@@ -2,7 +2,7 @@ use Rattle.std.proofs.Common.{arith, ◌≡◌, ◌+◌, ◌*◌, sym, subst}
 use Rattle.git_msg.specs.Memory.{HasRefused}
 use Rattle.git_host.specs.HostMemory.{objects_in}
 use Rattle.git_host.specs.declared.report.HostReported.TheVariants.{OutOfMemory}
-use Rattle.git_host.specs.HostServer.{HostsIn, HasReason}
+use Rattle.git_host.specs.HostServer.{EndsHost, HostsIn, HasReason}
 use Rattle.git_host.specs.declared.host_server.Phase.{Phase}
 use Rattle.git_host.specs.declared.host_server.Phase.TheVariants.{Answering}
 use Rattle.git_host.proofs.HostMoves.{answering_credit, credit_falls, lent_credit, not_asked, on_some, report_done}
@@ -24,7 +24,8 @@ returns-clause-reports g c s used over facts given h =
       record { offer = h.offer; limit = h.limit; reads_within = lent_within old.stream w (c.lend.follows.lender w) lent s h.reads_within; stands = is },
       handed,
       subst (λ (p : Phase g.row.A.Denot). HasReason c.args.report p c.report-reported.result) (sym c.in-Answering.is) why,
-      ends,
+      subst (λ (p : Phase g.row.A.Denot). EndsHost c.args.report c.report-reported.result p (Answering c.report-reported.new.self))
+          (sym c.in-Answering.is) ends,
     )
 
 pub returns-clause-credit : goal.returns-clause-credit
