@@ -2,12 +2,12 @@
 use Rattle.std.proofs.Common.{arith, ◌≡◌, ◌≢◌, ℕ, ◌-◌, ◌*◌, ◌≤◌, Bool, true, false, if◌then◌else◌, List, [], ◌∷◌, ◌++◌, length, Option, Some, None, Err}
 use Rattle.std.proofs.Common.{refl, sym, ap, ◌∙◌, subst}
 use Rattle.std.proofs.Common.{append-nil, length-append, inl, inr, take}
-use Rattle.std.specs.Prelude.{OnSome}
+use Rattle.std.specs.Prelude.{IfNone, IsSome, OnSome}
 use Rattle.arrayvec.specs.ArrayVec.{ArrayVec}
 use Rattle.git_pkt.specs.Packets.{Pkt, spelling_of}
 use Rattle.git_pkt.specs.Splits.{Given, SpellsAll}
 use Rattle.git_pkt.specs.Machine.ReaderState.{come_in, is_open_in}
-use Rattle.git_pkt.specs.Machine.Credit.{credit_of as packet_credit}
+use Rattle.git_pkt.specs.Machine.Credit.{Pays, credit_of as packet_credit}
 use Rattle.git_pkt.specs.declared.reader.State.{State}
 use Rattle.git_pkt.specs.declared.reader.State.TheVariants.{Between as NotOpen, Gathering, Passing, Failed as Failing}
 use Rattle.git_msg.specs.Machine.RequestStreams.{credit_of as stream_credit}
@@ -28,8 +28,8 @@ use Rattle.git_msg.specs.Machine.RequestStreams.{Closes, EndsWith, Feeds as Stre
 use Rattle.git_msg.specs.declared.streams.ReadGot.{ReadGot}
 use Rattle.git_msg.specs.declared.streams.ReadGot.TheVariants.{More, Request as RequestGot, Stop as StopGot, Failed as FailedGot}
 use Rattle.git_msg.specs.declared.streams.ReadRequest.{ReadRequest}
-use Rattle.git_msg.specs.Machine.RequestStreams.{AreAsked, HasRead, IsAtTheEnd, IsLeftIn, IsLent, IsOne, IsRefusedAs, bytes_used, hold_of}
-use Rattle.git_msg.specs.Machine.RequestStreams.{is_within_packet, limit_of, offer_of, wants_input}
+use Rattle.git_msg.specs.Machine.RequestStreams.{AreAsked, HasRead, IsAtTheEnd, IsLeftIn, IsLent, IsOne, IsRefusedAs, IsUnlent, bytes_used}
+use Rattle.git_msg.specs.Machine.RequestStreams.{hold_of, is_within_packet, limit_of, offer_of, wants_input}
 use Rattle.git_msg.specs.WholeRequests.{AreRequests}
 use Rattle.git_msg.specs.declared.streams.RequestStream.{RequestStream}
 use Rattle.git_msg.specs.declared.streams.Stage.{Stage}
@@ -549,6 +549,16 @@ pub on_some : {X : Type 0} (o : Option X) (x : X) (P : Type 0) → o ≡ Some x 
 on_some None x P is h = absurd (cc)
 on_some (Some y) x P is h = h
 
+-- the hold was not lent
+pub none_lent : {X : Type 0} (o : Option X) → o ≡ None → IsSome o → ⊥
+none_lent None none some = absurd (cc)
+none_lent (Some x) none some = cc
+
+pub unlent_credit : {A X : Type 0} (old new : RequestStream A) (o : Option X) → o ≡ None → IfNone o (IsUnlent old new)
+    → stream_credit new ≡ stream_credit old
+unlent_credit old new None none left = ap packet_credit left.packets
+unlent_credit old new (Some x) none left = absurd (cc)
+
 pub answering_no : {A : Type 0} (phase : Phase A) → is_answering phase ≡ true → ((answer : HostAnswer A) → phase ≡ Answering answer → ⊥) → ⊥
 answering_no Advertising is other = cc
 answering_no Reading is other = cc
@@ -742,6 +752,26 @@ asked_credit old is =
 refused_credit : (A : Type 0) (kind : Kind) (fault : Fault) (stream : RequestStream A) → credit_in (refused_by kind fault) stream ≡ 0
 refused_credit A RemoteError fault stream = refl
 refused_credit A kind fault stream = refl
+
+-- what was read is paid for, by the phase after it
+module _ {A : Type 0} (old : HostServer A) (new : RequestStream A) (used before after : ℕ) (reading : old.phase ≡ Reading)
+    (pays : Pays used before after (stream_credit old.stream) (stream_credit new)) where
+  pub pays_at : (phase : Phase A) → Pays used before after (credit_of old) (credit_in phase new)
+  pays_at phase = record {
+    rises = pays.rises;
+    within = omega (arith, pays.within, credit_most phase new, ap (λ (p : Phase A). credit_in p old.stream) reading);
+  }
+
+  pub pays_off : (left : ℕ) → left ≡ 0 → Pays used before after (credit_of old) left
+  pays_off left none = record {
+    rises = pays.rises;
+    within = omega (arith, pays.within, none, ap (λ (p : Phase A). credit_in p old.stream) reading);
+  }
+
+-- nothing is left once the input is refused
+pub refused_free : {A : Type 0} (old : HostServer A) (phase : Phase A) (stream : RequestStream A) (fault : Fault) → phase ≡ Refusing fault
+    → credit_in phase stream ≤ credit_of old
+refused_free old phase stream fault is = omega (arith, ap (λ (p : Phase _). credit_in p stream) is)
 
 pub stopped_credit : {A : Type 0} (mid new : HostServer A) (fault : Fault) → StopsHost fault mid new → credit_of new ≡ 0
 stopped_credit {A = A} mid new fault stopped = ap (λ (p : Phase A). credit_in p new.stream) stopped.phase ∙ refused_credit A fault.kind fault new.stream

@@ -1,4 +1,5 @@
-use Rattle.std.proofs.Common.{arith, ◌≤◌, ◌++◌, None, length, refl, subst, sym}
+use Rattle.std.proofs.Common.{arith, ◌≤◌, ◌++◌, None, ap, length, refl, subst, sym}
+use Rattle.git_pkt.specs.declared.fault.Kind.TheVariants.{PackSource}
 use Rattle.git_msg.specs.Machine.RequestStreams.{hold_of}
 use Rattle.git_server.specs.Answers.{error_packet}
 use Rattle.git_server.specs.declared.outcome.Outcome.{Outcome}
@@ -9,11 +10,11 @@ use Rattle.git_host.specs.declared.host_answer.AnswerStep.{AnswerStep}
 use Rattle.git_host.specs.declared.host_answer.AnswerStep.TheVariants as Step
 use Rattle.git_host.specs.declared.host_server.Phase.{Phase}
 use Rattle.git_host.specs.declared.host_server.Phase.TheVariants.{Answering, Ended, Reading}
-use Rattle.git_host.proofs.HostFaults.{lacking_fault}
+use Rattle.git_host.proofs.HostFaults.{host_fault, lacking_fault, quiet_fault, same_fault}
 use Rattle.git_host.proofs.HostMoves.{answer_leads, answering_credit, answering_no, broken_done, credit_falls, lacking_done, need_done, on_some, other_leads}
 use Rattle.git_host.proofs.HostMoves.{packet_done, whole_done}
 use Rattle.git_host.proofs.LentStreams.{lent_within}
-use Rattle.git_host.proofs.HostMoves.{lent_credit}
+use Rattle.git_host.proofs.HostMoves.{lent_credit, none_lent, unlent_credit}
 use Rattle.git_host.proofs.LentStreams.{lent_handed, packet_some}
 use Rattle.git_host.proofs.host_server.HostServer.answer.Goals as goal
 
@@ -155,3 +156,48 @@ returns-in-Refused-clause-fault g c s used over reported given h =
     let name = lacking_fault s used over reported given old.flush old.stream c.in-Answering.answer c.in-Refused.kind stands lacks in
     subst (λ (p : Phase g.row.A.Denot). IsFaultAfter (fault_in p) (fault_in {A = g.row.A.Denot} (Ended c.ended_by.result))) (sym c.in-Answering.is)
     (subst (λ (o : Outcome). IsFaultAfter None (fault_in {A = g.row.A.Denot} (Ended o))) (sym c.ended_by.ensures) name)
+
+pub returns-in_default-clause-credit : goal.returns-in_default-clause-credit
+returns-in_default-clause-credit g c = omega arith
+
+pub returns-in_default-clause-fault : goal.returns-in_default-clause-fault
+returns-in_default-clause-fault g c s used over reported given h = same_fault (fault_in c.args.self.now.phase)
+
+pub returns-in_default-lend-clause-steps : goal.returns-in_default-lend-clause-steps
+returns-in_default-lend-clause-steps g c s used over reported given h =
+    let old = c.args.self.now in
+    let stands = subst (λ (p : Phase g.row.A.Denot). HostsIn p s used over reported given old.stream old.flush) c.in-Answering.is h.stands in
+    absurd (none_lent c.lend.result c.in_default-lend.is (c.lend.ensures.between.1 stands.between))
+
+pub returns-in_default-lend-clause-credit : goal.returns-in_default-lend-clause-credit
+returns-in_default-lend-clause-credit g c =
+    let old = c.args.self.now in
+    credit_falls (Answering c.in-Answering.answer) old c.lend.follows.lender-at-none (answering_credit old c.in-Answering.answer c.in-Answering.is)
+    (unlent_credit old.stream c.lend.follows.lender-at-none c.lend.result c.in_default-lend.is c.lend.follows.holds-at-none)
+
+pub returns-in_default-lend-clause-fault : goal.returns-in_default-lend-clause-fault
+returns-in_default-lend-clause-fault g c s used over reported given h =
+    quiet_fault c.args.self.now.phase (Answering c.in-Answering.answer) (ap fault_in c.in-Answering.is) refl
+
+pub returns-in-Packet-clause-fault : goal.returns-in-Packet-clause-fault
+returns-in-Packet-clause-fault g c s used over reported given h =
+    quiet_fault c.args.self.now.phase (Answering c.next-step.new.self) (ap fault_in c.in-Answering.is) refl
+
+pub returns-in-Need-clause-fault : goal.returns-in-Need-clause-fault
+returns-in-Need-clause-fault g c s used over reported given h =
+    quiet_fault c.args.self.now.phase (Answering c.next-step.new.self) (ap fault_in c.in-Answering.is) refl
+
+pub returns-in-Whole-clause-fault : goal.returns-in-Whole-clause-fault
+returns-in-Whole-clause-fault g c s used over reported given h = quiet_fault c.args.self.now.phase Reading (ap fault_in c.in-Answering.is) refl
+
+pub returns-in-Broken-clause-credit : goal.returns-in-Broken-clause-credit
+returns-in-Broken-clause-credit g c = omega arith
+
+pub returns-in-Broken-clause-fault : goal.returns-in-Broken-clause-fault
+returns-in-Broken-clause-fault g c s used over reported given h =
+    host_fault c.args.self.now.phase (Ended c.ended_by-outcome.result) (ap fault_in c.in-Answering.is)
+    (record { kind = PackSource; offset = c.args.self.now.flush })
+    (ap (λ (o : Outcome). fault_in {A = g.row.A.Denot} (Ended o)) c.ended_by-outcome.ensures) refl
+
+pub returns-in-Refused-clause-credit : goal.returns-in-Refused-clause-credit
+returns-in-Refused-clause-credit g c = omega arith

@@ -7,8 +7,8 @@ use Rattle.git_host.specs.HostServer.{Hosts, HostsIn, begun_in}
 use Rattle.git_host.specs.declared.host_server.Phase.{Phase}
 use Rattle.git_host.specs.declared.host_server.Phase.TheVariants.{Asked as Whole, Ended}
 use Rattle.git_host.proofs.FeedMoves.{needed_by, some_fault, some_used}
-use Rattle.git_host.proofs.HostMoves.{brought_fault, brought_more, brought_request, brought_stop, feeds_none, is_reading_now, none_now, reading_leads}
-use Rattle.git_host.proofs.HostMoves.{reads_itself, stopped_hosts, stopped_leads}
+use Rattle.git_host.proofs.HostMoves.{brought_fault, brought_more, brought_request, brought_stop, feeds_none, is_reading_now, none_now, pays_at, pays_off}
+use Rattle.git_host.proofs.HostMoves.{reading_leads, reads_itself, stopped_credit, stopped_hosts, stopped_leads}
 use Rattle.git_host.proofs.host_server.HostServer.feed.Goals as goal
 
 pub returns-then-not-wants_input-clause-feeds : goal.returns-then-not-wants_input-clause-feeds
@@ -120,3 +120,44 @@ returns-in-Failed-clause-memory g c s so_far over reported given h needed =
     let stands = subst (λ (p : Phase g.row.A.Denot). HostsIn p s so_far over reported given old.stream old.flush) reading h.stands in
     needed_by old.stream c.feed-read.new.self c.args.chunk.now c.feed-read.result c.feed-read.ensures.feeds stands.reads.wants g.A.Memory.refuses s.limit
     c.stop.new.self.phase c.in-Failed.fault c.in-Failed.is c.stop.ensures.phase stands.reads.limit c.feed-read.ensures.memory
+
+pub returns-then-not-wants_input-clause-moves : goal.returns-then-not-wants_input-clause-moves
+returns-then-not-wants_input-clause-moves g c s so_far over reported given h reads some =
+    let quiet = sym c.wants_input.ensures ∙ c.if-not-wants_input.true in absurd (cc)
+
+pub returns-then-not-wants_input-clause-cost : goal.returns-then-not-wants_input-clause-cost
+returns-then-not-wants_input-clause-cost g c = record { rises = omega arith; within = omega arith }
+
+pub returns-then-not-wants_input-clause-memory : goal.returns-then-not-wants_input-clause-memory
+returns-then-not-wants_input-clause-memory g c s so_far over reported given h needed = needed
+
+pub returns-in-More-clause-cost : goal.returns-in-More-clause-cost
+returns-in-More-clause-cost g c =
+    let old = c.args.self.now in
+    pays_at old c.feed-read.new.self _ _ _ (is_reading_now old (sym c.wants_input.ensures ∙ c.if-not-wants_input.false)) c.feed-read.ensures.cost old.phase
+
+pub returns-in-More-clause-memory : goal.returns-in-More-clause-memory
+returns-in-More-clause-memory g c s so_far over reported given h needed = needed
+
+pub returns-in-Request-clause-cost : goal.returns-in-Request-clause-cost
+returns-in-Request-clause-cost g c =
+    let old = c.args.self.now in
+    pays_at old c.feed-read.new.self _ _ _ (is_reading_now old (sym c.wants_input.ensures ∙ c.if-not-wants_input.false)) c.feed-read.ensures.cost
+    (Whole c.in-Request.request)
+
+pub returns-in-Request-clause-memory : goal.returns-in-Request-clause-memory
+returns-in-Request-clause-memory g c s so_far over reported given h needed = tt
+
+pub returns-in-Stop-clause-cost : goal.returns-in-Stop-clause-cost
+returns-in-Stop-clause-cost g c =
+    let old = c.args.self.now in
+    pays_off old c.feed-read.new.self _ _ _ (is_reading_now old (sym c.wants_input.ensures ∙ c.if-not-wants_input.false)) c.feed-read.ensures.cost 0 refl
+
+pub returns-in-Stop-clause-memory : goal.returns-in-Stop-clause-memory
+returns-in-Stop-clause-memory g c s so_far over reported given h needed = tt
+
+pub returns-in-Failed-clause-cost : goal.returns-in-Failed-clause-cost
+returns-in-Failed-clause-cost g c =
+    let old = c.args.self.now in
+    pays_off old c.feed-read.new.self _ _ _ (is_reading_now old (sym c.wants_input.ensures ∙ c.if-not-wants_input.false)) c.feed-read.ensures.cost _
+    (stopped_credit _ c.stop.new.self c.in-Failed.fault c.stop.ensures)
