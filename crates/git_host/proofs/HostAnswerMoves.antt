@@ -5,10 +5,7 @@ use Rattle.std.proofs.Common.{subst, append-nil}
 use Rattle.std.specs.Prelude.{OnErr}
 use Rattle.std.proofs.lemmas.List.{length-take}
 use Rattle.std.proofs.lemmas.Grind.{common_steps}
-use Rattle.std.proofs.lemmas.List.{length-take}
 use Rattle.git_names.specs.ObjectName.{ObjectName}
-use Rattle.git_names.specs.NameBytes.{name_bytes}
-use Rattle.git_names.specs.declared.reference.RefName.{RefName}
 use Rattle.git_names.specs.NameBytes.{name_bytes}
 use Rattle.git_names.specs.declared.reference.RefName.{RefName}
 use Rattle.git_names.specs.declared.object_format.Format.{Format}
@@ -18,25 +15,26 @@ use Rattle.git_msg.specs.Kept.{Kept}
 use Rattle.git_msg.specs.Asked.{FetchAsked, ObjectInfoAsked, fetch, ls_refs, object_info}
 use Rattle.git_server.specs.Packs.{Manner, whole, broken}
 use Rattle.git_server.specs.Repository.{Entry}
-use Rattle.git_host.specs.Admissions.{AdmissionFacts, IsAdmitted, Reports as AdmissionReports, ReportsWant, ReportsWantRef}
+use Rattle.git_host.specs.Admissions.{AdmissionFacts, IsAdmitted, IsSame, Reports as AdmissionReports, ReportsWant, ReportsWantRef, StandsAtStep}
 use Rattle.git_host.specs.Admissions.{with_found, with_want}
 use Rattle.git_host.specs.AdmittedAnswers.{Becomes, BecomesAnswer}
 use Rattle.git_host.specs.FetchFacts.{FetchFacts, IsSoundFetchAnswer, no_facts}
 use Rattle.git_host.specs.FetchPlaces.{EndsBoundary, IsToTheSame, Represents, ReportsAlone, ReportsAndGives, Steps, WhereAsked, asked_of as fetch_of}
-use Rattle.git_host.specs.FetchPlaces.{is_asked, is_boundary, with_boundary_end}
+use Rattle.git_host.specs.FetchPlaces.{is_asked, is_boundary, is_loss, with_boundary_end}
 use Rattle.git_host.specs.FetchPlaces.{ReportsLine, ReportsProgress, format_of as fetch_format, is_line_asked, is_pack, is_progress_asked}
 use Rattle.git_host.specs.FetchPlaces.{step_of as fetch_step, with_line, with_pack, with_progress}
 use Rattle.git_host.specs.ReferencesPlaces.{IsToTheSame as IsToTheSameRefs, KeepsAs, ReferencesFacts, Reports, ReportsHidden, ReportsOn, ReportsUnborn}
 use Rattle.git_host.specs.ReferencesPlaces.{with_ref, with_unborn}
 use Rattle.git_host.specs.SizesPlaces.{GivesSize, IsAsking, IsSizesAnswerOf, RepresentsSizes, StepsSizes}
 use Rattle.git_host.specs.HostSessions.{Facts, IsAnswerBy, of_fetch, of_references, of_sizes}
-use Rattle.git_host.specs.HostAnswers.{IsTaken}
+use Rattle.git_host.specs.HostAnswers.{IsTaken, LeavesAnswer, is_broken}
 use Rattle.git_host.specs.HostAnswers.{EndsAs, IsWithinLimit, Terms, GivesOn, GoesOn, IsAnswering, IsAskedFor, IsGiven, ReportsBy, StepsAnswer, ended_as}
-use Rattle.git_host.specs.HostAnswers.{of_fetch_step, of_sizes_step, on_fetch, on_references, on_sizes, on_want_refs, on_wants, found_ids, part_of, part_of}
+use Rattle.git_host.specs.HostAnswers.{of_fetch_step, of_sizes_step, on_fetch, on_references, on_sizes, on_want_refs, on_wants, found_ids, part_of}
 use Rattle.git_host.specs.HostAnswers.{line_as, packet_where, progress_as, reported_as, taken_where, with_report}
 use Rattle.git_host.specs.declared.admission.Admission.{Admission as AdmissionMachine}
 use Rattle.git_host.specs.declared.admission.WantRefReported.{WantRefReported}
-use Rattle.git_host.specs.declared.admission.WantRefReported.TheVariants.{Taken as RefTaken}
+use Rattle.git_host.specs.declared.admission.AdmissionStep.{AdmissionStep}
+use Rattle.git_host.specs.declared.admission.WantRefReported.TheVariants.{Taken as RefTaken, MixedFormats as RefMixed, NotAsked as RefUnasked}
 use Rattle.git_host.specs.declared.fetch_answer.BoundaryReported.{BoundaryReported}
 use Rattle.git_host.specs.declared.fetch_answer.BoundaryReported.TheVariants as Line
 use Rattle.git_host.specs.declared.fetch_answer.ProgressReported.{ProgressReported}
@@ -56,10 +54,11 @@ use Rattle.git_host.specs.declared.sizes_answer.SizesAnswer.{SizesAnswer}
 use Rattle.git_host.specs.declared.sizes_answer.SizesStep.{SizesStep}
 use Rattle.git_host.specs.declared.sizes_answer.SizesStep.TheVariants.{AskSize, Packet as SizesPacket, Whole as SizesWhole}
 use Rattle.git_host.specs.declared.host_answer.HostAnswer.{HostAnswer}
-use Rattle.git_host.specs.declared.host_answer.HostAnswer.TheVariants.{Admission, Fetch, References, Sizes}
+use Rattle.git_host.specs.declared.host_answer.HostAnswer.TheVariants.{Admission, Fetch, References, Sizes, Whole as AllSent}
 use Rattle.git_host.specs.declared.host_answer.AnswerStep.{AnswerStep}
+use Rattle.git_host.specs.declared.host_answer.AnswerStep.TheVariants.{Broken}
 use Rattle.git_host.specs.declared.report.HostReported.{HostReported}
-use Rattle.git_host.specs.declared.report.HostReported.TheVariants.{Taken}
+use Rattle.git_host.specs.declared.report.HostReported.TheVariants.{Taken, NotAsked, MixedFormats, OutOfMemory}
 use Rattle.git_host.specs.declared.report.Report.{Report}
 use Rattle.git_host.specs.declared.report.Report.TheVariants.{Want, WantRef, Boundary as LineOf, BoundaryEnd as EndsIt, Progress as ProgressOf, Reference}
 use Rattle.git_host.specs.declared.report.Report.TheVariants.{Unborn}
@@ -110,6 +109,15 @@ same_fetch (of_fetch a t) = refl
 same_fetch (of_references t) = refl
 same_fetch (of_sizes sizes) = refl
 
+broken_gives : (step : Step) → is_loss step ≡ true → of_fetch_step step ≡ Broken
+broken_gives FetchBroken is = refl
+broken_gives FetchPacket is = absurd (cc)
+broken_gives FetchWhole is = absurd (cc)
+broken_gives (AskHave at) is = absurd (cc)
+broken_gives AskReady is = absurd (cc)
+broken_gives AskBoundary is = absurd (cc)
+broken_gives AskPack is = absurd (cc)
+
 module _ {A : Type 0} where
   pub no_pack_goes : (old : HostAnswer A) (bytes : List ℕ) → bytes ≡ [] → GoesOn (on_fetch (with_pack (part_of bytes))) old old
   no_pack_goes old bytes none m q f front h = subst (λ (x : Facts). IsAnswering m old q x front) (sym (no_pack bytes none f)) h
@@ -122,6 +130,17 @@ module _ {A : Type 0} where
   gives_same old new bytes gives m q f front h =
       let (packet, held, is) = gives m q f front h in
       (packet, held, subst (λ (x : Facts). IsAnswering m new q x (front ++ packet ∷ [])) (same_fetch f) is)
+
+  -- ---- an answer that broke off
+
+  pub unbroken : (old answer : HostAnswer A) → old ≡ answer → is_broken answer ≡ false → is_broken old ≡ true → ⊥
+  unbroken old answer was sound lost = let both : is_broken answer ≡ true = subst (λ (x : HostAnswer A). is_broken x ≡ true) was lost in cc
+
+  pub broken_stepped : (a : FetchAnswer A) (old : HostAnswer A) (step : Step) (r : AnswerStep) → old ≡ Fetch a → r ≡ of_fetch_step step
+      → step ≡ fetch_step a → is_broken old ≡ true → r ≡ Broken
+  broken_stepped a old step r was is next lost =
+      let loses : is_loss (fetch_step a) ≡ true = subst (λ (x : HostAnswer A). is_broken x ≡ true) was lost in
+      is ∙ broken_gives step (ap is_loss next ∙ loses)
 
   -- ---- a fetch
   module _ (a b : FetchAnswer A) where
@@ -171,13 +190,13 @@ module _ {A : Type 0} where
         → (ReportsAndGives with a bytes b → GivesOn (with_report report) (Fetch a) bytes (Fetch b)) → (asked ≡ true → EndsAs report (Fetch b))
         → WhereAsked asked (ReportsAndGives with a bytes b) a b → ReportsBy report (Fetch a) (packet_where asked) bytes (Fetch b)
     packet_by report with bytes true asks gives ends done = (gives done, ends refl)
-    packet_by report with bytes false asks gives ends same = (fetch_same same, λ is_wanted. absurd (let is = asks is_wanted in cc))
+    packet_by report with bytes false asks gives ends same = (ap Fetch same, λ is_wanted. absurd (let is = asks is_wanted in cc))
 
     taken_by : (report : Report) (with : FetchFacts → FetchFacts) (bytes : List ℕ) (asked : Bool) → (IsAskedFor report (Fetch a) → asked ≡ true)
         → (ReportsAlone with a b → GoesOn (with_report report) (Fetch a) (Fetch b)) → IsTaken report (Fetch b)
         → WhereAsked asked (ReportsAlone with a b) a b → ReportsBy report (Fetch a) (taken_where asked) bytes (Fetch b)
     taken_by report with bytes true asks goes taken done = (goes done, taken)
-    taken_by report with bytes false asks goes taken same = (fetch_same same, λ is_wanted. absurd (let is = asks is_wanted in cc))
+    taken_by report with bytes false asks goes taken same = (ap Fetch same, λ is_wanted. absurd (let is = asks is_wanted in cc))
 
     -- a report for which a packet is sent, if it was asked for
     pub fetch_packet : (old : HostAnswer A) (report : Report) (with : FetchFacts → FetchFacts) (r : HostReported) (bytes : List ℕ) (asked : Bool)
@@ -200,9 +219,9 @@ module _ {A : Type 0} where
     line_by : (line : Boundary) (reported : BoundaryReported) (bytes : List ℕ) → is_line_asked reported ≡ is_boundary (fetch_step a)
         → ReportsLine line reported a bytes b → ReportsBy (LineOf line) (Fetch a) (line_as reported) bytes (Fetch b)
     line_by line Line.Packet bytes is done = (fetch_gives (with_line line) bytes (λ t. refl) done, tt)
-    line_by line Line.NotAsked bytes is same = (fetch_same same, λ is_wanted. absurd (cc))
-    line_by line Line.MixedFormats bytes is done = (fetch_same done.0, done.1)
-    line_by line Line.NotShallow bytes is done = (fetch_same done.0, done.1)
+    line_by line Line.NotAsked bytes is same = (ap Fetch same, λ is_wanted. absurd (cc))
+    line_by line Line.MixedFormats bytes is done = (ap Fetch done.0, done.1)
+    line_by line Line.NotShallow bytes is done = (ap Fetch done.0, done.1)
 
     -- a line of the boundary
     pub fetch_line : (old : HostAnswer A) (line : Boundary) (reported : BoundaryReported) (r : HostReported) (bytes : List ℕ) → old ≡ Fetch a
@@ -215,7 +234,7 @@ module _ {A : Type 0} where
     progress_by : (text : Bor (List ℕ)) (reported : ProgressReported) (bytes : List ℕ) → is_progress_asked reported ≡ is_pack (fetch_step a)
         → ReportsProgress (part_of text.now) reported a bytes b → ReportsBy (ProgressOf text) (Fetch a) (progress_as reported) bytes (Fetch b)
     progress_by text Progressed.Packet bytes is done = (fetch_gives (with_progress (part_of text.now)) bytes (λ t. refl) done, tt)
-    progress_by text Progressed.NotAsked bytes is same = (fetch_same same, λ is_wanted. absurd (cc))
+    progress_by text Progressed.NotAsked bytes is same = (ap Fetch same, λ is_wanted. absurd (cc))
     progress_by text Progressed.Hidden bytes is done = (fetch_same done.0, done.1)
 
     -- progress
@@ -228,7 +247,7 @@ module _ {A : Type 0} where
 
     boundary_ends : (end : BoundaryEnd) (bytes : List ℕ) → is_asked end ≡ is_boundary (fetch_step a) → EndsBoundary end a bytes b
         → ReportsBy EndsIt (Fetch a) (ended_as end) bytes (Fetch b)
-    boundary_ends EndNotAsked bytes is same = (fetch_same same, λ is_wanted. absurd (cc))
+    boundary_ends EndNotAsked bytes is same = (ap Fetch same, λ is_wanted. absurd (cc))
     boundary_ends Absent bytes is done = (fetch_goes with_boundary_end (λ t. refl) done.0, done.1)
     boundary_ends DelimGiven bytes is gives = (fetch_gives with_boundary_end bytes (λ t. refl) gives, tt)
 
@@ -294,17 +313,14 @@ module _ {A : Type 0} where
     references_go with same goes m (fetch q) f front h = absurd h
     references_go with same goes m (object_info q) f front h = absurd h
 
-    references_same : b ≡ a → GoesOn (λ f. f) (References a) (References b)
-    references_same same m q f front h = subst (λ (x : ReferencesAnswer A). IsAnswering m (References x) q f front) (sym same) h
-
     reference_by : (entry : Entry) (reported : Reported) (bytes : List ℕ) → Reports entry a reported bytes b
         → ReportsBy (Reference entry) (References a) (reported_as reported) bytes (References b)
     reference_by entry ReferencePacket bytes done = (references_give (with_ref entry) bytes done.0 done.1, tt)
     reference_by entry ReferenceHidden bytes done = (references_go (with_ref entry) done.0 done.1, tt)
-    reference_by entry ReferenceNotAsked bytes done = (references_same done.0, λ is_wanted. is_wanted done.1)
-    reference_by entry ReferenceUnsorted bytes done = (references_same done.0, done.1)
-    reference_by entry ReferenceMixed bytes done = (references_same done.0, done.1)
-    reference_by entry ReferenceTwice bytes done = (references_same done.0, done.1)
+    reference_by entry ReferenceNotAsked bytes done = (ap References done.0, λ is_wanted. is_wanted done.1)
+    reference_by entry ReferenceUnsorted bytes done = (ap References done.0, done.1)
+    reference_by entry ReferenceMixed bytes done = (ap References done.0, done.1)
+    reference_by entry ReferenceTwice bytes done = (ap References done.0, done.1)
 
     pub reference_reported : (old : HostAnswer A) (entry : Entry) (reported : Reported) (r : HostReported) (bytes : List ℕ) → old ≡ References a
         → r ≡ reported_as reported → Reports entry a reported bytes b → ReportsBy (Reference entry) old r bytes (References b)
@@ -316,7 +332,7 @@ module _ {A : Type 0} where
         → ReportsBy (Unborn target) (References a) (reported_as reported) bytes (References b)
     unborn_by target ReferencePacket bytes done = (references_give (with_unborn (name_bytes target)) bytes done.0 done.1, tt)
     unborn_by target ReferenceHidden bytes done = (references_go (with_unborn (name_bytes target)) done.0 done.1, tt)
-    unborn_by target ReferenceNotAsked bytes done = (references_same done.0, λ is_wanted. is_wanted done.1)
+    unborn_by target ReferenceNotAsked bytes done = (ap References done.0, λ is_wanted. is_wanted done.1)
     unborn_by target ReferenceUnsorted bytes done = absurd done
     unborn_by target ReferenceMixed bytes done = absurd done
     unborn_by target ReferenceTwice bytes done = absurd done
@@ -379,9 +395,6 @@ module _ {A : Type 0} where
 
   -- ---- an admission
   module _ (a b : AdmissionMachine A) where
-    unchanged : b ≡ a → GoesOn (λ f. f) (Admission a) (Admission b)
-    unchanged same m q f front h = subst (λ (x : AdmissionMachine A). IsAnswering m (Admission x) q f front) (sym same) h
-
     want_goes : (has : Bool) → AdmissionReports (with_want has) a b → GoesOn (on_wants has) (Admission a) (Admission b)
     want_goes has done m (fetch q) (of_fetch x t) front h =
         record {
@@ -424,7 +437,7 @@ module _ {A : Type 0} where
     want_by : (has asked : Bool) (bytes : List ℕ) → ReportsWant has a asked b
         → ReportsBy (Want has) (Admission a) (taken_where asked) bytes (Admission b)
     want_by has true bytes done = (want_goes has done.1, tt)
-    want_by has false bytes done = (unchanged done.1, λ is_wanted. absurd (let unasked = done.0 in cc))
+    want_by has false bytes done = (ap Admission done.1, λ is_wanted. absurd (let unasked = done.0 in cc))
 
     pub want_reported : (old : HostAnswer A) (has asked : Bool) (r : HostReported) (bytes : List ℕ) → old ≡ Admission a → r ≡ taken_where asked
         → ReportsWant has a asked b → ReportsBy (Want has) old r bytes (Admission b)
@@ -438,6 +451,61 @@ module _ {A : Type 0} where
     ref_taken {E = E} old id bytes r was is done =
         let taken : ReportsWantRef {E = E} id a (Ok RefTaken) b = subst (λ (x : Result WantRefReported E). ReportsWantRef id a x b) is done in
         subst (λ (o : HostAnswer A). ReportsBy (WantRef id) o Taken bytes (Admission b)) (sym was) (want_ref_goes id taken.1, tt)
+
+    -- memory for it ran out
+    pub ref_lacks : {E : Type 0} (old : HostAnswer A) (id : Option ObjectName) (bytes : List ℕ) (r : Result WantRefReported E) (e : E)
+        → old ≡ Admission a → r ≡ Err e → ReportsWantRef id a r b → ReportsBy (WantRef id) old OutOfMemory bytes (Admission b)
+    ref_lacks {E = E} old id bytes r e was is done =
+        let refused : ReportsWantRef {E = E} id a (Err e) b = subst (λ (x : Result WantRefReported E). ReportsWantRef id a x b) is done in
+        subst (λ (o : HostAnswer A). ReportsBy (WantRef id) o OutOfMemory bytes (Admission b)) (sym was) (refused.1, refused.0)
+
+    -- or its object is of another format, or it was not asked for
+    pub ref_mixed : {E : Type 0} (old : HostAnswer A) (id : Option ObjectName) (bytes : List ℕ) (r : Result WantRefReported E) → old ≡ Admission a
+        → r ≡ Ok RefMixed → ReportsWantRef id a r b → ReportsBy (WantRef id) old MixedFormats bytes (Admission b)
+    ref_mixed {E = E} old id bytes r was is done =
+        let refused : ReportsWantRef {E = E} id a (Ok RefMixed) b = subst (λ (x : Result WantRefReported E). ReportsWantRef id a x b) is done in
+        subst (λ (o : HostAnswer A). ReportsBy (WantRef id) o MixedFormats bytes (Admission b)) (sym was) (ap Admission refused.0, refused.1)
+
+    pub ref_unasked : {E : Type 0} (old : HostAnswer A) (id : Option ObjectName) (bytes : List ℕ) (r : Result WantRefReported E) → old ≡ Admission a
+        → r ≡ Ok RefUnasked → ReportsWantRef id a r b → ReportsBy (WantRef id) old NotAsked bytes (Admission b)
+    ref_unasked {E = E} old id bytes r was is done =
+        let refused : ReportsWantRef {E = E} id a (Ok RefUnasked) b = subst (λ (x : Result WantRefReported E). ReportsWantRef id a x b) is done in
+        subst (λ (o : HostAnswer A). ReportsBy (WantRef id) o NotAsked bytes (Admission b)) (sym was)
+        (ap Admission refused.1, λ is_wanted. absurd (let unasked = refused.0 in cc))
+
+    -- what is left of an admission goes on
+    same_goes : IsSame a b → GoesOn (λ f. f) (Admission a) (Admission b)
+    same_goes same m (fetch q) (of_fetch x t) front h =
+        record {
+          asked = ap (λ (r : Kept FetchAsked). r.asked) same.request ∙ h.asked;
+          format_is = same.format ∙ h.format_is;
+          bounded = subst (IsWithinLimit m.limit) (sym same.request) h.bounded;
+          represents = subst (λ (r : Kept FetchAsked). StandsAtStep b.step b.format r.asked x b.wanted.items) (sym same.request)
+              (subst (λ (ids : List ObjectName). StandsAtStep b.step b.format a.request.asked x ids) (sym same.wanted)
+              (subst (λ (format : Format). StandsAtStep b.step format a.request.asked x a.wanted.items) (sym same.format)
+              (subst (λ (step : AdmissionStep). StandsAtStep step a.format a.request.asked x a.wanted.items) (sym same.step) h.represents)));
+          facts = h.facts;
+          none = h.none;
+        }
+    same_goes same m (fetch q) (of_references t) front h = absurd h
+    same_goes same m (fetch q) (of_sizes t) front h = absurd h
+    same_goes same m (ls_refs q) f front h = absurd h
+    same_goes same m (object_info q) f front h = absurd h
+
+  -- a report that was refused leaves the answer
+  pub goes_as_it_was : (old new : HostAnswer A) → new ≡ old → GoesOn (λ f. f) old new
+  goes_as_it_was old new same m q f front h = subst (λ (x : HostAnswer A). IsAnswering m x q f front) (sym same) h
+
+  pub lacks_and_goes : (old new : HostAnswer A) → LeavesAnswer OutOfMemory old new → GoesOn (λ f. f) old new
+  lacks_and_goes (Admission a) (Admission b) left = same_goes a b left
+  lacks_and_goes (Admission a) (Fetch b) left = absurd left
+  lacks_and_goes (Admission a) (References b) left = absurd left
+  lacks_and_goes (Admission a) (Sizes b) left = absurd left
+  lacks_and_goes (Admission a) AllSent left = absurd left
+  lacks_and_goes (Fetch a) new left = absurd left
+  lacks_and_goes (References a) new left = absurd left
+  lacks_and_goes (Sizes a) new left = absurd left
+  lacks_and_goes AllSent new left = absurd left
 
   -- an admission that is through becomes the answer
   pub admitted_goes : (a : AdmissionMachine A) (answer : FetchAnswer A) → BecomesAnswer a answer → GoesOn (λ f. f) (Admission a) (Fetch answer)

@@ -61,7 +61,7 @@ module _ {A : Type 0} (refuses : ℕ → Type 0) where
       → Hosts s (used ++ used_by call) (over_with call over) (reported_with call facts) (given ++ given_by call) new
   one_call s (feed chunk count begun) before old after new made used over facts given h =
       more_given s (used ++ take count chunk) over (facts ++ begun) given [] new refl
-      (subst (λ (l : List Facts). Hosts s (used ++ take count chunk) over (facts ++ l) given new) (sym made.begun_is) (made.feeds s used over facts given h))
+      (subst (λ (l : List Facts). Hosts s (used ++ take count chunk) over (facts ++ l) given new) (sym made.begun_is) (made.feeds s used over facts given h).0)
   one_call s close before old after new made used over facts given h =
       more_used s used true facts (given ++ []) new (more_given s used true facts given [] new refl (made.0.2 s used over facts given h))
   one_call s (next Packet bytes) before old after new made used over facts given h =

@@ -20,13 +20,22 @@ use Rattle.git_host.specs.declared.host_server.Phase.{Phase}
 use Rattle.git_host.specs.declared.host_server.Phase.TheVariants.{Advertising, Reading, Asked as Whole, Answering, Refusing, Ended}
 use Rattle.git_host.proofs.HostMoves.{four_bytes, not_none}
 
-same_fault : (o : Option Fault) → IsFaultAfter o o
+pub same_fault : (o : Option Fault) → IsFaultAfter o o
 same_fault None = tt
 same_fault (Some fault) = refl
 
 pub same_phase : {A : Type 0} (old new : HostServer A) → new.phase ≡ old.phase → KeepsFault old new
 same_phase {A = A} old new same s used over reported given h =
     subst (λ (p : Phase A). IsFaultAfter (fault_in old.phase) (fault_in p)) (sym same) (same_fault (fault_in old.phase))
+
+module _ {A : Type 0} (old new : Phase A) (none : fault_in old ≡ None) where
+  -- no fault comes of it
+  pub quiet_fault : fault_in new ≡ None → IsFaultAfter (fault_in old) (fault_in new)
+  quiet_fault now = subst (λ (o : Option Fault). IsFaultAfter o (fault_in new)) (sym none) (subst (IsFaultAfter None) (sym now) tt)
+
+  -- or one by a name of the host's
+  pub host_fault : (fault : Fault) → fault_in new ≡ Some fault → is_of_host fault.kind ≡ true → IsFaultAfter (fault_in old) (fault_in new)
+  host_fault fault now of = subst (λ (o : Option Fault). IsFaultAfter o (fault_in new)) (sym none) (subst (IsFaultAfter None) (sym now) of)
 
 -- what the store lacks is refused by a name of the host's
 lacking_name : (kind : Kind) (q : Asked) (f : Facts) → IsLacking kind q f → is_of_host kind ≡ true

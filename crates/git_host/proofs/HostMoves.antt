@@ -2,12 +2,12 @@
 use Rattle.std.proofs.Common.{arith, ◌≡◌, ◌≢◌, ℕ, ◌-◌, ◌*◌, ◌≤◌, Bool, true, false, if◌then◌else◌, List, [], ◌∷◌, ◌++◌, length, Option, Some, None, Err}
 use Rattle.std.proofs.Common.{refl, sym, ap, ◌∙◌, subst}
 use Rattle.std.proofs.Common.{append-nil, length-append, inl, inr, take}
-use Rattle.std.specs.Prelude.{OnSome}
+use Rattle.std.specs.Prelude.{IfNone, IsSome, OnSome}
 use Rattle.arrayvec.specs.ArrayVec.{ArrayVec}
 use Rattle.git_pkt.specs.Packets.{Pkt, spelling_of}
 use Rattle.git_pkt.specs.Splits.{Given, SpellsAll}
 use Rattle.git_pkt.specs.Machine.ReaderState.{come_in, is_open_in}
-use Rattle.git_pkt.specs.Machine.Credit.{credit_of as packet_credit}
+use Rattle.git_pkt.specs.Machine.Credit.{Pays, credit_of as packet_credit}
 use Rattle.git_pkt.specs.declared.reader.State.{State}
 use Rattle.git_pkt.specs.declared.reader.State.TheVariants.{Between as NotOpen, Gathering, Passing, Failed as Failing}
 use Rattle.git_msg.specs.Machine.RequestStreams.{credit_of as stream_credit}
@@ -28,8 +28,8 @@ use Rattle.git_msg.specs.Machine.RequestStreams.{Closes, EndsWith, Feeds as Stre
 use Rattle.git_msg.specs.declared.streams.ReadGot.{ReadGot}
 use Rattle.git_msg.specs.declared.streams.ReadGot.TheVariants.{More, Request as RequestGot, Stop as StopGot, Failed as FailedGot}
 use Rattle.git_msg.specs.declared.streams.ReadRequest.{ReadRequest}
-use Rattle.git_msg.specs.Machine.RequestStreams.{AreAsked, HasRead, IsAtTheEnd, IsLeftIn, IsLent, IsOne, IsRefusedAs, bytes_used, hold_of}
-use Rattle.git_msg.specs.Machine.RequestStreams.{is_within_packet, limit_of, offer_of, wants_input}
+use Rattle.git_msg.specs.Machine.RequestStreams.{AreAsked, HasRead, IsAtTheEnd, IsLeftIn, IsLent, IsOne, IsRefusedAs, IsUnlent, bytes_used}
+use Rattle.git_msg.specs.Machine.RequestStreams.{hold_of, is_within_packet, limit_of, offer_of, wants_input}
 use Rattle.git_msg.specs.WholeRequests.{AreRequests}
 use Rattle.git_msg.specs.declared.streams.RequestStream.{RequestStream}
 use Rattle.git_msg.specs.declared.streams.Stage.{Stage}
@@ -38,18 +38,22 @@ use Rattle.git_msg.specs.declared.offers.Offer.{Offer}
 use Rattle.git_msg.proofs.StreamEnds.{all_whole}
 use Rattle.git_server.specs.Packs.{whole, broken}
 use Rattle.git_server.specs.Answers.{AllFit, advertisement_of, error_packet, refusal_by, spelled}
+use Rattle.git_server.specs.declared.outcome.Outcome.{Outcome}
 use Rattle.git_server.specs.declared.outcome.Outcome.TheVariants.{Flush, Refused}
 use Rattle.git_host.specs.HostSessions.{AllAnswered, AreAnswersBy, AtLast, Facts, HostSetting, IsAnswerBy, IsHosted, IsLacking, IsTailBy, ShowsWhere, StopsBy}
 use Rattle.git_host.specs.HostSessions.{advertised, nothing_for, of_fetch, of_references, of_sizes, refusal_packet}
 use Rattle.git_host.specs.HostServer.{AreHandedOut, terms_of, Hosts, HostsIn, IsAdvertising, IsAtRequest, IsReading, IsRefusing, IsUntouched}
 use Rattle.git_host.specs.HostServer.{EndsHost, IsAccepted, IsGivenWith, ReportsHost, StopsHost, HasReason, is_asked, begun_in, is_answering, ended_by}
-use Rattle.git_host.specs.HostServer.{reads_on}
+use Rattle.git_host.specs.HostServer.{FeedsHost, IsLostIn, LeadsTo, ReadsTo, StepsHost, WaitsFor, reads_on}
 use Rattle.git_host.specs.HostServer.{given_with, is_reading, refused_by, with_last}
 use Rattle.git_host.specs.HostAnswers.{FailsBy, IsBegun, IsWithinLimit, GivesOn, GoesOn, IsAnswering, IsCut, IsGiven, LacksIt, ReportsBy, with_hidden}
-use Rattle.git_host.specs.HostAnswers.{with_report, with_reported}
+use Rattle.git_host.specs.HostAnswers.{is_broken, with_report, with_reported}
+use Rattle.git_host.specs.declared.host_answer.AnswerStep.{AnswerStep}
+use Rattle.git_host.specs.declared.host_answer.AnswerStep.TheVariants.{Broken}
 use Rattle.git_host.specs.declared.host_answer.HostAnswer.{HostAnswer}
 use Rattle.git_host.specs.declared.host_server.HostServer.{HostServer}
 use Rattle.git_host.specs.declared.host_answer.Failing.TheVariants.{NotAsked as FailingUnasked, Packet as FailingPacket}
+use Rattle.git_host.specs.declared.report.HostStep.TheVariants.{NeedInput as NeedsInput, Asked as AsksFor, Ended as HasEnded}
 use Rattle.git_host.specs.declared.report.Report.{Report}
 use Rattle.git_host.specs.declared.report.Report.TheVariants.{Failed}
 use Rattle.git_host.specs.declared.report.HostReported.{HostReported}
@@ -58,6 +62,7 @@ use Rattle.git_host.specs.declared.report.HostReported.TheVariants.{NotShallow, 
 use Rattle.git_host.specs.declared.host_server.Phase.{Phase}
 use Rattle.git_host.specs.declared.host_server.Phase.TheVariants.{Advertising, Reading, Asked as Whole, Answering, Refusing, Ended}
 use Rattle.git_names.specs.declared.object_format.Format.{Format}
+use Rattle.git_host.proofs.HostAnswerMoves.{goes_as_it_was, lacks_and_goes}
 use Rattle.git_host.proofs.LentStreams.{all_fit, last_begun, last_gives, last_goes, last_whole, lent_bytes, lent_handed, lent_reads_on, packet_fits}
 use Rattle.git_host.proofs.LentStreams.{packet_some, request_gives}
 use Rattle.git_host.proofs.LentStreams.{request_goes, same_last, some_advertised, some_packets}
@@ -304,7 +309,7 @@ not_asked report old other s used over facts given h = (
       (subst (λ (bytes : List ℕ). Hosts s used over facts bytes old) (sym (append-nil given)) h),
   tt,
   unasked report old.phase other,
-  tt,
+  refl,
 )
 
 module _ {A : Type 0} (s : HostSetting) (used : List ℕ) (over : Bool) (facts : List Facts) (given : List ℕ) (flush : ℕ) (old new : RequestStream A)
@@ -332,16 +337,16 @@ module _ {A : Type 0} (s : HostSetting) (used : List ℕ) (over : Bool) (facts :
 
   pub report_done : (report : Report) (r : HostReported) → ReportsBy report a r hold.items b
       → IsAtRequest s used over (with_last (with_reported r report) facts) (given ++ given_with r new) new flush (IsAnswering (terms_of s) b)
-      × IsGivenWith r new × HasReason report (Answering a) r × EndsHost report r (Answering b)
+      × IsGivenWith r new × HasReason report (Answering a) r × EndsHost report r (Answering a) (Answering b)
   report_done report WasGiven done = (answer_gives (with_report report) done.0, handed_out (with_report report) done.0, tt, done.1)
   report_done report Taken done = (goes_to (with_report report) done.0, tt, tt, done.1)
   report_done report Hidden done = (goes_to (with_hidden report) done.0, tt, done.1, tt)
-  report_done report NotAsked done = (goes_to (λ f. f) done.0, tt, done.1, tt)
-  report_done report MixedFormats done = (goes_to (λ f. f) done.0, tt, done.1, tt)
-  report_done report Unsorted done = (goes_to (λ f. f) done.0, tt, done.1, tt)
-  report_done report HeadTwice done = (goes_to (λ f. f) done.0, tt, done.1, tt)
-  report_done report NotShallow done = (goes_to (λ f. f) done.0, tt, done.1, tt)
-  report_done report OutOfMemory done = (goes_to (λ f. f) done.0, tt, done.1, tt)
+  report_done report NotAsked done = (goes_to (λ f. f) (goes_as_it_was a b done.0), tt, done.1, ap Answering done.0)
+  report_done report MixedFormats done = (goes_to (λ f. f) (goes_as_it_was a b done.0), tt, done.1, ap Answering done.0)
+  report_done report Unsorted done = (goes_to (λ f. f) (goes_as_it_was a b done.0), tt, done.1, ap Answering done.0)
+  report_done report HeadTwice done = (goes_to (λ f. f) (goes_as_it_was a b done.0), tt, done.1, ap Answering done.0)
+  report_done report NotShallow done = (goes_to (λ f. f) (goes_as_it_was a b done.0), tt, done.1, ap Answering done.0)
+  report_done report OutOfMemory done = (goes_to (λ f. f) (lacks_and_goes a b done.0), tt, done.1, done.0)
 
   -- a packet of the answer
   pub packet_done : GivesOn (λ f. f) a hold.items b
@@ -411,16 +416,13 @@ module _ {A : Type 0} (s : HostSetting) (used : List ℕ) (over : Bool) (facts :
   -- nothing was asked
   pub fail_unasked : FailsBy a FailingUnasked hold.items b
       → IsAtRequest s used over (with_last (with_reported NotAsked Failed) facts) (given ++ []) new flush (IsAnswering (terms_of s) b)
-      × HasReason Failed (Answering a) NotAsked
-  fail_unasked done = (
-    goes_to (λ f. f) (λ m q f front x. subst (λ (o : HostAnswer A). IsAnswering m o q f front) (sym done.0) x),
-    done.1,
-  )
+      × HasReason Failed (Answering a) NotAsked × EndsHost Failed NotAsked (Answering a) (Answering b)
+  fail_unasked done = (goes_to (λ f. f) (goes_as_it_was a b done.0), done.1, ap Answering done.0)
 
   -- the pack breaks off
   pub fail_packet : FailsBy a FailingPacket hold.items b
       → IsAtRequest s used over (with_last (with_reported WasGiven Failed) facts) (given ++ hold_of new) new flush (IsAnswering (terms_of s) b)
-      × AreHandedOut (hold_of new) × EndsHost Failed WasGiven (Answering b)
+      × AreHandedOut (hold_of new) × EndsHost Failed WasGiven (Answering a) (Answering b)
   fail_packet done = (answer_gives (λ f. f) done.0, handed_out (λ f. f) done.0, done.1)
 
 -- the host refused the request that came by a text
@@ -547,6 +549,16 @@ pub on_some : {X : Type 0} (o : Option X) (x : X) (P : Type 0) → o ≡ Some x 
 on_some None x P is h = absurd (cc)
 on_some (Some y) x P is h = h
 
+-- the hold was not lent
+pub none_lent : {X : Type 0} (o : Option X) → o ≡ None → IsSome o → ⊥
+none_lent None none some = absurd (cc)
+none_lent (Some x) none some = cc
+
+pub unlent_credit : {A X : Type 0} (old new : RequestStream A) (o : Option X) → o ≡ None → IfNone o (IsUnlent old new)
+    → stream_credit new ≡ stream_credit old
+unlent_credit old new None none left = ap packet_credit left.packets
+unlent_credit old new (Some x) none left = absurd (cc)
+
 pub answering_no : {A : Type 0} (phase : Phase A) → is_answering phase ≡ true → ((answer : HostAnswer A) → phase ≡ Answering answer → ⊥) → ⊥
 answering_no Advertising is other = cc
 answering_no Reading is other = cc
@@ -554,6 +566,74 @@ answering_no (Whole request) is other = cc
 answering_no (Answering answer) is other = other answer refl
 answering_no (Refusing fault) is other = cc
 answering_no (Ended outcome) is other = cc
+
+-- ---- where calls lead
+
+module _ {A : Type 0} where
+  -- nothing changes where a server waits, or its session has ended
+  pub reads_still : (old : HostServer A) → old.phase ≡ Reading → StepsHost old NeedsInput old
+  reads_still old is s used over reported given h = (
+    h,
+    subst (λ (p : Phase A). WaitsFor NeedsInput p) (sym is) tt,
+    subst (λ (p : Phase A). LeadsTo p p) (sym is) refl,
+  )
+
+  pub asks_still : (old : HostServer A) (request : Request A) → old.phase ≡ Whole request → StepsHost old AsksFor old
+  asks_still old request is s used over reported given h = (
+    h,
+    subst (λ (p : Phase A). WaitsFor AsksFor p) (sym is) tt,
+    subst (λ (p : Phase A). LeadsTo p p) (sym is) refl,
+  )
+
+  pub ends_still : (old : HostServer A) (outcome : Outcome) → old.phase ≡ Ended outcome → StepsHost old (HasEnded outcome) old
+  ends_still old outcome is s used over reported given h = (
+    h,
+    subst (λ (p : Phase A). WaitsFor (HasEnded outcome) p) (sym is) refl,
+    subst (λ (p : Phase A). LeadsTo p p) (sym is) refl,
+  )
+
+  pub answer_leads : (old new : Phase A) (a : HostAnswer A) → old ≡ Answering a → (is_broken a ≡ true → IsLostIn new) → LeadsTo old new
+  answer_leads old new a was leads = subst (λ (p : Phase A). LeadsTo p new) (sym was) leads
+
+  -- an answer that did not break off leads anywhere
+  pub other_leads : (old new : Phase A) (a : HostAnswer A) (r known : AnswerStep) → old ≡ Answering a → (is_broken a ≡ true → r ≡ Broken) → r ≡ known
+      → (known ≡ Broken → ⊥) → LeadsTo old new
+  other_leads old new a r known was breaks is other = answer_leads old new a was (λ broken. absurd (other (sym is ∙ breaks broken)))
+
+  -- a server that reads no bytes stays
+  pub reads_itself : (phase : Phase A) → ReadsTo phase phase
+  reads_itself Reading = refl
+  reads_itself Advertising = refl
+  reads_itself (Whole request) = refl
+  reads_itself (Answering answer) = refl
+  reads_itself (Refusing fault) = refl
+  reads_itself (Ended outcome) = refl
+
+  none_begun_in : (phase : Phase A) → begun_in phase phase ≡ []
+  none_begun_in Reading = refl
+  none_begun_in Advertising = refl
+  none_begun_in (Whole request) = refl
+  none_begun_in (Answering answer) = refl
+  none_begun_in (Refusing fault) = refl
+  none_begun_in (Ended outcome) = refl
+
+  pub feeds_none : (old : HostServer A) → FeedsHost [] old old
+  feeds_none old s used over reported given h = (
+    subst (λ (u : List ℕ). Hosts s u over (reported ++ begun_in old.phase old.phase) given old) (sym (append-nil used))
+        (subst (λ (fs : List Facts). Hosts s used over fs given old)
+        (sym (ap (λ (l : List Facts). reported ++ l) (none_begun_in old.phase) ∙ append-nil reported)) h),
+    reads_itself old.phase,
+  )
+
+  pub reading_leads : (old new : Phase A) → old ≡ Reading → is_answering new ≡ false → ReadsTo old new
+  reading_leads old new was none = subst (λ (p : Phase A). ReadsTo p new) (sym was) none
+
+  refused_unanswered : (kind : Kind) (fault : Fault) (new : Phase A) → new ≡ refused_by kind fault → is_answering new ≡ false
+  refused_unanswered RemoteError fault new is = ap is_answering is
+  refused_unanswered kind fault new is = ap is_answering is
+
+  pub stopped_leads : (old : Phase A) (mid new : HostServer A) (fault : Fault) → old ≡ Reading → StopsHost fault mid new → ReadsTo old new.phase
+  stopped_leads old mid new fault was stopped = reading_leads old new.phase was (refused_unanswered fault.kind fault new.phase stopped.phase)
 
 -- ---- a server whose input is refused
 module _ {A : Type 0} (mid new : HostServer A) (fault : Fault) (stopped : StopsHost fault mid new) where
@@ -672,6 +752,26 @@ asked_credit old is =
 refused_credit : (A : Type 0) (kind : Kind) (fault : Fault) (stream : RequestStream A) → credit_in (refused_by kind fault) stream ≡ 0
 refused_credit A RemoteError fault stream = refl
 refused_credit A kind fault stream = refl
+
+-- what was read is paid for, by the phase after it
+module _ {A : Type 0} (old : HostServer A) (new : RequestStream A) (used before after : ℕ) (reading : old.phase ≡ Reading)
+    (pays : Pays used before after (stream_credit old.stream) (stream_credit new)) where
+  pub pays_at : (phase : Phase A) → Pays used before after (credit_of old) (credit_in phase new)
+  pays_at phase = record {
+    rises = pays.rises;
+    within = omega (arith, pays.within, credit_most phase new, ap (λ (p : Phase A). credit_in p old.stream) reading);
+  }
+
+  pub pays_off : (left : ℕ) → left ≡ 0 → Pays used before after (credit_of old) left
+  pays_off left none = record {
+    rises = pays.rises;
+    within = omega (arith, pays.within, none, ap (λ (p : Phase A). credit_in p old.stream) reading);
+  }
+
+-- nothing is left once the input is refused
+pub refused_free : {A : Type 0} (old : HostServer A) (phase : Phase A) (stream : RequestStream A) (fault : Fault) → phase ≡ Refusing fault
+    → credit_in phase stream ≤ credit_of old
+refused_free old phase stream fault is = omega (arith, ap (λ (p : Phase _). credit_in p stream) is)
 
 pub stopped_credit : {A : Type 0} (mid new : HostServer A) (fault : Fault) → StopsHost fault mid new → credit_of new ≡ 0
 stopped_credit {A = A} mid new fault stopped = ap (λ (p : Phase A). credit_in p new.stream) stopped.phase ∙ refused_credit A fault.kind fault new.stream

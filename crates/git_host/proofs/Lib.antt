@@ -23,6 +23,7 @@ pub mod HostedAnswers
 pub mod HostedRefusals
 pub mod HostedWants
 pub mod StoreSteps
+pub mod LostAnswers
 pub mod StoreReaches
 pub mod StoreWaits
 pub mod StoreRunLemmas

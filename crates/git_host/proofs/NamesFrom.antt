@@ -1,10 +1,10 @@
 -- A text that begins as a reference name does.
-use Rattle.std.proofs.Common.{arith, ◌≡◌, ◌≢◌, ℕ, ◌-◌, ◌+◌, ◌<◌, ◌≤◌, List, length, slice_index, take, codes, refl, sym, ap, ◌∙◌, subst, inl, inr}
+use Rattle.std.proofs.Common.{arith, ◌≡◌, ◌≢◌, ℕ, ◌-◌, ◌+◌, ◌<◌, ◌≤◌, List, length, slice_index, take, codes, sym, ap, ◌∙◌, subst, inl, inr}
 use Rattle.std.proofs.lemmas.Bool.{cases_lt}
 use Rattle.std.proofs.lemmas.List.{ext_get_or, get_or-take, length-take-le}
 use Rattle.git_names.specs.NextByte.{MayFollow}
 use Rattle.git_names.specs.RefName.{BeginsWith, EndsWith, IsRefName}
-use Rattle.git_names.proofs.RefNames.{follows_in_name, ref_name_from, slash_follows_name}
+use Rattle.git_names.proofs.RefNames.{follows_in_name, ref_name_from}
 use Rattle.git_host.specs.NextNames.{FollowsFrom, HoldsUpTo, IsCommon}
 
 -- the fronts of texts that begin alike

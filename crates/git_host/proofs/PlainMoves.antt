@@ -1,14 +1,14 @@
 -- The report of a reference that points to no other and is no annotated tag.
-use Rattle.std.proofs.Common.{arith, ◌≡◌, ◌≤◌, ℕ, List, length, Option, Some, None, Result, Ok, Err, refl, sym, ap, ◌∙◌, subst}
+use Rattle.std.proofs.Common.{◌≡◌, ℕ, List, Result, Ok, Err, refl, sym, ap, ◌∙◌, subst}
 use Rattle.std.specs.Prelude.{MatchResult}
-use Rattle.git_names.specs.ObjectName.{IsObjectName, ObjectName, hex_of}
+use Rattle.git_names.specs.ObjectName.{hex_of}
 use Rattle.git_names.specs.RefName.{IsRefName}
 use Rattle.git_names.specs.declared.object_format.Format.{Format}
 use Rattle.git_pkt.specs.Packets.{spelling_of}
 use Rattle.git_server.specs.Repository.{Entry}
 use Rattle.git_host.specs.HostAnswers.{IsReason, ReportsBy, TakesPlain, reported_as}
 use Rattle.git_host.specs.HostServer.{RefusesTexts, ReportsHost, ReportsTexts}
-use Rattle.git_host.specs.ReferencesPlaces.{RefusesName, TakesPlain as TakesReference, plain_entry, plain_line}
+use Rattle.git_host.specs.ReferencesPlaces.{TakesPlain as TakesReference, plain_entry, plain_line}
 use Rattle.git_host.specs.WrittenDigits.{SpellsId}
 use Rattle.git_host.specs.declared.host_answer.HostAnswer.{HostAnswer}
 use Rattle.git_host.specs.declared.host_answer.HostAnswer.TheVariants.{Admission, Fetch, References, Sizes, Whole}

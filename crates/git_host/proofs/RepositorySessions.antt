@@ -12,19 +12,20 @@ use Rattle.git_server.specs.declared.outcome.Outcome.{Outcome}
 use Rattle.git_server.specs.declared.outcome.Outcome.TheVariants.{Flush, Closed, Refused}
 use Rattle.git_host.specs.HostAnswers.{IsAnswering, with_reported}
 use Rattle.git_host.specs.HostLookups.{at_hand}
-use Rattle.git_host.specs.HostServer.{FeedsHost, Hosts, HostsIn, IsAtRequest, IsReading, IsUntouched, StepsHost, begun_in, terms_of, with_last}
+use Rattle.git_host.specs.HostServer.{FeedsHost, Hosts, HostsIn, IsAtRequest, IsReading, IsUntouched, StepsHost, begun_in, is_answering}
+use Rattle.git_host.specs.HostServer.{terms_of, with_last}
 use Rattle.git_host.specs.HostSessions.{AreAnswersBy, AtLast, Facts, HostSetting, IsHosted, StopsBy, nothing_for}
 use Rattle.git_host.specs.HostedRepository.{EndsWell, IsReportedBy, over_repository}
 use Rattle.git_host.specs.Questions.{Question, Reply}
 use Rattle.git_host.specs.RepoReplies.{BeginsAnew, IsReplyOf, RepliesAs, answers_of, named_after, place_after}
-use Rattle.git_host.specs.RepositoryRuns.{AllTaken, AreBegunFirst, ServesRepository, received_after}
-use Rattle.git_host.specs.StoreMoves.{AllMade, Answers, Move, asked as did_ask, began, closed, facts_after, fed, gave, given_in}
-use Rattle.git_host.specs.StoreMoves.{over_after, question_by, rested, used_in, was_none, was_refused, was_taken}
+use Rattle.git_host.specs.RepositoryRuns.{ServesRepository, received_after}
+use Rattle.git_host.specs.StoreMoves.{AllMade, Answers, Made, Move, asked as did_ask, began, closed, facts_after, facts_with, fed, gave, given_by, given_in}
+use Rattle.git_host.specs.StoreMoves.{over_after, over_with, question_by, rested, used_by, used_in, was_none, was_refused, was_taken}
 use Rattle.git_host.specs.declared.host_server.HostServer.{HostServer}
 use Rattle.git_host.specs.declared.host_server.Phase.{Phase}
 use Rattle.git_host.specs.declared.host_server.Phase.TheVariants.{Advertising, Reading, Asked as WholeRequest, Answering, Refusing, Ended}
 use Rattle.git_host.specs.declared.report.HostReported.{HostReported}
-use Rattle.git_host.specs.declared.report.HostStep.TheVariants.{Asked as AsksFor, Need as Needs}
+use Rattle.git_host.specs.declared.report.HostStep.TheVariants.{Packet as GivesPacket, Asked as AsksFor, Need as Needs}
 use Rattle.git_host.specs.declared.report.Need.{Need}
 use Rattle.git_host.specs.declared.report.Report.{Report}
 use Rattle.git_host.specs.declared.repo_store.RepoStore.{RepoStore}
@@ -33,6 +34,8 @@ use Rattle.git_host.proofs.HostCallMoves.{ended_is}
 use Rattle.git_host.proofs.HostMoves.{as_asked}
 use Rattle.git_host.proofs.HostedAnswers.{as_many, hosted_session}
 use Rattle.git_host.proofs.LentStreams.{last_on}
+use Rattle.git_host.proofs.LostAnswers.{closed_unanswered, fails_lost, first_unanswered, is_lost, lost_moves, needs_received, received_fed, refused_lost}
+use Rattle.git_host.proofs.LostAnswers.{was_answering, well_unlost}
 use Rattle.git_host.proofs.RepositoryMoves.{AllButPack, Came, Stands, all_so, came_or_not, no_end, one_end, one_reply, waits_reply, waits_whole}
 use Rattle.git_host.proofs.RepositoryMoves.{with_packs}
 use Rattle.git_host.proofs.RepositoryReports.{SoFar, nothing_so_far}
@@ -214,7 +217,7 @@ module _ {R P : Type 0} (state : R → RepoState) (s : HostSetting) (repo : Repo
     has_begun : (received : Bool) (old asking : HostServer A) (store left : RepoStore R P) → StepsHost old AsksFor asking → BeginsAnew state store left
         → Hosts s used over facts given old → Tracks received used facts store → Tracks true used facts left
     has_begun received old asking store left steps anew hosts h =
-        let (stands, waits) = steps s used over facts given hosts in
+        let (stands, waits, leads) = steps s used over facts given hosts in
         let (request, phase_is) = waits_whole asking.phase waits in
         let at : IsAtRequest s used over facts given asking.stream asking.flush (IsUntouched s.limit (holding_of request)) =
         subst (λ (p : Phase A). HostsIn p s used over facts given asking.stream asking.flush) phase_is stands.stands in
@@ -253,7 +256,7 @@ module _ {R P : Type 0} (state : R → RepoState) (s : HostSetting) (repo : Repo
         → Tracks true used (with_last (with_reported what report) facts) left
     has_replied old asking new store left need question reply report what steps answers hosts h =
         let with = with_reported what report in
-        let (stands, waits) = steps s used over facts given hosts in
+        let (stands, waits, leads) = steps s used over facts given hosts in
         let w = waits_reply need asking.phase waits in
         let at : IsAtRequest s used over facts given asking.stream asking.flush (IsAnswering (terms_of s) w.answer) =
         subst (λ (p : Phase A). HostsIn p s used over facts given asking.stream asking.flush) w.phase_is stands.stands in
@@ -312,7 +315,7 @@ module _ {R P : Type 0} (state : R → RepoState) (s : HostSetting) (repo : Repo
           subst (λ (fs : List Facts). Tracks (received_after received fs) (used ++ bytes) (facts ++ fs) store) (sym (is ∙ none))
           (fed_none received bytes old store hosts h)
       | inr c ↦
-          let now = subst (λ (fs : List Facts). Hosts s (used ++ bytes) over (facts ++ fs) given new) c.begun_is (feeds s used over facts given hosts) in
+          let now = subst (λ (fs : List Facts). Hosts s (used ++ bytes) over (facts ++ fs) given new) c.begun_is (feeds s used over facts given hosts).0 in
           subst (λ (fs : List Facts). Tracks (received_after received fs) (used ++ bytes) (facts ++ fs) store) (sym (is ∙ c.begun_is))
           (fed_came received bytes old new store c hosts now h)
     ]
@@ -321,49 +324,74 @@ module _ {R P : Type 0} (state : R → RepoState) (s : HostSetting) (repo : Repo
   abbrev TracksOn : List ℕ → List Facts → RepoStore R P → Type 0
   TracksOn used facts store = (received : Bool) × Tracks received used facts store
 
+  -- a session that was lost does not end well
+  ends_lost : {A : Type 0} (moves : List Move) (move : Move) (old : HostServer A) (store : RepoStore R P) (next : HostServer A) (then : RepoStore R P)
+      (new : HostServer A) (left : RepoStore R P) → Made begins replies move old store next then → AllMade begins replies moves next then new left
+      → (used : List ℕ) (over : Bool) (facts : List Facts) (given : List ℕ) → Hosts s used over facts given old → is_lost next.phase ≡ true
+      → is_lost new.phase ≡ false → ⊥
+  ends_lost moves move old store next then new left made more used over facts given hosts lost well =
+      let later = lost_moves begins replies s moves next then new left more (used ++ used_by move) (over_with move over) (facts_with move facts)
+      (given ++ given_by move) (one_move begins replies s move old store next then made used over facts given hosts) lost in
+      cc
+
   run : {A : Type 0} (received : Bool) (moves : List Move) (old : HostServer A) (store : RepoStore R P) (new : HostServer A) (left : RepoStore R P)
-      → AllMade begins replies moves old store new left → AllTaken moves → AreBegunFirst received moves
-      → (used : List ℕ) (over : Bool) (facts : List Facts) (given : List ℕ) → Hosts s used over facts given old → Tracks received used facts store
+      → AllMade begins replies moves old store new left → is_lost new.phase ≡ false
+      → (used : List ℕ) (over : Bool) (facts : List Facts) (given : List ℕ) → Hosts s used over facts given old
+      → (is_answering old.phase ≡ true → received ≡ true) → Tracks received used facts store
       → TracksOn (used ++ used_in moves) (facts_after facts moves) left
-  run received [] old store new left (same, kept) taken begun used over facts given hosts h = (received, stays received used facts store left kept h)
-  run received (fed bytes fs ∷ moves) old store new left (next, then, made, more) taken begun used over facts given hosts h =
+  run received [] old store new left (same, kept) well used over facts given hosts was h = (received, stays received used facts store left kept h)
+  run received (fed bytes fs ∷ moves) old store new left (next, then, made, more) well used over facts given hosts was h =
       let now = has_fed used over facts given received bytes fs old next store made.0 made.1 hosts h in
-      let (o, later) = run (received_after received fs) moves next then new left more taken begun (used ++ bytes) over (facts ++ fs) (given ++ [])
-      (one_move begins replies s (fed bytes fs) old store next then made used over facts given hosts)
+      let is_received : is_answering next.phase ≡ true → received_after received fs ≡ true =
+      λ is. ap (received_after received) made.1 ∙ received_fed received old.phase next.phase (made.0 s used over facts given hosts).1 was is in
+      let (o, later) = run (received_after received fs) moves next then new left more well (used ++ bytes) over (facts ++ fs) (given ++ [])
+      (one_move begins replies s (fed bytes fs) old store next then made used over facts given hosts) is_received
       (subst (λ (x : RepoStore R P). Tracks (received_after received fs) (used ++ bytes) (facts ++ fs) x) (sym made.2) now) in
       (o, subst (λ (u : List ℕ). Tracks o u (facts_after (facts ++ fs) moves) left) (append_assoc used bytes (used_in moves)) later)
-  run received (closed ∷ moves) old store new left (next, then, made, more) taken begun used over facts given hosts h =
-      let (o, later) = run received moves next then new left more taken begun (used ++ []) true facts (given ++ [])
-      (one_move begins replies s closed old store next then made used over facts given hosts) (stays received used facts store then made.1 h) in
+  run received (closed ∷ moves) old store new left (next, then, made, more) well used over facts given hosts was h =
+      let ends = one_move begins replies s closed old store next then made used over facts given hosts in
+      let (o, later) = run received moves next then new left more well (used ++ []) true facts (given ++ []) ends
+      (λ is. absurd (closed_unanswered next.phase s (used ++ []) facts (given ++ []) next.stream next.flush ends.stands is))
+      (stays received used facts store then made.1 h) in
       (o, subst (λ (u : List ℕ). Tracks o u (facts_after facts moves) left) (append_assoc used [] (used_in moves)) later)
-  run received (gave bytes ∷ moves) old store new left (next, then, made, more) taken begun used over facts given hosts h =
-      let (o, later) = run received moves next then new left more taken begun (used ++ []) over facts (given ++ bytes)
-      (one_move begins replies s (gave bytes) old store next then made used over facts given hosts) (stays received used facts store then made.2 h) in
+  run received (gave bytes ∷ moves) old store new left (next, then, made, more) well used over facts given hosts was h =
+      let (o, later) = run received moves next then new left more well (used ++ []) over facts (given ++ bytes)
+      (one_move begins replies s (gave bytes) old store next then made used over facts given hosts)
+      (λ is. was (was_answering s used over facts given GivesPacket old next made.0 hosts is)) (stays received used facts store then made.2 h) in
       (o, subst (λ (u : List ℕ). Tracks o u (facts_after facts moves) left) (append_assoc used [] (used_in moves)) later)
-  run received (rested ∷ moves) old store new left (next, then, made, more) taken begun used over facts given hosts h =
-      let (o, later) = run received moves next then new left more taken begun (used ++ []) over facts (given ++ [])
-      (one_move begins replies s rested old store next then made used over facts given hosts) (stays received used facts store then made.3 h) in
+  run received (rested ∷ moves) old store new left (next, then, made, more) well used over facts given hosts was h =
+      let (step, rest, steps, kept) = made in
+      let (o, later) = run received moves next then new left more well (used ++ []) over facts (given ++ [])
+      (one_move begins replies s rested old store next then made used over facts given hosts)
+      (λ is. was (was_answering s used over facts given step old next steps hosts is)) (stays received used facts store then kept h) in
       (o, subst (λ (u : List ℕ). Tracks o u (facts_after facts moves) left) (append_assoc used [] (used_in moves)) later)
-  run received (began q ∷ moves) old store new left (next, then, made, more) taken begun used over facts given hosts h =
+  run received (began q ∷ moves) old store new left (next, then, made, more) well used over facts given hosts was h =
       let (asking, steps, b, is) = made in
       let now = has_begun used over facts given received old asking store then steps b.begun hosts h in
-      let (o, later) = run true moves next then new left more taken begun (used ++ []) over facts (given ++ [])
-      (one_move begins replies s (began q) old store next then made used over facts given hosts) (stays true used facts then then refl now) in
+      let (o, later) = run true moves next then new left more well (used ++ []) over facts (given ++ [])
+      (one_move begins replies s (began q) old store next then made used over facts given hosts) (λ is. refl) (stays true used facts then then refl now) in
       (o, subst (λ (u : List ℕ). Tracks o u (facts_after facts moves) left) (append_assoc used [] (used_in moves)) later)
-  run received (did_ask need question reply (was_taken report what) bytes ∷ moves) old store new left (next, then, made, more) taken begun used over facts given
-      hosts h =
+  run received (did_ask need question reply (was_taken report what) bytes ∷ moves) old store new left (next, then, made, more) well used over facts given
+      hosts was h =
       let (asking, steps, answers, is) = made in
-      let opened = subst (λ (b : Bool). Tracks b used facts store) begun.0 h in
+      let opened = subst (λ (b : Bool). Tracks b used facts store) (was (needs_received s used over facts given need old asking steps hosts)) h in
       let now = has_replied used over facts given old asking next store then need question reply report what steps answers hosts opened in
       let facts_now = with_last (with_reported what report) facts in
-      let rest = subst (λ (b : Bool). AreBegunFirst b moves) begun.0 begun.1 in
-      let (o, later) = run true moves next then new left more taken.1 rest (used ++ []) over facts_now (given ++ bytes)
+      let (o, later) = run true moves next then new left more well (used ++ []) over facts_now (given ++ bytes)
       (one_move begins replies s (did_ask need question reply (was_taken report what) bytes) old store next then made used over facts given hosts)
-      (stays true used facts_now then then refl now) in
+      (λ is. refl) (stays true used facts_now then then refl now) in
       (o, subst (λ (u : List ℕ). Tracks o u (facts_after facts_now moves) left) (append_assoc used [] (used_in moves)) later)
-  run received (did_ask need question reply (was_none what) bytes ∷ moves) old store new left made taken begun used over facts given hosts h = absurd taken.0
-  run received (did_ask need question reply (was_refused report why what) bytes ∷ moves) old store new left made taken begun used over facts given hosts h =
-      absurd taken.0
+  run received (did_ask need question reply (was_none what) bytes ∷ moves) old store new left (next, then, made, more) well used over facts given hosts was h =
+      let (asking, steps, answers, is) = made in
+      let lost = fails_lost s used over facts given need old asking next what steps hosts answers.turns_out.1 in
+      absurd (ends_lost moves (did_ask need question reply (was_none what) bytes) old store next then new left made more used over facts given hosts lost well)
+  run received (did_ask need question reply (was_refused report why what) bytes ∷ moves) old store new left (next, then, made, more) well used over facts
+      given hosts was h =
+      let (asking, steps, answers, is) = made in
+      let (refusing, reports, refused, does, fails) = answers.turns_out in
+      let lost = refused_lost s used over facts given need old asking refusing next report why what steps hosts refused does fails in
+      absurd (ends_lost moves (did_ask need question reply (was_refused report why what) bytes) old store next then new left made more used over facts given
+      hosts lost well)
 
   module _ {A : Type 0} (moves : List Move) (outcome : Outcome) (first : HostServer A) (store : RepoStore R P) (last : HostServer A) (left : RepoStore R P)
       (ran : ServesRepository state s repo moves outcome first store last left) where
@@ -380,7 +408,9 @@ module _ {R P : Type 0} (state : R → RepoState) (s : HostSetting) (repo : Repo
           answers = ran.answers;
           so = λ qs gs bytes are_asked none. inl (none_more qs (omega (arith, none)), refl);
         } in
-        let (received, tracks) = run false moves first store last left ran.made ran.taken ran.begun [] false [] [] ran.begins before in
+        let unlost = well_unlost outcome last.phase (ended_is last.phase outcome ran.ended) ran.well in
+        let (received, tracks) = run false moves first store last left ran.made unlost [] false [] [] ran.begins
+        (λ is. absurd (first_unanswered first.phase s [] [] first.stream first.flush ran.begins.stands is)) before in
         let many_done = as_many s.offer.format done.asked (facts_after [] moves) done.answers done.answered in
         let same = asked_once s.offer s.limit (used_in moves) done.asked asked done.left left_packets done.rest rest done.are_asked are
         (many_done ∙ sym many) in

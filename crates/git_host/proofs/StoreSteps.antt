@@ -60,7 +60,7 @@ module _ {A S : Type 0} (begins : S → Asked → S → Type 0) (replies : S →
       → Hosts s (used ++ used_by move) (over_with move over) (facts_with move facts) (given ++ given_by move) new
   one_move (fed bytes begun) old store new left (feeds, is, kept) used over facts given h =
       more_given s (used ++ bytes) over (facts ++ begun) given [] new refl
-      (subst (λ (l : List Facts). Hosts s (used ++ bytes) over (facts ++ l) given new) (sym is) (feeds s used over facts given h))
+      (subst (λ (l : List Facts). Hosts s (used ++ bytes) over (facts ++ l) given new) (sym is) (feeds s used over facts given h).0)
   one_move closed old store new left (closes, kept) used over facts given h =
       more_used s used true facts (given ++ []) new (more_given s used true facts given [] new refl (closes.2 s used over facts given h))
   one_move (gave bytes) old store new left (steps, is, kept) used over facts given h =

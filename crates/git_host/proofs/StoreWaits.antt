@@ -220,7 +220,7 @@ module _ {A : Type 0} where
 
     pub needs_now : (need : Need) → StepsHost old (Step.Need need) new → IsSome (question_at new need) × (is_over new ≡ false)
     needs_now need steps = ∥∥₁_elim session (hlevel props) (λ (h : IsOfAHost old).
-        let (hosts, waits) = steps h.s h.used h.over h.facts h.given h.hosts in
+        let (hosts, waits, leads) = steps h.s h.used h.over h.facts h.given h.hosts in
         (question_now_in need new.phase h.s h.used h.over h.facts h.given new.stream new.flush hosts.stands waits, answering_in need new.phase waits))
 
     pub ended_now : (outcome : Outcome) → StepsHost old (Step.Ended outcome) new → IsSome (outcome_of new)

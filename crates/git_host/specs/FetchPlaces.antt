@@ -279,6 +279,11 @@ abbrev pub is_pack : Step → Bool
 is_pack AskPack = true
 is_pack _ = false
 
+-- the end of an answer that broke off
+abbrev pub is_loss : Step → Bool
+is_loss Broken = true
+is_loss _ = false
+
 -- one report more
 abbrev pub with_have : Bool → FetchFacts → FetchFacts
 with_have has t = record t { has = t.has ++ has ∷ [] }

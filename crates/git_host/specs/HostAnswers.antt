@@ -13,11 +13,12 @@ use Rattle.git_msg.specs.Asked.{Asked, FetchAsked, LsRefsAsked, ObjectInfoAsked,
 use Rattle.git_server.specs.Packs.{Manner, whole, broken}
 use Rattle.git_server.specs.Objects.{object_of}
 use Rattle.git_server.specs.Repository.{IsUnshallowOf}
-use Rattle.git_host.specs.Admissions.{AdmissionFacts, IsAdmitted, IsOfOtherFormat, RepresentsAdmission, asked_of, format_of, is_want, is_want_ref, step_of}
+use Rattle.git_host.specs.Admissions.{AdmissionFacts, IsAdmitted, IsOfOtherFormat, IsSame, RepresentsAdmission, asked_of, format_of, is_want, is_want_ref}
+use Rattle.git_host.specs.Admissions.{step_of}
 use Rattle.git_host.specs.Admissions.{with_found, with_want}
 use Rattle.git_host.specs.FetchFacts.{FetchFacts, no_facts}
-use Rattle.git_host.specs.FetchPlaces.{ReportsAndGives, Represents, is_before_pack, is_boundary, is_have, is_pack, is_ready_asked, with_have, with_line}
-use Rattle.git_host.specs.FetchPlaces.{with_boundary_end}
+use Rattle.git_host.specs.FetchPlaces.{ReportsAndGives, Represents, is_before_pack, is_boundary, is_have, is_loss, is_pack, is_ready_asked, with_have}
+use Rattle.git_host.specs.FetchPlaces.{with_boundary_end, with_line}
 use Rattle.git_host.specs.FetchPlaces.{with_pack, with_progress, with_ready}
 use Rattle.git_host.specs.FetchPlaces.{WantsNoProgress, asked_of as fetch_of, format_of as fetch_format, step_of as fetch_step}
 use Rattle.git_host.specs.ReferencesPlaces.{HasBegun, IsUnsoundAfter, ReferencesFacts, RepresentsReferences, is_whole, with_ref, with_unborn}
@@ -332,6 +333,12 @@ module _ {A : Type 0} where
   IsReason (Reference entry) (References answer) HeadTwice = IsUnsoundAfter entry answer
   IsReason report old reported = ⊥
 
+  -- a report that was refused leaves the answer as it was; where memory ran out, an admission asks for the same and keeps the same objects
+  abbrev pub LeavesAnswer : HostReported → HostAnswer A → HostAnswer A → Type 0
+  LeavesAnswer OutOfMemory (Admission old) (Admission new) = IsSame old new
+  LeavesAnswer OutOfMemory old new = ⊥
+  LeavesAnswer reported old new = new ≡ old
+
   -- the request does not ask for what was reported: a reference, or progress where it wants none
   abbrev pub IsUnwanted : Report → HostAnswer A → Type 0
   IsUnwanted (Progress bytes) (Fetch answer) = WantsNoProgress answer
@@ -348,6 +355,11 @@ module _ {A : Type 0} where
   IsTaken (Pack bytes) answer = bytes.now ≡ []
   IsTaken (Progress bytes) answer = bytes.now ≡ []
   IsTaken report answer = ⊥
+
+  -- the answer broke off, since its pack could not be had
+  abbrev pub is_broken : HostAnswer A → Bool
+  is_broken (Fetch answer) = is_loss (fetch_step answer)
+  is_broken answer = false
 
   -- the end of a pack makes the answer whole, and its loss breaks it off
   abbrev pub EndsAs : Report → HostAnswer A → Type 0
@@ -378,7 +390,7 @@ module _ {A : Type 0} where
   ReportsBy report old Packet bytes new = GivesOn (with_report report) old bytes new × EndsAs report new
   ReportsBy report old Taken bytes new = GoesOn (with_report report) old new × IsTaken report new
   ReportsBy report old Hidden bytes new = GoesOn (with_hidden report) old new × IsUnwanted report old
-  ReportsBy report old reported bytes new = GoesOn (λ f. f) old new × IsReason report old reported
+  ReportsBy report old reported bytes new = LeavesAnswer reported old new × IsReason report old reported
 
   -- what the report of a reference does that points to no other and is no annotated tag, but for its packet, which is still to be written
   abbrev pub TakesPlain : Format → List ℕ → HostAnswer A → Result HostReported ReferenceFault → HostAnswer A → Type 0

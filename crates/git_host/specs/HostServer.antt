@@ -19,13 +19,14 @@ use Rattle.git_server.specs.Answers.{error_packet}
 use Rattle.git_server.specs.declared.outcome.Outcome.{Outcome}
 use Rattle.git_server.specs.declared.outcome.Outcome.TheVariants.{Refused}
 use Rattle.git_host.specs.HostSessions.{AllAnswered, AtLast, Facts, HostSetting, IsHosted, StopsBy, nothing_for, refusal_packet, tail_of}
-use Rattle.git_host.specs.HostAnswers.{EndsAs, IsAnswering, IsBegun, IsNeeded, IsWithinLimit, Terms, IsReason, IsTaken, IsUnwanted, with_reported}
+use Rattle.git_host.specs.HostAnswers.{EndsAs, IsAnswering, IsBegun, IsNeeded, IsWithinLimit, LeavesAnswer, Terms, IsReason, IsTaken, IsUnwanted}
+use Rattle.git_host.specs.HostAnswers.{is_broken, with_reported}
 use Rattle.git_host.specs.ReferencesPlaces.{RefusesName, plain_entry}
 use Rattle.git_host.specs.declared.host_server.Phase.{Phase}
 use Rattle.git_host.specs.declared.host_server.Phase.TheVariants.{Advertising, Reading, Asked as Whole, Answering, Refusing, Ended}
 use Rattle.git_host.specs.declared.host_server.HostServer.{HostServer}
 use Rattle.git_host.specs.declared.report.HostReported.{HostReported}
-use Rattle.git_host.specs.declared.report.HostReported.TheVariants.{Packet as WasGiven, Taken, Hidden, NotAsked}
+use Rattle.git_host.specs.declared.report.HostReported.TheVariants.{Packet as WasGiven, Taken, Hidden, NotAsked, OutOfMemory}
 use Rattle.git_host.specs.declared.report.HostStep.{HostStep}
 use Rattle.git_host.specs.declared.report.HostStep.TheVariants.{Packet as GivesPacket, NeedInput, Asked as AsksFor, Need as Needs, Ended as HasEnded}
 use Rattle.git_host.specs.declared.report.Report.{Report}
@@ -188,10 +189,20 @@ module _ {A : Type 0} where
   begun_in Reading (Whole request) = nothing_for (asked_of request) ∷ []
   begun_in old new = []
 
+  -- a request is answered
+  abbrev pub is_answering : Phase A → Bool
+  is_answering (Answering answer) = true
+  is_answering phase = false
+
+  -- where `feed` leads: bytes that are read begin no answer, and a server that reads none stays where it is
+  abbrev pub ReadsTo : Phase A → Phase A → Type 0
+  ReadsTo Reading new = is_answering new ≡ false
+  ReadsTo old new = new ≡ old
+
   -- what `feed` does
   abbrev pub FeedsHost : List ℕ → HostServer A → HostServer A → Type 0
   FeedsHost more old new = (s : HostSetting) (used : List ℕ) (over : Bool) (reported : List Facts) (given : List ℕ) → Hosts s used over reported given old
-      → Hosts s (used ++ more) over (reported ++ begun_in old.phase new.phase) given new
+      → Hosts s (used ++ more) over (reported ++ begun_in old.phase new.phase) given new × ReadsTo old.phase new.phase
 
   -- the fault of the input that ends the session, reported or not
   abbrev pub fault_in : Phase A → Option Fault
@@ -249,13 +260,26 @@ module _ {A : Type 0} where
   WaitsFor (HasEnded outcome) (Ended same) = outcome ≡ same
   WaitsFor step phase = ⊥
 
+  -- the session ended since what was asked could not be had
+  abbrev pub IsLostIn : Phase A → Type 0
+  IsLostIn (Ended outcome) = IsLost outcome
+  IsLostIn phase = ⊥
+
+  -- where `next` leads: the advertisement is followed by input, and the session ends by the error packet of a fault or after an answer that
+  -- broke off; beside that only an answer goes on
+  abbrev pub LeadsTo : Phase A → Phase A → Type 0
+  LeadsTo Advertising new = new ≡ Reading
+  LeadsTo (Refusing fault) new = new ≡ Ended (Refused fault)
+  LeadsTo (Answering answer) new = is_broken answer ≡ true → IsLostIn new
+  LeadsTo old new = new ≡ old
+
   -- what `next` does: it gives a packet, or states what the server waits for
   abbrev pub StepsHost : HostServer A → HostStep → HostServer A → Type 0
   StepsHost old GivesPacket new = (s : HostSetting) (used : List ℕ) (over : Bool) (reported : List Facts) (given : List ℕ)
       → Hosts s used over reported given old
-      → Hosts s used over reported (given ++ bytes_of new) new × AreHandedOut (bytes_of new)
+      → Hosts s used over reported (given ++ bytes_of new) new × AreHandedOut (bytes_of new) × LeadsTo old.phase new.phase
   StepsHost old step new = (s : HostSetting) (used : List ℕ) (over : Bool) (reported : List Facts) (given : List ℕ) → Hosts s used over reported given old
-      → Hosts s used over reported given new × WaitsFor step new.phase
+      → Hosts s used over reported given new × WaitsFor step new.phase × LeadsTo old.phase new.phase
 
   -- the bytes that a report gave
   abbrev pub given_with : HostReported → RequestStream A → List ℕ
@@ -275,26 +299,29 @@ module _ {A : Type 0} where
   HasReason report (Answering answer) reported = IsReason report answer reported
   HasReason report phase reported = reported ≡ NotAsked
 
-  -- what a report leads to: the end of a pack, and that the store cannot answer, which ends the session at once, or as soon as that is looked at
-  abbrev pub EndsHost : Report → HostReported → Phase A → Type 0
-  EndsHost report WasGiven (Answering answer) = EndsAs report answer
-  EndsHost report Taken (Answering answer) = IsTaken report answer
-  EndsHost Failed WasGiven (Ended outcome) = IsLost outcome
-  EndsHost report WasGiven phase = ⊥
-  EndsHost report Taken phase = ⊥
-  EndsHost report reported phase = Unit {0}
+  -- a report that was refused leaves the phase as it was
+  abbrev pub LeavesPhase : HostReported → Phase A → Phase A → Type 0
+  LeavesPhase OutOfMemory (Answering old) (Answering new) = LeavesAnswer OutOfMemory old new
+  LeavesPhase OutOfMemory old new = ⊥
+  LeavesPhase reported old new = new ≡ old
+
+  -- what a report leads to: the end of a pack, and that the store cannot answer, which ends the session at once, or as soon as that is looked at;
+  -- one that was refused leads nowhere
+  abbrev pub EndsHost : Report → HostReported → Phase A → Phase A → Type 0
+  EndsHost report WasGiven old (Answering answer) = EndsAs report answer
+  EndsHost report Taken old (Answering answer) = IsTaken report answer
+  EndsHost Failed WasGiven old (Ended outcome) = IsLost outcome
+  EndsHost report WasGiven old new = ⊥
+  EndsHost report Taken old new = ⊥
+  EndsHost report Hidden old new = Unit {0}
+  EndsHost report reported old new = LeavesPhase reported old new
 
   -- what a report does, by what came of it
   abbrev pub ReportsHost : Report → HostServer A → HostReported → HostServer A → Type 0
   ReportsHost report old reported new = (s : HostSetting) (used : List ℕ) (over : Bool) (facts : List Facts) (given : List ℕ)
       → Hosts s used over facts given old
       → Hosts s used over (with_last (with_reported reported report) facts) (given ++ given_with reported new.stream) new
-      × IsGivenWith reported new.stream × HasReason report old.phase reported × EndsHost report reported new.phase
-
-  -- a request is answered
-  abbrev pub is_answering : Phase A → Bool
-  is_answering (Answering answer) = true
-  is_answering phase = false
+      × IsGivenWith reported new.stream × HasReason report old.phase reported × EndsHost report reported old.phase new.phase
 
   -- a request waits to be accepted or refused
   abbrev pub is_asked : Phase A → Bool

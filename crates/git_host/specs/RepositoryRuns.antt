@@ -11,33 +11,14 @@ use Rattle.git_host.specs.HostedRepository.{EndsWell}
 use Rattle.git_host.specs.HostServer.{Hosts, outcome_of}
 use Rattle.git_host.specs.HostSessions.{Facts, HostSetting, of_fetch}
 use Rattle.git_host.specs.RepoReplies.{BeginsAnew, RepliesAs, answers_of}
-use Rattle.git_host.specs.StoreMoves.{AllMade, Move, Outturn, asked, began, facts_after, fed, used_in, was_taken}
+use Rattle.git_host.specs.StoreMoves.{AllMade, Move, facts_after, used_in}
 use Rattle.git_host.specs.declared.host_server.HostServer.{HostServer}
 use Rattle.git_host.specs.declared.repo_store.RepoStore.{RepoStore}
-
--- the report of the reply was taken
-abbrev pub IsTaken : Outturn → Type 0
-IsTaken (was_taken report what) = Unit {0}
-IsTaken outturn = ⊥
-
--- no call of the store failed, and no report of its replies was refused
-abbrev pub AllTaken : List Move → Type 0
-AllTaken [] = Unit {0}
-AllTaken (asked need question reply outturn bytes ∷ moves) = IsTaken outturn × AllTaken moves
-AllTaken (move ∷ moves) = AllTaken moves
 
 -- whether the store received the last request, where these facts begin with bytes that were used: not one that has just come
 abbrev pub received_after : Bool → List Facts → Bool
 received_after received [] = received
 received_after received (f ∷ fs) = false
-
--- the store is asked only about a request that it received; the first argument is whether it received the last one
-abbrev pub AreBegunFirst : Bool → List Move → Type 0
-AreBegunFirst received [] = Unit {0}
-AreBegunFirst received (fed bytes begun ∷ moves) = AreBegunFirst (received_after received begun) moves
-AreBegunFirst received (began q ∷ moves) = AreBegunFirst true moves
-AreBegunFirst received (asked need question reply outturn bytes ∷ moves) = (received ≡ true) × AreBegunFirst received moves
-AreBegunFirst received (move ∷ moves) = AreBegunFirst received moves
 
 -- the pack that was reported for a fetch is the repository's, and where none follows the repository is not ready to send one
 pub record IsPackedAs (repo : Repository) (q : FetchAsked) (t : FetchFacts) : Type 0 where
@@ -59,16 +40,14 @@ IsPackedBy s repo used reported =
     (asked : List Asked) (left : List Given) (rest : List ℕ) → AreAsked s.offer s.limit used asked left rest → length asked ≡ length reported
     → AllHaveTheirPacks repo asked reported
 
--- these moves of a host's server and of a store with the answers of a repository, from the beginning of a session on, ended it well: no call
--- of the store failed, it was asked only about requests that it received, and each pack is the repository's
+-- these moves of a host's server and of a store with the answers of a repository, from the beginning of a session on, ended it well, and each
+-- pack is the repository's
 pub record ServesRepository {R P A : Type 0} (state : R → RepoState) (s : HostSetting) (repo : Repository) (moves : List Move) (outcome : Outcome)
     (first : HostServer A) (store : RepoStore R P) (last : HostServer A) (left : RepoStore R P) : Type 0 where
   pub begins : Hosts s [] false [] [] first
   pub answers : answers_of state store ≡ repo
   pub rising : IsRising repo.refs
   pub made : AllMade (λ old asked new. BeginsAnew state old new) (RepliesAs state) moves first store last left
-  pub taken : AllTaken moves
-  pub begun : AreBegunFirst false moves
   pub packs : IsPackedBy s repo (used_in moves) (facts_after [] moves)
   pub ended : outcome_of last ≡ Some outcome
   pub well : EndsWell outcome

@@ -55,7 +55,7 @@ pub(crate) enum Failing {
 }
 
 impl<A: Allocator + Copy> HostAnswer<A> {
-    ghost use Rattle.git_host.specs.HostAnswers.{FailsBy, IsBegun, ReportsBy, StepsAnswer};
+    ghost use Rattle.git_host.specs.HostAnswers.{FailsBy, IsBegun, ReportsBy, StepsAnswer, is_broken};
 
     /// The answer to this request, before anything was reported or sent for it.
     pub(crate) fn new(alloc: A, request: Request<A>, format: Format) -> HostAnswer<A>
@@ -74,7 +74,8 @@ impl<A: Allocator + Copy> HostAnswer<A> {
 
     /// Gives the next packet, or what is to be done in its place.
     pub(crate) fn next(&mut self, hold: &mut Hold) -> AnswerStep
-        ensures { StepsAnswer self.old result hold.new.items self.new }
+        ensures steps { StepsAnswer self.old result hold.new.items self.new }
+        ensures broken { is_broken self.old ≡ true → result ≡ AnswerStep.Broken }
     {
         let HostAnswer::Admission(admission) = self else {
             return self.go_on(hold);
@@ -93,7 +94,8 @@ impl<A: Allocator + Copy> HostAnswer<A> {
     // The same of any answer but an admission.
     fn go_on(&mut self, hold: &mut Hold) -> AnswerStep
         requires { is_admission self.old ≡ false }
-        ensures { StepsAnswer self.old result hold.new.items self.new }
+        ensures steps { StepsAnswer self.old result hold.new.items self.new }
+        ensures broken { is_broken self.old ≡ true → result ≡ AnswerStep.Broken }
     {
         match self {
             HostAnswer::Admission(_) => unreachable!(),

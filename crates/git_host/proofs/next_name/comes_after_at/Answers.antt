@@ -1,4 +1,4 @@
-use Rattle.std.proofs.Common.{arith, sym, subst, ℕ, ◌≡◌, ◌<◌, ◌≢◌}
+use Rattle.std.proofs.Common.{arith, sym, ◌≡◌, ◌<◌}
 use Rattle.git_host.proofs.NameOrder.{before_by, front_before, none_before}
 use Rattle.git_host.proofs.next_name.comes_after_at.Goals as goal
 

@@ -1,4 +1,4 @@
-use Rattle.std.proofs.Common.{◌≡◌, ◌-◌, ◌<◌, ◌≤◌, ℕ, length, slice_index}
+use Rattle.std.proofs.Common.{◌≡◌, ◌-◌, ◌<◌, ◌≤◌, ℕ, slice_index}
 use Rattle.git_host.proofs.next_name.common_length.Given as goal
 
 abbrev pub invariant-loop-at : goal.invariant-loop-at

@@ -1,4 +1,4 @@
-use Rattle.std.proofs.Common.{◌≡◌, ◌-◌, ◌<◌, ◌≤◌, ℕ, length, slice_index, take}
+use Rattle.std.proofs.Common.{◌-◌, ◌<◌, ◌≤◌, ℕ, length, slice_index, take}
 use Rattle.git_names.specs.NextByte.{MayFollow}
 use Rattle.git_host.proofs.next_name.follows_from.Given as goal
 

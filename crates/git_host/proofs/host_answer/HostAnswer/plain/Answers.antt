@@ -1,4 +1,3 @@
-use Rattle.std.proofs.Common.{Ok, Err}
 use Rattle.git_host.proofs.PlainMoves.{plain_refused, plain_taken}
 use Rattle.git_host.proofs.host_answer.HostAnswer.plain.Goals as goal
 

@@ -1,13 +1,14 @@
-use Rattle.std.proofs.Common.{arith, ◌≡◌, ◌≤◌, ℕ, List, length, sym, ap, subst, ◌∙◌}
+use Rattle.std.proofs.Common.{arith, ◌≡◌, ◌≤◌, ℕ, List, length, refl, sym, ap, subst, ◌∙◌}
 use Rattle.git_names.specs.ObjectName.{hex_of}
 use Rattle.git_pkt.specs.Packets.{spelling_of}
-use Rattle.git_host.specs.HostServer.{HasReason, HostsIn}
+use Rattle.git_host.specs.HostServer.{EndsHost, HasReason, HostsIn, fault_in}
 use Rattle.git_host.specs.ReferencesPlaces.{plain_entry, plain_line}
 use Rattle.git_host.specs.WrittenDigits.{SpellsId}
 use Rattle.git_host.specs.declared.host_server.Phase.{Phase}
 use Rattle.git_host.specs.declared.host_server.Phase.TheVariants.{Answering}
 use Rattle.git_host.specs.declared.report.HostReported.TheVariants.{OutOfMemory, Packet}
 use Rattle.git_host.specs.declared.report.Report.TheVariants.{Reference}
+use Rattle.git_host.proofs.HostFaults.{quiet_fault, same_fault}
 use Rattle.git_host.proofs.HostMoves.{answering_credit, credit_falls, lent_credit, on_some, report_done}
 use Rattle.git_host.proofs.LentStreams.{lent_within}
 use Rattle.git_host.proofs.PlainLines.{short_id}
@@ -55,7 +56,7 @@ returns-clause-reports g c =
             record { offer = h.offer; limit = h.limit; reads_within = lent_within old.stream w (c.lend.follows.lender w) lent s h.reads_within; stands = is },
             handed,
             subst (λ (p : Phase g.row.A.Denot). HasReason (Reference entry) p r) (sym c.in-Answering.is) why,
-            ends,
+            subst (λ (p : Phase g.row.A.Denot). EndsHost (Reference entry) r p (Answering c.plain.new.self)) (sym c.in-Answering.is) ends,
           ),
     )
 
@@ -74,3 +75,13 @@ returns-clause-credit g c =
     let lent = on_some c.lend.result c.in-Some-lend.hold _ c.in-Some-lend.is (c.lend.follows.holds w) in
     credit_falls (Answering c.plain.new.self) c.args.self.now (c.lend.follows.lender w)
     (answering_credit c.args.self.now c.in-Answering.answer c.in-Answering.is) (lent_credit c.args.self.now.stream w (c.lend.follows.lender w) lent)
+
+pub returns-in_default-phase-clause-credit : goal.returns-in_default-phase-clause-credit
+returns-in_default-phase-clause-credit g c = omega arith
+
+pub returns-in_default-phase-clause-fault : goal.returns-in_default-phase-clause-fault
+returns-in_default-phase-clause-fault g c s used over facts given h = same_fault (fault_in c.args.self.now.phase)
+
+pub returns-clause-fault : goal.returns-clause-fault
+returns-clause-fault g c s used over facts given h =
+    quiet_fault c.args.self.now.phase (Answering c.plain.new.self) (ap fault_in c.in-Answering.is) refl

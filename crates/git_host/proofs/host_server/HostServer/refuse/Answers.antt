@@ -1,9 +1,13 @@
-use Rattle.std.proofs.Common.{arith, ap, subst, sym, ◌++◌, ◌∙◌}
+use Rattle.std.proofs.Common.{arith, ap, refl, subst, sym, ◌++◌, ◌∙◌}
+use Rattle.git_pkt.specs.declared.fault.Kind.TheVariants.{NotOurs}
 use Rattle.git_msg.specs.Machine.RequestStreams.{hold_of}
 use Rattle.git_server.specs.declared.outcome.Outcome.{Outcome}
+use Rattle.git_host.specs.HostServer.{HostsIn, fault_in}
 use Rattle.git_host.specs.HostSessions.{IsHosted, refusal_packet}
+use Rattle.git_host.specs.declared.host_server.Phase.{Phase}
 use Rattle.git_host.specs.declared.host_server.Phase.TheVariants.{Ended}
-use Rattle.git_host.proofs.HostMoves.{on_some, refuses_hosts}
+use Rattle.git_host.proofs.HostFaults.{host_fault, same_fault}
+use Rattle.git_host.proofs.HostMoves.{asked_credit, asked_is, credit_falls, none_lent, on_some, refuses_hosts, unlent_credit}
 use Rattle.git_host.proofs.LentStreams.{lent_bytes, lent_handed, lent_within, packet_some}
 use Rattle.git_host.proofs.host_server.HostServer.refuse.Goals as goal
 
@@ -28,3 +32,35 @@ returns-clause-refuses g c =
                 c.args.text.now asked c.put_line.ensures.written h);
           },
     )
+
+pub returns-in_default-clause-refuses : goal.returns-in_default-clause-refuses
+returns-in_default-clause-refuses g c =
+    let old = c.args.self.now in
+    let asked = sym c.is_asked.ensures ∙ c.if-not-is_asked.false in
+    let (request, phase) = asked_is old.phase asked in (
+      λ s used over reported given h.
+          let stands = subst (λ (p : Phase g.row.A.Denot). HostsIn p s used over reported given old.stream old.flush) phase h.stands in
+          absurd (none_lent c.lend.result c.in_default.is (c.lend.ensures.between.1 stands.between)),
+      λ s used over reported given h fits.
+          let stands = subst (λ (p : Phase g.row.A.Denot). HostsIn p s used over reported given old.stream old.flush) phase h.stands in
+          absurd (none_lent c.lend.result c.in_default.is (c.lend.ensures.between.1 stands.between)),
+    )
+
+pub returns-in_default-clause-credit : goal.returns-in_default-clause-credit
+returns-in_default-clause-credit g c =
+    let old = c.args.self.now in
+    credit_falls old.phase old c.lend.follows.lender-at-none (asked_credit old (sym c.is_asked.ensures ∙ c.if-not-is_asked.false))
+    (unlent_credit old.stream c.lend.follows.lender-at-none c.lend.result c.in_default.is c.lend.follows.holds-at-none)
+
+pub returns-in_default-clause-fault : goal.returns-in_default-clause-fault
+returns-in_default-clause-fault g c s used over reported given h = same_fault (fault_in c.args.self.now.phase)
+
+pub returns-clause-credit : goal.returns-clause-credit
+returns-clause-credit g c = omega arith
+
+pub returns-clause-fault : goal.returns-clause-fault
+returns-clause-fault g c s used over reported given h =
+    let old = c.args.self.now in
+    let (request, phase) = asked_is old.phase (sym c.is_asked.ensures ∙ c.if-not-is_asked.false) in
+    host_fault old.phase (Ended c.ended_by.result) (ap fault_in phase) (record { kind = NotOurs; offset = old.flush })
+    (ap (λ (o : Outcome). fault_in {A = g.row.A.Denot} (Ended o)) c.ended_by.ensures) refl

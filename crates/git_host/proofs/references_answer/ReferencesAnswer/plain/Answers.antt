@@ -1,7 +1,4 @@
-use Rattle.std.proofs.Common.{◌≡◌, ℕ, List, [], ◌∷◌, ◌++◌, Option, Some, Ok, refl, sym, ap, subst, ◌∙◌, rules, tests}
-use Rattle.git_names.specs.ObjectName.{ObjectName, hex_of}
-use Rattle.git_names.specs.declared.object_format.Format.{Format}
-use Rattle.git_pkt.specs.Packets.{Pkt, spelling_of}
+use Rattle.std.proofs.Common.{◌≡◌, ℕ, List, [], ◌∷◌, ◌++◌, Option, Some, refl, sym, subst, ◌∙◌, rules, tests}
 use Rattle.git_server.specs.Answers.{reference_packet}
 use Rattle.git_host.specs.LastNames.{last_name}
 use Rattle.git_host.specs.NextNames.{Judges}
