@@ -38,7 +38,7 @@ use Rattle.git_host.specs.declared.host_answer.Failing.{Failing}
 use Rattle.git_host.specs.declared.host_answer.Failing.TheVariants.{NotAsked as FailingUnasked, Packet as FailingPacket, CutShort}
 use Rattle.git_host.specs.declared.host_answer.HostAnswer.{HostAnswer}
 use Rattle.git_host.specs.declared.host_answer.HostAnswer.TheVariants.{Admission, Fetch, References, Sizes, Whole}
-use Rattle.git_host.proofs.FetchFronts.{absent_more, completes, have_fits, ready_fits, shallow_fits}
+use Rattle.git_host.proofs.FetchFronts.{Completes, absent_more, completes, have_fits, ready_fits, shallow_fits}
 use Rattle.git_host.proofs.FetchMoves.{begins, none_sound, sound_so}
 use Rattle.git_host.proofs.HostAnswerMoves.{all_found, fetch_gives, gives_same}
 use Rattle.git_host.proofs.ReferencesMoves.{after_refs, first_entries, sound_to_the_end}
@@ -57,48 +57,49 @@ no_loss false e = cc
 
 -- ---- a fetch whose wants are looked up
 module _ (format : Format) (q : FetchAsked) where
-  -- the store has them all
+  -- the store has them all, these of the wanted references and those that were not reported
+  with_all : (a : AdmissionFacts) (kept fresh : List ObjectName) → IsFront a.wants (all_there q.wants) → a.found ≡ map Some kept
+      → length (kept ++ fresh) ≡ length q.want_refs → All (λ id. id.format ≡ format) (kept ++ fresh) → Completes q (no_facts (kept ++ fresh)) []
+      → IsFrontBy format (fetch q) (of_fetch a (no_facts kept)) []
+  with_all a kept fresh wants found count of c = record {
+    later = of_fetch (record { wants = all_there q.wants; found = map Some (kept ++ fresh) }) (absent_more c.absent c.ended (no_facts (kept ++ fresh)));
+    grows = (
+      record {
+        wants = wants;
+        found = (map Some fresh, map-append Some kept fresh ∙ ap (λ (l : List (Option ObjectName)). l ++ map Some fresh) (sym found));
+      },
+      record {
+        has = (c.absent, refl);
+        ready = λ is. absurd (cc);
+        boundary = ([], refl);
+        boundary_ended = λ is. absurd (cc);
+        wanted = (fresh, refl);
+        pack = ([], refl);
+        progress = ([], refl);
+      },
+    );
+    more = c.more;
+    answer = (
+      record { there = refl; found = refl; all = count; of_format = of },
+      record {
+        sound = sound_so format q (no_facts (kept ++ fresh)) (absent_more c.absent c.ended (no_facts (kept ++ fresh))) refl refl
+            (none_sound format q (kept ++ fresh));
+        answer = c.answer;
+      },
+    );
+  }
+
   with_kept : (a : AdmissionFacts) (kept : List ObjectName) → IsFront a.wants (all_there q.wants) → a.found ≡ map Some kept
       → length kept ≤ length q.want_refs → All (λ id. id.format ≡ format) kept → IsFrontBy format (fetch q) (of_fetch a (no_facts kept)) []
   with_kept a kept wants found few of =
-      let fresh = replicate (length q.want_refs - length kept) (some_id format) in
-      let ids = kept ++ fresh in
-      let count : length ids ≡ length q.want_refs =
-      omega (arith, length-append kept fresh, length-replicate (length q.want_refs - length kept) (some_id format), few) in
-      let place = place_by (negotiates q) in
-      let c = completes place q (no_facts ids) [] count (no_loss (negotiates q)) (begins q ids place refl) in
-      record {
-        later = of_fetch (record { wants = all_there q.wants; found = map Some ids }) (absent_more c.absent c.ended (no_facts ids));
-        grows = (
-          record {
-            wants = wants;
-            found = (map Some fresh, map-append Some kept fresh ∙ ap (λ (l : List (Option ObjectName)). l ++ map Some fresh) (sym found));
-          },
-          record {
-            has = (c.absent, refl);
-            ready = λ is. absurd (cc);
-            boundary = ([], refl);
-            boundary_ended = λ is. absurd (cc);
-            wanted = (fresh, refl);
-            pack = ([], refl);
-            progress = ([], refl);
-          },
-        );
-        more = c.more;
-        answer = (
-          record {
-            there = refl;
-            found = refl;
-            all = count;
-            of_format = All-append (λ (id : ObjectName). id.format ≡ format) kept fresh of
-                (All-replicate (λ (id : ObjectName). id.format ≡ format) (length q.want_refs - length kept) (some_id format) refl);
-          },
-          record {
-            sound = sound_so format q (no_facts ids) (absent_more c.absent c.ended (no_facts ids)) refl refl (none_sound format q ids);
-            answer = c.answer;
-          },
-        );
-      }
+      let left = length q.want_refs - length kept in
+      let fresh = replicate left (some_id format) in
+      let count : length (kept ++ fresh) ≡ length q.want_refs = omega (arith, length-append kept fresh, length-replicate left (some_id format), few) in
+      with_all a kept fresh wants found count
+      (All-append (λ (id : ObjectName). id.format ≡ format) kept fresh of
+      (All-replicate (λ (id : ObjectName). id.format ≡ format) left (some_id format) refl))
+      (completes (place_by (negotiates q)) q (no_facts (kept ++ fresh)) [] count (no_loss (negotiates q))
+      (begins q (kept ++ fresh) (place_by (negotiates q)) refl))
 
   kept_so_far : (a : AdmissionFacts) (kept : List ObjectName) (t : FetchFacts) → t ≡ no_facts (found_ids a.found) → a.found ≡ map Some kept
       → IsFrontBy format (fetch q) (of_fetch a (no_facts kept)) [] → IsFrontBy format (fetch q) (of_fetch a t) []
@@ -147,26 +148,27 @@ lost AtLoss = inl refl
 
 module _ (format : Format) (q : FetchAsked) (a : AdmissionFacts) (t : FetchFacts) (front : List Pkt) (admitted : IsAdmitted format q a t.wanted)
     (sound : AreSoundFacts format q t) where
-  fetch_front : (place : Place) → (place ≡ AtLoss → ⊥) → StandsAt place q t front → IsFrontBy format (fetch q) (of_fetch a t) front
-  fetch_front place unlost stands =
-      let c = completes place q t front admitted.all unlost stands in
+  front_of : Completes q t front → IsFrontBy format (fetch q) (of_fetch a t) front
+  front_of c = record {
+    later = of_fetch a (absent_more c.absent c.ended t);
+    grows = (
+      record { wants = no_more a.wants; found = no_more a.found },
       record {
-        later = of_fetch a (absent_more c.absent c.ended t);
-        grows = (
-          record { wants = no_more a.wants; found = no_more a.found },
-          record {
-            has = (c.absent, refl);
-            ready = λ is. is;
-            boundary = no_more t.boundary;
-            boundary_ended = c.grows;
-            wanted = no_more t.wanted;
-            pack = no_more t.pack;
-            progress = no_more t.progress;
-          },
-        );
-        more = c.more;
-        answer = (admitted, record { sound = sound_so format q t (absent_more c.absent c.ended t) refl refl sound; answer = c.answer });
-      }
+        has = (c.absent, refl);
+        ready = λ is. is;
+        boundary = no_more t.boundary;
+        boundary_ended = c.grows;
+        wanted = no_more t.wanted;
+        pack = no_more t.pack;
+        progress = no_more t.progress;
+      },
+    );
+    more = c.more;
+    answer = (admitted, record { sound = sound_so format q t (absent_more c.absent c.ended t) refl refl sound; answer = c.answer });
+  }
+
+  fetch_front : (place : Place) → (place ≡ AtLoss → ⊥) → StandsAt place q t front → IsFrontBy format (fetch q) (of_fetch a t) front
+  fetch_front place unlost stands = front_of (completes place q t front admitted.all unlost stands)
 
   fetch_so_far : (place : Place) → StandsAt place q t front → IsSoFar format (fetch q) (of_fetch a t) front
   fetch_so_far place stands =

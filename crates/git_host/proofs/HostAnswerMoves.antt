@@ -16,6 +16,7 @@ use Rattle.git_msg.specs.Asked.{FetchAsked, ObjectInfoAsked, fetch, ls_refs, obj
 use Rattle.git_server.specs.Packs.{Manner, whole, broken}
 use Rattle.git_server.specs.Repository.{Entry}
 use Rattle.git_host.specs.Admissions.{AdmissionFacts, IsAdmitted, IsSame, Reports as AdmissionReports, ReportsWant, ReportsWantRef, StandsAtStep}
+use Rattle.git_host.specs.Admissions.{step_of as admission_step}
 use Rattle.git_host.specs.Admissions.{with_found, with_want}
 use Rattle.git_host.specs.AdmittedAnswers.{Becomes, BecomesAnswer}
 use Rattle.git_host.specs.FetchFacts.{FetchFacts, IsSoundFetchAnswer, no_facts}
@@ -25,15 +26,16 @@ use Rattle.git_host.specs.FetchPlaces.{ReportsLine, ReportsProgress, format_of a
 use Rattle.git_host.specs.FetchPlaces.{step_of as fetch_step, with_line, with_pack, with_progress}
 use Rattle.git_host.specs.ReferencesPlaces.{IsToTheSame as IsToTheSameRefs, KeepsAs, ReferencesFacts, Reports, ReportsHidden, ReportsOn, ReportsUnborn}
 use Rattle.git_host.specs.ReferencesPlaces.{with_ref, with_unborn}
-use Rattle.git_host.specs.SizesPlaces.{GivesSize, IsAsking, IsSizesAnswerOf, RepresentsSizes, StepsSizes}
+use Rattle.git_host.specs.SizesPlaces.{AsksStill, GivesSize, IsAsking, IsSizesAnswerOf, RepresentsSizes, StepsSizes}
 use Rattle.git_host.specs.HostSessions.{Facts, IsAnswerBy, of_fetch, of_references, of_sizes}
-use Rattle.git_host.specs.HostAnswers.{IsTaken, LeavesAnswer, is_broken}
+use Rattle.git_host.specs.HostAnswers.{IsNeeded, IsTaken, LeavesAnswer, WaitsStill, asks_wanted, is_broken}
 use Rattle.git_host.specs.HostAnswers.{EndsAs, IsWithinLimit, Terms, GivesOn, GoesOn, IsAnswering, IsAskedFor, IsGiven, ReportsBy, StepsAnswer, ended_as}
 use Rattle.git_host.specs.HostAnswers.{of_fetch_step, of_sizes_step, on_fetch, on_references, on_sizes, on_want_refs, on_wants, found_ids, part_of}
 use Rattle.git_host.specs.HostAnswers.{line_as, packet_where, progress_as, reported_as, taken_where, with_report}
 use Rattle.git_host.specs.declared.admission.Admission.{Admission as AdmissionMachine}
 use Rattle.git_host.specs.declared.admission.WantRefReported.{WantRefReported}
 use Rattle.git_host.specs.declared.admission.AdmissionStep.{AdmissionStep}
+use Rattle.git_host.specs.declared.admission.AdmissionStep.TheVariants.{AskWant, AskWantRef}
 use Rattle.git_host.specs.declared.admission.WantRefReported.TheVariants.{Taken as RefTaken, MixedFormats as RefMixed, NotAsked as RefUnasked}
 use Rattle.git_host.specs.declared.fetch_answer.BoundaryReported.{BoundaryReported}
 use Rattle.git_host.specs.declared.fetch_answer.BoundaryReported.TheVariants as Line
@@ -56,7 +58,9 @@ use Rattle.git_host.specs.declared.sizes_answer.SizesStep.TheVariants.{AskSize, 
 use Rattle.git_host.specs.declared.host_answer.HostAnswer.{HostAnswer}
 use Rattle.git_host.specs.declared.host_answer.HostAnswer.TheVariants.{Admission, Fetch, References, Sizes, Whole as AllSent}
 use Rattle.git_host.specs.declared.host_answer.AnswerStep.{AnswerStep}
-use Rattle.git_host.specs.declared.host_answer.AnswerStep.TheVariants.{Broken}
+use Rattle.git_host.specs.declared.host_answer.AnswerStep.TheVariants.{Broken, Need as Needs}
+use Rattle.git_host.specs.declared.report.Need.{Need}
+use Rattle.git_host.specs.declared.report.Need.TheVariants as NeedOf
 use Rattle.git_host.specs.declared.report.HostReported.{HostReported}
 use Rattle.git_host.specs.declared.report.HostReported.TheVariants.{Taken, NotAsked, MixedFormats, OutOfMemory}
 use Rattle.git_host.specs.declared.report.Report.{Report}
@@ -118,6 +122,17 @@ broken_gives AskReady is = absurd (cc)
 broken_gives AskBoundary is = absurd (cc)
 broken_gives AskPack is = absurd (cc)
 
+-- an answer that is whole needs nothing
+pub none_needed : (A : Type 0) (need : Need) → (let all_sent : HostAnswer A = AllSent in IsNeeded need all_sent) → ⊥
+none_needed A (NeedOf.Want at) needed = needed
+none_needed A (NeedOf.WantRef at) needed = needed
+none_needed A (NeedOf.Have at) needed = needed
+none_needed A NeedOf.Ready needed = needed
+none_needed A NeedOf.Boundary needed = needed
+none_needed A NeedOf.Pack needed = needed
+none_needed A NeedOf.Reference needed = needed
+none_needed A (NeedOf.Size at) needed = needed
+
 module _ {A : Type 0} where
   pub no_pack_goes : (old : HostAnswer A) (bytes : List ℕ) → bytes ≡ [] → GoesOn (on_fetch (with_pack (part_of bytes))) old old
   no_pack_goes old bytes none m q f front h = subst (λ (x : Facts). IsAnswering m old q x front) (sym (no_pack bytes none f)) h
@@ -141,6 +156,119 @@ module _ {A : Type 0} where
   broken_stepped a old step r was is next lost =
       let loses : is_loss (fetch_step a) ≡ true = subst (λ (x : HostAnswer A). is_broken x ≡ true) was lost in
       is ∙ broken_gives step (ap is_loss next ∙ loses)
+
+  -- ---- an answer that needs something
+
+  module _ (a b : FetchAnswer A) (step : Step) (bytes : List ℕ) (next : step ≡ fetch_step a) (steps : Steps a step bytes b) where
+    still_by : (known : Step) → fetch_step a ≡ known → Steps a known bytes b
+    still_by known is = subst (λ (x : Step). Steps a x bytes b) (next ∙ is) steps
+
+    still_needs : (known : Step) → fetch_step a ≡ known → of_fetch_step step ≡ of_fetch_step known
+    still_needs known is = ap of_fetch_step (next ∙ is)
+
+    fetch_still : (need : Need) → IsNeeded need (Fetch a) → (of_fetch_step step ≡ Needs need) × (Fetch b ≡ Fetch a)
+    fetch_still (NeedOf.Have at) needed = (still_needs (AskHave at) needed, ap Fetch (still_by (AskHave at) needed))
+    fetch_still NeedOf.Ready needed = (still_needs AskReady needed, ap Fetch (still_by AskReady needed))
+    fetch_still NeedOf.Boundary needed = (still_needs AskBoundary needed, ap Fetch (still_by AskBoundary needed))
+    fetch_still NeedOf.Pack needed = (still_needs AskPack needed, ap Fetch (still_by AskPack needed))
+    fetch_still (NeedOf.Want at) needed = absurd needed
+    fetch_still (NeedOf.WantRef at) needed = absurd needed
+    fetch_still NeedOf.Reference needed = absurd needed
+    fetch_still (NeedOf.Size at) needed = absurd needed
+
+    pub fetch_waits : (old : HostAnswer A) (r : AnswerStep) → old ≡ Fetch a → r ≡ of_fetch_step step → WaitsStill old r (Fetch b)
+    fetch_waits old r was is =
+        subst (λ (o : HostAnswer A). WaitsStill o r (Fetch b)) (sym was)
+        (subst (λ (x : AnswerStep). WaitsStill (Fetch a) x (Fetch b)) (sym is) fetch_still)
+
+  module _ (a b : SizesAnswer A) (step : SizesStep) (asks : AsksStill a step b) where
+    sizes_still : (need : Need) → IsNeeded need (Sizes a) → (of_sizes_step step ≡ Needs need) × (Sizes b ≡ Sizes a)
+    sizes_still (NeedOf.Size at) needed = (ap of_sizes_step (asks at needed).0, ap Sizes (asks at needed).1)
+    sizes_still (NeedOf.Have at) needed = absurd needed
+    sizes_still NeedOf.Ready needed = absurd needed
+    sizes_still NeedOf.Boundary needed = absurd needed
+    sizes_still NeedOf.Pack needed = absurd needed
+    sizes_still (NeedOf.Want at) needed = absurd needed
+    sizes_still (NeedOf.WantRef at) needed = absurd needed
+    sizes_still NeedOf.Reference needed = absurd needed
+
+    pub sizes_wait : (old : HostAnswer A) (r : AnswerStep) → old ≡ Sizes a → r ≡ of_sizes_step step → WaitsStill old r (Sizes b)
+    sizes_wait old r was is =
+        subst (λ (o : HostAnswer A). WaitsStill o r (Sizes b)) (sym was)
+        (subst (λ (x : AnswerStep). WaitsStill (Sizes a) x (Sizes b)) (sym is) sizes_still)
+
+  references_still : (a : ReferencesAnswer A) (need : Need) → IsNeeded need (References a) → (Needs NeedOf.Reference ≡ Needs need) × (References a ≡ References a)
+  references_still a NeedOf.Reference needed = (refl, refl)
+  references_still a (NeedOf.Size at) needed = absurd needed
+  references_still a (NeedOf.Have at) needed = absurd needed
+  references_still a NeedOf.Ready needed = absurd needed
+  references_still a NeedOf.Boundary needed = absurd needed
+  references_still a NeedOf.Pack needed = absurd needed
+  references_still a (NeedOf.Want at) needed = absurd needed
+  references_still a (NeedOf.WantRef at) needed = absurd needed
+
+  pub references_wait : (old : HostAnswer A) (a : ReferencesAnswer A) → old ≡ References a → WaitsStill old (Needs NeedOf.Reference) old
+  references_wait old a was = subst (λ (o : HostAnswer A). WaitsStill o (Needs NeedOf.Reference) o) (sym was) (references_still a)
+
+  pub whole_waits : (old new : HostAnswer A) (r : AnswerStep) → old ≡ AllSent → WaitsStill old r new
+  whole_waits old new r was need needed =
+      absurd (none_needed A need (subst (λ (o : HostAnswer A). IsNeeded need o) was needed))
+
+  module _ (a : AdmissionMachine A) where
+    want_still : (at : ℕ) → admission_step a ≡ AskWant at → (need : Need) → IsNeeded need (Admission a)
+        → (Needs (NeedOf.Want at) ≡ Needs need) × (Admission a ≡ Admission a)
+    want_still at is (NeedOf.Want other) needed = (
+      let both : AskWant at ≡ AskWant other = sym is ∙ needed in
+          let same : at ≡ other = cc in ap (λ (n : ℕ). Needs (NeedOf.Want n)) same,
+      refl,
+    )
+    want_still at is (NeedOf.WantRef other) needed = absurd (let both : AskWant at ≡ AskWantRef other = sym is ∙ needed in cc)
+    want_still at is (NeedOf.Have other) needed = absurd needed
+    want_still at is NeedOf.Ready needed = absurd needed
+    want_still at is NeedOf.Boundary needed = absurd needed
+    want_still at is NeedOf.Pack needed = absurd needed
+    want_still at is NeedOf.Reference needed = absurd needed
+    want_still at is (NeedOf.Size other) needed = absurd needed
+
+    want_ref_still : (at : ℕ) → admission_step a ≡ AskWantRef at → (need : Need) → IsNeeded need (Admission a)
+        → (Needs (NeedOf.WantRef at) ≡ Needs need) × (Admission a ≡ Admission a)
+    want_ref_still at is (NeedOf.WantRef other) needed = (
+      let both : AskWantRef at ≡ AskWantRef other = sym is ∙ needed in
+          let same : at ≡ other = cc in ap (λ (n : ℕ). Needs (NeedOf.WantRef n)) same,
+      refl,
+    )
+    want_ref_still at is (NeedOf.Want other) needed = absurd (let both : AskWantRef at ≡ AskWant other = sym is ∙ needed in cc)
+    want_ref_still at is (NeedOf.Have other) needed = absurd needed
+    want_ref_still at is NeedOf.Ready needed = absurd needed
+    want_ref_still at is NeedOf.Boundary needed = absurd needed
+    want_ref_still at is NeedOf.Pack needed = absurd needed
+    want_ref_still at is NeedOf.Reference needed = absurd needed
+    want_ref_still at is (NeedOf.Size other) needed = absurd needed
+
+    through_needs : (step : AdmissionStep) → admission_step a ≡ step → asks_wanted step ≡ false → (need : Need) → IsNeeded need (Admission a) → ⊥
+    through_needs step is through (NeedOf.Want at) needed =
+        let both : asks_wanted (AskWant at) ≡ false = ap asks_wanted (sym needed ∙ is) ∙ through in cc
+    through_needs step is through (NeedOf.WantRef at) needed =
+        let both : asks_wanted (AskWantRef at) ≡ false = ap asks_wanted (sym needed ∙ is) ∙ through in cc
+    through_needs step is through (NeedOf.Have other) needed = needed
+    through_needs step is through NeedOf.Ready needed = needed
+    through_needs step is through NeedOf.Boundary needed = needed
+    through_needs step is through NeedOf.Pack needed = needed
+    through_needs step is through NeedOf.Reference needed = needed
+    through_needs step is through (NeedOf.Size other) needed = needed
+
+    pub want_waits : (old : HostAnswer A) (at : ℕ) → old ≡ Admission a → admission_step a ≡ AskWant at → WaitsStill old (Needs (NeedOf.Want at)) (Admission a)
+    want_waits old at was is = subst (λ (o : HostAnswer A). WaitsStill o (Needs (NeedOf.Want at)) (Admission a)) (sym was) (want_still at is)
+
+    pub want_ref_waits : (old : HostAnswer A) (at : ℕ) → old ≡ Admission a → admission_step a ≡ AskWantRef at
+        → WaitsStill old (Needs (NeedOf.WantRef at)) (Admission a)
+    want_ref_waits old at was is =
+        subst (λ (o : HostAnswer A). WaitsStill o (Needs (NeedOf.WantRef at)) (Admission a)) (sym was) (want_ref_still at is)
+
+    pub through_waits : (old new : HostAnswer A) (step : AdmissionStep) (r : AnswerStep) → old ≡ Admission a → admission_step a ≡ step
+        → asks_wanted step ≡ false → WaitsStill old r new
+    through_waits old new step r was is through need needed =
+        absurd (through_needs step is through need (subst (λ (o : HostAnswer A). IsNeeded need o) was needed))
 
   -- ---- a fetch
   module _ (a b : FetchAnswer A) where

@@ -47,13 +47,14 @@ use Rattle.git_host.specs.HostServer.{EndsHost, IsAccepted, IsGivenWith, Reports
 use Rattle.git_host.specs.HostServer.{FeedsHost, IsLostIn, LeadsTo, ReadsTo, StepsHost, WaitsFor, reads_on}
 use Rattle.git_host.specs.HostServer.{given_with, is_reading, refused_by, with_last}
 use Rattle.git_host.specs.HostAnswers.{FailsBy, IsBegun, IsWithinLimit, GivesOn, GoesOn, IsAnswering, IsCut, IsGiven, LacksIt, ReportsBy, with_hidden}
-use Rattle.git_host.specs.HostAnswers.{is_broken, with_report, with_reported}
+use Rattle.git_host.specs.HostAnswers.{WaitsStill, is_broken, with_report, with_reported}
 use Rattle.git_host.specs.declared.host_answer.AnswerStep.{AnswerStep}
-use Rattle.git_host.specs.declared.host_answer.AnswerStep.TheVariants.{Broken}
+use Rattle.git_host.specs.declared.host_answer.AnswerStep.TheVariants.{Broken, Need as Needs}
 use Rattle.git_host.specs.declared.host_answer.HostAnswer.{HostAnswer}
 use Rattle.git_host.specs.declared.host_server.HostServer.{HostServer}
 use Rattle.git_host.specs.declared.host_answer.Failing.TheVariants.{NotAsked as FailingUnasked, Packet as FailingPacket}
 use Rattle.git_host.specs.declared.report.HostStep.TheVariants.{NeedInput as NeedsInput, Asked as AsksFor, Ended as HasEnded}
+use Rattle.git_host.specs.declared.report.Need.{Need}
 use Rattle.git_host.specs.declared.report.Report.{Report}
 use Rattle.git_host.specs.declared.report.Report.TheVariants.{Failed}
 use Rattle.git_host.specs.declared.report.HostReported.{HostReported}
@@ -592,13 +593,26 @@ module _ {A : Type 0} where
     subst (λ (p : Phase A). LeadsTo p p) (sym is) refl,
   )
 
-  pub answer_leads : (old new : Phase A) (a : HostAnswer A) → old ≡ Answering a → (is_broken a ≡ true → IsLostIn new) → LeadsTo old new
-  answer_leads old new a was leads = subst (λ (p : Phase A). LeadsTo p new) (sym was) leads
+  -- an answer leads where it needs nothing, and if it broke off to the end
+  pub answer_leads : (old new : Phase A) (a b : HostAnswer A) (r known : AnswerStep) → old ≡ Answering a → WaitsStill a r b → r ≡ known
+      → ((need : Need) → known ≡ Needs need → ⊥) → (is_broken a ≡ true → IsLostIn new) → LeadsTo old new
+  answer_leads old new a b r known was waits is other leads =
+      subst (λ (p : Phase A). LeadsTo p new) (sym was) (leads, λ need needed. absurd (other need (sym is ∙ (waits need needed).0)))
 
   -- an answer that did not break off leads anywhere
-  pub other_leads : (old new : Phase A) (a : HostAnswer A) (r known : AnswerStep) → old ≡ Answering a → (is_broken a ≡ true → r ≡ Broken) → r ≡ known
-      → (known ≡ Broken → ⊥) → LeadsTo old new
-  other_leads old new a r known was breaks is other = answer_leads old new a was (λ broken. absurd (other (sym is ∙ breaks broken)))
+  pub other_leads : (old new : Phase A) (a b : HostAnswer A) (r known : AnswerStep) → old ≡ Answering a → (is_broken a ≡ true → r ≡ Broken)
+      → WaitsStill a r b → r ≡ known → ((need : Need) → known ≡ Needs need → ⊥) → (known ≡ Broken → ⊥) → LeadsTo old new
+  other_leads old new a b r known was breaks waits is other sound =
+      answer_leads old new a b r known was waits is other (λ lost. absurd (sound (sym is ∙ breaks lost)))
+
+  -- one that needs something stays
+  pub need_leads : (old : Phase A) (a b : HostAnswer A) (r : AnswerStep) (need : Need) → old ≡ Answering a → (is_broken a ≡ true → r ≡ Broken)
+      → WaitsStill a r b → r ≡ Needs need → LeadsTo old (Answering b)
+  need_leads old a b r need was breaks waits is =
+      subst (λ (p : Phase A). LeadsTo p (Answering b)) (sym was) (
+        λ lost. absurd (let both : Needs need ≡ Broken = sym is ∙ breaks lost in cc),
+        λ other needed. ap Answering (waits other needed).1,
+      )
 
   -- a server that reads no bytes stays
   pub reads_itself : (phase : Phase A) → ReadsTo phase phase

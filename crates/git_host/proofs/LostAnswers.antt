@@ -52,7 +52,7 @@ module _ {A : Type 0} where
   lost_leads Advertising new leads lost = absurd (cc)
   lost_leads Reading new leads lost = absurd (cc)
   lost_leads (WholeRequest request) new leads lost = absurd (cc)
-  lost_leads (Answering answer) new leads lost = lost_ended new (leads lost)
+  lost_leads (Answering answer) new leads lost = lost_ended new (leads.0 lost)
   lost_leads (Refusing fault) new leads lost = absurd (cc)
   lost_leads (Ended outcome) new leads lost = ap is_lost leads ∙ lost
 

@@ -49,6 +49,7 @@ use Rattle.git_host.specs.declared.report.Report.{Report}
 use Rattle.git_host.specs.declared.sizes_answer.SizesAnswer.{SizesAnswer}
 use Rattle.git_host.specs.declared.sizes_answer.SizesPlace.{SizesPlace}
 use Rattle.git_host.proofs.FetchMoves.{item_there}
+use Rattle.git_host.proofs.HostAnswerMoves.{none_needed}
 use Rattle.git_host.proofs.RepositoryReports.{FetchSoFar, SoFar, front_all, one_have, one_line, one_part, one_ready, one_reference, one_size}
 use Rattle.git_host.proofs.RepositoryReports.{one_want, one_want_ref}
 
@@ -80,17 +81,6 @@ have_at alone PackHeader next q t given is h = absurd (cc)
 have_at alone AtPack next q t given is h = absurd (cc)
 have_at alone AtEnd next q t given is h = absurd (cc)
 have_at alone AtLoss next q t given is h = absurd (cc)
-
--- an answer that is whole needs nothing
-none_needed : (A : Type 0) (need : Need) → (let all_sent : HostAnswer A = AllSent in IsNeeded need all_sent) → ⊥
-none_needed A (NeedWant next) h = h
-none_needed A (NeedWantRef next) h = h
-none_needed A (NeedHave next) h = h
-none_needed A NeedReady h = h
-none_needed A NeedBoundary h = h
-none_needed A NeedPack h = h
-none_needed A NeedReference h = h
-none_needed A (NeedSize next) h = h
 
 module _ {A : Type 0} (repo : Repository) (rising : IsRising repo.refs) (at : ℕ) (named : Bool) (what : HostReported) (taken : is_taken what ≡ true)
     (m : Terms) where

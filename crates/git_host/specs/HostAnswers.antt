@@ -292,6 +292,10 @@ module _ {A : Type 0} where
   IsNeeded (NeedSize at) (Sizes answer) = IsAsking answer at
   IsNeeded need answer = ⊥
 
+  -- an answer that needs something stays as it is, and needs the same
+  abbrev pub WaitsStill : HostAnswer A → AnswerStep → HostAnswer A → Type 0
+  WaitsStill old step new = (need : Need) → IsNeeded need old → (step ≡ Needs need) × (new ≡ old)
+
   -- what `next` does, by what it returns
   abbrev pub StepsAnswer : HostAnswer A → AnswerStep → List ℕ → HostAnswer A → Type 0
   StepsAnswer old GivesPacket bytes new = GivesOn (λ f. f) old bytes new

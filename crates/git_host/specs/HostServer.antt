@@ -29,6 +29,7 @@ use Rattle.git_host.specs.declared.report.HostReported.{HostReported}
 use Rattle.git_host.specs.declared.report.HostReported.TheVariants.{Packet as WasGiven, Taken, Hidden, NotAsked, OutOfMemory}
 use Rattle.git_host.specs.declared.report.HostStep.{HostStep}
 use Rattle.git_host.specs.declared.report.HostStep.TheVariants.{Packet as GivesPacket, NeedInput, Asked as AsksFor, Need as Needs, Ended as HasEnded}
+use Rattle.git_host.specs.declared.report.Need.{Need}
 use Rattle.git_host.specs.declared.report.Report.{Report}
 use Rattle.git_host.specs.declared.report.Report.TheVariants.{Failed, Reference}
 use Rattle.git_host.specs.declared.report.ReferenceFault.{ReferenceFault}
@@ -266,11 +267,11 @@ module _ {A : Type 0} where
   IsLostIn phase = ⊥
 
   -- where `next` leads: the advertisement is followed by input, and the session ends by the error packet of a fault or after an answer that
-  -- broke off; beside that only an answer goes on
+  -- broke off; beside that only an answer goes on, and none that needs something
   abbrev pub LeadsTo : Phase A → Phase A → Type 0
   LeadsTo Advertising new = new ≡ Reading
   LeadsTo (Refusing fault) new = new ≡ Ended (Refused fault)
-  LeadsTo (Answering answer) new = is_broken answer ≡ true → IsLostIn new
+  LeadsTo (Answering answer) new = (is_broken answer ≡ true → IsLostIn new) × ((need : Need) → IsNeeded need answer → new ≡ Answering answer)
   LeadsTo old new = new ≡ old
 
   -- what `next` does: it gives a packet, or states what the server waits for

@@ -63,6 +63,10 @@ module _ {A : Type 0} where
     pub gives : (sizes : List (Option ℕ)) (given : List Pkt) → RepresentsSizes sizes given old
         → (packet : Pkt) × Holds bytes packet × RepresentsSizes (with sizes) (given ++ packet ∷ []) new
 
+  -- where a size is asked, `next` asks it again, and nothing changes
+  abbrev pub AsksStill : SizesAnswer A → SizesStep → SizesAnswer A → Type 0
+  AsksStill old step new = (at : ℕ) → IsAsking old at → (step ≡ AskSize at) × (new ≡ old)
+
   abbrev pub StepsSizes : SizesAnswer A → SizesStep → List ℕ → SizesAnswer A → Type 0
   StepsSizes old Packet bytes new = GivesSize (λ sizes. sizes) old bytes new
   StepsSizes old (AskSize at) bytes new = (new ≡ old) × IsAsking old at

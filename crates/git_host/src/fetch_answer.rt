@@ -27,7 +27,7 @@ use git_pkt::{BAND_HEAD, Band, Hold, Packet, close_band, put, put_at, put_band};
 use std::alloc::Allocator;
 
 /// How far the answer has come: what is sent or asked next.
-#[derive(Clone, Copy, Debug)]
+#[derive(Clone, Copy)]
 enum Place {
     // The header of the acknowledgments.
     Header,

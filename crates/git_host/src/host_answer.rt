@@ -32,7 +32,7 @@ pub(crate) enum HostAnswer<A: Allocator + Copy> {
 }
 
 /// What is to be done next for an answer.
-#[derive(Clone, Copy, Debug)]
+#[derive(Clone, Copy)]
 pub(crate) enum AnswerStep {
     Packet,
     Need(Need),
@@ -44,7 +44,7 @@ pub(crate) enum AnswerStep {
 }
 
 /// What came of it that what is asked cannot be had.
-#[derive(Clone, Copy, Debug)]
+#[derive(Clone, Copy)]
 pub(crate) enum Failing {
     // Nothing was asked. Nothing changed.
     NotAsked,
@@ -55,7 +55,7 @@ pub(crate) enum Failing {
 }
 
 impl<A: Allocator + Copy> HostAnswer<A> {
-    ghost use Rattle.git_host.specs.HostAnswers.{FailsBy, IsBegun, ReportsBy, StepsAnswer, is_broken};
+    ghost use Rattle.git_host.specs.HostAnswers.{FailsBy, IsBegun, ReportsBy, StepsAnswer, WaitsStill, is_broken};
 
     /// The answer to this request, before anything was reported or sent for it.
     pub(crate) fn new(alloc: A, request: Request<A>, format: Format) -> HostAnswer<A>
@@ -76,6 +76,7 @@ impl<A: Allocator + Copy> HostAnswer<A> {
     pub(crate) fn next(&mut self, hold: &mut Hold) -> AnswerStep
         ensures steps { StepsAnswer self.old result hold.new.items self.new }
         ensures broken { is_broken self.old ≡ true → result ≡ AnswerStep.Broken }
+        ensures waits { WaitsStill self.old result self.new }
     {
         let HostAnswer::Admission(admission) = self else {
             return self.go_on(hold);
@@ -96,6 +97,7 @@ impl<A: Allocator + Copy> HostAnswer<A> {
         requires { is_admission self.old ≡ false }
         ensures steps { StepsAnswer self.old result hold.new.items self.new }
         ensures broken { is_broken self.old ≡ true → result ≡ AnswerStep.Broken }
+        ensures waits { WaitsStill self.old result self.new }
     {
         match self {
             HostAnswer::Admission(_) => unreachable!(),

@@ -10,7 +10,7 @@ ghost use Rattle.git_host.specs.NextNames.{FollowsFrom, HoldsUpTo, IsCommon, Jud
 use git_names::{RefName, Steps};
 
 /// What the name of a reference shows.
-#[derive(Clone, Copy, Debug)]
+#[derive(Clone, Copy)]
 pub(crate) enum NextName {
     // It is no reference name.
     Bad,

@@ -21,7 +21,7 @@ use git_server::{RefEntry, asks_for_unborn, entry_line, unborn_line};
 use std::alloc::Allocator;
 
 /// How far the answer has come.
-#[derive(Clone, Copy, Debug)]
+#[derive(Clone, Copy)]
 enum ReferencesPlace {
     // Nothing was reported.
     First,

@@ -11,7 +11,7 @@ use git_pkt::{Hold, Packet, put};
 use std::alloc::Allocator;
 
 /// How far the answer has come: what is sent or asked next.
-#[derive(Clone, Copy, Debug)]
+#[derive(Clone, Copy)]
 enum SizesPlace {
     // The line that names the attribute that each object's line has.
     Header,
@@ -39,7 +39,7 @@ pub struct SizesAnswer<A: Allocator + Copy> {
 }
 
 impl<A: Allocator + Copy> SizesAnswer<A> {
-    ghost use Rattle.git_host.specs.SizesPlaces.{Asks, IsAsking, Sizes, StepsSizes, RepresentsSizes, sizes_asked, sizes_request};
+    ghost use Rattle.git_host.specs.SizesPlaces.{Asks, AsksStill, IsAsking, Sizes, StepsSizes, RepresentsSizes, sizes_asked, sizes_request};
 
     /// The answer to this request, before its first packet.
     pub fn new(request: ObjectInfo<A>) -> SizesAnswer<A>
@@ -61,7 +61,8 @@ impl<A: Allocator + Copy> SizesAnswer<A> {
 
     /// Gives the next packet, or what is to be done in its place.
     pub fn next(&mut self, hold: &mut Hold) -> SizesStep
-        ensures { StepsSizes self.old result hold.new.items self.new }
+        ensures steps { StepsSizes self.old result hold.new.items self.new }
+        ensures asks { AsksStill self.old result self.new }
     {
         match self.place {
             SizesPlace::Header => {

@@ -11,8 +11,8 @@ use Rattle.git_host.specs.declared.host_answer.AnswerStep.TheVariants as Step
 use Rattle.git_host.specs.declared.host_server.Phase.{Phase}
 use Rattle.git_host.specs.declared.host_server.Phase.TheVariants.{Answering, Ended, Reading}
 use Rattle.git_host.proofs.HostFaults.{host_fault, lacking_fault, quiet_fault, same_fault}
-use Rattle.git_host.proofs.HostMoves.{answer_leads, answering_credit, answering_no, broken_done, credit_falls, lacking_done, need_done, on_some, other_leads}
-use Rattle.git_host.proofs.HostMoves.{packet_done, whole_done}
+use Rattle.git_host.proofs.HostMoves.{answer_leads, answering_credit, answering_no, broken_done, credit_falls, lacking_done, need_done, need_leads, on_some}
+use Rattle.git_host.proofs.HostMoves.{other_leads, packet_done, whole_done}
 use Rattle.git_host.proofs.LentStreams.{lent_within}
 use Rattle.git_host.proofs.HostMoves.{lent_credit, none_lent, unlent_credit}
 use Rattle.git_host.proofs.LentStreams.{lent_handed, packet_some}
@@ -35,8 +35,8 @@ returns-in-Packet-clause-steps g c s used over reported given h =
     let within = lent_within old.stream w (c.lend.follows.lender w) lent s h.reads_within in (
       record { offer = h.offer; limit = h.limit; reads_within = within; stands = is },
       handed,
-      other_leads old.phase (Answering c.next-step.new.self) c.in-Answering.answer c.next-step.result Step.Packet c.in-Answering.is
-          c.next-step.ensures.broken c.in-Packet.is (λ is. cc),
+      other_leads old.phase (Answering c.next-step.new.self) c.in-Answering.answer c.next-step.new.self c.next-step.result Step.Packet c.in-Answering.is
+          c.next-step.ensures.broken c.next-step.ensures.waits c.in-Packet.is (λ need is. cc) (λ is. cc),
     )
 
 pub returns-in-Need-clause-steps : goal.returns-in-Need-clause-steps
@@ -56,8 +56,8 @@ returns-in-Need-clause-steps g c s used over reported given h =
             (c.lend.follows.lender w) w lent few c.in-Answering.answer c.next-step.new.self stands steps.0;
       },
       steps.1,
-      other_leads old.phase (Answering c.next-step.new.self) c.in-Answering.answer c.next-step.result (Step.Need c.in-Need.need) c.in-Answering.is
-          c.next-step.ensures.broken c.in-Need.is (λ is. cc),
+      need_leads old.phase c.in-Answering.answer c.next-step.new.self c.next-step.result c.in-Need.need c.in-Answering.is
+          c.next-step.ensures.broken c.next-step.ensures.waits c.in-Need.is,
     )
 
 pub returns-in-Whole-clause-steps : goal.returns-in-Whole-clause-steps
@@ -77,8 +77,8 @@ returns-in-Whole-clause-steps g c s used over reported given h =
             (c.lend.follows.lender w) w lent few c.in-Answering.answer c.next-step.new.self stands steps;
       },
       tt,
-      other_leads old.phase Reading c.in-Answering.answer c.next-step.result Step.Whole c.in-Answering.is
-          c.next-step.ensures.broken c.in-Whole.is (λ is. cc),
+      other_leads old.phase Reading c.in-Answering.answer c.next-step.new.self c.next-step.result Step.Whole c.in-Answering.is
+          c.next-step.ensures.broken c.next-step.ensures.waits c.in-Whole.is (λ need is. cc) (λ is. cc),
     )
 
 pub returns-in-Broken-clause-steps : goal.returns-in-Broken-clause-steps
@@ -99,8 +99,8 @@ returns-in-Broken-clause-steps g c s used over reported given h =
             (c.lend.follows.lender w) w lent few c.in-Answering.answer c.next-step.new.self stands steps);
       },
       refl,
-      answer_leads old.phase (Ended c.ended_by-outcome.result) c.in-Answering.answer c.in-Answering.is
-          (λ broken. subst IsLost (sym c.ended_by-outcome.ensures) refl),
+      answer_leads old.phase (Ended c.ended_by-outcome.result) c.in-Answering.answer c.next-step.new.self c.next-step.result Step.Broken c.in-Answering.is
+          c.next-step.ensures.waits c.in-Broken.is (λ need is. cc) (λ lost. subst IsLost (sym c.ended_by-outcome.ensures) refl),
     )
 
 pub returns-in-Refused-clause-steps : goal.returns-in-Refused-clause-steps
@@ -122,8 +122,8 @@ returns-in-Refused-clause-steps g c s used over reported given h =
       },
       lent_handed old.stream w (c.lend.follows.lender w) lent
           (packet_some w.items (error_packet (record { kind = c.in-Refused.kind; offset = old.flush })) c.put_error.ensures) few,
-      other_leads old.phase (Ended c.ended_by.result) c.in-Answering.answer c.next-step.result (Step.Refused c.in-Refused.kind) c.in-Answering.is
-          c.next-step.ensures.broken c.in-Refused.is (λ is. cc),
+      other_leads old.phase (Ended c.ended_by.result) c.in-Answering.answer c.next-step.new.self c.next-step.result (Step.Refused c.in-Refused.kind)
+          c.in-Answering.is c.next-step.ensures.broken c.next-step.ensures.waits c.in-Refused.is (λ need is. cc) (λ is. cc),
     )
 
 pub returns-in-Packet-clause-credit : goal.returns-in-Packet-clause-credit

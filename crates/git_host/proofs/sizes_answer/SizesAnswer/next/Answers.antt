@@ -6,8 +6,8 @@ use Rattle.git_host.proofs.FetchMoves.{line_held}
 use Rattle.git_host.proofs.SizesMoves.{after_size_header}
 use Rattle.git_host.proofs.sizes_answer.SizesAnswer.next.Goals as goal
 
-pub returns-in-Header : goal.returns-in-Header
-returns-in-Header g c = record {
+pub returns-in-Header-clause-steps : goal.returns-in-Header-clause-steps
+returns-in-Header-clause-steps g c = record {
   same = refl;
   gives =
       λ sizes given h.
