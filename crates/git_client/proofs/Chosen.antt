@@ -1,12 +1,14 @@
 -- Before the flush of the advertisement a conversation is the same in each object format.
 use Rattle.std.proofs.Common.{arith, ◌≡◌, ◌≢◌, ◌∙◌, ℕ, Bool, true, false, List, [], ◌∷◌, ◌++◌, Option, Some, None, ap, cond, length, refl, subst, sym}
 use Rattle.git_names.specs.declared.object_format.Format.{Format}
+use Rattle.git_names.specs.declared.object_format.Format.TheVariants.{Sha1, Sha256}
 use Rattle.git_pkt.specs.Packets.{Pkt, flush, delim, resp_end, payload, flushes}
 use Rattle.git_pkt.specs.Splits.{Given}
 use Rattle.git_pkt.specs.Machine.PacketReader.{Reads, fault_of as reader_fault_of}
 use Rattle.git_pkt.specs.declared.reader.PacketReader.{PacketReader}
 use Rattle.git_msg.specs.Advertisement.{is_spoken, noted_of}
 use Rattle.git_msg.specs.Asked.{Asked}
+use Rattle.git_msg.specs.declared.offers.Caps.{Caps}
 use Rattle.git_client.specs.Parts.{Terms, Part, advertisement, closing, terms_of, nearest, advertisement_of, message_of, part_after, part_of}
 use Rattle.git_client.specs.Places.{Place, version, capabilities, place_of, place_after}
 use Rattle.git_client.specs.Events.{EventValue, capability, Gives}
@@ -15,7 +17,7 @@ use Rattle.git_client.specs.Conversation.{GivesAt, GiveAll}
 use Rattle.git_client.specs.Machine.Turns.{has_left_in, left_in, question_in}
 use Rattle.git_client.specs.Machine.Client.{History, Converses, StandsIn, Goes, IsExpected, awaits_end, sent_of, spelled}
 use Rattle.git_client.specs.Machine.Client.{format_of, ending_of, caps_of, left_to_send, phase_of, reader_of, request_of}
-use Rattle.git_client.specs.Machine.Choosing.{is_advertising}
+use Rattle.git_client.specs.Machine.Choosing.{format_by, is_advertising}
 use Rattle.git_client.specs.declared.client.Client.{Client}
 use Rattle.git_client.specs.declared.events.Ending.{Ending}
 use Rattle.git_client.specs.declared.phase.Phase.{Phase}
@@ -187,3 +189,10 @@ module _ {A : Type 0} (old new : Client A) where
 -- a client's format is that of its conversation
 pub in_its_format : {A : Type 0} (client : Client A) (t : Terms) (h : History) → Converses t h client → Converses (terms_of (format_of client) t.ending) h client
 in_its_format client t h c = subst (λ (format : Format). Converses (terms_of format t.ending) h client) (sym c.format_is) c
+
+pub format_is_spoken : (caps : Caps) (format : Format) → is_spoken caps format ≡ true → is_spoken caps (format_by caps) ≡ true
+format_is_spoken caps format speaks = go (is_spoken caps Sha1) refl format speaks where
+  go : (b : Bool) → is_spoken caps Sha1 ≡ b → (format : Format) → is_spoken caps format ≡ true → is_spoken caps (cond b Sha1 Sha256) ≡ true
+  go true is format speaks = is
+  go false is Sha1 speaks = absurd (cc)
+  go false is Sha256 speaks = speaks

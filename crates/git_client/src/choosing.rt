@@ -30,7 +30,7 @@ impl<A: Allocator + Copy> Client<A> {
     }
 
     /// Chooses the object format of a client of any format, by the lines of the advertisement so far: SHA-1 if they name it or name
-    /// no format, and otherwise SHA-256. Nothing changes once the advertisement is whole, or if the client was given its format.
+    /// no format, and otherwise SHA-256. Nothing changes once the advertisement is whole, or in a client that was made with one format.
     pub fn choose_format(&mut self)
         ensures { ChoosesFormat self.old self.new }
     {

@@ -20,7 +20,7 @@ list-requires-clause-passed c =
     let used = c.feed-arrived.result.used in
     let chunk = c.args.chunk.now in
     let feeds = c.feed-arrived.follows.holds-at-none.0 in
-    let there = lies c.args.client.now c.feed-arrived.follows.lender-at-none chunk used c.feed-arrived.result.got feeds in
+    let there = lies _ c.feed-arrived.follows.lender-at-none chunk used c.feed-arrived.result.got feeds in
     omega (arith, passed_fits c.in-Event.event used chunk (subst (λ (got : ReceivedGot). LieInChunk got used chunk) c.in-Event.is there))
 
 pub returns-in-Event : goal.returns-in-Event
@@ -35,11 +35,11 @@ returns-in-Event c =
       small = λ short. absurd (omega (arith, short, c.if-buffer-lt-LONGEST_PARTS.false));
       large = λ _. record {
         arrived = c.feed-arrived.result;
-        feeds = feeds;
+        feeds = record { chosen = _; chooses = c.choose_format.ensures; feeds = feeds };
         within = c.feed-arrived.ensures.used;
         fits = answer_fits used 0 c.in-Event.event c.list.result.event fits c.list.ensures.event;
         answer_is = subst answered_as (sym c.in-Event.is) c.list.ensures.event;
         buffer_is = subst (λ (g : ReceivedGot). c.list.new.buffer ≡ filled_by g c.args.buffer.now) (sym c.in-Event.is) buffer;
-        lies = lies c.args.client.now c.feed-arrived.follows.lender-at-none c.args.chunk.now used got feeds;
+        lies = lies _ c.feed-arrived.follows.lender-at-none c.args.chunk.now used got feeds;
       };
     }

@@ -22,7 +22,7 @@ pub list-requires-clause-passed : goal.list-requires-clause-passed
 list-requires-clause-passed c =
     let used = c.feed-arrived.result.used in
     let feeds = c.feed-arrived.follows.holds-at-none.0 in
-    let there = lies c.args.client.now c.feed-arrived.follows.lender-at-none _ used c.feed-arrived.result.got feeds in
+    let there = lies _ c.feed-arrived.follows.lender-at-none _ used c.feed-arrived.result.got feeds in
     let part = take (length c.args.chunk.now - c.args.so_far.used) (drop c.args.so_far.used c.args.chunk.now) in
     omega (arith, passed_fits c.in-Event.event used part (subst (λ (got : ReceivedGot). LieInChunk got used part) c.in-Event.is there))
 
@@ -35,7 +35,11 @@ returns-in-More c =
       record {
         used = c.feed-arrived.result.used;
         got = c.feed-arrived.result.got;
-        feeds = rw (take_rest c.args.chunk.now c.args.so_far.used) at c.feed-arrived.follows.holds-at-none.0;
+        feeds = record {
+          chosen = _;
+          chooses = c.choose_format.ensures;
+          feeds = rw (take_rest c.args.chunk.now c.args.so_far.used) at c.feed-arrived.follows.holds-at-none.0;
+        };
         answer_is = subst (λ (got : ReceivedGot). EndsAs (wants_input c.args.client.now) used count got c.of_packet.result) (sym c.in-More.is) answered;
         goes_on = c.requires.goes_on;
       },
@@ -55,13 +59,17 @@ returns-in-Event c =
     let from = c.args.so_far.used in
     let feeds = rw (take_rest c.args.chunk.now from) at c.feed-arrived.follows.holds-at-none.0 in
     let new = c.feed-arrived.follows.lender-at-none in
-    let there = lies c.args.client.now new (drop from c.args.chunk.now) used c.feed-arrived.result.got feeds in
+    let there = lies _ new (drop from c.args.chunk.now) used c.feed-arrived.result.got feeds in
     let lies_there = subst (λ (got : ReceivedGot). LieInChunk got used (drop from c.args.chunk.now)) c.in-Event.is there in
     let fits = subst (λ (got : ReceivedGot). all_parts_length (events_of got) ≤ longest_payload) c.in-Event.is c.feed-arrived.ensures.fits in
     record {
       event = c.in-Event.event;
       used = used;
-      feeds = subst (λ (got : ReceivedGot). Feeds c.args.client.now (drop from c.args.chunk.now) (record { used = used; got = got }) new) c.in-Event.is feeds;
+      feeds = record {
+        chosen = _;
+        chooses = c.choose_format.ensures;
+        feeds = subst (λ (got : ReceivedGot). Feeds _ (drop from c.args.chunk.now) (record { used = used; got = got }) new) c.in-Event.is feeds;
+      };
       within = omega (arith, c.feed-arrived.ensures.used, rest_length c.args.chunk.now from, c.requires.within);
       lies = lies_after c.in-Event.event from used c.args.chunk.now lies_there;
       event_is = c.list.ensures.event;
