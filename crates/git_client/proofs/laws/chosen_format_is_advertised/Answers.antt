@@ -2,4 +2,4 @@ use Rattle.git_client.proofs.Chosen.{format_is_spoken}
 use Rattle.git_client.proofs.laws.chosen_format_is_advertised.Goals as goal
 
 pub returns : goal.returns
-returns g c = format_is_spoken
+returns c = format_is_spoken
