@@ -1,5 +1,5 @@
 -- Before the flush of the advertisement a conversation is the same in each object format.
-use Rattle.std.proofs.Common.{arith, ◌≡◌, ◌≢◌, ◌∙◌, ℕ, Bool, true, false, List, [], ◌∷◌, ◌++◌, Option, Some, None, ap, cond, length, refl, subst, sym}
+use Rattle.std.proofs.Common.{arith, ◌≡◌, ◌≢◌, ◌∙◌, ℕ, Bool, true, false, List, [], ◌∷◌, ◌++◌, Option, Some, ap, cond, length, refl, subst, sym}
 use Rattle.git_names.specs.declared.object_format.Format.{Format}
 use Rattle.git_names.specs.declared.object_format.Format.TheVariants.{Sha1, Sha256}
 use Rattle.git_pkt.specs.Packets.{Pkt, flush, delim, resp_end, payload, flushes}
@@ -177,7 +177,7 @@ module _ {A : Type 0} (old new : Client A) where
         gives = all_give_too (format_of new) t h.asked [] c.clean c.whole none c.gives;
         events_are = c.events_are
             ∙ ap (λ (l : List EventValue). c.whole ++ l)
-                (nothing_open t h.asked before e.expected c.rest e.no_pack goes.behind ∙ sym (nothing_open u h.asked before e.expected c.rest e.no_pack is));
+            (nothing_open t h.asked before e.expected c.rest e.no_pack goes.behind ∙ sym (nothing_open u h.asked before e.expected c.rest e.no_pack is));
         notes = keeps.caps ∙ c.notes;
         stands =
             subst (λ (phase : Phase). StandsIn phase u h.asked c.clean c.given c.rest (length h.used) (question_in (request_of new)) (reader_of new))

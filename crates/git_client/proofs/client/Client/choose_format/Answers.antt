@@ -1,8 +1,6 @@
 use Rattle.std.proofs.Common.{◌≡◌, true, ap, cond, refl, sym, ◌∙◌}
-use Rattle.git_names.specs.declared.object_format.Format.{Format}
-use Rattle.git_client.specs.Machine.Client.{caps_of, format_of, is_of_any_format, phase_of}
+use Rattle.git_client.specs.Machine.Client.{caps_of, format_of, phase_of}
 use Rattle.git_client.specs.Machine.Choosing.{format_by, is_advertising, may_choose}
-use Rattle.git_client.specs.declared.client.Client.{Client}
 use Rattle.git_client.proofs.Chosen.{chooses}
 use Rattle.git_client.proofs.client.Client.choose_format.Goals as goal
 
