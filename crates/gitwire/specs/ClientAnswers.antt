@@ -8,7 +8,6 @@ use Rattle.git_pkt.specs.Packets.{longest_payload}
 use Rattle.git_pkt.specs.Splits.{Given, Splits}
 use Rattle.git_pkt.specs.declared.fault.Fault.{Fault}
 use Rattle.git_pkt.specs.declared.fault.Kind.TheVariants.{Truncated}
-use Rattle.git_msg.specs.declared.offers.Caps.{Caps}
 use Rattle.git_msg.specs.declared.requests.Request.{Request}
 use Rattle.git_client.specs.Machine.Client.{Asks, Converses, EndsWithMessage, EndsWithoutMessage, Feeds, ReceivesOn, History, Leaves, Pulls, RefusesToAsk}
 use Rattle.git_client.specs.Machine.Client.{can_ask, caps_of, fault_of, given_by, is_of_any_format, nothing_yet, wants_input}

@@ -1,4 +1,4 @@
-use Rattle.std.proofs.Common.{arith, ◌≤◌, ◌≡◌, ◌∙◌, ◌+◌, ap, refl, subst, sym}
+use Rattle.std.proofs.Common.{arith, ◌≤◌, ◌≡◌, ◌∙◌, ap, refl, subst, sym}
 use Rattle.git_pkt.specs.Packets.{longest_payload}
 use Rattle.git_client.specs.Machine.Client.{events_of, wants_input}
 use Rattle.git_client.specs.Events.{all_parts_length}
