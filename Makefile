@@ -5,7 +5,6 @@ RT ?= rt
 PREFIX ?= /usr/local
 PROGRAM ?= crates/git2show/out/git2show
 LIBRARY ?= crates/gitwire/out/libgitwire.a
-KIT = $(shell dirname "$$($(RT) doc)")
 VERSION = 0.3.0
 
 .PHONY: run program library install test test-program test-git-suite test-peers audit mutants cases bench format
@@ -34,8 +33,8 @@ program:
 	@echo 'make program: proves and builds the program, which takes half an hour and more the first time'
 	$(call prove,git2show,run -- --version)
 
-# Proves and builds the library for programs in C, without its part in C, c/gitwire.c. A program has to link that as well, and the kit's own archive,
-# by which the library takes memory; `make install` puts all three into one.
+# Proves and builds the library for programs in C, without its part in C, c/gitwire.c. A program has to link that as well; `make install` puts both
+# into one.
 library:
 	$(call prove,gitwire,lib)
 
@@ -67,7 +66,7 @@ install: $(PROGRAM) $(LIBRARY)
 	@install -D -m 644 gitwire.pc.in "$(to)/lib/pkgconfig/gitwire.pc"
 	@sed -i 's|@PREFIX@|$(prefix)|' "$(to)/lib/pkgconfig/gitwire.pc"
 	@install -D -m 644 "$(LIBRARY)" "$(to)/lib/libgitwire.a"
-	@objects=$$(mktemp -d) && (cd "$$objects" && ar x "$(KIT)/c/liblibc_c.a") && \
+	@objects=$$(mktemp -d) && \
 		$(CC) -std=c11 -O2 -fPIC -Wall -Wextra -Iinclude -c -o "$$objects/gitwire_in_c.o" c/gitwire.c && \
 		ar qs "$(to)/lib/libgitwire.a" "$$objects"/*.o && rm -r "$$objects"
 	@$(CC) -shared -o "$(to)/lib/libgitwire.so.$(VERSION)" -Wl,-soname,libgitwire.so.1,--version-script=gitwire.map \
@@ -116,19 +115,17 @@ mutants:
 
 # Builds the Rattle programs, and measures them beside C and the real Git.
 bench:
-	@cd crates/bench_packets && $(RT) run < stdin > /dev/null
-	@cd crates/bench_client && $(RT) run < stdin > /dev/null
-	@cd crates/bench_names && $(RT) run > /dev/null
+	@cd crates/bench_machines && $(RT) run -- client < stdin > /dev/null
 	@$(MAKE) --no-print-directory program library > /dev/null
 	@bench/run.sh
 
 # Git's own tests of version 2, with examples/upload-pack.c in the place of Git's server: no part of what a merge waits for. It fetches and builds
 # the source package of the installed Git, once, in the folder that GIT_SUITE names. TESTS names some of its test files, where not all are to run.
 test-git-suite: $(LIBRARY)
-	@$(CC) -std=c11 -O2 -Iinclude -o /tmp/gitwire-upload-pack examples/upload-pack.c c/gitwire.c "$(LIBRARY)" "$(KIT)/c/liblibc_c.a"
+	@$(CC) -std=c11 -O2 -Iinclude -o /tmp/gitwire-upload-pack examples/upload-pack.c c/gitwire.c "$(LIBRARY)"
 	@tests/git-suite.sh /tmp/gitwire-upload-pack $(TESTS)
 
 # Other Gits, dulwich, JGit and others of Debian's registry as clients and servers of ours (docs/PEERS.md): no part of what a merge waits for. They are
 # unpacked, once, in the folder that PEERS names, and installed nowhere. TRY names some of them, where not all are to be tried.
 test-peers: $(PROGRAM) $(LIBRARY)
-	@LIBC="$(KIT)/c/liblibc_c.a" tests/peers.sh "$(PROGRAM)" "$(LIBRARY)" $(TRY)
+	@tests/peers.sh "$(PROGRAM)" "$(LIBRARY)" $(TRY)

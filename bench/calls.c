@@ -1,9 +1,9 @@
 /*
  * Counts the packets of standard input and the bytes of their payloads, and prints one line, as packets.c does: by calls of the library for
- * C. The cost of the calls is the time that this takes more than crates/bench_packets, which is the same loop over the same reader in its
- * own language.
+ * C. The cost of the calls is the time that this takes more than crates/bench_machines after the word `packets`, which is the same loop
+ * over the same reader in its own language.
  *
- * Both read 64 KiB at a time, and the reader gathers each packet in its hold, where bench_packets looks at it. A call of C gives
+ * Both read 64 KiB at a time, and the reader gathers each packet in its hold, where bench_machines looks at it. A call of C gives
  * the packets of a chunk in an array, with their payloads where they came; one that is cut is copied into the caller's buffer.
  */
 #include <gitwire.h>
@@ -38,7 +38,7 @@ static void count_packet(const gitwire_answer *packet, const uint8_t *payload)
 
 static int tell_fault(gitwire_answer answer)
 {
-	fprintf(stderr, "bench_packets: %s at %" PRIu64 "\n", gitwire_fault_name(answer.fault), answer.offset);
+	fprintf(stderr, "bench_machines: %s at %" PRIu64 "\n", gitwire_fault_name(answer.fault), answer.offset);
 	return 1;
 }
 

@@ -1,7 +1,7 @@
 /*
  * Reads what a server sends to a client that asked for a pack, and prints one line: `bytes checksum` of the pack. The checksum is of the
  * pack's bytes at the multiples of 65,536: so neither number depends on how a reader cuts the pack; this one cuts it by packets. This is
- * what `git_client::Client` is measured against; crates/bench_client prints the same line.
+ * what `git_client::Client` is measured against; crates/bench_machines prints the same line after the word `client`.
  */
 #include "pack_counts.h"
 #include "pkt_line.h"
@@ -86,7 +86,7 @@ int main(void)
 {
 	prepare_digits();
 	if (!read_advertisement() || !read_pack())
-		return tell_fault(&reader, "bench_client");
+		return tell_fault(&reader, "bench_machines");
 	print_counts();
 	return 0;
 }

@@ -1,7 +1,7 @@
 /*
- * Asks for a pack and receives the answer on standard input, as crates/bench_client does, and prints the same line: by calls of the
- * library for C, which give the events of a chunk in an array, while the bytes of the pack stay in the chunk. It is measured beside
- * client.c, which reads the same answer without a library and gathers each packet.
+ * Asks for a pack and receives the answer on standard input, as crates/bench_machines does after the word `client`, and prints the same
+ * line: by calls of the library for C, which give the events of a chunk in an array, while the bytes of the pack stay in the chunk. It is
+ * measured beside client.c, which reads the same answer without a library and gathers each packet.
  */
 #include <gitwire.h>
 
@@ -37,7 +37,7 @@ static bool begin(void)
 
 static bool tell_fault(gitwire_answer answer)
 {
-	fprintf(stderr, "bench_client: %s at %" PRIu64 "\n", gitwire_fault_name(answer.fault), answer.offset);
+	fprintf(stderr, "bench_machines: %s at %" PRIu64 "\n", gitwire_fault_name(answer.fault), answer.offset);
 	return false;
 }
 

@@ -1,7 +1,7 @@
 /*
  * Counts the packets of standard input and the bytes of their payloads, and prints one line: `packets bytes checksum`.
  * The checksum takes the length and the first byte of each payload, so that no payload can go unread. This is what
- * `git_pkt::PacketReader` is measured against; crates/bench_packets prints the same line.
+ * `git_pkt::PacketReader` is measured against; crates/bench_machines prints the same line after the word `packets`.
  */
 #include "pkt_line.h"
 
@@ -28,7 +28,7 @@ int main(void)
 		checksum = checksum * 31 + mark(packet, &reader);
 	}
 	if (reader.fault)
-		return tell_fault(&reader, "bench_packets");
+		return tell_fault(&reader, "bench_machines");
 	printf("%" PRIu64 " %" PRIu64 " %" PRIu64 "\n", packets, bytes, checksum);
 	return 0;
 }

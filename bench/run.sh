@@ -1,7 +1,7 @@
 #!/usr/bin/env bash
 # Measures the Rattle programs against the C programs beside this script and the real Git, and prints a table.
 #
-#     bench/run.sh [BENCH_PACKETS [GIT2SHOW [BENCH_NAMES [BENCH_CLIENT [LIBRARY]]]]]
+#     bench/run.sh [BENCH_MACHINES [GIT2SHOW [LIBRARY]]]
 #
 # The arguments are the paths of the Rattle programs and of the library for C, with which c/gitwire.c is linked; without them, where `rt run`
 # and `rt lib` leave them in this repository.
@@ -20,11 +20,9 @@ if [ "${1:-}" = --c-only ]; then
     c_only=yes
     shift
 fi
-our_packets=${1:-$top/crates/bench_packets/out/bench_packets}
+our_machines=${1:-$top/crates/bench_machines/out/bench_machines}
 our_show=${2:-$top/crates/git2show/out/git2show}
-our_names=${3:-$top/crates/bench_names/out/bench_names}
-our_client=${4:-$top/crates/bench_client/out/bench_client}
-our_library=${5:-$top/crates/gitwire/out/libgitwire.a}
+our_library=${3:-$top/crates/gitwire/out/libgitwire.a}
 
 stop() {
     echo "bench/run.sh: $*" >&2
@@ -32,7 +30,7 @@ stop() {
 }
 
 if [ -z "$c_only" ]; then
-    for program in "$our_packets" "$our_show" "$our_names" "$our_client"; do
+    for program in "$our_machines" "$our_show"; do
         [ -x "$program" ] || stop "no program $program: run 'rt run' in its crate first"
     done
     [ -f "$our_library" ] || stop "no library $our_library: run 'make library' first"
@@ -44,7 +42,7 @@ for program in packets uncopied show names client generate ask bands check; do
 done
 if [ -z "$c_only" ]; then
     ${CC:-gcc} -O2 -Wall -Wextra -I"$top/include" -c -o "$out/gitwire.o" "$top/c/gitwire.c"
-    taken=("$out/gitwire.o" "$our_library" "$(dirname "$("${RT:-rt}" doc)")/c/liblibc_c.a")
+    taken=("$out/gitwire.o" "$our_library")
     for program in calls client_calls hosts; do
         ${CC:-gcc} -O3 -Wall -Wextra -I"$top/include" -o "$out/$program" "$top/bench/$program.c" "${taken[@]}"
     done
@@ -113,20 +111,21 @@ measure() {
 same_output() {
     local stream counts
     for stream in large small; do
-        [ "$("$our_packets" < "$streams/$stream")" = "$("$out/packets" < "$streams/$stream")" ] ||
-            stop "bench_packets and packets.c differ on the stream '$stream'"
-        [ "$("$our_packets" copied < "$streams/$stream")" = "$("$out/calls" < "$streams/$stream")" ] ||
-            stop "bench_packets and calls.c differ on the stream '$stream'"
+        [ "$("$our_machines" packets < "$streams/$stream")" = "$("$out/packets" < "$streams/$stream")" ] ||
+            stop "bench_machines packets and packets.c differ on the stream '$stream'"
+        [ "$("$our_machines" copied < "$streams/$stream")" = "$("$out/calls" < "$streams/$stream")" ] ||
+            stop "bench_machines copied and calls.c differ on the stream '$stream'"
     done
     for stream in large small large_pack small_pack; do
-        [ "$("$our_packets" bands < "$streams/$stream")" = "$("$out/uncopied" < "$streams/$stream")" ] ||
-            stop "bench_packets bands and uncopied.c differ on the stream '$stream'"
+        [ "$("$our_machines" bands < "$streams/$stream")" = "$("$out/uncopied" < "$streams/$stream")" ] ||
+            stop "bench_machines bands and uncopied.c differ on the stream '$stream'"
     done
     # A client hands out the bytes of a packet as they come, and client.c hands out whole packets: this compares the bytes of the pack and a
     # checksum, which do not depend on how it is cut.
     for stream in large_pack small_pack; do
         counts=$("$out/client" < "$streams/$stream")
-        [ "$("$our_client" < "$streams/$stream")" = "$counts" ] || stop "bench_client and client.c differ on the stream '$stream'"
+        [ "$("$our_machines" client < "$streams/$stream")" = "$counts" ] ||
+            stop "bench_machines client and client.c differ on the stream '$stream'"
         [ "$("$out/client_calls" < "$streams/$stream")" = "$counts" ] ||
             stop "client_calls.c and client.c differ on the stream '$stream'"
     done
@@ -169,17 +168,17 @@ has_git=$(command -v git || true)
 echo "$(nproc) processors, load $(cut -d ' ' -f 1 /proc/loadavg); $(${CC:-gcc} --version | head -n 1), -O3; best of $runs"
 echo
 printf '%-34s %22s   %22s   %6s\n' '' 'C' 'Rattle' 'ratio'
-measure 'packets, 65,515 bytes, 1 GB' large "$out/packets" "$our_packets"
-measure 'packets, 50 bytes, 200 MB' small "$out/packets" "$our_packets"
-measure 'bands, 65,515 bytes, 1 GB' large_pack "$out/uncopied" "$our_packets" bands
-measure 'bands, 50 bytes, 200 MB' small_pack "$out/uncopied" "$our_packets" bands
+measure 'packets, 65,515 bytes, 1 GB' large "$out/packets" "$our_machines" packets
+measure 'packets, 50 bytes, 200 MB' small "$out/packets" "$our_machines" packets
+measure 'bands, 65,515 bytes, 1 GB' large_pack "$out/uncopied" "$our_machines" bands
+measure 'bands, 50 bytes, 200 MB' small_pack "$out/uncopied" "$our_machines" bands
 # Here C's time is that of the same library, called from C.
 if [ -z "$c_only" ]; then
-    measure 'calls of C, 65,515 bytes, 1 GB' large "$out/calls" "$our_packets"
-    measure 'calls of C, 50 bytes, 200 MB' small "$out/calls" "$our_packets"
+    measure 'calls of C, 65,515 bytes, 1 GB' large "$out/calls" "$our_machines" packets
+    measure 'calls of C, 50 bytes, 200 MB' small "$out/calls" "$our_machines" packets
 fi
-measure 'client, 65,515 bytes, 1 GB' large_pack "$out/client" "$our_client"
-measure 'client, 50 bytes, 200 MB' small_pack "$out/client" "$our_client"
+measure 'client, 65,515 bytes, 1 GB' large_pack "$out/client" "$our_machines" client
+measure 'client, 50 bytes, 200 MB' small_pack "$out/client" "$our_machines" client
 # Here the library, called from C, is measured beside C.
 if [ -z "$c_only" ]; then
     measure 'client by calls of C, 65,515 bytes' large_pack "$out/client" "$out/client_calls"
@@ -190,7 +189,7 @@ measure 'show, 65,515 text, 1 GB' large "$out/show" "$our_show" show
 measure 'show, 50 text, 200 MB' small "$out/show" "$our_show" show
 measure 'show, 65,515 binary, 250 MB' binary "$out/show" "$our_show" show
 head -c 100000000 /dev/zero > "$streams/names" # its size alone counts: about the bytes of the names read and written
-measure 'names, 1,000,000 of each kind' names "$out/names" "$our_names"
+measure 'names, 1,000,000 of each kind' names "$out/names" "$our_machines" names
 [ -z "$has_git" ] || measure_serve
 [ -z "$has_git" ] || measure_prefixes
 [ -z "$has_git" ] || measure_check

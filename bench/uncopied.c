@@ -2,7 +2,7 @@
  * Splits the side bands of standard input without copying them, and prints one line: `packets bytes checksum`. Bytes of the pack (band 1)
  * and of the progress (band 2) are counted where they are: those of one packet that are in a chunk count as a packet does, and a packet
  * with nothing on its band does not count. The first five bytes of a packet are gathered only if a chunk ends among them. Any other packet
- * is gathered whole, and counts as in packets.c. This is what `PacketReader::feed_band` is measured against; crates/bench_packets prints
+ * is gathered whole, and counts as in packets.c. This is what `PacketReader::feed_band` is measured against; crates/bench_machines prints
  * the same line after the word `bands`, if it reads the same chunks.
  */
 #include <errno.h>
@@ -34,7 +34,7 @@ static void count(uint64_t mark, size_t length)
 
 static bool refuse(const char *name, uint64_t place)
 {
-	fprintf(stderr, "bench_packets: %s at %" PRIu64 "\n", name, place);
+	fprintf(stderr, "bench_machines: %s at %" PRIu64 "\n", name, place);
 	return false;
 }
 

@@ -1,12 +1,83 @@
 /*
- * The part of the library that is written in C, since Rattle exports nothing of the kind: memory for handles, texts that last, and where the
- * parts of an event and a payload are. Nothing here is proved. It is linked with libgitwire.a, whose calls `_init`, `_clear`, `_words` and
+ * The part of the library that is written in C, since Rattle exports nothing of the kind: memory, also for handles, texts that last, and where
+ * the parts of an event and a payload are. Nothing here is proved. It is linked with libgitwire.a, whose calls `_init`, `_clear`, `_words` and
  * `_text` below are not in the header.
  */
 #include <gitwire.h>
 
 #include <stdlib.h>
 #include <string.h>
+
+static void *by_malloc(void *user, size_t size)
+{
+	(void)user;
+	return malloc(size);
+}
+
+static void *by_realloc(void *user, void *block, size_t size)
+{
+	(void)user;
+	return realloc(block, size);
+}
+
+static void by_free(void *user, void *block)
+{
+	(void)user;
+	free(block);
+}
+
+/* Where memory comes from: the C library, unless the program has named calls of its own. */
+static struct {
+	gitwire_allocate allocate;
+	gitwire_reallocate reallocate;
+	gitwire_deallocate deallocate;
+	void *user;
+} memory = { by_malloc, by_realloc, by_free, NULL };
+
+gitwire_result gitwire_set_memory(gitwire_allocate allocate, gitwire_reallocate reallocate, gitwire_deallocate deallocate, void *user)
+{
+	bool is_named = allocate != NULL;
+
+	if ((reallocate != NULL) != is_named || (deallocate != NULL) != is_named)
+		return GITWIRE_BAD_VALUE;
+	memory.allocate = is_named ? allocate : by_malloc;
+	memory.reallocate = is_named ? reallocate : by_realloc;
+	memory.deallocate = is_named ? deallocate : by_free;
+	memory.user = user;
+	return GITWIRE_DONE;
+}
+
+/*
+ * What the proved library calls for memory, in the place of the kit's liblibc_c.a, which calls malloc, realloc and free. A block of no bytes
+ * gets as many as its alignment, so that NULL is a refusal alone. No alignment is above 16. Rattle's result has a bool and a pointer.
+ */
+struct tried {
+	uint64_t is_done;
+	void *block;
+};
+
+struct tried rattle_alloc(size_t size, size_t alignment);
+struct tried rattle_alloc(size_t size, size_t alignment)
+{
+	void *block = memory.allocate(memory.user, size > 0 ? size : alignment);
+
+	return (struct tried){ block != NULL, block };
+}
+
+struct tried rattle_realloc(void *block, size_t kept, size_t size, size_t alignment);
+struct tried rattle_realloc(void *block, size_t kept, size_t size, size_t alignment)
+{
+	void *moved = memory.reallocate(memory.user, block, size > 0 ? size : alignment);
+
+	(void)kept;
+	return (struct tried){ moved != NULL, moved };
+}
+
+void rattle_dealloc(void *block);
+void rattle_dealloc(void *block)
+{
+	memory.deallocate(memory.user, block);
+}
 
 /* What the library's calls take by the address of a handle. Zeroed memory has nothing in it. */
 struct handle {
@@ -15,15 +86,32 @@ struct handle {
 };
 GITWIRE_STATIC_ASSERT(sizeof(struct handle) == 2 * sizeof(void *) && offsetof(struct handle, is_made) == sizeof(void *), "a handle");
 
-/* Gets memory for a handle with nothing in it, lets `init` give it something, and sets `place` to it, or to NULL if that was not DONE. */
+/* Gets memory for a handle with nothing in it, or NULL. */
+static void *new_handle(void)
+{
+	struct handle *made = memory.allocate(memory.user, sizeof *made);
+
+	if (made != NULL)
+		*made = (struct handle){ NULL, false };
+	return made;
+}
+
+/* Gives the memory of a handle back, if there is one. */
+static void drop_handle(void *made)
+{
+	if (made != NULL)
+		memory.deallocate(memory.user, made);
+}
+
+/* Gets memory for a handle, lets `init` give it something, and sets `place` to it, or to NULL if that was not DONE. */
 #define MAKE(place, init) \
 	do { \
 		gitwire_result result = GITWIRE_OUT_OF_MEMORY; \
-		void *made = calloc(1, sizeof(struct handle)); \
+		void *made = new_handle(); \
 		if (made != NULL) \
 			result = init; \
 		if (result != GITWIRE_DONE) { \
-			free(made); \
+			drop_handle(made); \
 			made = NULL; \
 		} \
 		*place = made; \
@@ -38,7 +126,7 @@ GITWIRE_STATIC_ASSERT(sizeof(struct handle) == 2 * sizeof(void *) && offsetof(st
 		if (handle == NULL) \
 			return; \
 		kind##_clear(handle); \
-		free(handle); \
+		drop_handle(handle); \
 	}
 
 FREES(gitwire_packet_reader)
@@ -101,7 +189,7 @@ gitwire_result gitwire_writer_new(gitwire_writer **writer)
 static gitwire_answer kept(gitwire_repository **repository, void *made, gitwire_answer answer)
 {
 	if (answer.kind != GITWIRE_DONE) {
-		free(made);
+		drop_handle(made);
 		made = NULL;
 	}
 	*repository = made;
@@ -115,7 +203,7 @@ gitwire_answer gitwire_repository_init(gitwire_repository *repository, const cha
 gitwire_answer gitwire_repository_new(gitwire_repository **repository, const char *text, size_t text_length, const uint8_t *pack,
 	size_t pack_length)
 {
-	void *made = calloc(1, sizeof(struct handle));
+	void *made = new_handle();
 
 	return kept(repository, made, made == NULL ? no_memory : gitwire_repository_init(made, text, text_length, pack, pack_length));
 }
@@ -125,7 +213,7 @@ gitwire_answer gitwire_repository_init_filtered(gitwire_repository *repository, 
 gitwire_answer gitwire_repository_new_filtered(gitwire_repository **repository, const char *text, size_t text_length, const uint8_t *pack,
 	size_t pack_length, const uint8_t *filtered, size_t filtered_length)
 {
-	void *made = calloc(1, sizeof(struct handle));
+	void *made = new_handle();
 
 	return kept(repository, made, made == NULL ? no_memory : gitwire_repository_init_filtered(made, text, text_length, pack,
 		pack_length, filtered, filtered_length));

@@ -66,8 +66,9 @@
  *     else writes to a text or touches a buffer or an array while the call runs.
  *   - Each bool of an array of events is 0 or 1 before the call, as in zeroed memory.
  *   - The stack has space for a call. The tests make each call in a thread with the 16 KiB of PTHREAD_STACK_MIN.
- *   - malloc, calloc, realloc and free are those of one allocator, which aligns as the C standard requires. No call is made from
- *     a signal handler, nor in the child of a fork of a process with more than one thread.
+ *   - malloc, realloc and free are those of one allocator, which aligns as the C standard requires, and so are the calls that
+ *     gitwire_set_memory names in their place. No call is made from a signal handler, nor in the child of a fork of a process
+ *     with more than one thread.
  *
  * This header is for C11, C++11 and later. Neither `gitwire_answer` nor `gitwire_event`, which stand in arrays, changes before
  * 1.0, nor does a number or a call that is here: later versions only add to them.

@@ -19,6 +19,7 @@ write_examples() {
     compile library_writers "$top/tests/library_writers.c"
     compile library_host "$top/tests/library_host.c"
     compile library_threads "$top/tests/library_threads.c"
+    compile library_memory "$top/tests/library_memory.c" -Wl,--wrap=malloc,--wrap=realloc,--wrap=free
     compile refused_memory "$top/tests/refused_memory.c" -Wl,--wrap=malloc,--wrap=calloc,--wrap=realloc,--wrap=free
 }
 
@@ -270,7 +271,7 @@ case_library_header_has_a_type_for_each_kind_of_number() {
 
 case_library_programs_compile_without_a_word() {
     local name
-    for name in daemon fetch list packets upload-pack watch library_calls library_arrays library_writers library_host library_threads refused_memory; do
+    for name in daemon fetch list packets upload-pack watch library_calls library_arrays library_writers library_host library_threads library_memory refused_memory; do
         expect_same "what the compiler prints for $name" /dev/null "$name.said"
     done
 }
@@ -342,6 +343,13 @@ case_library_serves_in_two_threads() {
     read -r -a flags <<< "$(of_library --cflags) $(of_library --variable=archive)"
     gcc -O1 -g -fsanitize=thread -o bin/library_threads-tsan "$top/tests/library_threads.c" "$top/c/gitwire.c" "${flags[@]}"
     run library_threads-tsan
+    expect 0 /dev/null /dev/null
+}
+
+case_library_takes_the_memory_of_its_program() {
+    run library_memory
+    expect 0 /dev/null /dev/null
+    under_valgrind bin/library_memory
     expect 0 /dev/null /dev/null
 }
 

@@ -209,6 +209,20 @@ size_t gitwire_kind_name(gitwire_result kind, char *buffer, size_t buffer_length
  */
 gitwire_answer gitwire_escape(const uint8_t *bytes, size_t bytes_length, char *buffer, size_t buffer_length);
 
+/*
+ * Memory of the program's own: from this call on each block that the library needs comes from `allocate`, and goes back by `deallocate`, which
+ * get `user` as it is passed here. They are to do what malloc, realloc and free do: a block is aligned for each type of C, NULL refuses, and
+ * the block of a refused `reallocate` stays as it was. They call nothing of the library. If all three are NULL, as at the start, memory is that of
+ * malloc, realloc and free.
+ *
+ * It is for the whole program: make this call while there is no handle and no other thread is in the library. BAD_VALUE, if some of the
+ * three are NULL and others are not; nothing changed then.
+ */
+typedef void *(*gitwire_allocate)(void *user, size_t size);
+typedef void *(*gitwire_reallocate)(void *user, void *block, size_t size);
+typedef void (*gitwire_deallocate)(void *user, void *block);
+gitwire_result gitwire_set_memory(gitwire_allocate allocate, gitwire_reallocate reallocate, gitwire_deallocate deallocate, void *user);
+
 /* The layout that the library has. */
 GITWIRE_STATIC_ASSERT(sizeof(size_t) == 8 && sizeof(void *) == 8 && sizeof(bool) == 1, "the library is of 64 bits");
 GITWIRE_STATIC_ASSERT(sizeof(gitwire_result) == 4 && sizeof(gitwire_fault) == 4 && sizeof(gitwire_format) == 4

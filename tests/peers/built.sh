@@ -26,6 +26,10 @@ get_crates() {
         package=${package%_*}
         echo "${package%%_*} ${package#*_}"
     done > "$cache/$1-crates.versions"
+    # Some package comes without its list of sums, and Cargo then reads none of them.
+    for package in "$cache/$1-crates"/usr/share/cargo/registry/*/; do
+        [ -f "$package/.cargo-checksum.json" ] || echo '{"files":{}}' > "$package/.cargo-checksum.json"
+    done
     rm -r "$at"
     touch "$cache/$1-crates.done"
 }

@@ -19,7 +19,7 @@ use Rattle.git_server.specs.Sessions.{Setting, AreAnswers, advertised}
 use Rattle.git_server.proofs.AtRest.{EndsWithFlush, packets_of}
 use Rattle.git_server.proofs.Flushes.{flushes-append}
 use Rattle.git_server.proofs.OneSession.{line_is_unsent}
-use Rattle.git_both_ends.proofs.RequestsReceived.{lines_clear, lines_end, lines_of}
+use Rattle.git_laws.proofs.RequestsReceived.{lines_clear, lines_end, lines_of}
 use Rattle.git_server.specs.declared.advertisement.AdvertisementLine.TheVariants.{Version}
 
 -- ---- lists whose last packet is a flush

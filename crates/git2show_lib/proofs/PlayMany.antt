@@ -31,7 +31,7 @@ use Rattle.git_server.specs.Sessions.{Setting, IsAnswered}
 use Rattle.git_server.specs.declared.server.Server.{Server}
 use Rattle.git_server.proofs.Going.{no_outcome}
 use Rattle.git2show_lib.specs.Machine.PlaySteps.{Answers, AnswersTo, AsksServer, ReceivesMessage, Settled, Stands}
-use Rattle.git_both_ends.specs.Plays.{AreAll, AreSent, IsDone, IsTalk, Talk, sent_each, setting_of, with_end}
+use Rattle.git_laws.specs.Plays.{AreAll, AreSent, IsDone, IsTalk, Talk, sent_each, setting_of, with_end}
 use Rattle.git2show_lib.proofs.PlayFlushes.{questions_close, questions_count}
 use Rattle.git2show_lib.proofs.PlayRuns.{PlayEnds, Plays, Runs, Turn, answer_stopped, begun, first_turn, given_is, arrived, now_whole, play_ends}
 use Rattle.git2show_lib.proofs.PlayRuns.{settled, waits}

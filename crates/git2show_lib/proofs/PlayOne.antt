@@ -23,7 +23,7 @@ use Rattle.git_server.proofs.AtRest.{front_of, packets_of}
 use Rattle.git_server.proofs.Flushes.{flushes-append}
 use Rattle.git_server.proofs.Going.{no_outcome}
 use Rattle.git2show_lib.specs.Machine.PlaySteps.{Answers, AnswersTo, AsksServer, ReceivesMessage, Settled, Stands, StandsOn, AnnouncesAll}
-use Rattle.git_both_ends.specs.Plays.{AreSent, sent_each, setting_of}
+use Rattle.git_laws.specs.Plays.{AreSent, sent_each, setting_of}
 use Rattle.git2show_lib.proofs.PlayFlushes.{Closes, advertises_once, closes_both, flushes_nearest, questions_close, questions_count}
 use Rattle.git2show_lib.proofs.PlayRuns.{PlayEnds, Plays, Runs, Turn, answer_stopped, begun, first_turn, given_is, sole_turn, arrived, now_whole, play_ends}
 use Rattle.git2show_lib.proofs.PlayRuns.{rested, settled, used_all}

@@ -10,7 +10,7 @@ use Rattle.git_server.specs.Machine.Server.{Running, outcome_of}
 use Rattle.git_server.specs.Sessions.{Setting}
 use Rattle.git_server.specs.declared.server.Server.{Server}
 use Rattle.git_server.proofs.AtRest.{open_at_first}
-use Rattle.git_both_ends.specs.Plays.{setting_of}
+use Rattle.git_laws.specs.Plays.{setting_of}
 use Rattle.git2show_lib.specs.Machine.PlaySteps.{Stands}
 
 -- the setting of a server with this offer

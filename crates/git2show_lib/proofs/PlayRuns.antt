@@ -34,7 +34,7 @@ use Rattle.git_server.proofs.AtRest.{packets_of}
 use Rattle.git_server.proofs.Flushes.{flushes-append}
 use Rattle.git2show_lib.specs.Machine.PlaySteps.{AnswersTo, AsksServer, AsksServerTo, ReceivesFront, ReceivesMessage, ReceivesMessageTo, IsSpent}
 use Rattle.git2show_lib.specs.Machine.PlaySteps.{Settled, Stands, silent}
-use Rattle.git_both_ends.specs.Plays.{AreAll, AreSent, AreServed, EndsAs, IsDone, IsServed, IsTalk, Played, Talk, sent_each, setting_of, with_end}
+use Rattle.git_laws.specs.Plays.{AreAll, AreSent, AreServed, EndsAs, IsDone, IsServed, IsTalk, Played, Talk, sent_each, setting_of, with_end}
 use Rattle.git2show_lib.proofs.PlayFlushes.{Closes, advertises_once, flushes_nearest}
 use Rattle.git2show_lib.proofs.PlayTalks.{Enough, Quota, Rests, done, enough_received, failed_in, last_of_closed, no_end_unheard, nothing_unheard}
 use Rattle.git2show_lib.proofs.PlayTalks.{rests, settle, spelled-append, talk, talk_of, unheard_packets, waits_on}

@@ -21,7 +21,7 @@ use Rattle.git_server.proofs.OneSession.{answers_end, flush_unsent}
 use Rattle.git_server.proofs.Sent.{is_whole}
 use Rattle.git_server.proofs.SessionLaws.{all_answered, going, going_on}
 use Rattle.git2show_lib.specs.Machine.PlaySteps.{IsSpent, Settled, Stands}
-use Rattle.git_both_ends.specs.Plays.{IsDone, IsLostFor, IsTalk, Talk}
+use Rattle.git_laws.specs.Plays.{IsDone, IsLostFor, IsTalk, Talk}
 use Rattle.git2show_lib.proofs.PlayFlushes.{Closes, LastFlush, closes_both, ends_closed, flushes_nearest, given_close}
 
 pub spelled-append : (ps qs : List Pkt) → spelled (ps ++ qs) ≡ spelled ps ++ spelled qs

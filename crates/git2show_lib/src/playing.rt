@@ -9,7 +9,7 @@ ghost use Rattle.git_client.specs.Machine.Client.{can_ask, fault_of, wants_input
 ghost use Rattle.git_client.specs.Parts.{terms_of};
 ghost use Rattle.git_client.specs.Machine.RunSteps.{ReceivesChunkTo};
 ghost use Rattle.git_server.specs.Machine.Server.{outcome_of};
-ghost use Rattle.git_both_ends.specs.Plays.{Played, setting_of};
+ghost use Rattle.git_laws.specs.Plays.{Played, setting_of};
 ghost use Rattle.git2show_lib.specs.Machine.PlaySteps.{AnswersTo, AsksServerTo, EndsMessageTo, ReceivesMessageTo, ReceivesServerTo};
 ghost use Rattle.git2show_lib.specs.Machine.PlaySteps.{Stands, StandsOn, AnnouncesAll, silent};
 

@@ -5,7 +5,7 @@ ghost use Rattle.git2show_lib.specs.Others.{IsOtherAnswer, IsOtherRequest, count
 ghost use Rattle.git2show_lib.specs.OtherLines.{named_by};
 ghost use Rattle.git2show_lib.specs.Machine.CheckedStreams.{Checked, moved};
 ghost use Rattle.git2show_lib.specs.Machine.ShownStream.{Shows};
-ghost use Rattle.git_both_ends.specs.Plays.{Played};
+ghost use Rattle.git_laws.specs.Plays.{Played};
 ghost use Rattle.git_msg.specs.Asked.{ls_refs};
 ghost use Rattle.git_msg.specs.Machine.HeldRequest.{asked_of};
 ghost use Rattle.git_msg.specs.declared.requests.Request.{Request};
@@ -21,8 +21,8 @@ ghost use Rattle.git_rows.specs.Worked.{asked_with, at, fault_at};
 ghost use Rattle.git_rows.specs.WorkedConversations.{offer_bytes, terms};
 ghost use Rattle.git_rows.specs.WorkedRuns.{bare_state, from_eight, offer_transcript, repo_state, standing, tally_before, with_bundles, without_packs};
 
-use git_both_ends::answer_laws::received_offer;
-use git_both_ends::play_laws::played_as_answered;
+use git_laws::answer_laws::received_offer;
+use git_laws::play_laws::played_as_answered;
 use std::alloc::Allocator;
 
 /// What streams held before and after a run.

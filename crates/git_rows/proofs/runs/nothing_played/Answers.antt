@@ -19,8 +19,8 @@ use Rattle.git_server.specs.Admission.{barred}
 use Rattle.git_server.specs.Answers.{advertisement_of, spelled}
 use Rattle.git_server.specs.Sessions.{IsAnswered, IsEnding, Setting}
 use Rattle.git_server.specs.declared.outcome.Outcome.TheVariants.{Flush}
-use Rattle.git_both_ends.specs.Plays.{setting_of}
-use Rattle.git_both_ends.specs.AnnouncedAnswers.{announced_offer}
+use Rattle.git_laws.specs.Plays.{setting_of}
+use Rattle.git_laws.specs.AnnouncedAnswers.{announced_offer}
 use Rattle.git_rows.specs.Worked.{at, offer_all}
 use Rattle.git_rows.specs.WorkedConversations.{terms}
 use Rattle.git_rows.specs.WorkedRuns.{repo_state}

@@ -7,7 +7,7 @@ use Rattle.git_msg.specs.Asked.{Asked, HasValues, ls_refs}
 use Rattle.git_msg.specs.Machine.HeldRequest.{asked_of, format_of}
 use Rattle.git_msg.specs.declared.requests.Request.{Request}
 use Rattle.git_server.specs.Repository.{IsSound}
-use Rattle.git_both_ends.specs.AnnouncedAnswers.{CanBeWritten}
+use Rattle.git_laws.specs.AnnouncedAnswers.{CanBeWritten}
 use Rattle.git_rows.specs.Worked.{asked_with}
 use Rattle.git_rows.specs.WorkedConversations.{terms}
 use Rattle.git_rows.specs.WorkedRuns.{bare_repo, bare_state, offer_transcript}

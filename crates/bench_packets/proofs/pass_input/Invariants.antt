@@ -1,5 +1,0 @@
-use Rattle.git_pkt.specs.Machine.BandReader.{MayPass}
-use Rattle.bench_packets.proofs.pass_input.Given as goal
-
-abbrev pub invariant-loop : goal.invariant-loop
-invariant-loop g l = record { passes : MayPass l.reader }

@@ -1,9 +1,0 @@
-use Rattle.git_both_ends.proofs.ReceivingOffers.{offer_received, offer_noted, offer_whole}
-use Rattle.git_both_ends.proofs.answer_laws.received_offer.Goals as goal
-
-pub returns : goal.returns
-returns c = record {
-  arrived = λ t asked offer gs format are. offer_received t offer gs format are asked;
-  whole = offer_whole;
-  noted = offer_noted;
-}

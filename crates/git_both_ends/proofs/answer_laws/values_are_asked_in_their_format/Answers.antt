@@ -1,5 +1,0 @@
-use Rattle.git_both_ends.proofs.PlaysAnnounced.{asks_in}
-use Rattle.git_both_ends.proofs.answer_laws.values_are_asked_in_their_format.Goals as goal
-
-pub returns : goal.returns
-returns c = asks_in

@@ -1,9 +1,0 @@
-use Rattle.git_both_ends.proofs.PacksAnnounced.{all_packs}
-use Rattle.git_both_ends.proofs.PlaysAnnounced.{as_announced}
-use Rattle.git_both_ends.proofs.play_laws.played_as_answered.Goals as goal
-
-pub returns : goal.returns
-returns g c = record {
-  announced = as_announced;
-  packs = all_packs;
-}

@@ -1,0 +1,96 @@
+-- The values of requests that a server reads: object names have its format, whatever the format of the request.
+use Rattle.std.proofs.Common.{arith, ◌≡◌, ℕ, Bool, true, false, All, map, List, [], ◌∷◌, ◌++◌, refl, ◌∙◌}
+use Rattle.std.proofs.lemmas.Bool.{or_left, or_right}
+use Rattle.std.proofs.lemmas.List.Elements.{All-cons, All-head, All-nil, All-tail}
+use Rattle.git_names.specs.ObjectName.{IsObjectName, ObjectName, hex_of}
+use Rattle.git_names.specs.declared.object_format.Format.{Format}
+use Rattle.git_names.specs.declared.object_format.Format.TheVariants.{Sha1, Sha256}
+use Rattle.git_pkt.specs.Packets.{Pkt, delim, payload}
+use Rattle.git_pkt.specs.Splits.{Given}
+use Rattle.git_pkt.proofs.Texts.{text_of-line_end}
+use Rattle.git_msg.specs.declared.arguments.Command.{Command}
+use Rattle.git_msg.specs.declared.offers.Offer.{Offer}
+use Rattle.git_msg.specs.Arguments.{Arg, IsInRange, IsNameIn, IsValue, MayFollow, HasArgumentOf, HasValueOf, Shape, Value, id_value, object_name}
+use Rattle.git_msg.specs.Arguments.{row, written_text, written_value}
+use Rattle.git_msg.specs.Lines.{IsLineIn, Line, delimiter, has_delimiter, is_delimiter}
+use Rattle.git_msg.specs.Requests.{AreLines}
+use Rattle.git_msg.specs.WrittenRequest.{text_line}
+use Rattle.git_msg.proofs.LineLaws.{payload_argument}
+use Rattle.git_msg.proofs.LineLists.{delimiter_snoc}
+use Rattle.git_msg.proofs.RoundTrip.{written_conveys}
+use Rattle.git_msg.proofs.Rows.{headed, one_value, one_word}
+use Rattle.git_msg.proofs.WrittenNames.{length-hex_of}
+use Rattle.git_laws.specs.AnnouncedAnswers.{packets_of}
+
+-- ---- an object name that is read has the reader's format
+
+abbrev IsSomeName : Format → List ℕ → Type 0
+IsSomeName format name = (id : ObjectName) × IsObjectName format name id
+
+name_fits : (written read : Format) (id : ObjectName) → IsNameIn written id → IsSomeName read (hex_of id) → IsNameIn read id
+name_fits Sha1 Sha1 id h (other, is) = h
+name_fits Sha256 Sha256 id h (other, is) = h
+name_fits Sha1 Sha256 id h (other, is) = absurd (omega (arith, length-hex_of Sha1 id h, is.count))
+name_fits Sha256 Sha1 id h (other, is) = absurd (omega (arith, length-hex_of Sha256 id h, is.count))
+
+value_stays : (shape : Shape) (word : List ℕ) (written read : Format) (value other : Value) → MayFollow shape written value
+    → HasValueOf shape word read (word ++ written_value value) other → MayFollow shape read value
+value_stays object_name word written read (id_value id) (id_value other) fits conveys =
+    let same : conveys.value ≡ hex_of id = one_value word (word ++ hex_of id) conveys.value (hex_of id) conveys.spelled refl in
+    name_fits written read id fits (other, rw same at conveys.holds)
+value_stays object_name word written read (id_value id) other fits conveys = absurd conveys
+value_stays shape word written read value other fits conveys = fits
+
+-- so an argument that is read is allowed in a request of that format
+in_range : (written read : Format) (arg other : Arg) → IsInRange written arg → HasArgumentOf read (written_text arg) other → IsInRange read arg
+in_range written read arg other value conveys =
+    let same = one_word (written_text arg) other.word arg.word (headed read (written_text arg) other conveys)
+    (headed written (written_text arg) arg (written_conveys written arg value)) in
+    value_stays (row arg.word).shape (row arg.word).keyword written read arg.value other.value value (rw same at conveys)
+
+-- ---- the lines of a request
+
+-- the packets of arguments, after the delimiter
+abbrev pub argument_packets : List Arg → List Pkt
+argument_packets args = map (λ arg. text_line (written_text arg)) args
+
+delimiter_line : (part : Bool) (offer : Offer) (limit : ℕ) (before : List Line) (line : Line) → IsLineIn part offer limit before delim line
+    → is_delimiter line ≡ true
+delimiter_line false offer limit before delimiter h = refl
+delimiter_line part offer limit before line h = absurd h
+
+-- each argument that is read after the delimiter is allowed there
+arguments_behind : (offer : Offer) (limit : ℕ) (command : Command) (format : Format) (args : List Arg) (before : List Line) (gs : List Given)
+    (lines : List Line) → has_delimiter before ≡ true → AreLines offer limit before gs lines → packets_of gs ≡ argument_packets args
+    → All (IsValue command format) args → All (IsValue command offer.format) args
+arguments_behind offer limit command format [] before gs lines behind taken e values = All-nil (IsValue command offer.format)
+arguments_behind offer limit command format (arg ∷ args) before [] lines behind taken e values = absurd (cc)
+arguments_behind offer limit command format (arg ∷ args) before (g ∷ gs) [] behind taken e values = absurd taken
+arguments_behind offer limit command format (arg ∷ args) before (g ∷ gs) (line ∷ lines) behind (is, taken) e values =
+    let bytes = written_text arg ++ 10 ∷ [] in
+    let first : g.packet ≡ payload bytes = cc in
+    let rest : packets_of gs ≡ argument_packets args = cc in
+    let value = All-head (IsValue command format) arg args values in
+    let read = payload_argument offer limit before bytes line (rw (first, behind) at is) in
+    let conveys : HasArgumentOf offer.format (written_text arg) read.0 = rw (text_of-line_end (written_text arg)) at read.2.reads.is_argument.1 in
+    All-cons (IsValue command offer.format) arg args (value.0, in_range format offer.format arg read.0 value.1 conveys)
+    (arguments_behind offer limit command format args (before ++ line ∷ []) gs lines
+    (delimiter_snoc before line ∙ or_right (is_delimiter line) (has_delimiter before) behind) taken rest
+    (All-tail (IsValue command format) arg args values))
+
+-- so is each argument of a whole request
+pub arguments_fit_in : (offer : Offer) (limit : ℕ) (command : Command) (format : Format) (args : List Arg) (front : List Pkt) (before : List Line)
+    (gs : List Given) (lines : List Line) → AreLines offer limit before gs lines → packets_of gs ≡ front ++ delim ∷ argument_packets args
+    → All (IsValue command format) args → All (IsValue command offer.format) args
+arguments_fit_in offer limit command format args [] before [] lines taken e values = absurd (cc)
+arguments_fit_in offer limit command format args (p ∷ front) before [] lines taken e values = absurd (cc)
+arguments_fit_in offer limit command format args front before (g ∷ gs) [] taken e values = absurd taken
+arguments_fit_in offer limit command format args [] before (g ∷ gs) (line ∷ lines) (is, taken) e values =
+    let first : g.packet ≡ delim = cc in
+    let rest : packets_of gs ≡ argument_packets args = cc in
+    let ends = delimiter_line (has_delimiter before) offer limit before line (rw first at is) in
+    arguments_behind offer limit command format args (before ++ line ∷ []) gs lines
+    (delimiter_snoc before line ∙ or_left (is_delimiter line) (has_delimiter before) ends) taken rest values
+arguments_fit_in offer limit command format args (p ∷ front) before (g ∷ gs) (line ∷ lines) (is, taken) e values =
+    let rest : packets_of gs ≡ front ++ delim ∷ argument_packets args = cc in
+    arguments_fit_in offer limit command format args front (before ++ line ∷ []) gs lines taken rest values
