@@ -186,10 +186,6 @@ module _ {A : Type 0} (old new : Client A) where
         spoken = ap (λ (l : List Pkt). h.given ++ spelled l) unsent ∙ c.spoken ∙ ap spelled sent;
       }
 
--- a client's format is that of its conversation
-pub in_its_format : {A : Type 0} (client : Client A) (t : Terms) (h : History) → Converses t h client → Converses (terms_of (format_of client) t.ending) h client
-in_its_format client t h c = subst (λ (format : Format). Converses (terms_of format t.ending) h client) (sym c.format_is) c
-
 pub format_is_spoken : (caps : Caps) (format : Format) → is_spoken caps format ≡ true → is_spoken caps (format_by caps) ≡ true
 format_is_spoken caps format speaks = go (is_spoken caps Sha1) refl format speaks where
   go : (b : Bool) → is_spoken caps Sha1 ≡ b → (format : Format) → is_spoken caps format ≡ true → is_spoken caps (cond b Sha1 Sha256) ≡ true

@@ -16,7 +16,8 @@ use Rattle.gitwire.specs.declared.answer.What.TheVariants as What
 use Rattle.gitwire.specs.declared.event.GitwireEvent.{GitwireEvent}
 use Rattle.gitwire.specs.declared.event_list.Listed.{Listed}
 
--- a call of `feed`, before which a format may be chosen, on the bytes of the chunk from this place on gives this event, which is listed so, after events with these texts in the buffer
+-- a call of `feed` on the bytes of the chunk from this place on gives this event, which is listed so, after events with these texts in the buffer;
+-- a client of any format chooses it first
 pub record GivesNext (old : Client Global) (chunk : List ℕ) (from : ℕ) (texts : List ℕ) (listed : GitwireEvent) (event : Event) (used : ℕ)
     (new : Client Global) : Type 0 where
   pub feeds : FeedsOn old (drop from chunk) (record { used = used; got = Got.Event event }) new
