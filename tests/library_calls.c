@@ -645,7 +645,7 @@ static void try_any_format(void)
 		{ "0017object-format=sha9\n" "0019object-format=sha256\n", GITWIRE_SHA256 }, { "0017object-format=sha9\n", (gitwire_format)0 },
 	};
 	static gitwire_event events[8];
-	static uint8_t texts[GITWIRE_EVENTS_SIZE];
+	static uint8_t texts[GITWIRE_EVENTS_SIZE(99)];
 
 	for (size_t i = 0; i < 2 * (sizeof cases / sizeof *cases); i++) {
 		gitwire_format format = cases[i / 2].format;
