@@ -1,10 +1,10 @@
 /*
  * Fetches a pack from `git upload-pack`, through two pipes: the objects that a reference of a repository reaches, into a file.
  *
- *     fetch [--sha256] FOLDER REFERENCE PACK
+ *     fetch FOLDER REFERENCE PACK
  *
- * REFERENCE is a whole name, as `HEAD` or `refs/heads/main`; its object is printed. The server's progress is shown if standard error is a
- * terminal, with the bytes escaped that could control it. `git index-pack` takes the pack.
+ * REFERENCE is a whole name, as `HEAD` or `refs/heads/main`; its object is printed. The object format is the one that the server advertises. The
+ * server's progress is shown if standard error is a terminal, with the bytes escaped that could control it. `git index-pack` takes the pack.
  */
 #define _POSIX_C_SOURCE 200809L
 #define PROGRAM "fetch"
@@ -15,19 +15,18 @@
 /* A fetch, from the request for the reference to the last byte of the pack. */
 struct fetch {
 	gitwire_client *client;
-	gitwire_format format;
 	const char *reference;
 	char id[GITWIRE_OBJECT_NAME_SIZE + 1]; /* the reference's object, once the server has sent it */
 	enum { LIST, GET, LEAVE } next;        /* what to ask */
 	FILE *pack;
 };
 
-/* Makes the next request: the reference's object, or the pack of that object. */
+/* Makes the next request, in the format that the server has advertised: the reference's object, or the pack of that object. */
 static bool make_request(const struct fetch *fetch, gitwire_request **request)
 {
 	gitwire_command command = fetch->next == LIST ? GITWIRE_LS_REFS : GITWIRE_FETCH;
 
-	if (gitwire_request_new(request, command, fetch->format, GITWIRE_DEFAULT_LIMIT) != GITWIRE_DONE)
+	if (gitwire_request_new(request, command, gitwire_client_format(fetch->client), GITWIRE_DEFAULT_LIMIT) != GITWIRE_DONE)
 		return false;
 	if (command == GITWIRE_LS_REFS)
 		return add(*request, "ref-prefix ", fetch->reference) == 0;
@@ -123,7 +122,7 @@ static int fetch_into(struct fetch *fetch, char *folder, const char *name)
 {
 	int status;
 
-	if (gitwire_client_new(&fetch->client, fetch->format, GITWIRE_ENDS_BY_FLUSH) != GITWIRE_DONE)
+	if (gitwire_client_new(&fetch->client, GITWIRE_FORMAT_ANY, GITWIRE_ENDS_BY_FLUSH) != GITWIRE_DONE)
 		return tell("no memory");
 	fetch->pack = fopen(name, "wb");
 	if (fetch->pack == NULL)
@@ -141,17 +140,15 @@ static int fetch_into(struct fetch *fetch, char *folder, const char *name)
 
 int main(int count, char **words)
 {
-	bool is_sha256 = count > 1 && strcmp(words[1], "--sha256") == 0;
-	struct fetch fetch = { .format = is_sha256 ? GITWIRE_SHA256 : GITWIRE_SHA1 };
+	struct fetch fetch = { .next = LIST };
 	int status;
 
-	words += 1 + is_sha256;
-	if (count != 4 + is_sha256) {
-		fputs("usage: fetch [--sha256] FOLDER REFERENCE PACK\n", stderr);
+	if (count != 4) {
+		fputs("usage: fetch FOLDER REFERENCE PACK\n", stderr);
 		return 2;
 	}
-	fetch.reference = words[1];
-	status = fetch_into(&fetch, words[0], words[2]);
+	fetch.reference = words[2];
+	status = fetch_into(&fetch, words[1], words[3]);
 	gitwire_client_free(fetch.client);
 	if (status == 0 && (puts(fetch.id) < 0 || fflush(stdout) != 0))
 		status = tell("the output cannot be written");

@@ -35,9 +35,9 @@
  *   - It returns, whatever the bytes are. A code reports a call that is not allowed at the moment, a buffer that is too
  *     small, a number that means nothing and a request handle without a request; nothing was used or changed then. Instead of
  *     a code, gitwire_request_flag, gitwire_host_flag and gitwire_client_advertises return false, gitwire_request_command,
- *     gitwire_request_format, gitwire_host_command, gitwire_client_features, gitwire_fault_text and gitwire_kind_name 0, and
- *     gitwire_fault_name and gitwire_fault_sentence an empty text. A feed when no input is expected uses nothing, and returns
- *     NOT_NOW or the earlier error: a loop that feeds until all is used might not end.
+ *     gitwire_request_format, gitwire_host_command, gitwire_client_format, gitwire_client_features, gitwire_fault_text and
+ *     gitwire_kind_name 0, and gitwire_fault_name and gitwire_fault_sentence an empty text. A feed when no input is expected
+ *     uses nothing, and returns NOT_NOW or the earlier error: a loop that feeds until all is used might not end.
  *   - Each kind of number is an enum: one in the place of another is an error in C++, and in C a warning of -Wextra or
  *     -Wenum-conversion. In each but gitwire_result 0 means nothing; so does a number of 32 bits that is not listed.
  *   - What is text is passed as `char`: lines, names, object names as their digits, messages. Bytes of the protocol are

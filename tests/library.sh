@@ -534,18 +534,18 @@ case_a_client_in_c_tells_what_is_wrong() {
     expect_status 2
 }
 
-# fetches_from_git FORMAT FOLDER [OPTION..]: that the client in C fetches what can be reached from a branch of a repository, and prints its object.
+# fetches_from_git FORMAT FOLDER: that the client in C fetches what can be reached from a branch of a repository, and prints its object.
 fetches_from_git() {
     local id
     id=$(git -C "$2" rev-parse refs/heads/main)
-    run fetch-watched "${@:3}" "$2" refs/heads/main pack
+    run fetch-watched "$2" refs/heads/main pack
     expect 0 <(echo "$id") /dev/null
     is_whole "$1" "$2" "$id"
 }
 
 case_a_client_in_c_fetches_a_pack() {
     fetches_from_git sha1 history-sha1
-    fetches_from_git sha256 history-sha256 --sha256
+    fetches_from_git sha256 history-sha256
     fetches_from_git sha1 heavy
     under_valgrind bin/fetch history-sha1 HEAD pack
     expect 0 <(git -C history-sha1 rev-parse HEAD) /dev/null
@@ -557,9 +557,6 @@ case_a_client_in_c_tells_why_it_fetches_nothing() {
     run fetch-watched nowhere HEAD pack
     expect_status 1
     expect_line 'standard error' 'fetch: Truncated at 0' err
-    run fetch-watched history-sha256 HEAD pack
-    expect_status 1
-    grep -q '^fetch: WrongFormat at [0-9]*$' err || differs 'no WrongFormat' err
     run fetch-watched heavy HEAD /dev/full
     expect 1 /dev/null <(echo 'fetch: the pack cannot be written')
     run fetch-watched history-sha1 HEAD nowhere/pack

@@ -633,6 +633,49 @@ static void try_what_is_noted(void)
 	memset(buffer, '#', sizeof buffer);
 }
 
+/* A client of any format takes the one that the server advertises; it cannot be asked for before the advertisement is whole, or after an error. */
+static void try_any_format(void)
+{
+	static const struct {
+		const char *lines;
+		gitwire_format format; /* 0 if the advertisement is refused */
+	} cases[] = {
+		{ "", GITWIRE_SHA1 }, { "0017object-format=sha1\n", GITWIRE_SHA1 }, { "0019object-format=sha256\n", GITWIRE_SHA256 },
+		{ "0019object-format=sha256\n" "0017object-format=sha1\n", GITWIRE_SHA1 },
+		{ "0017object-format=sha9\n" "0019object-format=sha256\n", GITWIRE_SHA256 }, { "0017object-format=sha9\n", (gitwire_format)0 },
+	};
+	static gitwire_event events[8];
+	static uint8_t texts[GITWIRE_EVENTS_SIZE(99)];
+
+	for (size_t i = 0; i < 2 * (sizeof cases / sizeof *cases); i++) {
+		gitwire_format format = cases[i / 2].format;
+		gitwire_client *client = NULL;
+		char advertisement[99];
+		size_t length = (size_t)sprintf(advertisement, "000eversion 2\n" "000cls-refs\n" "%s" "0000", cases[i / 2].lines);
+
+		EXPECT(gitwire_client_new(&client, GITWIRE_FORMAT_ANY, GITWIRE_ENDS_BY_FLUSH) == GITWIRE_DONE);
+		for (size_t used = 0; used < length;) { /* all in one call, or a byte in each */
+			const uint8_t *chunk = (const uint8_t *)advertisement + used;
+
+			EXPECT(gitwire_client_format(client) == 0);
+			used += i % 2 == 0 ? gitwire_client_events(client, chunk, length, events, 8, texts, sizeof texts).used
+				: gitwire_client_feed(client, chunk, 1, BUFFER).used;
+		}
+		EXPECT(gitwire_client_format(client) == format);
+		if (format != 0) {
+			gitwire_request *request = NULL;
+
+			EXPECT(gitwire_request_new(&request, GITWIRE_LS_REFS, format, GITWIRE_DEFAULT_LIMIT) == GITWIRE_DONE);
+			EXPECT(gitwire_client_ask(client, request).kind == GITWIRE_DONE && gitwire_client_format(client) == format);
+			gitwire_request_free(request);
+		} else {
+			EXPECT(tells_fault(gitwire_client_pull(client, BUFFER), GITWIRE_FAULT_WRONG_FORMAT, 0, length - 4));
+		}
+		gitwire_client_free(client);
+	}
+	memset(buffer, '#', sizeof buffer);
+}
+
 /* The handles with a limit. */
 static void try_each_value_with(gitwire_format format, gitwire_repository *repository, uint32_t limit)
 {
@@ -688,6 +731,9 @@ static void try_numbers_that_mean_nothing(void)
 	gitwire_request_reader *reader = NULL;
 	gitwire_client *client = NULL;
 
+	EXPECT(gitwire_request_new(&other, GITWIRE_LS_REFS, GITWIRE_FORMAT_ANY, 0) == GITWIRE_BAD_VALUE && other == NULL);
+	EXPECT(gitwire_request_reader_new(&reader, GITWIRE_FORMAT_ANY, 0, 0) == GITWIRE_BAD_VALUE && reader == NULL);
+	EXPECT(tells(gitwire_put_ack(writer, GITWIRE_FORMAT_ANY, TEXT(ONE), BUFFER), GITWIRE_BAD_VALUE, 0, 0, 0));
 	EXPECT(gitwire_request_new(&request, GITWIRE_FETCH, GITWIRE_SHA1, 100) == GITWIRE_DONE);
 	EXPECT(tells(gitwire_request_add(request, TEXT("done")), GITWIRE_DONE, 0, 0, 0));
 	for (size_t i = 0; i < sizeof numbers / sizeof *numbers; i++) {
@@ -756,6 +802,7 @@ static void *try_all(void *nothing)
 	try_bands_in_place();
 	try_refusals_of_a_client();
 	try_what_is_noted();
+	try_any_format();
 	try_each_value();
 	try_numbers_that_mean_nothing();
 	try_many_references();

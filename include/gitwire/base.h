@@ -148,8 +148,8 @@ typedef enum gitwire_fault {
 	GITWIRE_FAULT_READ_LIMIT = 34
 } gitwire_fault;
 
-/* Object formats. */
-typedef enum gitwire_format { GITWIRE_SHA1 = 1, GITWIRE_SHA256 = 2 } gitwire_format;
+/* Object formats. For gitwire_client_new alone GITWIRE_FORMAT_ANY means the one that the server advertises; to other calls it means nothing. */
+typedef enum gitwire_format { GITWIRE_SHA1 = 1, GITWIRE_SHA256 = 2, GITWIRE_FORMAT_ANY = 3 } gitwire_format;
 
 /* What a server may advertise beside `agent` and the commands `ls-refs` and `fetch`, which it always advertises: a bit for each.
  * Calls take and return the sum of such bits as a `uint32_t`; to a call a bit that means no feature is a BAD_VALUE. */

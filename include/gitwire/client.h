@@ -22,7 +22,11 @@ typedef struct gitwire_client gitwire_client;
  */
 typedef enum gitwire_ending { GITWIRE_ENDS_BY_FLUSH = 1, GITWIRE_ENDS_BY_RESPONSE_END = 2 } gitwire_ending;
 
-/* A client before the first byte. DONE. BAD_VALUE for a format or an ending that does not exist. OUT_OF_MEMORY. */
+/*
+ * A client before the first byte. One of GITWIRE_FORMAT_ANY takes the object format that the server advertises: SHA-1 if its
+ * lines name that or none, and otherwise SHA-256; so its requests are made after the advertisement, in the format that
+ * gitwire_client_format returns. DONE. BAD_VALUE for a format or an ending that does not exist. OUT_OF_MEMORY.
+ */
 GITWIRE_LOOKED_AT
 gitwire_result gitwire_client_new(gitwire_client **client, gitwire_format format, gitwire_ending ending);
 
@@ -135,6 +139,10 @@ gitwire_answer gitwire_client_close(gitwire_client *client);
  */
 GITWIRE_LOOKED_AT
 gitwire_answer gitwire_client_message(gitwire_client *client, char *buffer, size_t buffer_length);
+
+/* The conversation's object format, GITWIRE_SHA1 or GITWIRE_SHA256; 0 until the whole advertisement came, and after an error. */
+GITWIRE_LOOKED_AT
+gitwire_format gitwire_client_format(gitwire_client *client);
 
 /* The sum of the features (GITWIRE_FEATURE_*) that were noted of the advertisement so far, or 0. */
 GITWIRE_LOOKED_AT

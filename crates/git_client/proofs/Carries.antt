@@ -23,7 +23,7 @@ use Rattle.git_client.specs.Opened.{opened_in}
 use Rattle.git_client.specs.Conversation.{GiveAll, HasExpected}
 use Rattle.git_client.specs.Machine.Turns.{has_left_in, left_in, question_in, events_at, phase_in, place_expected, NotesAfter, IsTurn}
 use Rattle.git_client.specs.Machine.Client.{History, Converses, ReceivesOn, StandsIn, Goes, Behind, IsExpected, spelled}
-use Rattle.git_client.specs.Machine.Client.{questions_of, farewell, format_of, ending_of, caps_of, phase_of, reader_of, request_of}
+use Rattle.git_client.specs.Machine.Client.{questions_of, farewell, format_of, is_of_any_format, ending_of, caps_of, phase_of, reader_of, request_of}
 use Rattle.git_client.specs.declared.events.Ending.{Ending}
 use Rattle.git_client.specs.declared.phase.Phase.{Phase}
 use Rattle.git_client.specs.declared.phase.Phase.TheVariants.{Receiving, Ready, Asking, Leaving, Left, Failed}
@@ -87,7 +87,7 @@ on_terms P format ending t same_format same_ending h = subst (P t.format) same_e
 pub some_place : (t : Terms) (asked : List Asked) (before : List Pkt) (expected : Expected) → IsExpected t asked before expected → HasExpected t asked before
 some_place t asked before expected d = (_, place_is t asked before expected (noted_of (advertisement_of before)) d refl)
 
-none_of : (asked : List Asked) → length asked ≡ 0 → asked ≡ []
+pub none_of : (asked : List Asked) → length asked ≡ 0 → asked ≡ []
 none_of [] e = refl
 none_of (q ∷ asked) e = absurd (omega arith)
 
@@ -105,6 +105,7 @@ module _ {A : Type 0} where
     pub receiving : phase_of old ≡ Receiving expected
     pub reaches : Reaches old expected u announced parts (reader_of new)
     pub format : format_of new ≡ format_of old
+    pub any : is_of_any_format new ≡ is_of_any_format old
     pub ending : ending_of new ≡ ending_of old
 
   -- the state of the conversation after them

@@ -9,7 +9,7 @@ use Rattle.git_pkt.proofs.KnownRest.{sound_rest, none_between, rest_length}
 use Rattle.git_pkt.proofs.Streams.{one_split}
 use Rattle.git_client.specs.Parts.{Terms}
 use Rattle.git_client.specs.Machine.Turns.{takes_packets, fault_in}
-use Rattle.git_client.specs.Machine.Client.{History, Converses, ReceivesOn, phase_of, reader_of, format_of, ending_of, caps_of, wants_input}
+use Rattle.git_client.specs.Machine.Client.{History, Converses, ReceivesOn, phase_of, reader_of, format_of, is_of_any_format, ending_of, caps_of, wants_input}
 use Rattle.git_client.specs.declared.phase.Phase.{Phase}
 use Rattle.git_client.specs.declared.phase.Phase.TheVariants.{Receiving, Failed}
 use Rattle.git_client.specs.declared.phase.Expected.{Expected}
@@ -34,6 +34,7 @@ EndsBy reader f =
 pub record Keeps {A : Type 0} (old new : Client A) (left : PacketReader) : Type 0 where
   pub reader : reader_of new ≡ left
   pub format : format_of new ≡ format_of old
+  pub any : is_of_any_format new ≡ is_of_any_format old
   pub ending : ending_of new ≡ ending_of old
   pub caps : caps_of new ≡ caps_of old
 
@@ -46,6 +47,7 @@ closes old new reader f wants reads by keeps failed =
       receiving = receiving;
       reaches = reach_end old expected (reader_of new) receiving (subst (ReadsOn (reader_of old) [] []) (sym keeps.reader) reads);
       format = keeps.format;
+      any = keeps.any;
       ending = keeps.ending;
     } in
     elim (subst (λ (r : PacketReader). EndsBy r f) (sym keeps.reader) by) [

@@ -89,6 +89,7 @@ module _ {A : Type 0} where
             news = λ f none is. absurd (cc);
             stays = λ f is. absurd (has_no_fault (phase_of old) wants f is);
             waits = λ idle. let never = sym wants ∙ idle in absurd (cc);
+            any = takes.any;
           };
           fits = omega (arith, takes.fits, ap all_parts_length values);
         }
@@ -101,6 +102,7 @@ module _ {A : Type 0} where
         news = λ f none is. absurd (cc);
         stays = λ f is. absurd (has_no_fault (phase_of old) wants f is);
         waits = λ idle. let never = sym wants ∙ idle in absurd (cc);
+        any = takes.any;
       };
       fits = omega arith;
     }
@@ -113,6 +115,7 @@ module _ {A : Type 0} where
         news = λ f none is. let same : fault ≡ f = cc in subst (λ (x : Fault). ShownByFeed x used chunk) same takes.leaves.1;
         stays = λ f is. absurd (has_no_fault (phase_of old) wants f is);
         waits = λ idle. let never = sym wants ∙ idle in absurd (cc);
+        any = takes.any;
       };
       fits = omega arith;
     }

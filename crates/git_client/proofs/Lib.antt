@@ -10,6 +10,7 @@ pub mod Questions
 pub mod Opened
 pub mod Reached
 pub mod Carries
+pub mod Chosen
 pub mod CanAsk
 pub mod EventSizes
 pub mod Taken

@@ -1,6 +1,7 @@
 -- The state and the calls of the client and of the runs that feed it. No definition outside this folder cites them.
 pub mod Turns
 pub mod Client
+pub mod Choosing
 pub mod HandedOut
 pub mod LineParts
 pub mod Runs

@@ -114,6 +114,8 @@ impl Passed {
 pub struct Client<A: Allocator + Copy> {
     pub(crate) reader: PacketReader,
     pub(crate) format: Format,
+    // Whether the client takes the object format that the server advertises.
+    pub(crate) of_any_format: bool,
     pub(crate) ending: Ending,
     pub(crate) phase: Phase,
     pub(crate) caps: Caps,
@@ -135,7 +137,7 @@ pub struct Client<A: Allocator + Copy> {
 impl<A: Allocator + Copy> Client<A> {
     ghost use Rattle.git_client.specs.Machine.Client.{content_last, Converses, History, nothing_yet, ReceivesOn, Feeds, events_of, EndsWithMessage};
     ghost use Rattle.git_client.specs.Machine.Client.{EndsWithoutMessage, fault_of, can_ask, wants_input, has_left, left_to_send, bytes_used, caps_of};
-    ghost use Rattle.git_client.specs.Machine.Client.{phase_of, reader_of, Takes, Settles};
+    ghost use Rattle.git_client.specs.Machine.Client.{is_of_any_format, phase_of, reader_of, Takes, Settles};
     ghost use Rattle.git_client.specs.contracts.client.Client.{the_row};
 
     /// A client of this object format, before the first byte of the advertisement.
@@ -143,10 +145,22 @@ impl<A: Allocator + Copy> Client<A> {
         ensures converses { Converses (terms_of format ending) nothing_yet result }
         ensures waits { wants_input result ≡ true }
         ensures credit { credit_of (reader_of result) ≡ 0 }
+        ensures given { is_of_any_format result ≡ false }
+    {
+        Client::begin(format, false, ending)
+    }
+
+    /// A client before the first byte of the advertisement, which has this object format for now if it is of any format.
+    pub(crate) fn begin(format: Format, of_any_format: bool, ending: Ending) -> Self
+        ensures converses { Converses (terms_of format ending) nothing_yet result }
+        ensures waits { wants_input result ≡ true }
+        ensures credit { credit_of (reader_of result) ≡ 0 }
+        ensures any { is_of_any_format result ≡ of_any_format }
     {
         Client {
             reader: PacketReader::new(),
             format,
+            of_any_format,
             ending,
             phase: Phase::Receiving(Expected::Version),
             caps: Caps::new(),

@@ -7,6 +7,8 @@ ghost use Rattle.git_pkt.specs.Splits.{Given, Splits};
 ghost use Rattle.git_pkt.specs.declared.fault.Fault.{Fault};
 ghost use Rattle.git_pkt.specs.declared.fault.Kind.{Kind};
 ghost use Rattle.git_pkt.specs.declared.fault.Kind.TheVariants.{Truncated, StreamTooLong};
+ghost use Rattle.git_names.specs.declared.object_format.Format.{Format};
+ghost use Rattle.git_msg.specs.Advertisement.{is_spoken};
 ghost use Rattle.git_msg.specs.Asked.{Asked};
 ghost use Rattle.git_msg.specs.declared.offers.Caps.{Caps};
 ghost use Rattle.git_msg.specs.declared.requests.Request.{Request};
@@ -18,6 +20,7 @@ ghost use Rattle.git_client.specs.Conversation.{GivesAt, GiveAll, RefusesAt, Fir
 ghost use Rattle.git_client.specs.Machine.Client.{Converses, History, bytes_held, limit_of, fault_of, can_ask, left_to_send, sent_of, spelled, caps_of};
 ghost use Rattle.git_client.specs.Machine.Client.{bytes_held_by_fields, nothing_yet, reader_of, wants_input};
 ghost use Rattle.git_client.specs.Machine.Client.{AreWhole, Asks, Feeds, ReceivesOn, Leaves, Pulls, RefusesToAsk};
+ghost use Rattle.git_client.specs.Machine.Choosing.{format_by};
 ghost use Rattle.git_client.specs.Machine.RunSteps.{CanCount};
 ghost use Rattle.git_client.specs.Machine.Calls.{Call, Headline, IsTruncated, Makes, closes, feeds_in, history_after};
 ghost use Rattle.git_client.specs.Machine.Calls.{ask, ask_refused, leave, pull, feed, close};
@@ -174,6 +177,11 @@ pub fn methods_make_calls<A: Allocator + Copy>()
 pub fn counts_stay_below_their_end<A: Allocator + Copy>()
     ensures { (t : Terms) (h : History) (old new : Client A) (used : List ℕ) (events : List EventValue) (counts : Counts) → Converses t h old
         → ReceivesOn old used events new → counts.pack + counts.progress ≤ length h.events → CanCount counts events }
+{}
+
+/// A client of any format takes one that the server advertises, unless that advertises none that is known here.
+pub fn chosen_format_is_advertised()
+    ensures { (caps : Caps) (format : Format) → is_spoken caps format ≡ true → is_spoken caps (format_by caps) ≡ true }
 {}
 
 /// After any calls, a client that had not failed before them has failed with `Truncated` if and only if one of the calls closed its input.

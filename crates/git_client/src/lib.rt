@@ -2,6 +2,7 @@
 #![tactic(auto)]
 
 mod asking;
+mod choosing;
 mod client;
 mod conversing;
 mod event_parts;

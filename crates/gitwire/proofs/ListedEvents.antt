@@ -12,7 +12,6 @@ use Rattle.git_client.specs.Machine.Client.{can_ask}
 use Rattle.git_client.specs.Machine.Turns.{values_of}
 use Rattle.git_client.specs.declared.client.Client.{Client}
 use Rattle.git_client.specs.declared.events.Event.{Event}
-use Rattle.git_client.specs.declared.events.Event.TheVariants as Event
 use Rattle.git_client.specs.declared.events.ReceivedGot.TheVariants as Got
 use Rattle.gitwire.specs.ClientAnswers.{LieInChunk}
 use Rattle.gitwire.specs.EventLists.{EndsHere, FeedsEach, GivesEvent, GivesNext, ListsEvents, Pauses}

@@ -1,5 +1,5 @@
 -- A reference with neither a target nor a peeled object, and why its texts are none.
-use Rattle.std.proofs.Common.{arith, ◌≡◌, ℕ, List, [], length, take, refl, inl, inr, Err}
+use Rattle.std.proofs.Common.{arith, ◌≡◌, ℕ, List, [], length, refl, inl, inr, Err}
 use Rattle.std.proofs.lemmas.List.{length-take}
 use Rattle.git_names.specs.ObjectName.{IsObjectName, ObjectName}
 use Rattle.git_names.specs.RefName.{IsRefName}

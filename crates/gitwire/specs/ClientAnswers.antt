@@ -1,15 +1,17 @@
 -- What is reported to C for a client's calls.
 use Rattle.std.specs.Prelude.{◌≡◌, ℕ, ◌+◌, ◌<◌, ◌≤◌, Bool, true, false, List, [], ◌∷◌, ◌++◌, length, take, Option, Some, None, MatchOption, IsSomeAnd}
+use Rattle.std.specs.Prelude.{is_none, unwrap_or}
 use Rattle.std.specs.Global.{Global}
 use Rattle.git_names.specs.declared.object_format.Format.{Format}
+use Rattle.git_names.specs.declared.object_format.Format.TheVariants.{Sha1, Sha256}
 use Rattle.git_pkt.specs.Packets.{longest_payload}
 use Rattle.git_pkt.specs.Splits.{Given, Splits}
 use Rattle.git_pkt.specs.declared.fault.Fault.{Fault}
 use Rattle.git_pkt.specs.declared.fault.Kind.TheVariants.{Truncated}
-use Rattle.git_msg.specs.declared.offers.Caps.{Caps}
 use Rattle.git_msg.specs.declared.requests.Request.{Request}
 use Rattle.git_client.specs.Machine.Client.{Asks, Converses, EndsWithMessage, EndsWithoutMessage, Feeds, ReceivesOn, History, Leaves, Pulls, RefusesToAsk}
-use Rattle.git_client.specs.Machine.Client.{can_ask, caps_of, fault_of, given_by, nothing_yet, wants_input}
+use Rattle.git_client.specs.Machine.Client.{can_ask, caps_of, fault_of, given_by, is_of_any_format, nothing_yet, wants_input}
+use Rattle.git_client.specs.Machine.Choosing.{ChoosesFormat}
 use Rattle.git_client.specs.Conversation.{HasNoted}
 use Rattle.git_client.specs.Parts.{Terms, terms_of}
 use Rattle.git_client.specs.declared.client.Client.{Client}
@@ -21,6 +23,7 @@ use Rattle.git_client.specs.declared.events.ReceivedGot.{ReceivedGot}
 use Rattle.git_client.specs.declared.events.ReceivedGot.TheVariants as Got
 use Rattle.git_client.specs.declared.events.Sent.{Sent}
 use Rattle.gitwire.specs.EventAnswers.{answering_refusal, copied_of, shown_at, announcing_none}
+use Rattle.gitwire.specs.Numbers.{format_number}
 use Rattle.gitwire.specs.Offers.{features_shown, is_noted}
 use Rattle.gitwire.specs.Buffers.{put_before}
 use Rattle.gitwire.specs.Answers.{more_of, answering, answering_fault, answering_packet, what_number}
@@ -32,15 +35,36 @@ use Rattle.gitwire.specs.declared.answer.What.TheVariants as What
 abbrev pub endings : List Ending
 endings = FlushOnly ∷ ResponseEnd ∷ []
 
--- a client on these terms, before the first byte, or none if memory ran out
-abbrev pub Begins : Terms → ℕ → Option (Client Global) → Type 0
-Begins t answer None = answer ≡ what_number What.OutOfMemory
-Begins t answer (Some client) = (answer ≡ what_number What.Done) × Converses t nothing_yet client × (wants_input client ≡ true)
+-- the choices of a client's format by their numbers: after the formats comes any format
+abbrev pub choices : List (Option Format)
+choices = Some Sha1 ∷ Some Sha256 ∷ None ∷ []
+
+-- a client by this choice, before the first byte; one of any format has SHA-1 until it chooses
+pub record IsNew (choice : Option Format) (ending : Ending) (client : Client Global) : Type 0 where
+  pub converses : Converses (terms_of (unwrap_or choice Sha1) ending) nothing_yet client
+  pub waits : wants_input client ≡ true
+  pub any : is_of_any_format client ≡ is_none choice
+
+-- a new client by this choice, or none if memory ran out
+abbrev pub Begins : Option Format → Ending → ℕ → Option (Client Global) → Type 0
+Begins choice ending answer None = answer ≡ what_number What.OutOfMemory
+Begins choice ending answer (Some client) = (answer ≡ what_number What.Done) × IsNew choice ending client
 
 -- the client that two numbers mean; nothing changes if one of them means nothing
-abbrev pub BeginsBy : Option Format → Option Ending → Option (Client Global) → ℕ → Option (Client Global) → Type 0
-BeginsBy (Some format) (Some ending) old answer new = Begins (terms_of format ending) answer new
-BeginsBy format ending old answer new = (answer ≡ what_number What.BadValue) × (new ≡ old)
+abbrev pub BeginsBy : Option (Option Format) → Option Ending → Option (Client Global) → ℕ → Option (Client Global) → Type 0
+BeginsBy (Some choice) (Some ending) old answer new = Begins choice ending answer new
+BeginsBy choice ending old answer new = (answer ≡ what_number What.BadValue) × (new ≡ old)
+
+-- the number of the conversation's format; 0 if it is not known
+abbrev pub format_shown : Option Format → ℕ
+format_shown None = 0
+format_shown (Some format) = format_number format
+
+-- a client of any format chooses it, and then the client receives more
+pub record FeedsOn (old : Client Global) (chunk : List ℕ) (arrived : Received) (new : Client Global) : Type 0 where
+  pub chosen : Client Global
+  pub chooses : ChoosesFormat old chosen
+  pub feeds : Feeds chosen chunk arrived new
 
 -- what is reported to C for what was received, by whether bytes were expected
 abbrev pub answer_of : Bool → ℕ → ReceivedGot → GitwireEvent
@@ -63,7 +87,7 @@ LieInChunk got used chunk = Unit {0}
 -- the client receives more, and what came is reported to C; its texts have at most as many bytes as a payload, and it determines the buffer
 pub record FeedsAnswers (old : Client Global) (chunk buffer : List ℕ) (answer : GitwireEvent) (filled : List ℕ) (new : Client Global) : Type 0 where
   pub arrived : Received
-  pub feeds : Feeds old chunk arrived new
+  pub feeds : FeedsOn old chunk arrived new
   pub within : arrived.used ≤ length chunk
   pub fits : answer.id_length + answer.name_length + answer.text_length + answer.peeled_length ≤ longest_payload
   pub answer_is : answer ≡ answer_of (wants_input old) arrived.used arrived.got

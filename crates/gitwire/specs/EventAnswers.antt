@@ -6,7 +6,6 @@ use Rattle.git_pkt.specs.FaultNames.{kind_number}
 use Rattle.git_pkt.specs.declared.fault.Fault.{Fault}
 use Rattle.git_client.specs.EventParts.{Parts, parts_of}
 use Rattle.git_client.specs.declared.events.Event.{Event}
-use Rattle.git_client.specs.declared.events.Event.TheVariants as Event
 use Rattle.gitwire.specs.Answers.{what_number}
 use Rattle.gitwire.specs.declared.event.GitwireEvent.{GitwireEvent}
 use Rattle.gitwire.specs.declared.answer.What.{What}

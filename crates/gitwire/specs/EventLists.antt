@@ -2,13 +2,13 @@
 use Rattle.std.specs.Prelude.{◌≡◌, ℕ, ◌+◌, ◌<◌, ◌≤◌, ◌⊎◌, Bool, true, false, List, [], ◌∷◌, ◌++◌, length, take, drop}
 use Rattle.std.specs.Global.{Global}
 use Rattle.git_pkt.specs.Packets.{longest_payload}
-use Rattle.git_client.specs.Machine.Client.{Feeds, can_ask, wants_input}
+use Rattle.git_client.specs.Machine.Client.{can_ask, wants_input}
 use Rattle.git_client.specs.declared.client.Client.{Client}
 use Rattle.git_client.specs.declared.events.Event.{Event}
 use Rattle.git_client.specs.declared.events.ReceivedGot.{ReceivedGot}
 use Rattle.git_client.specs.declared.events.ReceivedGot.TheVariants as Got
 use Rattle.gitwire.specs.Answers.{answering, answering_fault, answering_packet, more_of}
-use Rattle.gitwire.specs.ClientAnswers.{LieInChunk}
+use Rattle.gitwire.specs.ClientAnswers.{FeedsOn, LieInChunk}
 use Rattle.gitwire.specs.EventAnswers.{copied_of, shown_at}
 use Rattle.gitwire.specs.Buffers.{put_before}
 use Rattle.gitwire.specs.declared.answer.GitwireAnswer.{GitwireAnswer}
@@ -16,10 +16,11 @@ use Rattle.gitwire.specs.declared.answer.What.TheVariants as What
 use Rattle.gitwire.specs.declared.event.GitwireEvent.{GitwireEvent}
 use Rattle.gitwire.specs.declared.event_list.Listed.{Listed}
 
--- a call of `feed` on the bytes of the chunk from this place on gives this event, which is listed so, after events with these texts in the buffer
+-- a call of `feed` on the bytes of the chunk from this place on gives this event, which is listed so, after events with these texts in the buffer;
+-- a client of any format chooses it first
 pub record GivesNext (old : Client Global) (chunk : List ℕ) (from : ℕ) (texts : List ℕ) (listed : GitwireEvent) (event : Event) (used : ℕ)
     (new : Client Global) : Type 0 where
-  pub feeds : Feeds old (drop from chunk) (record { used = used; got = Got.Event event }) new
+  pub feeds : FeedsOn old (drop from chunk) (record { used = used; got = Got.Event event }) new
   pub lies : LieInChunk (Got.Event event) (from + used) chunk
   pub listed_is : listed ≡ shown_at event (from + used) (length texts)
 
@@ -42,7 +43,7 @@ EndsAs expected used count (Got.Event event) answer = ⊥
 pub record GivesNone (old : Client Global) (chunk : List ℕ) (from count : ℕ) (answer : GitwireAnswer) (new : Client Global) : Type 0 where
   pub used : ℕ
   pub got : ReceivedGot
-  pub feeds : Feeds old (drop from chunk) (record { used = used; got = got }) new
+  pub feeds : FeedsOn old (drop from chunk) (record { used = used; got = got }) new
   pub answer_is : EndsAs (wants_input old) (from + used) count got answer
   pub goes_on : 0 < count → can_ask old ≡ false
 
@@ -86,7 +87,7 @@ pub record GivesEvent (old : Client Global) (chunk : List ℕ) (from texts : ℕ
     : Type 0 where
   pub event : Event
   pub used : ℕ
-  pub feeds : Feeds old (drop from chunk) (record { used = used; got = Got.Event event }) new
+  pub feeds : FeedsOn old (drop from chunk) (record { used = used; got = Got.Event event }) new
   pub within : from + used ≤ length chunk
   pub lies : LieInChunk (Got.Event event) (from + used) chunk
   pub event_is : listed.event ≡ shown_at event (from + used) texts

@@ -5,7 +5,6 @@ use Rattle.git_pkt.specs.Machine.PacketReader.{Feeds}
 use Rattle.git_pkt.specs.declared.packet.Packet.{Packet}
 use Rattle.git_pkt.specs.declared.packet.Packet.TheVariants.{Payload}
 use Rattle.git_pkt.specs.declared.reader.Got.{Got}
-use Rattle.git_pkt.specs.declared.reader.Got.TheVariants as Got
 use Rattle.git_pkt.specs.declared.reader.PacketReader.{PacketReader}
 use Rattle.gitwire.specs.Answers.{answering, answering_fault, answering_packet}
 use Rattle.gitwire.specs.PacketAnswers.{answer_of}

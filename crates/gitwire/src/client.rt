@@ -2,17 +2,18 @@
 
 ghost use Rattle.std.specs.Prelude.{◌≡◌, None, MatchResult, false};
 ghost use Rattle.gitwire.specs.Calls.{HasNone, Of, On};
-ghost use Rattle.gitwire.specs.ClientAnswers.{AdvertisesAnswer, AsksIn, BeginsBy, ClosesAnswers, FeaturesAnswer, FeedsInBuffer, ReceivesNone};
-ghost use Rattle.gitwire.specs.ClientAnswers.{LeavesRequest, LeavesAnswers, MessageAnswers, PullsInBuffer, TakesRequest, endings};
+ghost use Rattle.gitwire.specs.ClientAnswers.{AdvertisesAnswer, AsksIn, BeginsBy, ClosesAnswers, FeaturesAnswer, FeedsInBuffer, IsNew, ReceivesNone};
+ghost use Rattle.gitwire.specs.ClientAnswers.{LeavesRequest, LeavesAnswers, MessageAnswers, PullsInBuffer, TakesRequest, choices, endings, format_shown};
 ghost use Rattle.gitwire.specs.Handles.{client_in, request_in};
-ghost use Rattle.gitwire.specs.Numbers.{formats, numbered};
+ghost use Rattle.git_client.specs.Machine.Choosing.{format_known};
+ghost use Rattle.gitwire.specs.Numbers.{numbered};
 ghost use Rattle.gitwire.specs.Answers.{answering, what_number};
 
 use crate::answer::{GitwireAnswer, What};
 use crate::event::GitwireEvent;
 use crate::event_list::list;
 use crate::handles::{GitwireClient, GitwireRequest, Holds, fill};
-use crate::numbers::format_numbered;
+use crate::numbers::number_of_format;
 use crate::offer::{features_noted, key_noted};
 use git_client::{Client, Ending, ReceivedGot, Sent};
 use git_msg::{Command, Limits, Request};
@@ -24,8 +25,9 @@ use std::mem::replace;
 /// The maximum length of the parts of an event: that of the longest payload.
 pub(crate) const LONGEST_PARTS: usize = 65_516;
 
-/// Makes the handle's client a new one, before the first byte of the advertisement. What it had before is freed. `Done`; `BadValue`, and
-/// the handle is unchanged, for a number that means no format or no ending; or `OutOfMemory`, and the handle has none.
+/// Makes the handle's client a new one, before the first byte of the advertisement. What it had before is freed. The format is `SHA1`,
+/// `SHA256` or `FORMAT_ANY`. `Done`; `BadValue`, and the handle is unchanged, for a number that means no format or no ending; or
+/// `OutOfMemory`, and the handle has none.
 #[unsafe(no_mangle)]
 pub extern "C" fn gitwire_client_init(
     alloc: Global,
@@ -33,19 +35,41 @@ pub extern "C" fn gitwire_client_init(
     format: u32,
     ending: u32,
 ) -> u32
-    ensures { BeginsBy (numbered formats format) (numbered endings ending) (client_in client.old) result (client_in client.new) }
+    ensures { BeginsBy (numbered choices format) (numbered endings ending) (client_in client.old) result (client_in client.new) }
 {
-    let Some(format) = format_numbered(format) else {
+    let Some(choice) = choice_numbered(format) else {
         return What::BadValue.number();
     };
     let Some(ending) = ending_numbered(ending) else {
         return What::BadValue.number();
     };
     *client = GitwireClient::none(alloc);
-    let Ok(made) = Box::new(alloc, Client::new(format, ending)) else {
+    let Ok(made) = Box::new(alloc, begin(choice, ending)) else {
         return What::OutOfMemory.number();
     };
     fill(client, alloc, made).number()
+}
+
+/// The format of a new client that C means by this number: one of the formats, or none for any of them; and none if there is no such choice.
+fn choice_numbered(number: u32) -> Option<Option<Format>>
+    ensures { result ≡ numbered choices number }
+{
+    match number {
+        1 => Some(Some(Format::Sha1)),
+        2 => Some(Some(Format::Sha256)),
+        3 => Some(None),
+        _ => None,
+    }
+}
+
+/// A new client by this choice of its format.
+fn begin(choice: Option<Format>, ending: Ending) -> Client<Global>
+    ensures { IsNew choice ending result }
+{
+    match choice {
+        Some(format) => Client::new(format, ending),
+        None => Client::new_of_any_format(ending),
+    }
 }
 
 /// The ending that C means by this number; none if there is no such ending.
@@ -87,6 +111,7 @@ fn feed(client: &mut Client<Global>, chunk: &[u8], buffer: &mut [u8]) -> Gitwire
         return GitwireEvent::none(0, What::BufferTooSmall);
     }
     let expected = client.wants_input();
+    client.choose_format();
     let arrived = client.feed(chunk, &mut Steps::new());
     match arrived.got {
         ReceivedGot::More => GitwireEvent::none(arrived.used, What::more(expected)),
@@ -303,6 +328,28 @@ fn advertises(client: &Client<Global>, key: u32) -> bool
 {
     let caps = client.caps();
     key_noted(&caps, key)
+}
+
+/// The number of the conversation's object format; 0 until the advertisement is whole, after an error, and for a handle without a client.
+#[unsafe(no_mangle)]
+pub extern "C" fn gitwire_client_format(alloc: Global, client: &mut GitwireClient) -> u32
+    ensures { Of (client_in client.old) (client_in client.new) (λ had. result ≡ format_shown (format_known had)) (result ≡ 0) }
+{
+    let Some(taken) = client.take(alloc) else {
+        return 0;
+    };
+    let answer = format(&taken.inner);
+    client.put(taken);
+    answer
+}
+
+fn format(client: &Client<Global>) -> u32
+    ensures { result ≡ format_shown (format_known client.now) }
+{
+    match client.format() {
+        Some(format) => number_of_format(format),
+        None => 0,
+    }
 }
 
 /// Frees the client. The handle has none from then on.

@@ -120,7 +120,7 @@ impl Extent {
 }
 
 /// One call of `feed`, on the other bytes of the chunk: the event, or what is reported if there is none. The texts of the event are written to
-/// the buffer.
+/// the buffer. A client of any format chooses it first.
 #[inline(always)]
 fn next(
     client: &mut Client<Global>,
@@ -135,6 +135,7 @@ fn next(
         (λ answer. EndsHere client.old chunk.now so_far.used so_far.count buffer.old answer buffer.new client.new) }
 {
     let expected = client.wants_input();
+    client.choose_format();
     let arrived = client.feed(&chunk[so_far.used..], &mut Steps::new());
     let used = so_far.used + arrived.used;
     match arrived.got {

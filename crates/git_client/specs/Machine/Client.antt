@@ -169,6 +169,10 @@ module _ {A : Type 0} where
   abbrev pub format_of : Client A → Format
   format_of client = client.format
 
+  -- it takes the object format that the server advertises
+  abbrev pub is_of_any_format : Client A → Bool
+  is_of_any_format client = client.of_any_format
+
   -- how each response ends
   abbrev pub ending_of : Client A → Ending
   ending_of client = client.ending
@@ -210,6 +214,7 @@ module _ {A : Type 0} where
       let record {
         reader = reader;
         format = format;
+        of_any_format = of_any_format;
         ending = ending;
         phase = phase;
         caps = caps;
@@ -415,6 +420,7 @@ module _ {A : Type 0} where
     pub news : IsNews old chunk arrived
     pub stays : Repeats old arrived new
     pub waits : Waits old arrived new
+    pub any : is_of_any_format new ≡ is_of_any_format old
 
   -- one of the packets that had to be sent was sent; after the last one of a request the client receives, and after the flush it has left
   pub record GivesOne (old new : Client A) (bytes : List ℕ) : Type 0 where
@@ -489,6 +495,7 @@ module _ {A : Type 0} where
   pub record Settles (old : Client A) (judged : Result Turn Kind) (offset : ℕ) (outcome : Outcome) (new : Client A) : Type 0 where
     pub reader : reader_of new ≡ reader_of old
     pub format : format_of new ≡ format_of old
+    pub any : is_of_any_format new ≡ is_of_any_format old
     pub ending : ending_of new ≡ ending_of old
     pub request : request_of new ≡ request_of old
     pub phase : phase_of new ≡ phase_judged offset judged
@@ -515,4 +522,5 @@ module _ {A : Type 0} where
     pub comes : Comes step.outcome events step.used chunk new
     pub arrives : ReceivesOn old (take step.used chunk) events new
     pub leaves : LeavesStep step.outcome step.used chunk new
+    pub any : is_of_any_format new ≡ is_of_any_format old
     pub fits : all_parts_length events ≤ longest_payload

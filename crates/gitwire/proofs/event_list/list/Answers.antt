@@ -1,4 +1,4 @@
-use Rattle.std.proofs.Common.{arith, ◌≡◌, ◌∙◌, ℕ, ◌+◌, ◌-◌, List, drop, length, take, ap, sym}
+use Rattle.std.proofs.Common.{arith, ◌∙◌, ℕ, ◌-◌, List, drop, length, take, ap, sym}
 use Rattle.git_client.specs.EventParts.{Parts, parts_of}
 use Rattle.gitwire.specs.EventAnswers.{bytes_shown, announcing_parts}
 use Rattle.gitwire.specs.Buffers.{put_before}

@@ -1,4 +1,4 @@
-use Rattle.std.proofs.Common.{arith, ◌≡◌, ◌∙◌, ◌≤◌, ◌+◌, ◌-◌, ap, refl, subst, sym, take, drop, length}
+use Rattle.std.proofs.Common.{arith, ◌≡◌, ◌∙◌, ◌≤◌, ◌+◌, ◌-◌, ℕ, List, ap, refl, subst, sym, take, drop, length}
 use Rattle.std.proofs.lemmas.List.{take_rest}
 use Rattle.git_pkt.specs.Packets.{longest_payload}
 use Rattle.git_client.specs.Events.{all_parts_length}
@@ -13,6 +13,16 @@ use Rattle.gitwire.proofs.ListedEvents.{copied_fits, lies_after, passed_fits, re
 use Rattle.gitwire.proofs.ShownPlaces.{lies}
 use Rattle.gitwire.proofs.event_list.next.Goals as goal
 
+-- the bytes used up to the end of the call are bytes of the chunk
+ends_within : (chunk : List ℕ) (from used end : ℕ) → used ≤ length (take (length chunk - from) (drop from chunk)) → from ≤ length chunk
+    → end ≡ from + used → end ≤ length chunk
+ends_within chunk from used end some within is = omega (arith, some, rest_length chunk from, within, is)
+
+-- the texts of an event with its parts fit into the buffer
+texts_within : (texts size length_copied most now : ℕ) → now ≡ texts + length_copied → length_copied ≤ most → most ≤ longest_payload
+    → texts + longest_payload ≤ size → now ≤ size
+texts_within texts size length_copied most now is copied fits suffices = omega (arith, is, copied, fits, suffices)
+
 pub list-requires-clause-copied : goal.list-requires-clause-copied
 list-requires-clause-copied c =
     let fits = subst (λ (got : ReceivedGot). all_parts_length (events_of got) ≤ longest_payload) c.in-Event.is c.feed-arrived.ensures.fits in
@@ -22,7 +32,7 @@ pub list-requires-clause-passed : goal.list-requires-clause-passed
 list-requires-clause-passed c =
     let used = c.feed-arrived.result.used in
     let feeds = c.feed-arrived.follows.holds-at-none.0 in
-    let there = lies c.args.client.now c.feed-arrived.follows.lender-at-none _ used c.feed-arrived.result.got feeds in
+    let there = lies _ c.feed-arrived.follows.lender-at-none _ used c.feed-arrived.result.got feeds in
     let part = take (length c.args.chunk.now - c.args.so_far.used) (drop c.args.so_far.used c.args.chunk.now) in
     omega (arith, passed_fits c.in-Event.event used part (subst (λ (got : ReceivedGot). LieInChunk got used part) c.in-Event.is there))
 
@@ -35,17 +45,16 @@ returns-in-More c =
       record {
         used = c.feed-arrived.result.used;
         got = c.feed-arrived.result.got;
-        feeds = rw (take_rest c.args.chunk.now c.args.so_far.used) at c.feed-arrived.follows.holds-at-none.0;
+        feeds = record {
+          chosen = _;
+          chooses = c.choose_format.ensures;
+          feeds = rw (take_rest c.args.chunk.now c.args.so_far.used) at c.feed-arrived.follows.holds-at-none.0;
+        };
         answer_is = subst (λ (got : ReceivedGot). EndsAs (wants_input c.args.client.now) used count got c.of_packet.result) (sym c.in-More.is) answered;
         goes_on = c.requires.goes_on;
       },
-      omega (
-        arith,
-        ap (λ (a : GitwireAnswer). a.used) answered,
-        c.feed-arrived.ensures.used,
-        rest_length c.args.chunk.now c.args.so_far.used,
-        c.requires.within,
-      ),
+      ends_within c.args.chunk.now c.args.so_far.used c.feed-arrived.result.used _ c.feed-arrived.ensures.used c.requires.within
+          (ap (λ (a : GitwireAnswer). a.used) answered),
       refl,
     )
 
@@ -55,17 +64,45 @@ returns-in-Event c =
     let from = c.args.so_far.used in
     let feeds = rw (take_rest c.args.chunk.now from) at c.feed-arrived.follows.holds-at-none.0 in
     let new = c.feed-arrived.follows.lender-at-none in
-    let there = lies c.args.client.now new (drop from c.args.chunk.now) used c.feed-arrived.result.got feeds in
+    let there = lies _ new (drop from c.args.chunk.now) used c.feed-arrived.result.got feeds in
     let lies_there = subst (λ (got : ReceivedGot). LieInChunk got used (drop from c.args.chunk.now)) c.in-Event.is there in
     let fits = subst (λ (got : ReceivedGot). all_parts_length (events_of got) ≤ longest_payload) c.in-Event.is c.feed-arrived.ensures.fits in
     record {
       event = c.in-Event.event;
       used = used;
-      feeds = subst (λ (got : ReceivedGot). Feeds c.args.client.now (drop from c.args.chunk.now) (record { used = used; got = got }) new) c.in-Event.is feeds;
-      within = omega (arith, c.feed-arrived.ensures.used, rest_length c.args.chunk.now from, c.requires.within);
+      feeds = record {
+        chosen = _;
+        chooses = c.choose_format.ensures;
+        feeds =
+            subst (λ (got : ReceivedGot). Feeds c.choose_format.new.self (drop from c.args.chunk.now) (record { used = used; got = got }) new) c.in-Event.is
+            feeds;
+      };
+      within = ends_within c.args.chunk.now from used (from + used) c.feed-arrived.ensures.used c.requires.within refl;
       lies = lies_after c.in-Event.event from used c.args.chunk.now lies_there;
       event_is = c.list.ensures.event;
       texts_are = c.list.ensures.texts;
-      texts_fit = omega (arith, c.list.ensures.texts, copied_fits c.in-Event.event, fits, c.requires.suffices);
+      texts_fit = texts_within c.args.so_far.texts _ _ _ _ c.list.ensures.texts (copied_fits c.in-Event.event) fits c.requires.suffices;
       buffer_is = c.list.ensures.buffer;
     }
+
+pub returns-in-Failed : goal.returns-in-Failed
+returns-in-Failed c =
+    let used = c.args.so_far.used + c.feed-arrived.result.used in
+    let count = c.args.so_far.count in
+    let answered = ap (λ (a : GitwireAnswer). record a { length = count }) c.of_fault.ensures in (
+      record {
+        used = c.feed-arrived.result.used;
+        got = c.feed-arrived.result.got;
+        feeds = record {
+          chosen = _;
+          chooses = c.choose_format.ensures;
+          feeds = rw (take_rest c.args.chunk.now c.args.so_far.used) at c.feed-arrived.follows.holds-at-none.0;
+        };
+        answer_is = subst (λ (got : ReceivedGot). EndsAs (wants_input c.args.client.now) used count got (record c.of_fault.result { length = count }))
+            (sym c.in-Failed.is) answered;
+        goes_on = c.requires.goes_on;
+      },
+      ends_within c.args.chunk.now c.args.so_far.used c.feed-arrived.result.used _ c.feed-arrived.ensures.used c.requires.within
+          (ap (λ (a : GitwireAnswer). a.used) answered),
+      refl,
+    )

@@ -1,4 +1,4 @@
-use Rattle.std.proofs.Common.{arith, ap, ◌≡◌, ◌<◌, [], List, subst, take, drop, length, ◌-◌, length-drop}
+use Rattle.std.proofs.Common.{arith, ap, ◌≡◌, ◌∙◌, ◌<◌, [], List, subst, take, drop, length, ◌-◌, length-drop}
 use Rattle.git_pkt.proofs.Credits.{paid_on}
 use Rattle.git_pkt.proofs.Chunks.{left_of}
 use Rattle.git_client.specs.Events.{EventValue}
@@ -19,6 +19,7 @@ loop-used-preserved g c =
     record {
       within = omega (arith, c.take-step.ensures.used, c.loop-used.invariant.within);
       waits = left.0;
+      any = takes.any ∙ c.loop-used.invariant.any;
       arrives =
           receives_then c.args.self.now c.loop-used.self new c.args.chunk.now c.loop-used.used c.take-step.result.used [] c.loop-used.invariant.within
           c.loop-used.invariant.arrives
@@ -53,6 +54,7 @@ returns-in_default g c =
             c.loop-used.invariant.within c.loop-used.invariant.arrives takes.arrives;
         leaves = leaves_then c.take-step.result.outcome c.args.chunk.now c.loop-used.used c.take-step.result.used new c.in_default.not-More
             c.loop-used.invariant.within takes.leaves;
+        any = takes.any ∙ c.loop-used.invariant.any;
         fits = takes.fits;
       };
       cost = paid_on _ _ _ _ _ _ _ _ (c.loop-used.invariant.paid c.loop-used-test.true) c.loop-used.invariant.cost c.take-step.ensures.cost;

@@ -67,6 +67,7 @@ module _ {A : Type 0} where
         news = λ f none is. absurd (cc);
         stays = λ f is. absurd (has_no_fault (phase_of old) wants f is);
         waits = λ idle. let never = sym wants ∙ idle in absurd (cc);
+        any = takes.any;
       }
   feeds_event old new chunk used outcome event wants is takes lent shows = absurd (cc)
 

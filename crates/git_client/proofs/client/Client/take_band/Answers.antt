@@ -16,8 +16,8 @@ returns-in-More-clause-takes g c =
     let feeds = c.feed_band-fed.follows.holds-at-none in
     let announces : AnnouncesBand More fed.used c.args.chunk.now reader =
     subst (λ (got : BandGot). AnnouncesBand got fed.used c.args.chunk.now reader) c.in-More.is feeds.announces in
-    taken_all old _ Packfile c.args.chunk.now fed.used (fed_bands old _ c.args.chunk.now fed More c.requires.arrives refl refl feeds c.in-More.is) announces.0
-    announces.1 c.requires.arrives refl
+    taken_all old _ Packfile c.args.chunk.now fed.used (fed_bands old _ c.args.chunk.now fed More c.requires.arrives refl refl refl feeds c.in-More.is)
+    announces.0 announces.1 c.requires.arrives refl
 
 pub returns-in-Part-clause-takes : goal.returns-in-Part-clause-takes
 returns-in-Part-clause-takes g c =
@@ -28,8 +28,8 @@ returns-in-Part-clause-takes g c =
     let announces : AnnouncesBand (Part c.in-Part.band c.in-Part.bytes) fed.used c.args.chunk.now reader =
     subst (λ (got : BandGot). AnnouncesBand got fed.used c.args.chunk.now reader) c.in-Part.is feeds.announces in
     taken_part old _ c.args.chunk.now fed.used c.in-Part.band c.in-Part.bytes.now _
-    (fed_bands old _ c.args.chunk.now fed (Part c.in-Part.band c.in-Part.bytes) c.requires.arrives refl refl feeds c.in-Part.is) announces.0 announces.1 refl
-    c.requires.arrives refl
+    (fed_bands old _ c.args.chunk.now fed (Part c.in-Part.band c.in-Part.bytes) c.requires.arrives refl refl refl feeds c.in-Part.is) announces.0 announces.1
+    refl c.requires.arrives refl
 
 pub returns-in-Packet-clause-takes : goal.returns-in-Packet-clause-takes
 returns-in-Packet-clause-takes g c =
@@ -37,7 +37,7 @@ returns-in-Packet-clause-takes g c =
     c.settle-outcome.result
     (fed_band_packet c.args.self.now _ c.args.chunk.now c.feed_band-fed.result c.in-Packet.packet c.in-Packet.offset c.requires.arrives
     c.feed_band-fed.ensures.used c.feed_band-fed.follows.holds-at-none c.in-Packet.is) c.feed_band-fed.ensures.used c.judge-judged.ensures.turn refl
-    refl c.settle-outcome.ensures
+    refl refl c.settle-outcome.ensures
 
 pub returns-in-Failed-clause-takes : goal.returns-in-Failed-clause-takes
 returns-in-Failed-clause-takes g c =
@@ -49,5 +49,5 @@ returns-in-Failed-clause-takes g c =
     let announced : reader_fault_of reader ≡ Some fault =
     subst (λ (got : BandGot). AnnouncesBand got fed.used c.args.chunk.now reader) c.in-Failed.is feeds.announces in
     taken_failed old _ Packfile c.args.chunk.now fed.used fault
-    (fed_bands old _ c.args.chunk.now fed (Failed fault) c.requires.arrives refl refl feeds c.in-Failed.is) announced
+    (fed_bands old _ c.args.chunk.now fed (Failed fault) c.requires.arrives refl refl refl feeds c.in-Failed.is) announced
     (feeds.news fault (old.sound (ap fault_in c.requires.arrives)) c.in-Failed.is) refl refl

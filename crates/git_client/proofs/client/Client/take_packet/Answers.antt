@@ -15,7 +15,7 @@ returns-in-More-clause-takes g c =
     let announces : Announces More fed.used c.args.chunk.now reader =
     subst (λ (got : Got). Announces got fed.used c.args.chunk.now reader) c.in-More.is feeds.announces in
     taken_all old _ c.args.expected c.args.chunk.now fed.used
-    (fed_bytes old _ c.args.expected c.args.chunk.now fed More c.requires.arrives c.requires.no_band refl refl feeds c.in-More.is) announces.0 announces.1
+    (fed_bytes old _ c.args.expected c.args.chunk.now fed More c.requires.arrives c.requires.no_band refl refl refl feeds c.in-More.is) announces.0 announces.1
     c.requires.arrives refl
 
 pub returns-in-Packet-clause-takes : goal.returns-in-Packet-clause-takes
@@ -24,7 +24,7 @@ returns-in-Packet-clause-takes g c =
     c.settle-outcome.result
     (fed_packet c.args.self.now _ c.args.expected c.args.chunk.now c.feed-fed.result c.in-Packet.packet c.in-Packet.offset c.requires.arrives
     c.requires.no_band c.feed-fed.ensures.used c.feed-fed.follows.holds-at-none c.in-Packet.is) c.feed-fed.ensures.used c.judge-judged.ensures.turn refl
-    refl c.settle-outcome.ensures
+    refl refl c.settle-outcome.ensures
 
 pub returns-in-Failed-clause-takes : goal.returns-in-Failed-clause-takes
 returns-in-Failed-clause-takes g c =
@@ -36,5 +36,5 @@ returns-in-Failed-clause-takes g c =
     let announced : reader_fault_of reader ≡ Some fault =
     subst (λ (got : Got). Announces got fed.used c.args.chunk.now reader) c.in-Failed.is feeds.announces in
     taken_failed old _ c.args.expected c.args.chunk.now fed.used fault
-    (fed_bytes old _ c.args.expected c.args.chunk.now fed (Failed fault) c.requires.arrives c.requires.no_band refl refl feeds c.in-Failed.is) announced
+    (fed_bytes old _ c.args.expected c.args.chunk.now fed (Failed fault) c.requires.arrives c.requires.no_band refl refl refl feeds c.in-Failed.is) announced
     (feeds.news fault (old.sound (ap fault_in c.requires.arrives)) c.in-Failed.is) refl refl
