@@ -7,7 +7,7 @@ ghost use Rattle.git_client.specs.Machine.Client.{can_ask, wants_input};
 
 use crate::CHUNK_BYTES;
 use git_client::{Client, Ending, Event, ReceivedGot, Sent};
-use git_msg::{Argument, Command, Limits, Request};
+use git_msg::{Argument, Command, Flag, Limits, Request};
 use git_names::{Format, Oid, Steps};
 use git_pkt::{Fault, Kind, RunFault};
 use std::alloc::Global;
@@ -62,7 +62,7 @@ fn request(alloc: Global) -> Result<Request<Global>, Kind> {
     let wanted = Oid::read(Format::Sha1, WANTED, &mut Steps::new())?;
     let mut request = Request::new(alloc, Command::Fetch, Format::Sha1, Limits::DEFAULT);
     request.add(Argument::Want(wanted))?;
-    request.add(Argument::IsDone)?;
+    request.add(Argument::Flag(Flag::Done))?;
     Ok(request)
 }
 

@@ -99,17 +99,7 @@ with_text word text = record { word = word; value = text_value text }
 
 -- the argument that a borrowed argument shows
 abbrev pub shown : Argument → Arg
-shown Argument.Symrefs = alone (of_flag Flag.Symrefs)
-shown Argument.Peel = alone (of_flag Flag.Peel)
-shown Argument.Unborn = alone (of_flag Flag.Unborn)
-shown Argument.IsDone = alone (of_flag Flag.Done)
-shown Argument.ThinPack = alone (of_flag Flag.ThinPack)
-shown Argument.NoProgress = alone (of_flag Flag.NoProgress)
-shown Argument.IncludeTag = alone (of_flag Flag.IncludeTag)
-shown Argument.OfsDelta = alone (of_flag Flag.OfsDelta)
-shown Argument.WaitForDone = alone (of_flag Flag.WaitForDone)
-shown Argument.DeepenRelative = alone (of_flag Flag.DeepenRelative)
-shown Argument.Size = alone (of_flag Flag.Size)
+shown (Argument.Flag flag) = alone (of_flag flag)
 shown (RefPrefix prefix) = with_text ref_prefix prefix.now
 shown (Want id) = with_id want id
 shown (Have id) = with_id have id
@@ -120,11 +110,6 @@ shown (DeepenSince time) = with_number deepen_since time
 shown (DeepenNot revision) = with_text deepen_not revision.now
 shown (WantRef name) = with_text want_ref name.now
 shown (ObjectId id) = with_id object_id id
-
--- a value comes after the word
-abbrev pub TakesValue : Word → Type 0
-TakesValue (of_flag flag) = ⊥
-TakesValue word = Unit {0}
 
 -- the command's key, as it stands after `command=`
 abbrev pub name_of : Command → List ℕ

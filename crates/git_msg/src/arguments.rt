@@ -7,7 +7,7 @@ ghost use Rattle.git_names.specs.declared.object_format.Format.{Format};
 ghost use Rattle.git_msg.specs.Arguments.{IsArgument, IsArgumentFault, IsDepth, IsKeptText, IsNoKeptText, IsNoNumberIn, IsNumberIn};
 ghost use Rattle.git_msg.specs.Arguments.{IsNoValueOf, IsTextFault, IsTime, ReadsAs};
 ghost use Rattle.git_msg.specs.Arguments.{command_with as command_of, is_offered as offers, name_of, shown};
-ghost use Rattle.git_msg.specs.Arguments.{HasName, IsValue, IsValueFault, TakesValue, alone, of_flag};
+ghost use Rattle.git_msg.specs.Arguments.{HasName, IsValue, IsValueFault};
 
 use crate::flags::Flag;
 use crate::numbers::read_number;
@@ -31,38 +31,20 @@ pub enum Command {
 /// An argument of a request, with a borrowed text.
 #[derive(Clone, Copy, Debug)]
 pub enum Argument<'a> {
-    /// `symrefs`: send what symbolic references point to.
-    Symrefs,
-    /// `peel`: send the object that an annotated tag peels to.
-    Peel,
-    /// `unborn`: send what `HEAD` points to if that has no commit yet.
-    Unborn,
+    /// A word alone: each [`Flag`] states what it requests.
+    Flag(Flag),
     /// `ref-prefix`: show references whose name begins with this text, of at most 32,000 bytes.
     RefPrefix(&'a [u8]),
     /// `want`: send this object.
     Want(Oid),
     /// `have`: the client has this object.
     Have(Oid),
-    /// `done`: do not negotiate any further, and send the pack.
-    IsDone,
-    /// `thin-pack`: the pack may have deltas against objects that are not in it.
-    ThinPack,
-    /// `no-progress`: send no progress beside the pack.
-    NoProgress,
-    /// `include-tag`: send annotated tags with the objects that they point to.
-    IncludeTag,
-    /// `ofs-delta`: the pack may name the base of a delta by its place in the pack.
-    OfsDelta,
-    /// `wait-for-done`: send no pack before the request contains `done`.
-    WaitForDone,
     /// `filter`: leave out the objects that this filter-spec excludes. Its text has 1 to 32,000 bytes.
     Filter(&'a [u8]),
     /// `shallow`: the client has this commit without its parents.
     Shallow(Oid),
     /// `deepen`: cut the history off at this depth, of 1 to 2,147,483,647 commits.
     Deepen(u64),
-    /// `deepen-relative`: count the depth from where the client's history is cut off now.
-    DeepenRelative,
     /// `deepen-since`: cut the history off at this time, in seconds since 1970, at most 9,223,372,036,854,775,807.
     DeepenSince(u64),
     /// `deepen-not`: leave out what this revision reaches. Its text has 1 to 32,000 bytes.
@@ -70,8 +52,6 @@ pub enum Argument<'a> {
     /// `want-ref`: send the object of the reference of this name, whose text is a [`git_names::RefName`]. The text is
     /// borrowed, since the check has no rule yet for an enum that has an object name by value and a struct that borrows.
     WantRef(&'a [u8]),
-    /// `size`: send how many bytes the objects have.
-    Size,
     /// `oid`: answer for this object.
     ObjectId(Oid),
 }
@@ -81,26 +61,16 @@ pub enum Argument<'a> {
 macro_rules! put_together {
     ($argument:ident) => {
         match $argument {
-            Argument::Symrefs => Argument::Symrefs,
-            Argument::Peel => Argument::Peel,
-            Argument::Unborn => Argument::Unborn,
+            Argument::Flag(flag) => Argument::Flag(flag),
             Argument::RefPrefix(prefix) => Argument::RefPrefix(prefix),
             Argument::Want(id) => Argument::Want(id),
             Argument::Have(id) => Argument::Have(id),
-            Argument::IsDone => Argument::IsDone,
-            Argument::ThinPack => Argument::ThinPack,
-            Argument::NoProgress => Argument::NoProgress,
-            Argument::IncludeTag => Argument::IncludeTag,
-            Argument::OfsDelta => Argument::OfsDelta,
-            Argument::WaitForDone => Argument::WaitForDone,
             Argument::Filter(spec) => Argument::Filter(spec),
             Argument::Shallow(id) => Argument::Shallow(id),
             Argument::Deepen(depth) => Argument::Deepen(depth),
-            Argument::DeepenRelative => Argument::DeepenRelative,
             Argument::DeepenSince(time) => Argument::DeepenSince(time),
             Argument::DeepenNot(revision) => Argument::DeepenNot(revision),
             Argument::WantRef(name) => Argument::WantRef(name),
-            Argument::Size => Argument::Size,
             Argument::ObjectId(id) => Argument::ObjectId(id),
         }
     };
@@ -148,28 +118,6 @@ impl Command {
     }
 }
 
-impl<'a> Argument<'a> {
-    /// The flag that the argument is, if it consists of a word alone.
-    pub fn flag(&self) -> Option<Flag>
-        ensures { MatchOption result (TakesValue (shown self.now).word) (λ flag. shown self.now ≡ alone (of_flag flag)) }
-    {
-        match self {
-            Argument::Symrefs => Some(Flag::Symrefs),
-            Argument::Peel => Some(Flag::Peel),
-            Argument::Unborn => Some(Flag::Unborn),
-            Argument::IsDone => Some(Flag::Done),
-            Argument::ThinPack => Some(Flag::ThinPack),
-            Argument::NoProgress => Some(Flag::NoProgress),
-            Argument::IncludeTag => Some(Flag::IncludeTag),
-            Argument::OfsDelta => Some(Flag::OfsDelta),
-            Argument::WaitForDone => Some(Flag::WaitForDone),
-            Argument::DeepenRelative => Some(Flag::DeepenRelative),
-            Argument::Size => Some(Flag::Size),
-            _ => None,
-        }
-    }
-}
-
 /// Reads the text of an argument line. Refuses it first as `UnknownArgument`, if the command has no such argument; then for
 /// its value: `BadLine` for a text of a wrong length, `BadObjectName` if it is no object name of the format, `BadRefName` if
 /// it is no reference name, `BadNumber` if it is no number in its range; and then as `NotAdvertised`, if the argument needs
@@ -208,7 +156,7 @@ fn read_text<'a>(
     // The command's flags.
     steps.tick(command.flags().len() * (text.len().min(LONGEST_WORD) + 1));
     if let Some(flag) = command.flag(text) {
-        return Ok(flag.argument());
+        return Ok(Argument::Flag(flag));
     }
     match command {
         Command::LsRefs => read_ls_refs_value(format, text, steps),
@@ -340,10 +288,9 @@ fn command_with(argument: &Argument<'_>) -> Command
     ensures { result ≡ command_of (shown argument.now) }
 {
     match argument {
-        Argument::Symrefs | Argument::Peel | Argument::Unborn | Argument::RefPrefix(_) => {
-            Command::LsRefs
-        }
-        Argument::Size | Argument::ObjectId(_) => Command::ObjectInfo,
+        Argument::Flag(flag) => flag.command(),
+        Argument::RefPrefix(_) => Command::LsRefs,
+        Argument::ObjectId(_) => Command::ObjectInfo,
         _ => Command::Fetch,
     }
 }
@@ -353,14 +300,12 @@ pub(crate) fn is_offered(offer: &Offer, argument: &Argument<'_>) -> bool
     ensures { result ≡ offers offer.now (shown argument.now) }
 {
     match argument {
-        Argument::Unborn => offer.unborn,
+        Argument::Flag(flag) => flag.is_offered(offer),
         Argument::Shallow(_) => offer.shallow,
         Argument::Deepen(_) => offer.shallow,
-        Argument::DeepenRelative => offer.shallow,
         Argument::DeepenSince(_) => offer.shallow,
         Argument::DeepenNot(_) => offer.shallow,
         Argument::WantRef(_) => offer.ref_in_want,
-        Argument::WaitForDone => offer.wait_for_done,
         Argument::Filter(_) => offer.filter,
         _ => true,
     }

@@ -222,7 +222,7 @@ impl<A: Allocator + Copy> Fetch<A> {
         ensures within { IsWithin (kept_as fetch self.now) }
     {
         match self.flags.at(PACK_FLAGS, i) {
-            Ok(flag) => Some(flag.argument()),
+            Ok(flag) => Some(Argument::Flag(flag)),
             Err(next) => self.filter_argument(next),
         }
     }
@@ -267,7 +267,7 @@ impl<A: Allocator + Copy> Fetch<A> {
             Err(next) => next,
         };
         let Some(i) = past_flag(self.deepen_relative(), i) else {
-            return Some(Argument::DeepenRelative);
+            return Some(Argument::Flag(Flag::DeepenRelative));
         };
         self.object_argument(i)
     }
@@ -296,7 +296,7 @@ impl<A: Allocator + Copy> Fetch<A> {
             Err(next) => next,
         };
         if self.done() && i == 0 {
-            return Some(Argument::IsDone);
+            return Some(Argument::Flag(Flag::Done));
         }
         None
     }
@@ -320,12 +320,8 @@ impl<A: Memory + Copy> Fetch<A> {
     {
         let mut budget = self.budget;
         budget.charge(text_length)?;
-        if let Some(flag) = argument.flag() {
-            self.flags.add(flag);
-            self.budget = budget;
-            return Ok(());
-        }
         match argument {
+            Argument::Flag(flag) => self.flags.add(*flag),
             Argument::Want(id) => keep_id(&mut self.wants, *id)?,
             Argument::Have(id) => keep_id(&mut self.haves, *id)?,
             Argument::Shallow(id) => keep_id(&mut self.shallows, *id)?,

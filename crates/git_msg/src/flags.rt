@@ -1,37 +1,38 @@
 //! Flags: the arguments that are a word alone, and the set of them that a request has.
 ghost use Rattle.std.specs.Prelude.{◌≡◌, ◌<◌, ◌≤◌, ◌==◌, ◌||◌, ℕ, List, Some, MatchOption, MatchResult, false, get_or, length, slice_get};
-ghost use Rattle.git_msg.specs.Arguments.{Arg, alone, of_flag, shown};
+ghost use Rattle.git_msg.specs.Arguments.{Arg, alone, of_flag};
 ghost use Rattle.git_msg.specs.Asked.{flag_arguments, joined};
 ghost use Rattle.git_msg.specs.Flags.{IsNoFlagOf, flag_row, flags_of, is_held, place_of};
 
-use crate::arguments::{Argument, Command};
+use crate::arguments::Command;
+use crate::offers::Offer;
 use crate::parts::past_flag;
 use crate::texts::is_word;
 
-/// An argument that is a word alone. Each [`Argument`] states what it requests.
+/// An argument that is a word alone.
 #[derive(Clone, Copy, Debug, PartialEq, Eq, Hash)]
 pub enum Flag {
-    /// `thin-pack` of `fetch`.
+    /// `thin-pack` of `fetch`: the pack may have deltas against objects that are not in it.
     ThinPack,
-    /// `no-progress` of `fetch`.
+    /// `no-progress` of `fetch`: send no progress beside the pack.
     NoProgress,
-    /// `include-tag` of `fetch`.
+    /// `include-tag` of `fetch`: send annotated tags with the objects that they point to.
     IncludeTag,
-    /// `ofs-delta` of `fetch`.
+    /// `ofs-delta` of `fetch`: the pack may name the base of a delta by its place in the pack.
     OfsDelta,
-    /// `wait-for-done` of `fetch`.
+    /// `wait-for-done` of `fetch`: send no pack before the request contains `done`.
     WaitForDone,
-    /// `deepen-relative` of `fetch`.
+    /// `deepen-relative` of `fetch`: count the depth from where the client's history is cut off now.
     DeepenRelative,
-    /// `done` of `fetch`.
+    /// `done` of `fetch`: do not negotiate any further, and send the pack.
     Done,
-    /// `peel` of `ls-refs`.
+    /// `peel` of `ls-refs`: send the object that an annotated tag peels to.
     Peel,
-    /// `symrefs` of `ls-refs`.
+    /// `symrefs` of `ls-refs`: send what symbolic references point to.
     Symrefs,
-    /// `unborn` of `ls-refs`.
+    /// `unborn` of `ls-refs`: send what `HEAD` points to if that has no commit yet.
     Unborn,
-    /// `size` of `object-info`.
+    /// `size` of `object-info`: send how many bytes the objects have.
     Size,
 }
 
@@ -94,22 +95,15 @@ impl Flag {
         }
     }
 
-    /// The argument that is this flag.
-    pub fn argument(self) -> Argument<'static>
-        ensures { shown result ≡ alone (of_flag self) }
+    /// Whether the feature that the flag needs was advertised.
+    pub(crate) fn is_offered(self, offer: &Offer) -> bool
+        ensures { result ≡ (flag_row self).offered offer.now }
     {
         match self {
-            Flag::ThinPack => Argument::ThinPack,
-            Flag::NoProgress => Argument::NoProgress,
-            Flag::IncludeTag => Argument::IncludeTag,
-            Flag::OfsDelta => Argument::OfsDelta,
-            Flag::WaitForDone => Argument::WaitForDone,
-            Flag::DeepenRelative => Argument::DeepenRelative,
-            Flag::Done => Argument::IsDone,
-            Flag::Peel => Argument::Peel,
-            Flag::Symrefs => Argument::Symrefs,
-            Flag::Unborn => Argument::Unborn,
-            Flag::Size => Argument::Size,
+            Flag::WaitForDone => offer.wait_for_done,
+            Flag::DeepenRelative => offer.shallow,
+            Flag::Unborn => offer.unborn,
+            _ => true,
         }
     }
 

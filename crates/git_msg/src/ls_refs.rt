@@ -114,7 +114,7 @@ impl<A: Allocator + Copy> LsRefs<A> {
         ensures within { IsWithin (kept_as ls_refs self.now) }
     {
         match self.flags.at(LS_REFS_FLAGS, i) {
-            Ok(flag) => Some(flag.argument()),
+            Ok(flag) => Some(Argument::Flag(flag)),
             Err(next) => match self.ref_prefix(next) {
                 Some(prefix) => Some(Argument::RefPrefix(prefix)),
                 None => None,
@@ -166,12 +166,8 @@ impl<A: Memory + Copy> LsRefs<A> {
     {
         let mut budget = self.budget;
         budget.charge(text_length)?;
-        if let Some(flag) = argument.flag() {
-            self.flags.add(flag);
-            self.budget = budget;
-            return Ok(());
-        }
         match argument {
+            Argument::Flag(flag) => self.flags.add(*flag),
             Argument::RefPrefix(prefix) => self.ref_prefixes.keep(prefix)?,
             _ => unreachable!(),
         }

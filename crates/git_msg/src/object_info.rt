@@ -102,7 +102,7 @@ impl<A: Allocator + Copy> ObjectInfo<A> {
         ensures within { IsWithin (kept_as object_info self.now) }
     {
         match self.flags.at(OBJECT_INFO_FLAGS, i) {
-            Ok(flag) => Some(flag.argument()),
+            Ok(flag) => Some(Argument::Flag(flag)),
             Err(next) => match self.oids.get(next) {
                 Some(id) => Some(Argument::ObjectId(*id)),
                 None => None,
@@ -129,12 +129,8 @@ impl<A: Memory + Copy> ObjectInfo<A> {
     {
         let mut budget = self.budget;
         budget.charge(text_length)?;
-        if let Some(flag) = argument.flag() {
-            self.flags.add(flag);
-            self.budget = budget;
-            return Ok(());
-        }
         match argument {
+            Argument::Flag(flag) => self.flags.add(*flag),
             Argument::ObjectId(id) => keep_id(&mut self.oids, *id)?,
             _ => unreachable!(),
         }

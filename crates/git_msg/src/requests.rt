@@ -431,10 +431,8 @@ impl<A: Memory + Copy> Request<A> {
 pub(crate) fn written_length(argument: &Argument<'_>) -> usize
     ensures { result ≡ length (written_text (shown argument.now)) }
 {
-    if let Some(flag) = argument.flag() {
-        return flag.word().len();
-    }
     match argument {
+        Argument::Flag(flag) => flag.word().len(),
         Argument::RefPrefix(prefix) => 11 + prefix.len(),
         Argument::Want(id) => name_length(5, id),
         Argument::Have(id) => name_length(5, id),
@@ -445,7 +443,6 @@ pub(crate) fn written_length(argument: &Argument<'_>) -> usize
         Argument::DeepenNot(revision) => 11 + revision.len(),
         Argument::WantRef(name) => 9 + name.len(),
         Argument::ObjectId(id) => name_length(4, id),
-        _ => unreachable!(),
     }
 }
 

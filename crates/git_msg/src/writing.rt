@@ -28,11 +28,8 @@ pub(crate) fn put_argument(hold: &mut Hold, argument: &Argument<'_>)
     requires { length (written_text (shown argument.now)) < longest_payload }
     ensures { hold.new.items ≡ spelling_of (text_line (written_text (shown argument.now))) }
 {
-    if let Some(flag) = argument.flag() {
-        put_line(hold, flag.word(), b"");
-        return;
-    }
     match argument {
+        Argument::Flag(flag) => put_line(hold, flag.word(), b""),
         Argument::RefPrefix(prefix) => put_line(hold, b"ref-prefix ", prefix),
         Argument::Want(id) => put_name_line(hold, b"want ", id),
         Argument::Have(id) => put_name_line(hold, b"have ", id),
@@ -43,7 +40,6 @@ pub(crate) fn put_argument(hold: &mut Hold, argument: &Argument<'_>)
         Argument::DeepenNot(revision) => put_line(hold, b"deepen-not ", revision),
         Argument::WantRef(name) => put_line(hold, b"want-ref ", name),
         Argument::ObjectId(id) => put_name_line(hold, b"oid ", id),
-        _ => unreachable!(),
     }
 }
 

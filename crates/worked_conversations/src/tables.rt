@@ -193,22 +193,16 @@ fn state_argument(
         Err(kind) => return send_all(alloc, lines, kind.name(), LineContent::Nothing),
     };
     match argument {
-        Argument::Symrefs => send_all(alloc, lines, "symrefs", LineContent::Nothing),
-        Argument::Peel => send_all(alloc, lines, "peel", LineContent::Nothing),
-        Argument::Unborn => send_all(alloc, lines, "unborn", LineContent::Nothing),
+        Argument::Flag(flag) => {
+            append(lines, flag.word())?;
+            append(lines, b"\n")
+        }
         Argument::RefPrefix(prefix) => send_all(alloc, lines, "prefix", LineContent::Bytes(prefix)),
         Argument::Want(id) => state_object(alloc, lines, "want", id),
-        Argument::IsDone => send_all(alloc, lines, "done", LineContent::Nothing),
-        Argument::ThinPack => send_all(alloc, lines, "thin-pack", LineContent::Nothing),
-        Argument::NoProgress => send_all(alloc, lines, "no-progress", LineContent::Nothing),
-        Argument::IncludeTag => send_all(alloc, lines, "include-tag", LineContent::Nothing),
-        Argument::OfsDelta => send_all(alloc, lines, "ofs-delta", LineContent::Nothing),
-        Argument::WaitForDone => send_all(alloc, lines, "wait-for-done", LineContent::Nothing),
         Argument::Filter(spec) => send_all(alloc, lines, "filter", LineContent::Bytes(spec)),
         Argument::Have(id) => state_object(alloc, lines, "have", id),
         Argument::Shallow(id) => state_object(alloc, lines, "shallow", id),
         Argument::Deepen(depth) => state_number(alloc, lines, "deepen", depth),
-        Argument::DeepenRelative => send_all(alloc, lines, "deepen-relative", LineContent::Nothing),
         Argument::DeepenSince(time) => state_number(alloc, lines, "deepen-since", time),
         Argument::DeepenNot(revision) => send_all(
             alloc,
@@ -217,7 +211,6 @@ fn state_argument(
             LineContent::Bytes(revision),
         ),
         Argument::WantRef(name) => send_all(alloc, lines, "want-ref", LineContent::Bytes(name)),
-        Argument::Size => send_all(alloc, lines, "size", LineContent::Nothing),
         Argument::ObjectId(id) => state_object(alloc, lines, "oid", id),
     }
 }

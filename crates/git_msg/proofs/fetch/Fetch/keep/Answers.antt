@@ -8,34 +8,22 @@ use Rattle.git_msg.proofs.KeptBytes.{stays_covered}
 use Rattle.git_msg.proofs.HeldFlags.{fetch_kept, kept_by_fetch}
 use Rattle.git_msg.proofs.fetch.Fetch.keep.Given as given
 use Rattle.git_msg.proofs.fetch.Fetch.keep.Goals as goal
-use Rattle.git_msg.proofs.fetch.Fetch.keep.Goals.{After-add, Joined-argument, in-Deepen, in-DeepenSince, in-Filter+in_ok-keep-in-Filter}
+use Rattle.git_msg.proofs.fetch.Fetch.keep.Goals.{Joined-argument, in-Flag, in-Deepen, in-DeepenSince, in-Filter+in_ok-keep-in-Filter}
 use Rattle.git_msg.proofs.fetch.Fetch.keep.Goals.{in-Want+in_ok-keep_id-in-Want, in-Have+in_ok-keep_id-in-Have, in-Shallow+in_ok-keep_id-in-Shallow}
 use Rattle.git_msg.proofs.fetch.Fetch.keep.Goals.{in-DeepenNot+in_ok-keep-in-DeepenNot, in-WantRef+in_ok-keep-in-WantRef}
 
--- a flag is kept
-flag_kept : (g : given.Over) (c : After-add g) → KeepsArgument (fetch_kept c.self.inside) (shown c.args.argument.now) c.args.text_length
-    (fetch_kept (record c.self.inside { flags = c.add.new.self; budget = c.charge.new.self }))
-flag_kept g c = record {
-  asked = kept_by_fetch c.in-Some.flag c.self.inside c.add.new.self _ c.in-Some.ensures c.add.ensures;
-  kept = search rules;
-  stored = omega (arith, ap stored_in c.in-Some.ensures);
-  command = refl;
-  format = refl;
-  limit = search rules;
-}
-
-pub invariant_of-self : goal.invariant_of-self
-invariant_of-self g c =
-    stays_covered (fetch_kept c.self.inside) _ _ _ c.self.invariant (rw (sym c.self.view_is) at c.requires.value) c.requires.counted
-    (flag_kept g (goal.at.invariant_of-self g c).After-add)
-
-pub returns-in-Some-clause-kept : goal.returns-in-Some-clause-kept
-returns-in-Some-clause-kept g c = rw (← c.self.view_is) (flag_kept g (goal.at.returns-in-Some-clause-kept g c).After-add)
-
--- an argument other than a flag is kept
+-- the argument is kept
 value_kept : (g : given.Over) (c : Joined-argument g) → KeepsArgument (fetch_kept c.self.inside) (shown c.args.argument.now) c.args.text_length
     (fetch_kept (record c.match-argument.self-inside { budget = c.charge.new.self }))
 value_kept g c = elim c.match-argument.branch [
+  | in-Flag w ↦ rw w.self-inside-is (record {
+    asked = kept_by_fetch w.in-Flag.flag c.self.inside w.add.new.self _ (ap shown w.in-Flag.is) w.add.ensures;
+    kept = search rules;
+    stored = omega (arith, ap stored_in (ap shown w.in-Flag.is));
+    command = refl;
+    format = refl;
+    limit = search rules;
+  })
   | in-Want+in_ok-keep_id-in-Want w ↦ rw w.self-inside-is (search (rules, length-append))
   | in-Have+in_ok-keep_id-in-Have w ↦ rw w.self-inside-is (search (rules, length-append))
   | in-Shallow+in_ok-keep_id-in-Shallow w ↦ rw w.self-inside-is (search (rules, length-append))

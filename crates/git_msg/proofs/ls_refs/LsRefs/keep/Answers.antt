@@ -8,33 +8,30 @@ use Rattle.git_msg.proofs.KeptBytes.{stays_covered}
 use Rattle.git_msg.proofs.HeldFlags.{ls_refs_kept, kept_by_ls_refs}
 use Rattle.git_msg.proofs.ls_refs.LsRefs.keep.Given as given
 use Rattle.git_msg.proofs.ls_refs.LsRefs.keep.Goals as goal
-use Rattle.git_msg.proofs.ls_refs.LsRefs.keep.Goals.{After-add}
+use Rattle.git_msg.proofs.ls_refs.LsRefs.keep.Goals.{Joined-argument, in-Flag, in-RefPrefix+in_ok-keep-in-RefPrefix}
 
--- a flag is kept
-flag_kept : (g : given.Over) (c : After-add g) → KeepsArgument (ls_refs_kept c.self.inside) (shown c.args.argument.now) c.args.text_length
-    (ls_refs_kept (record c.self.inside { flags = c.add.new.self; budget = c.charge.new.self }))
-flag_kept g c = record {
-  asked = kept_by_ls_refs c.in-Some.flag c.self.inside c.add.new.self _ c.in-Some.ensures c.add.ensures;
-  kept = search rules;
-  stored = omega (arith, ap stored_in c.in-Some.ensures);
-  command = refl;
-  format = refl;
-  limit = search rules;
-}
-
-pub invariant_of-self : goal.invariant_of-self
-invariant_of-self g c =
-    stays_covered (ls_refs_kept c.self.inside) _ _ _ c.self.invariant (rw (sym c.self.view_is) at c.requires.value) c.requires.counted
-    (flag_kept g (goal.at.invariant_of-self g c).After-add)
-
-pub returns-in-Some-clause-kept : goal.returns-in-Some-clause-kept
-returns-in-Some-clause-kept g c = rw (← c.self.view_is) (flag_kept g (goal.at.returns-in-Some-clause-kept g c).After-add)
+-- the argument is kept
+value_kept : (g : given.Over) (c : Joined-argument g) → KeepsArgument (ls_refs_kept c.self.inside) (shown c.args.argument.now) c.args.text_length
+    (ls_refs_kept (record c.match-argument.self-inside { budget = c.charge.new.self }))
+value_kept g c = elim c.match-argument.branch [
+  | in-Flag w ↦ rw w.self-inside-is (record {
+    asked = kept_by_ls_refs w.in-Flag.flag c.self.inside w.add.new.self _ (ap shown w.in-Flag.is) w.add.ensures;
+    kept = search rules;
+    stored = omega (arith, ap stored_in (ap shown w.in-Flag.is));
+    command = refl;
+    format = refl;
+    limit = search rules;
+  })
+  | in-RefPrefix+in_ok-keep-in-RefPrefix w ↦ rw w.self-inside-is (search rules)
+]
 
 pub invariant_of-self-2 : goal.invariant_of-self-2
 invariant_of-self-2 g c =
-    let keeps : KeepsArgument (ls_refs_kept c.self.inside) (shown c.args.argument.now) c.args.text_length
-    (ls_refs_kept (record c.self.inside { ref_prefixes = c.keep.new.self; budget = c.charge.new.self })) = search rules in
-    stays_covered (ls_refs_kept c.self.inside) _ _ _ c.self.invariant (rw (sym c.self.view_is) at c.requires.value) c.requires.counted keeps
+    stays_covered (ls_refs_kept c.self.inside) _ _ _ c.self.invariant (rw (sym c.self.view_is) at c.requires.value) c.requires.counted
+    (value_kept g (goal.at.invariant_of-self-2 g c).Joined-argument)
+
+pub returns-clause-kept : goal.returns-clause-kept
+returns-clause-kept g c = rw (← c.self.view_is) (value_kept g (goal.at.returns-clause-kept g c).Joined-argument)
 
 pub keep-requires : goal.keep-requires
 keep-requires g c =

@@ -7,33 +7,30 @@ use Rattle.git_msg.proofs.KeptBytes.{stays_covered}
 use Rattle.git_msg.proofs.HeldFlags.{object_info_kept, kept_by_object_info}
 use Rattle.git_msg.proofs.object_info.ObjectInfo.keep.Given as given
 use Rattle.git_msg.proofs.object_info.ObjectInfo.keep.Goals as goal
-use Rattle.git_msg.proofs.object_info.ObjectInfo.keep.Goals.{After-add}
+use Rattle.git_msg.proofs.object_info.ObjectInfo.keep.Goals.{Joined-argument, in-Flag, in-ObjectId+in_ok-keep_id-in-ObjectId}
 
--- a flag is kept
-flag_kept : (g : given.Over) (c : After-add g) → KeepsArgument (object_info_kept c.self.inside) (shown c.args.argument.now) c.args.text_length
-    (object_info_kept (record c.self.inside { flags = c.add.new.self; budget = c.charge.new.self }))
-flag_kept g c = record {
-  asked = kept_by_object_info c.in-Some.flag c.self.inside c.add.new.self _ c.in-Some.ensures c.add.ensures;
-  kept = search rules;
-  stored = omega (arith, ap stored_in c.in-Some.ensures);
-  command = refl;
-  format = refl;
-  limit = search rules;
-}
-
-pub invariant_of-self : goal.invariant_of-self
-invariant_of-self g c =
-    stays_covered (object_info_kept c.self.inside) _ _ _ c.self.invariant (rw (sym c.self.view_is) at c.requires.value) c.requires.counted
-    (flag_kept g (goal.at.invariant_of-self g c).After-add)
-
-pub returns-in-Some-clause-kept : goal.returns-in-Some-clause-kept
-returns-in-Some-clause-kept g c = rw (← c.self.view_is) (flag_kept g (goal.at.returns-in-Some-clause-kept g c).After-add)
+-- the argument is kept
+value_kept : (g : given.Over) (c : Joined-argument g) → KeepsArgument (object_info_kept c.self.inside) (shown c.args.argument.now) c.args.text_length
+    (object_info_kept (record c.match-argument.self-inside { budget = c.charge.new.self }))
+value_kept g c = elim c.match-argument.branch [
+  | in-Flag w ↦ rw w.self-inside-is (record {
+    asked = kept_by_object_info w.in-Flag.flag c.self.inside w.add.new.self _ (ap shown w.in-Flag.is) w.add.ensures;
+    kept = search rules;
+    stored = omega (arith, ap stored_in (ap shown w.in-Flag.is));
+    command = refl;
+    format = refl;
+    limit = search rules;
+  })
+  | in-ObjectId+in_ok-keep_id-in-ObjectId w ↦ rw w.self-inside-is (search (rules, length-append))
+]
 
 pub invariant_of-self-2 : goal.invariant_of-self-2
 invariant_of-self-2 g c =
-    let keeps : KeepsArgument (object_info_kept c.self.inside) (shown c.args.argument.now) c.args.text_length
-    (object_info_kept (record c.self.inside { oids = c.keep_id.new.ids; budget = c.charge.new.self })) = search (rules, length-append) in
-    stays_covered (object_info_kept c.self.inside) _ _ _ c.self.invariant (rw (sym c.self.view_is) at c.requires.value) c.requires.counted keeps
+    stays_covered (object_info_kept c.self.inside) _ _ _ c.self.invariant (rw (sym c.self.view_is) at c.requires.value) c.requires.counted
+    (value_kept g (goal.at.invariant_of-self-2 g c).Joined-argument)
+
+pub returns-clause-kept : goal.returns-clause-kept
+returns-clause-kept g c = rw (← c.self.view_is) (value_kept g (goal.at.returns-clause-kept g c).Joined-argument)
 
 pub returns-in_err-keep_id-in-ObjectId-clause-memory : goal.returns-in_err-keep_id-in-ObjectId-clause-memory
 returns-in_err-keep_id-in-ObjectId-clause-memory g c =
