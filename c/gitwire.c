@@ -1,7 +1,7 @@
 /*
  * The part of the library that is written in C, since Rattle exports nothing of the kind: memory, also for handles, the lock of a repository's,
- * texts that last, and where the parts of an event and a payload are. Nothing here is proved. It is linked with libgitwire.a, whose calls `_init`, `_clear`, `_words` and
- * `_text` below are not in the header.
+ * texts that last, and where the parts of an event and a payload are. Nothing here is proved. It is linked with libgitwire.a, whose calls `_init`,
+ * `_clear`, `_words` and `_text` below are not in the header.
  */
 #include <gitwire.h>
 
