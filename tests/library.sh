@@ -60,7 +60,8 @@ under_valgrind() {
 case_library_is_installed_whole() {
     local file line
     for file in bin/git2show lib/libgitwire.a lib/libgitwire.so lib/pkgconfig/gitwire.pc share/man/man1/git2show.1 \
-        share/man/man5/git2show.5 $(cd "$top/man" && printf 'share/man/man3/%s ' *.3) share/bash-completion/completions/git2show share/zsh/site-functions/_git2show \
+        share/man/man5/git2show.5 $(cd "$top/man" && printf 'share/man/man3/%s ' *.3) \
+        share/bash-completion/completions/git2show share/zsh/site-functions/_git2show \
         share/fish/vendor_completions.d/git2show.fish share/doc/gitwire/{PROTOCOL,PROMISES,STEPS}.md share/doc/gitwire/repository-text.sh \
         $(cd "$top" && printf 'share/doc/gitwire/%s ' examples/* && find include -name '*.h'); do
         [ -s "$installed/$file" ] || differs "no $file"
@@ -122,7 +123,8 @@ calls_of_the_header() {
 
 # calls_for_c: the names of the calls that only c/gitwire.c makes: `_clear` of each kind of handle, and what it declares itself.
 calls_for_c() {
-    sed -n -e 's/^FREES(\(gitwire_[a-z_]*\))$/\1_clear/p' -e 's/^[a-z_]* \(gitwire_[a-z_]*_\(init\|init_filtered\|clear\|words\|text\)\)(.*/\1/p' "$top/c/gitwire.c"
+    sed -n -e 's/^FREES(\(gitwire_[a-z_]*\))$/\1_clear/p' \
+        -e 's/^[a-z_]* \(gitwire_[a-z_]*_\(init\|init_filtered\|clear\|words\|text\)\)(.*/\1/p' "$top/c/gitwire.c"
 }
 
 case_library_has_the_calls_of_its_header() {
@@ -271,7 +273,7 @@ case_library_header_has_a_type_for_each_kind_of_number() {
 
 case_library_programs_compile_without_a_word() {
     local name
-    for name in daemon fetch list packets upload-pack watch library_calls library_arrays library_writers library_host library_threads library_memory refused_memory; do
+    for name in daemon fetch list packets upload-pack watch library_{calls,arrays,writers,host,threads,memory} refused_memory; do
         expect_same "what the compiler prints for $name" /dev/null "$name.said"
     done
 }
