@@ -12,13 +12,13 @@ use std::process::Abort;
 use std::test::Fail;
 
 /// More than any of these sessions takes.
-const ENOUGH: usize = 4_096;
+pub const ENOUGH: usize = 4_096;
 
 /// So many that a byte kept of each would not fit.
 const REFERENCES: u32 = 100_000;
 
 /// A request for references below two prefixes.
-const LISTING: &[u8] =
+pub const LISTING: &[u8] =
     b"0014command=ls-refs\n0001001bref-prefix refs/heads/\n001aref-prefix refs/tags/\n0000";
 
 /// The same, and then a fetch of an object and of five references.
@@ -34,7 +34,8 @@ const ANSWERS: &[u8] =
 003aaaaaaaaaaaaaaaaaaaaaaaaaaaaaaaaaaaaaaaaa refs/tags/v2\n003aaaaaaaaaaaaaaaaaaaaaaaaaaaaaaaaaaaaaaaaa refs/tags/v3\n\
 0001000dpackfile\n0000";
 
-fn new_host<A: Allocator + Copy>(alloc: A) -> HostServer<A> {
+/// A host's server with the default limit, before any packet.
+pub fn new_host<A: Allocator + Copy>(alloc: A) -> HostServer<A> {
     HostServer::new(
         alloc,
         Offer::everything(Format::Sha1),

@@ -38,6 +38,8 @@ mod names;
 #[cfg(test)]
 mod packs;
 #[cfg(test)]
+mod plain_references;
+#[cfg(test)]
 mod playing_memory;
 #[cfg(test)]
 mod readiness;
