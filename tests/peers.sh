@@ -5,7 +5,8 @@
 #
 # PROGRAM is the built `git2show`, and LIBRARY the static library, with which c/gitwire.c is linked; if LIBRARY is empty, `serve`, `fetch` and `check`
 # alone are tried. The peers are unpacked into the folder of PEERS, once, and installed nowhere. A PEER is one of those of `all` below; without one all
-# are tried. Prints tables, whose words docs/PEERS.md explains; the status is 1 if a cell is not as it may be. If KEEP is set, the working folder stays. It is made in TMPDIR: in memory all goes faster.
+# are tried. Prints tables, whose words docs/PEERS.md explains; the status is 1 if a cell is not as it may be. If KEEP is set, the working folder
+# stays. It is made in TMPDIR: in memory all goes faster.
 # CASES, if set, is an extended regular expression of the clients' cases to be run, and LIMIT how many seconds each has, 30 without it.
 set -eu -o pipefail
 shopt -s inherit_errexit

@@ -197,7 +197,8 @@ module _ {A : Type 0} where
         subst (λ (o : HostAnswer A). WaitsStill o r (Sizes b)) (sym was)
         (subst (λ (x : AnswerStep). WaitsStill (Sizes a) x (Sizes b)) (sym is) sizes_still)
 
-  references_still : (a : ReferencesAnswer A) (need : Need) → IsNeeded need (References a) → (Needs NeedOf.Reference ≡ Needs need) × (References a ≡ References a)
+  references_still : (a : ReferencesAnswer A) (need : Need) → IsNeeded need (References a)
+      → (Needs NeedOf.Reference ≡ Needs need) × (References a ≡ References a)
   references_still a NeedOf.Reference needed = (refl, refl)
   references_still a (NeedOf.Size at) needed = absurd needed
   references_still a (NeedOf.Have at) needed = absurd needed

@@ -4,8 +4,8 @@ use Rattle.git_host.proofs.HostAnswerMoves.{broken_stepped, fetch_stepped, fetch
 use Rattle.git_host.proofs.host_answer.HostAnswer.go_on.Goals as goal
 
 pub returns-in-Fetch-clause-steps : goal.returns-in-Fetch-clause-steps
-returns-in-Fetch-clause-steps g c = fetch_stepped c.in-Fetch.answer c.next.new.self c.args.self.now c.next.result c.of_fetch.result c.next.new.hold.items c.in-Fetch.is
-    c.of_fetch.ensures c.next.ensures.step c.next.ensures.steps
+returns-in-Fetch-clause-steps g c = fetch_stepped c.in-Fetch.answer c.next.new.self c.args.self.now c.next.result c.of_fetch.result c.next.new.hold.items
+    c.in-Fetch.is c.of_fetch.ensures c.next.ensures.step c.next.ensures.steps
 
 pub returns-in-Fetch-clause-broken : goal.returns-in-Fetch-clause-broken
 returns-in-Fetch-clause-broken g c = broken_stepped c.in-Fetch.answer c.args.self.now c.next.result c.of_fetch.result c.in-Fetch.is c.of_fetch.ensures
