@@ -133,6 +133,7 @@ static void try_references(void)
 	EXPECT(sends(reference(ONE, "refs/heads/main", "", TWO), 0, "006d" ONE " refs/heads/main peeled:" TWO "\n"));
 	EXPECT(tells(reference(ONE, "refs/heads/main", "", ""), GITWIRE_OUT_OF_ORDER, 0, 0, 0));
 	EXPECT(tells(reference(ONE, "refs/heads/a", "", ""), GITWIRE_OUT_OF_ORDER, 0, 0, 0));
+	EXPECT(sends(reference(TWO, "refs/heads/next", "", ""), 0, "003d" TWO " refs/heads/next\n"));
 	EXPECT(tells(gitwire_host_unborn(host, TEXT("refs/heads/main"), BUFFER), GITWIRE_NOT_NOW, 0, 0, 0));
 	EXPECT(tells(reference(TWO, "refs/tags/a", "", ""), GITWIRE_MORE, 0, 0, 0));
 	EXPECT(sends(gitwire_host_references_end(host, BUFFER), 0, "0000"));

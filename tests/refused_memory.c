@@ -311,6 +311,11 @@ static gitwire_answer report_reference(gitwire_host *host)
 	return gitwire_host_reference(host, TEXT(ONE), TEXT("refs/heads/a-name-of-more-than-32-bytes"), TEXT("refs/a"), NULL, 0, buffer, sizeof buffer);
 }
 
+static gitwire_answer report_plain_reference(gitwire_host *host)
+{
+	return gitwire_host_reference(host, TEXT(ONE), TEXT("refs/heads/b-name-of-more-than-32-bytes-too"), NULL, 0, NULL, 0, buffer, sizeof buffer);
+}
+
 static gitwire_answer report_wanted(gitwire_host *host)
 {
 	return gitwire_host_want_ref(host, TEXT(ONE), buffer, sizeof buffer);
@@ -335,6 +340,7 @@ static void run_host(void)
 				expect(gitwire_host_accept(host) == GITWIRE_DONE, "a request that is accepted");
 			else if (answer.kind == GITWIRE_NEED_REFERENCE) {
 				expect_reported(host, GITWIRE_PACKET, report_reference);
+				expect_reported(host, GITWIRE_PACKET, report_plain_reference);
 				expect(gitwire_host_references_end(host, buffer, sizeof buffer).kind == GITWIRE_PACKET, "the end of references");
 			} else if (answer.kind == GITWIRE_NEED_WANT_REF) {
 				expect_reported(host, GITWIRE_MORE, report_wanted);
