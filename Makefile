@@ -69,7 +69,7 @@ install: $(PROGRAM) $(LIBRARY)
 	@objects=$$(mktemp -d) && \
 		$(CC) -std=c11 -O2 -fPIC -Wall -Wextra -Iinclude -c -o "$$objects/gitwire_in_c.o" c/gitwire.c && \
 		ar qs "$(to)/lib/libgitwire.a" "$$objects"/*.o && rm -r "$$objects"
-	@$(CC) -shared -o "$(to)/lib/libgitwire.so.$(VERSION)" -Wl,-soname,libgitwire.so.1,--version-script=gitwire.map \
+	@$(CC) -shared -pthread -o "$(to)/lib/libgitwire.so.$(VERSION)" -Wl,-soname,libgitwire.so.1,--version-script=gitwire.map \
 		-Wl,-z,defs,-z,relro,-z,now,--whole-archive "$(to)/lib/libgitwire.a" -Wl,--no-whole-archive
 	@ln -sf libgitwire.so.$(VERSION) "$(to)/lib/libgitwire.so.1"
 	@ln -sf libgitwire.so.1 "$(to)/lib/libgitwire.so"
