@@ -22,7 +22,7 @@ use Rattle.git_msg.specs.Asked.{Asked}
 use Rattle.git_msg.specs.Machine.HeldRequest.{asked_of, kept_of}
 use Rattle.git_msg.specs.Memory.{FaultNeedsRefusal}
 use Rattle.git_msg.specs.Requests.{AreBegun, IsAnnounced}
-use Rattle.git_msg.specs.Machine.RequestReader.{Brings, GotNeedsRefusal, IsBrought, IsWithin, Takes, offer_of as offer_in, limit_in, kept_so_far}
+use Rattle.git_msg.specs.Machine.RequestReader.{Brings, GotNeedsRefusal, IsBrought, Takes, offer_of as offer_in, limit_in}
 use Rattle.git_msg.specs.Machine.RequestReader.{fault_of as reader_fault}
 use Rattle.git_msg.specs.WholeRequests.{AreRequests}
 use Rattle.git_msg.specs.Machine.StreamStages.{HasTaken, fault_in, stage_brought, takes_bytes, stage_is_between}
@@ -105,10 +105,6 @@ module _ {A : Type 0} where
   goes_on_behind old new g Stop brings on = absurd (cc)
   goes_on_behind old new g (Failed fault) brings on = absurd (cc)
 
-  within_limit : (got : ReadGot A) (new : RequestReader A) → IsWithin got new → kept_so_far new ≤ limit_in new
-  within_limit (Request request) new h = omega (arith, h.2)
-  within_limit got new h = h
-
   module _ (old : RequestStream A) (new : RequestReader A) (g : Given) (got : ReadGot A) (stage : Stage)
       (wants : wants_input old ≡ true) (brings : Brings nothing_barred old.requests g got new) (stage_is : stage ≡ stage_brought got) where
     goes_in : takes_bytes stage ≡ true → (reader_fault new ≡ None) × (HasTaken old.requests → HasTaken new)
@@ -120,9 +116,6 @@ module _ {A : Type 0} where
 
     pub some_taken_behind : takes_bytes stage ≡ true → ∥ HasTaken new ∥₁
     some_taken_behind on = ∥∥₁_elim (old.taken wants) ∥∥₁_prop (λ (h : HasTaken old.requests). ∣ (goes_in on).1 h ∣₁)
-
-    pub within_behind : kept_so_far new ≤ limit_in new
-    within_behind = within_limit got new brings.within
 
     -- an error of a packet is never one that the bytes show
     pub packet_news : (fault : Fault) (used : ℕ) (chunk : List ℕ) → got ≡ Failed fault → ShownByFeed fault used chunk
@@ -187,7 +180,7 @@ module _ {A : Type 0} (old new : RequestStream A) (u : List ℕ) (wants : wants_
       takes = takes (sym (ap takes_bytes is) ∙ on);
       open_ended = new.open_ended on;
     };
-    within = new.within;
+    within = new.requests.bounded.within;
   }
 
   -- no further packet

@@ -13,7 +13,8 @@ use Rattle.git_msg.specs.Admission.{IsAnnouncedFor, IsBarred, IsUnbarred}
 use Rattle.git_msg.specs.Arguments.{Arg}
 use Rattle.git_msg.specs.Lines.{IsLine}
 use Rattle.git_msg.specs.Machine.HeldRequest.{IsBounded, command_of}
-use Rattle.git_msg.specs.Machine.RequestReader.{Brings, GotNeedsRefusal, InCapabilities, InLines, IsBrought, IsWithin, LeavesReader, Takes, fault_in, fault_of, limit_in}
+use Rattle.git_msg.specs.Machine.RequestReader.{Brings, GotNeedsRefusal, InCapabilities, InLines, IsBrought, IsWithin, LeavesReader, Takes}
+use Rattle.git_msg.specs.Machine.RequestReader.{fault_in, fault_of, limit_in}
 use Rattle.git_msg.specs.Machine.RequestReaderSteps.{Goes, IsFree, LeavesStep, StepsOn}
 use Rattle.git_msg.specs.Requests.{AreLines}
 use Rattle.git_msg.proofs.Admission.{barred_after}

@@ -47,7 +47,6 @@ pub struct RequestStream<A: Allocator + Copy> {
     ghost open_ended: { takes_bytes stage ≡ true → reader_fault requests ≡ None },
     ghost gathers: { passes_of packets ≡ false },
     ghost taken: { takes_bytes stage ≡ true → ∥ HasTaken requests ∥₁ },
-    ghost within: { kept_so_far requests ≤ limit_in requests },
 }
 
 impl<A: Allocator + Copy> RequestStream<A> {

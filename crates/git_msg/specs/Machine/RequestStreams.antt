@@ -93,7 +93,6 @@ module _ {A : Type 0} where
         open_ended = open_ended;
         gathers = gathers;
         taken = taken;
-        within = within;
       } = s in
       held_in_packet packets + stored_so_far requests
 

@@ -15,11 +15,13 @@ returns-in-Ok-clause-brings g c =
       | in-Capabilities w ↦ ap fault_in w.in-Capabilities.is
       | in-Arguments w ↦ ap fault_in w.in-Arguments.is
     ] in
-    let step : StepsOn (g.B.Admits.refused_as c.args.admits.now) c.args.self.now (seen c.args.packet) c.match-self.step c.match-self.self = elim c.match-self.branch [
+    let barred = g.B.Admits.refused_as c.args.admits.now in
+    let step : StepsOn barred c.args.self.now (seen c.args.packet) c.match-self.step c.match-self.self = elim c.match-self.branch [
       | in-Capabilities w ↦ rw (w.step-is, w.self-is) (w.take_capability-step.ensures.goes_on _)
       | in-Arguments w ↦ rw (w.step-is, w.self-is) w.take_argument-step.ensures.goes_on
     ] in
-    takes_ok _ c.args.self.now c.match-self.self (record { packet = seen c.args.packet; offset = c.args.offset }) c.in-Ok.got sound (rw c.in-Ok.is at step)
+    takes_ok barred c.args.self.now c.match-self.self (record { packet = seen c.args.packet; offset = c.args.offset }) c.in-Ok.got sound
+    (rw c.in-Ok.is at step)
 
 pub returns-in-Err-clause-brings : goal.returns-in-Err-clause-brings
 returns-in-Err-clause-brings g c =
@@ -27,19 +29,21 @@ returns-in-Err-clause-brings g c =
       | in-Capabilities w ↦ ap fault_in w.in-Capabilities.is
       | in-Arguments w ↦ ap fault_in w.in-Arguments.is
     ] in
-    let step : StepsOn (g.B.Admits.refused_as c.args.admits.now) c.args.self.now (seen c.args.packet) c.match-self.step c.match-self.self = elim c.match-self.branch [
+    let barred = g.B.Admits.refused_as c.args.admits.now in
+    let step : StepsOn barred c.args.self.now (seen c.args.packet) c.match-self.step c.match-self.self = elim c.match-self.branch [
       | in-Capabilities w ↦ rw (w.step-is, w.self-is) (w.take_capability-step.ensures.goes_on _)
       | in-Arguments w ↦ rw (w.step-is, w.self-is) w.take_argument-step.ensures.goes_on
     ] in
-    takes_err _ c.args.self.now c.match-self.self (record { packet = seen c.args.packet; offset = c.args.offset }) c.in-Err.kind _ sound
+    takes_err barred c.args.self.now c.match-self.self (record { packet = seen c.args.packet; offset = c.args.offset }) c.in-Err.kind _ sound
     (rw c.in-Err.is at step)
 
 pub returns-in-Ok-clause-memory : goal.returns-in-Ok-clause-memory
 returns-in-Ok-clause-memory g c =
-    let step : StepsOn (g.B.Admits.refused_as c.args.admits.now) c.args.self.now (seen c.args.packet) c.match-self.step c.match-self.self = elim c.match-self.branch [
+    let barred = g.B.Admits.refused_as c.args.admits.now in
+    let step : StepsOn barred c.args.self.now (seen c.args.packet) c.match-self.step c.match-self.self = elim c.match-self.branch [
       | in-Capabilities w ↦ rw (w.step-is, w.self-is) (w.take_capability-step.ensures.goes_on _)
       | in-Arguments w ↦ rw (w.step-is, w.self-is) w.take_argument-step.ensures.goes_on
     ] in
     let taken = rw c.in-Ok.is at step in
-    λ sound. needs_none (g.B.Admits.refused_as c.args.admits.now) c.args.self.now c.match-self.self (record { packet = seen c.args.packet; offset = c.args.offset }) g.A.Memory.refuses
+    λ sound. needs_none barred c.args.self.now c.match-self.self (record { packet = seen c.args.packet; offset = c.args.offset }) g.A.Memory.refuses
     (limit_in c.args.self.now) c.in-Ok.got taken.leaves

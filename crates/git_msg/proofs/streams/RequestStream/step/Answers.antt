@@ -8,7 +8,7 @@ use Rattle.git_msg.specs.Machine.StreamStages.{fault_in}
 use Rattle.git_msg.specs.Memory.{FaultNeedsRefusal}
 use Rattle.git_msg.proofs.StreamSteps.{open_read, feeds_with, packet_counts, packet_leaves, packet_news, packet_read, refused_read}
 use Rattle.git_msg.proofs.ReaderRuns.{fault_of_bytes}
-use Rattle.git_msg.proofs.StreamSteps.{needed_behind, reading, some_taken_behind, sound_behind, within_behind}
+use Rattle.git_msg.proofs.StreamSteps.{needed_behind, reading, some_taken_behind, sound_behind}
 use Rattle.git_msg.proofs.streams.RequestStream.step.Goals as goal
 
 pub invariant_of-self-in-Packet : goal.invariant_of-self-in-Packet
@@ -24,7 +24,6 @@ invariant_of-self-in-Packet g c =
       open_ended = sound_behind old new given got stage c.requires.waits c.take-got.ensures.brings c.stage_after-self.ensures;
       gathers = c.feed-fed.follows.holds-at-none.gathers;
       taken = some_taken_behind old new given got stage c.requires.waits c.take-got.ensures.brings c.stage_after-self.ensures;
-      within = within_behind old new given got stage c.requires.waits c.take-got.ensures.brings c.stage_after-self.ensures;
     }
 
 pub returns-in-Packet-clause-steps : goal.returns-in-Packet-clause-steps

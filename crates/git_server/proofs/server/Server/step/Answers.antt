@@ -6,7 +6,7 @@ use Rattle.git_msg.specs.Arguments.{Arg}
 use Rattle.git_msg.specs.Machine.RequestReader.{Brings}
 use Rattle.git_server.specs.Machine.LatePacks.{state_with}
 use Rattle.git_server.proofs.LatePacks.{barred_same}
-use Rattle.git_server.proofs.Going.{goes_open, goes_packet, goes_refused, open_in_time, packet_in_time, fault_in_time}
+use Rattle.git_server.proofs.Going.{goes_open, goes_packet, goes_refused, no_outcome, open_in_time, packet_in_time, fault_in_time}
 use Rattle.git_msg.proofs.StreamSteps.{feeds_with}
 use Rattle.git_server.proofs.RefusedMemory.{memory_after_bytes, memory_after_packet}
 use Rattle.git_server.proofs.server.Server.step.Goals as goal
@@ -84,7 +84,7 @@ returns-in-More-clause-memory g c = λ s so_far over before r ends. ends
 pub returns-in-Packet-clause-memory : goal.returns-in-Packet-clause-memory
 returns-in-Packet-clause-memory g c =
     memory_after_packet g.R.Repo.state g.A.Memory.refuses c.args.self.now c.requires.wants c.following.result c.in-Packet.offset c.take-brought.result
-    c.take-brought.ensures.memory c.following.ensures
+    (c.take-brought.ensures.memory (c.args.self.now.sound (no_outcome c.args.self.now.phase c.requires.wants))) c.following.ensures
 
 pub returns-in-Failed-clause-memory : goal.returns-in-Failed-clause-memory
 returns-in-Failed-clause-memory g c =
