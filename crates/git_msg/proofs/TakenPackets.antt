@@ -108,7 +108,15 @@ module _ {A : Type 0} (old new : RequestReader A) (packets : List Given) (g : Gi
   first_fault : (kind : Kind) → HasFault old.offer (limit_in old) s.lines g.packet kind
       → FirstFault new.offer (limit_in new) (packets ++ g ∷ []) kind g.offset
   first_fault kind h =
-      record { front = packets; bad = g; back = []; lines = s.lines; whole = refl; taken = front_lines; fault = rw (offer, limit) h; at = refl }
+      record {
+        front = packets;
+        at = g;
+        back = [];
+        items = s.lines;
+        whole = refl;
+        taken = front_lines;
+        why = record { fault = rw (offer, limit) h; offset_is = refl };
+      }
 
   brings : (taken : Taken A) → Goes s.lines old g.packet g.offset (Ok taken) new → Brings packets g (Ok taken) new
   brings More h = brings_more h

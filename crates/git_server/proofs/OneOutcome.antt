@@ -16,6 +16,7 @@ use Rattle.git_msg.specs.Requests.{AreLines, Asks, IsStop}
 use Rattle.git_msg.specs.WholeRequests.{AreRequests}
 use Rattle.git_msg.proofs.WholeRequests.{NoFlush, NoRequest, flush_inside, flush_is_no_line, last_same, whole_then}
 use Rattle.git_msg.proofs.Admission.{admitted_unbarred, no_flush_barred, one_barred}
+use Rattle.git_msg.proofs.Cuts.{not_empty, two_cuts}
 use Rattle.git_msg.proofs.FaultLaws.{no_fault_in_lines, no_fault_in_request, one_first_fault}
 use Rattle.git_server.specs.Admission.{barred}
 use Rattle.git_server.specs.Sessions.{Setting, Begins, FirstMalformed, GoesOn, IsRequest, EndsBy, IsOfTheBytes, IsRefusedAsRead, IsRefusedAtPacket}
@@ -26,28 +27,22 @@ use Rattle.git_server.specs.declared.outcome.Outcome.TheVariants.{Flush, Closed,
 use Rattle.git_server.proofs.Begun.{begun_has_no_flush}
 use Rattle.git_server.proofs.OneSession.{no_request, one_list}
 
-not_nothing : (xs more : List Given) (g : Given) → xs ++ g ∷ more ≡ [] → ⊥
-not_nothing [] more g e = cc
-not_nothing (x ∷ xs) more g e = cc
-
 -- before the only packet there is none
 alone : (xs more : List Given) (l m : Given) → xs ++ l ∷ more ≡ m ∷ [] → (xs ≡ []) × (l ≡ m)
-alone [] more l m e = (refl, cc)
-alone (x ∷ xs) more l m e = absurd (not_nothing xs more l (let tails : xs ++ l ∷ more ≡ [] = cc in tails))
+alone xs more l m e = elim (two_cuts xs [] l m more [] e) [
+  | inl here ↦ (here.0, here.1)
+  | inr (inl (mid, is, left)) ↦ absurd (not_empty mid l more left)
+  | inr (inr (mid, is, left)) ↦ absurd (not_empty xs l mid is)
+]
 
 -- what comes up to a packet ends before the last one, or is all
 last_or_before : (xs more front : List Given) (l m : Given) → xs ++ l ∷ more ≡ front ++ m ∷ []
     → (more ≡ []) ⊎ ((others : List Given) × (front ≡ xs ++ l ∷ others))
-last_or_before [] more [] l m e = inl (let tails : more ≡ [] = cc in tails)
-last_or_before [] more (f ∷ fs) l m e = inr (fs, let same : f ∷ fs ≡ l ∷ fs = cc in same)
-last_or_before (x ∷ xs) more [] l m e = absurd (not_nothing xs more l (let tails : xs ++ l ∷ more ≡ [] = cc in tails))
-last_or_before (x ∷ xs) more (f ∷ fs) l m e = one_more (last_or_before xs more fs l m (let tails : xs ++ l ∷ more ≡ fs ++ m ∷ [] = cc in tails))
-  where
-    one_more : (more ≡ []) ⊎ ((others : List Given) × (fs ≡ xs ++ l ∷ others)) → (more ≡ []) ⊎ ((others : List Given) × (f ∷ fs ≡ x ∷ xs ++ l ∷ others))
-    one_more (inl none) = inl none
-    one_more (inr (others, same)) =
-        let first : f ≡ x = cc in
-        inr (others, ap (λ (g : Given). g ∷ fs) first ∙ ap (λ (gs : List Given). x ∷ gs) same)
+last_or_before xs more front l m e = elim (two_cuts xs front l m more [] e) [
+  | inl here ↦ inl here.2
+  | inr (inl (mid, is, left)) ↦ absurd (not_empty mid l more left)
+  | inr (inr (mid, is, left)) ↦ inr (mid, is)
+]
 
 no_lines_of_nothing : (offer : Offer) (limit : ℕ) (lines : List Line) → AreLines offer limit [] [] lines → lines ≡ []
 no_lines_of_nothing offer limit [] are = refl
@@ -114,8 +109,8 @@ module _ (s : Setting) where
   stop_or_announced left fault stop (inl b) = no_flush_barred s.offer s.limit (barred s.repo) left [] stop.last fault.kind fault.offset stop.alone stop.ends b
   stop_or_announced left fault stop (inr (unbarred, inl first)) =
       let here = sym first.whole ∙ stop.alone in
-      let lines : first.lines ≡ [] = no_lines_alone s.offer s.limit first.front first.back first.bad stop.last first.lines here first.taken in
-      let packet : first.bad.packet ≡ flush = ap (λ (g : Given). g.packet) (alone first.front first.back first.bad stop.last here).1 ∙ stop.ends in
+      let lines : first.items ≡ [] = no_lines_alone s.offer s.limit first.front first.back first.at stop.last first.items here first.taken in
+      let packet : first.at.packet ≡ flush = ap (λ (g : Given). g.packet) (alone first.front first.back first.at stop.last here).1 ∙ stop.ends in
       let refused : HasFault s.offer s.limit [] flush fault.kind =
       subst (λ (ls : List Line). HasFault s.offer s.limit ls flush fault.kind) lines
       (subst (λ (p : Pkt). HasFault s.offer s.limit first.lines p fault.kind) packet first.fault) in
