@@ -68,13 +68,14 @@ cut_of_reversed : (before : List ScriptLine) (c : Command) → open_after before
 cut_of_reversed [] c e = absurd (cc)
 cut_of_reversed (blank ∷ before) c e = absurd (cc)
 cut_of_reversed (command d ∷ before) c e =
-    let same : d ≡ c = cc in record { front = reverse before; args = []; whole = rw same refl }
+    let same : d ≡ c = cc in record { front = reverse before; args = []; whole = rw same (reverse-append (command c ∷ []) before) }
 cut_of_reversed (argument arg ∷ before) c e =
     let cut = cut_of_reversed before c e in
     record {
       front = cut.front;
       args = cut.args ++ arg ∷ [];
-      whole = ap (λ (ls : List ScriptLine). ls ++ argument arg ∷ []) cut.whole
+      whole = reverse-append (argument arg ∷ []) before
+          ∙ ap (λ (ls : List ScriptLine). ls ++ argument arg ∷ []) cut.whole
           ∙ append_assoc cut.front (command c ∷ map argument cut.args) (argument arg ∷ [])
           ∙ ap (λ (ls : List ScriptLine). cut.front ++ command c ∷ ls) (sym (map-append argument cut.args (arg ∷ [])));
     }

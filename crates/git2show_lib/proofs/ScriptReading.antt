@@ -93,4 +93,6 @@ module _ {A : Type 0} where
     -- may follow, and there is no memory for it
     pub no_memory_at : (refuses : ℕ → Type 0) (each : ℕ) → IsLineFault refuses each old this OutOfMemory
         → WantsScriptMemory refuses each offer limit (lines_of text)
-    no_memory_at refuses each fault = stops_at (LacksScriptMemory refuses each offer limit) (rw (h.offer_is, h.limit_is) at fault h.lines h.holds)
+    no_memory_at refuses each fault = stops_at (LacksScriptMemory refuses each offer limit)
+        (subst (λ (o : Offer). LacksScriptMemory refuses each o limit h.lines this) h.offer_is
+        (subst (λ (n : ℕ). LacksScriptMemory refuses each old.offer n h.lines this) h.limit_is (fault h.lines h.holds)))
