@@ -1,5 +1,5 @@
 -- Two cuts of one list are at the same place, or one comes before the other.
-use Rattle.std.proofs.Common.{◌≡◌, ◌⊎◌, List, [], ◌∷◌, ◌++◌, inl, inr, refl, rules}
+use Rattle.std.proofs.Common.{◌≡◌, ◌⊎◌, List, [], ◌∷◌, ◌++◌, inl, inr, refl}
 
 module _ {X : Type 0} where
   -- the list is cut before each of these
@@ -22,7 +22,3 @@ module _ {X : Type 0} where
   pub not_empty : (xs : List X) (x : X) (more : List X) → [] ≡ xs ++ x ∷ more → ⊥
   not_empty [] x more e = cc
   not_empty (a ∷ xs) x more e = cc
-
-  -- equal lists have the same last item, and the same items before it
-  pub same_ends : (xs ys : List X) (x y : X) → xs ++ x ∷ [] ≡ ys ++ y ∷ [] → (xs ≡ ys) × (x ≡ y)
-  same_ends xs ys x y e = search (rules, two_cuts, not_empty)

@@ -1,5 +1,6 @@
 -- A packet is one line or has one error, never both.
 use Rattle.std.proofs.Common.{arith, ◌≡◌, ℕ, ◌+◌, ◌<◌, ◌≤◌, Bool, true, false, Option, Some, List, [], ◌∷◌, ◌++◌, refl, ap, sym, ◌∙◌, subst, length, inl, inr}
+use Rattle.std.proofs.lemmas.List.{same_from_push}
 use Rattle.git_names.specs.declared.object_format.Format.{Format}
 use Rattle.git_names.specs.declared.object_format.Format.TheVariants.{Sha1, Sha256}
 use Rattle.git_pkt.specs.Packets.{Pkt, flush, delim, resp_end, payload, text_of}
@@ -21,7 +22,6 @@ use Rattle.git_msg.specs.Lines.{has_delimiter, HasKey, NamesTaken, key_checks, b
 use Rattle.git_msg.specs.Lines.{IsLineOf, IsCapabilityLine, IsFormatMeant, IsOtherFormatMeant, part_checks, argument_checks, IsArgumentLine}
 use Rattle.git_msg.specs.Lines.{IsArgumentText, IsArgumentRefused, end_checks, at_end, flush_checks_in, IsLine, IsLineIn, HasFault, HasFaultIn}
 use Rattle.git_msg.specs.Requests.{AreLines, Asks, IsLineAfter}
-use Rattle.git_msg.proofs.Cuts.{same_ends}
 use Rattle.git_msg.proofs.CheckLaws.{IsFair, AllFair, passes_or_refuses, one_name, fair_check}
 use Rattle.git_msg.proofs.ItemLaws.{one_list}
 use Rattle.git_msg.proofs.Keys.{one_capability}
@@ -263,7 +263,7 @@ one_list_of_lines offer limit = one_list (IsLineAfter offer limit) (one_line_aft
 
 -- equal lists have the same packets before the last one
 pub fronts_same : (xs ys : List Given) (x y : Given) → xs ++ x ∷ [] ≡ ys ++ y ∷ [] → xs ≡ ys
-fronts_same xs ys x y e = (same_ends xs ys x y e).0
+fronts_same xs ys x y e = (same_from_push xs ys x y e).0
 
 -- packets are one request
 pub one_request : (offer : Offer) (limit : ℕ) (packets : List Given) (asked other : Asked) (kept other_kept : ℕ)

@@ -1,5 +1,6 @@
 -- Whole requests, with one more or one less; and packets are whole requests in one way.
 use Rattle.std.proofs.Common.{◌≡◌, ◌≢◌, ℕ, Bool, true, false, List, [], ◌∷◌, ◌++◌, refl, sym, ap, ◌∙◌, append_assoc, append-nil, subst, rules, arith, inl, inr}
+use Rattle.std.proofs.lemmas.List.{same_from_push}
 use Rattle.git_pkt.specs.Packets.{Pkt, flush}
 use Rattle.git_pkt.specs.Splits.{Given}
 use Rattle.git_msg.specs.declared.offers.Offer.{Offer}
@@ -7,12 +8,12 @@ use Rattle.git_msg.specs.Asked.{Asked}
 use Rattle.git_msg.specs.Lines.{Line, IsLine, IsLineIn}
 use Rattle.git_msg.specs.Requests.{AreLines, Asks}
 use Rattle.git_msg.specs.WholeRequests.{AreRequests}
-use Rattle.git_msg.proofs.Cuts.{same_ends, two_cuts}
+use Rattle.git_msg.proofs.Cuts.{two_cuts}
 use Rattle.git_msg.proofs.LineLaws.{one_request}
 use Rattle.std.proofs.lemmas.Grind.{common_steps}
 
 pub last_same : (xs ys : List Given) (x y : Given) → xs ++ x ∷ [] ≡ ys ++ y ∷ [] → x ≡ y
-last_same xs ys x y e = (same_ends xs ys x y e).1
+last_same xs ys x y e = (same_from_push xs ys x y e).1
 
 module _ (IsOne : List Given → Asked → Type 0) where
   -- more packets after those left

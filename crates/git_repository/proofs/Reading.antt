@@ -1,6 +1,6 @@
 -- The lines of a repository's text, read one by one.
 use Rattle.std.proofs.Common.{arith, ◌≡◌, ℕ, ◌+◌, ◌<◌, ◌≤◌, List, [], ◌∷◌, ◌++◌, refl}
-use Rattle.std.proofs.Common.{ap, sym, ◌∙◌, subst, append_assoc, length, map, Option, Some, None, inl, inr}
+use Rattle.std.proofs.Common.{ap, sym, ◌∙◌, subst, length, map, Option, Some, None, inl, inr}
 use Rattle.std.specs.Option.{is_some}
 use Rattle.std.proofs.lemmas.List.{length-append, length-map}
 use Rattle.git_server.specs.Repository.{Entry}

@@ -1,5 +1,5 @@
 -- A text is one repository, or has one first bad line.
-use Rattle.std.proofs.Common.{arith, ◌≡◌, ℕ, List, [], ◌∷◌, refl, ap, sym, ◌∙◌, subst, length, inl, inr}
+use Rattle.std.proofs.Common.{arith, ◌≡◌, ℕ, List, [], refl, ap, sym, ◌∙◌, subst, length, inl, inr}
 use Rattle.git_names.specs.declared.object_format.Format.{Format}
 use Rattle.git_names.specs.declared.object_format.Format.TheVariants.{Sha1, Sha256}
 use Rattle.git_server.specs.Lists.{Lists}
