@@ -1,31 +1,17 @@
 -- The lines of a script with one more after them.
-use Rattle.std.proofs.Common.{arith, ◌≡◌, ◌⊎◌, ℕ, ◌≤◌, List, [], ◌∷◌, ◌++◌, Some, refl, ap, inl, inr, length, map}
+use Rattle.std.proofs.Common.{arith, ◌≡◌, ℕ, ◌≤◌, List, [], ◌∷◌, ◌++◌, Some, refl, ap, sym, ◌∙◌, subst, append_assoc, length, map, reverse}
+use Rattle.std.proofs.lemmas.List.{map-append, reverse-append, reverse-reverse}
 use Rattle.git_names.specs.declared.object_format.Format.{Format}
-use Rattle.git_msg.specs.declared.offers.Offer.{Offer}
 use Rattle.git_msg.specs.declared.arguments.Command.{Command}
 use Rattle.git_msg.specs.Arguments.{Arg}
-use Rattle.git2show_lib.specs.Scripts.{ScriptLine, blank, command, argument, FollowAll, MayFollow, arguments_upto, nearest, open_after}
-use Rattle.git2show_lib.specs.Scripts.{request_of, requests_in}
+use Rattle.git2show_lib.specs.Scripts.{ScriptLine, blank, command, argument, arguments_upto, kept_after, open_after, request_of, requests_in}
 
-pub nearest_more : (lines before : List ScriptLine) (line : ScriptLine) → nearest (lines ++ line ∷ []) before ≡ line ∷ nearest lines before
-nearest_more [] before line = refl
-nearest_more (l ∷ ls) before line = nearest_more ls (l ∷ before) line
+-- what is open after one more is what it makes of what was open
+pub open_more : (lines : List ScriptLine) (line : ScriptLine) → open_after (reverse (lines ++ line ∷ [])) ≡ open_after (line ∷ reverse lines)
+open_more lines line = ap open_after (reverse-append lines (line ∷ []))
 
-pub follow_more : (offer : Offer) (limit : ℕ) (before : List ScriptLine) (texts : List (List ℕ)) (lines : List ScriptLine) (text : List ℕ) (line : ScriptLine)
-    → FollowAll offer limit before texts lines → MayFollow offer limit (nearest lines before) text line
-    → FollowAll offer limit before (texts ++ text ∷ []) (lines ++ line ∷ [])
-follow_more offer limit before [] [] text line h more = (more, tt)
-follow_more offer limit before (t ∷ ts) (l ∷ ls) text line h more = (h.0, follow_more offer limit (l ∷ before) ts ls text line h.1 more)
-follow_more offer limit before [] (l ∷ ls) text line h more = absurd h
-follow_more offer limit before (t ∷ ts) [] text line h more = absurd h
-
--- there are as many lines as texts
-pub same_length : (offer : Offer) (limit : ℕ) (before : List ScriptLine) (texts : List (List ℕ)) (lines : List ScriptLine)
-    → FollowAll offer limit before texts lines → length lines ≡ length texts
-same_length offer limit before [] [] h = refl
-same_length offer limit before (t ∷ ts) (l ∷ ls) h = omega (arith, same_length offer limit (l ∷ before) ts ls h.1)
-same_length offer limit before [] (l ∷ ls) h = absurd h
-same_length offer limit before (t ∷ ts) [] h = absurd h
+pub kept_more : (lines : List ScriptLine) (line : ScriptLine) → kept_after (reverse (lines ++ line ∷ [])) ≡ kept_after (line ∷ reverse lines)
+kept_more lines line = ap kept_after (reverse-append lines (line ∷ []))
 
 upto_blank : (lines : List ScriptLine) → arguments_upto (lines ++ blank ∷ []) ≡ arguments_upto lines
 upto_blank [] = refl
@@ -78,45 +64,25 @@ pub record Cut (lines : List ScriptLine) (c : Command) : Type 0 where
   pub args : List Arg
   pub whole : lines ≡ front ++ command c ∷ map argument args
 
-cut_behind : (line : ScriptLine) (lines : List ScriptLine) (c : Command) → Cut lines c → Cut (line ∷ lines) c
-cut_behind line lines c cut =
-    record { front = line ∷ cut.front; args = cut.args; whole = ap (λ (ls : List ScriptLine). line ∷ ls) cut.whole }
-
--- lines that are all arguments, of a request that was open before them
-record AllArguments (before lines : List ScriptLine) (c : Command) : Type 0 where
-  args : List Arg
-  whole : lines ≡ map argument args
-  was_open : open_after before ≡ Some c
-
-cut_or_arguments : (before lines : List ScriptLine) (c : Command) → open_after (nearest lines before) ≡ Some c → AllArguments before lines c ⊎ Cut lines c
-cut_or_arguments before [] c e = inl (record { args = []; whole = refl; was_open = e })
-cut_or_arguments before (blank ∷ lines) c e = elim (cut_or_arguments (blank ∷ before) lines c e) [
-  | inl all ↦ let was = all.was_open in absurd (cc)
-  | inr cut ↦ inr (cut_behind blank lines c cut)
-]
-cut_or_arguments before (command d ∷ lines) c e = elim (cut_or_arguments (command d ∷ before) lines c e) [
-  | inl all ↦
-      let was = all.was_open in
-      let same : d ≡ c = cc in
-      inr (record {
-        front = [];
-        args = all.args;
-        whole = rw (same, all.whole) refl;
-      })
-  | inr cut ↦ inr (cut_behind (command d) lines c cut)
-]
-cut_or_arguments before (argument arg ∷ lines) c e = elim (cut_or_arguments (argument arg ∷ before) lines c e) [
-  | inl all ↦
-      inl (record { args = arg ∷ all.args; whole = ap (λ (ls : List ScriptLine). argument arg ∷ ls) all.whole; was_open = all.was_open })
-  | inr cut ↦ inr (cut_behind (argument arg) lines c cut)
-]
+cut_of_reversed : (before : List ScriptLine) (c : Command) → open_after before ≡ Some c → Cut (reverse before) c
+cut_of_reversed [] c e = absurd (cc)
+cut_of_reversed (blank ∷ before) c e = absurd (cc)
+cut_of_reversed (command d ∷ before) c e =
+    let same : d ≡ c = cc in record { front = reverse before; args = []; whole = rw same (reverse-append (command c ∷ []) before) }
+cut_of_reversed (argument arg ∷ before) c e =
+    let cut = cut_of_reversed before c e in
+    record {
+      front = cut.front;
+      args = cut.args ++ arg ∷ [];
+      whole = reverse-append (argument arg ∷ []) before
+          ∙ ap (λ (ls : List ScriptLine). ls ++ argument arg ∷ []) cut.whole
+          ∙ append_assoc cut.front (command c ∷ map argument cut.args) (argument arg ∷ [])
+          ∙ ap (λ (ls : List ScriptLine). cut.front ++ command c ∷ ls) (sym (map-append argument cut.args (arg ∷ [])));
+    }
 
 -- where a request is open the lines end in it
-pub cut_of : (lines : List ScriptLine) (c : Command) → open_after (nearest lines []) ≡ Some c → Cut lines c
-cut_of lines c e = elim (cut_or_arguments [] lines c e) [
-  | inl all ↦ let was = all.was_open in absurd (cc)
-  | inr cut ↦ cut
-]
+pub cut_of : (lines : List ScriptLine) (c : Command) → open_after (reverse lines) ≡ Some c → Cut lines c
+cut_of lines c e = subst (λ (ls : List ScriptLine). Cut ls c) (reverse-reverse lines) (cut_of_reversed (reverse lines) c e)
 
 pub requests_of_cut : (format : Format) (limit : ℕ) (lines : List ScriptLine) (c : Command) (cut : Cut lines c)
     → requests_in format limit lines ≡ requests_in format limit cut.front ++ request_of format limit c cut.args ∷ []

@@ -7,13 +7,13 @@ use Rattle.git_pkt.specs.Packets.{text_of}
 use Rattle.git_pkt.proofs.Texts.{text_loses_a_line_end}
 use Rattle.git_msg.specs.Texts.{parts_left, parts_of}
 use Rattle.git_msg.specs.declared.offers.Offer.{Offer}
-use Rattle.git_msg.specs.Memory.{HasRefused}
+use Rattle.git_msg.specs.ItemsInOrder.{AreItems, IsBadAt, StopsAt}
+use Rattle.git_msg.proofs.ItemLaws.{items_more}
 use Rattle.git_msg.proofs.TextParts.{bytes_left}
 use Rattle.git_repository.specs.RepositoryLines.{lines_of}
 use Rattle.git_repository.specs.declared.text_faults.LineFault.TheVariants.{Refused, OutOfMemory}
-use Rattle.git2show_lib.specs.Scripts.{ScriptLine, FollowAll, HasBadScriptLine, WantsScriptMemory, list_bytes}
+use Rattle.git2show_lib.specs.Scripts.{ScriptLine, HasBadScriptLine, LacksScriptMemory, MayFollow, WantsScriptMemory}
 use Rattle.git2show_lib.specs.Machine.HeldScripts.{Held, Holds, IsLineFault, TakesLine, nothing_held}
-use Rattle.git2show_lib.proofs.ScriptLists.{follow_more, same_length}
 use Rattle.git2show_lib.proofs.Scripting.{holds_nothing}
 
 -- a text without its line end is no longer
@@ -38,9 +38,9 @@ module _ {A : Type 0} where
   pub record ReadsScript (text : List ℕ) (offer : Offer) (limit : ℕ) (held : Held A) (line : ℕ) (rest : Option (List ℕ)) : Type 0 where
     pub before : List (List ℕ)
     pub whole : lines_of text ≡ before ++ parts_left 10 rest
-    pub count : line ≡ length before
     pub lines : List ScriptLine
-    pub follow : FollowAll offer limit [] before lines
+    pub follow : AreItems (MayFollow offer limit) [] before lines
+    pub count : line ≡ length lines
     pub holds : Holds lines held
     pub offer_is : held.offer ≡ offer
     pub limit_is : held.limit ≡ limit
@@ -50,9 +50,9 @@ module _ {A : Type 0} where
   started text cut offer limit held is nothing = record {
     before = [];
     whole = ap (parts_of 10) (sym is);
-    count = refl;
     lines = [];
     follow = tt;
+    count = refl;
     holds = subst (Holds []) (sym nothing) (holds_nothing offer limit);
     offer_is = ap (λ (h : Held A). h.offer) nothing;
     limit_is = ap (λ (h : Held A). h.limit) nothing;
@@ -71,43 +71,28 @@ module _ {A : Type 0} where
         record {
           before = h.before ++ this ∷ [];
           whole = whole_now ∙ sym (append_assoc h.before (this ∷ []) (parts_left 10 next));
-          count = omega (arith, h.count, length-append h.before (this ∷ []));
           lines = h.lines ++ goes.line ∷ [];
-          follow = follow_more offer limit [] h.before h.lines this goes.line h.follow (rw (h.offer_is, h.limit_is) at goes.may_follow);
+          follow = items_more (MayFollow offer limit) [] h.before h.lines this goes.line h.follow (rw (h.offer_is, h.limit_is) at goes.may_follow);
+          count = omega (arith, h.count, length-append h.lines (goes.line ∷ []));
           holds = goes.holds;
           offer_is = goes.same_offer ∙ h.offer_is;
           limit_is = goes.same_limit ∙ h.limit_is;
         }
 
+    stops_at : (Why : List ScriptLine → List ℕ → Type 0) → Why h.lines this → StopsAt (MayFollow offer limit) Why (lines_of text)
+    stops_at Why why =
+        record { front = h.before; at = this; back = parts_left 10 next; items = h.lines; whole = whole_now; taken = h.follow; why = why }
+
     -- may not follow: so it is the first bad one
     pub refused_at : (refuses : ℕ → Type 0) (each : ℕ) → IsLineFault refuses each old this Refused → HasBadScriptLine offer limit (lines_of text) (line + 1)
-    refused_at refuses each fault = record {
-      before = h.before;
-      bad = this;
-      others = parts_left 10 next;
-      whole = whole_now;
-      at_number = ap (λ (n : ℕ). n + 1) h.count;
-      lines = h.lines;
-      follow = h.follow;
+    refused_at refuses each fault = stops_at (IsBadAt (MayFollow offer limit) 1 (line + 1)) (record {
+      at_number = omega (arith, h.count);
       refused = λ one may. fault h.lines h.holds one (rw (h.offer_is, h.limit_is) may);
-    }
+    })
 
     -- may follow, and there is no memory for it
     pub no_memory_at : (refuses : ℕ → Type 0) (each : ℕ) → IsLineFault refuses each old this OutOfMemory
         → WantsScriptMemory refuses each offer limit (lines_of text)
-    no_memory_at refuses each fault =
-        let (next_line, may_follow, takes_memory, refused) = fault h.lines h.holds in
-        let count = same_length offer limit [] h.before h.lines h.follow in
-        record {
-          before = h.before;
-          at = this;
-          others = parts_left 10 next;
-          whole = whole_now;
-          lines = h.lines;
-          follow = h.follow;
-          line = next_line;
-          may_follow = rw (h.offer_is, h.limit_is) at may_follow;
-          takes_memory = takes_memory;
-          refused = subst (λ (n : ℕ). HasRefused refuses (list_bytes each limit n next_line)) count
-              (subst (λ (n : ℕ). HasRefused refuses (list_bytes each n (length h.lines) next_line)) h.limit_is refused);
-        }
+    no_memory_at refuses each fault = stops_at (LacksScriptMemory refuses each offer limit)
+        (subst (λ (o : Offer). LacksScriptMemory refuses each o limit h.lines this) h.offer_is
+        (subst (λ (n : ℕ). LacksScriptMemory refuses each old.offer n h.lines this) h.limit_is (fault h.lines h.holds)))

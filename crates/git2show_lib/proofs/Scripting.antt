@@ -1,6 +1,6 @@
 -- What one more line adds to what is held of a script.
 use Rattle.std.proofs.Common.{arith, ◌≡◌, ℕ, ◌+◌, ◌-◌, ◌<◌, ◌≤◌, ◌==◌, true, false, Result, Ok, Err, List}
-use Rattle.std.proofs.Common.{[], ◌∷◌, ◌++◌, Some, None, refl, ap, sym, ◌∙◌, subst, length, map, get_or, set}
+use Rattle.std.proofs.Common.{[], ◌∷◌, ◌++◌, Some, None, refl, ap, sym, ◌∙◌, subst, length, map, get_or, reverse, set}
 use Rattle.std.proofs.Common.{append_assoc, length-append}
 use Rattle.std.specs.Prelude.{MatchResult}
 use Rattle.std.proofs.Math.Nat.{mul-le-mul_right}
@@ -29,10 +29,10 @@ use Rattle.git_server.proofs.Refusals.{refused_within}
 use Rattle.git_repository.specs.RepositoryLines.{longest_line}
 use Rattle.git_repository.specs.declared.text_faults.LineFault.{LineFault}
 use Rattle.git_repository.specs.declared.text_faults.LineFault.TheVariants.{Refused, OutOfMemory}
-use Rattle.git2show_lib.specs.Scripts.{ScriptLine, blank, command, argument, MayFollow, kept_after, nearest, open_after, request_of, requests_in}
+use Rattle.git2show_lib.specs.Scripts.{ScriptLine, blank, command, argument, MayFollow, open_after, request_of, requests_in}
 use Rattle.git2show_lib.specs.Machine.HeldScripts.{Held, AddsArgument, Begins, FitsIn, GoesOn, HasOpen, Holds, IsBeginFault, IsLineFault, TakesLine}
 use Rattle.git2show_lib.specs.Machine.HeldScripts.{nothing_held, with_requests}
-use Rattle.git2show_lib.proofs.ScriptLists.{Cut, cut_of, few_requests, nearest_more, requests_blank, requests_cut, requests_of_cut}
+use Rattle.git2show_lib.proofs.ScriptLists.{Cut, cut_of, few_requests, kept_more, open_more, requests_blank, requests_cut, requests_of_cut}
 
 module _ {X : Type 0} where
   pub last_item : (items others : List X) (last d : X) → items ≡ others ++ last ∷ [] → get_or items (length items - 1) d ≡ last
@@ -44,12 +44,6 @@ module _ {X : Type 0} where
   last_set items others last x is =
       let long : length items - 1 ≡ length others = omega (arith, ap length is, length-append others (last ∷ [])) in
       rw long (rw is (set_at others last [] x (length others) refl))
-
-open_more : (lines : List ScriptLine) (line : ScriptLine) → open_after (nearest (lines ++ line ∷ []) []) ≡ open_after (line ∷ nearest lines [])
-open_more lines line = ap open_after (nearest_more lines [] line)
-
-kept_more : (lines : List ScriptLine) (line : ScriptLine) → kept_after (nearest (lines ++ line ∷ []) []) ≡ kept_after (line ∷ nearest lines [])
-kept_more lines line = ap kept_after (nearest_more lines [] line)
 
 nothing_yet : (c : Command) → nothing_asked c ≡ asked_by c []
 nothing_yet LsRefs = refl
@@ -121,7 +115,7 @@ module _ {A : Type 0} where
     same_limit = refl;
   }
 
-  none_open : (lines : List ScriptLine) (held : Held A) → held.is_open ≡ false → Holds lines held → open_after (nearest lines []) ≡ None
+  none_open : (lines : List ScriptLine) (held : Held A) → held.is_open ≡ false → Holds lines held → open_after (reverse lines) ≡ None
   none_open lines held shut h = rw shut at h.open_as
 
   the_open : (lines : List ScriptLine) (held : Held A) → held.is_open ≡ true → Holds lines held → HasOpen lines held.requests
@@ -172,8 +166,12 @@ module _ {A : Type 0} where
       → MatchResult result (λ _. TakesLine old text new) (IsLineFault refuses each old text)
   stated_command refuses each old new text (Ok u) shut some b = rw b.new_is (begun old text b.of b.request shut b.spelled b.is_empty)
   stated_command refuses each old new text (Err Refused) shut some none = command_refused refuses each old text shut some none
-  stated_command refuses each old new text (Err OutOfMemory) shut some is = λ lines h.
-      (command is.0, (none_open lines old shut h, is.1), tt, refused_within refuses _ _ (mul-le-mul_right each (one_more lines old h)) is.2)
+  stated_command refuses each old new text (Err OutOfMemory) shut some is = λ lines h. record {
+    item = command is.0;
+    may = (none_open lines old shut h, is.1);
+    takes_memory = tt;
+    refused = refused_within refuses _ _ (mul-le-mul_right each (one_more lines old h)) is.2;
+  }
 
   -- the last request has the format and the limit of them all
   last_format : (lines : List ScriptLine) (held : Held A) (h : Holds lines held) (o : HasOpen lines held.requests) → format_of o.last ≡ held.offer.format
@@ -186,7 +184,7 @@ module _ {A : Type 0} where
 
   -- an argument that fits into the open request may follow, and no other
   may_follow : (lines : List ScriptLine) (held : Held A) (text : List ℕ) (arg : Arg) (h : Holds lines held) (o : HasOpen lines held.requests)
-      → FitsIn held.offer o.last text arg → MayFollow held.offer held.limit (nearest lines []) text (argument arg)
+      → FitsIn held.offer o.last text arg → MayFollow held.offer held.limit lines text (argument arg)
   may_follow lines held text arg h o fits_in = record {
     of = command_of o.last;
     is_open = o.open_is;
@@ -196,7 +194,7 @@ module _ {A : Type 0} where
   }
 
   fits_of_may_follow : (lines : List ScriptLine) (held : Held A) (text : List ℕ) (arg : Arg) (h : Holds lines held) (o : HasOpen lines held.requests)
-      → MayFollow held.offer held.limit (nearest lines []) text (argument arg) → FitsIn held.offer o.last text arg
+      → MayFollow held.offer held.limit lines text (argument arg) → FitsIn held.offer o.last text arg
   fits_of_may_follow lines held text arg h o may =
       let open_is = o.open_is in
       let may_open = may.is_open in
@@ -280,7 +278,12 @@ module _ {A : Type 0} where
   stated_argument refuses each old new text (Err OutOfMemory) opened some adds = λ lines h.
       let o = the_open lines old opened h in
       let a = adds o.others o.last o.requests_are (last_format lines old h o) opened in
-      (argument a.0, may_follow lines old text a.0 h o a.1, a.2, subst (HasRefused refuses) (last_limit lines old h o) a.3)
+      record {
+        item = argument a.0;
+        may = may_follow lines old text a.0 h o a.1;
+        takes_memory = a.2;
+        refused = subst (HasRefused refuses) (last_limit lines old h o) a.3;
+      }
 
   -- the request that is lent for writing is the last
   pub last_now : (items others : List (Request A)) (last now : Request A) (n : ℕ) → n ≡ length items → now ≡ get_or items (n - 1) now

@@ -1,12 +1,12 @@
 -- What the text of a script contains, requests one after another, and which of its lines is refused.
-use Rattle.std.specs.Prelude.{◌≡◌, ℕ, ◌+◌, ◌*◌, ◌≤◌, List, [], ◌∷◌, ◌++◌, Option, Some, None, length, sum_by}
+use Rattle.std.specs.Prelude.{◌≡◌, ℕ, ◌+◌, ◌*◌, ◌≤◌, List, [], ◌∷◌, Option, Some, None, length, reverse, sum_by}
 use Rattle.git_names.specs.declared.object_format.Format.{Format}
 use Rattle.git_msg.specs.declared.offers.Offer.{Offer}
 use Rattle.git_msg.specs.declared.arguments.Command.{Command}
 use Rattle.git_msg.specs.Arguments.{Arg, ReadsAs, TakesMemory as TakesMemoryFor, name_of, stored_in, written_text}
 use Rattle.git_msg.specs.Asked.{Asked, asked_by, bytes_of}
+use Rattle.git_msg.specs.ItemsInOrder.{AreItems, HasBad, LacksMemory, StopsAt}
 use Rattle.git_msg.specs.Kept.{Kept}
-use Rattle.git_msg.specs.Memory.{HasRefused}
 use Rattle.git_repository.specs.RepositoryLines.{lines_of, longest_line}
 
 -- what a line is: an empty one, which ends a request; a command, which begins one; an argument of the request that is open
@@ -15,7 +15,7 @@ pub data ScriptLine : Type 0 where
   command : Command → ScriptLine
   argument : Arg → ScriptLine
 
--- the command of the request that is open after these lines, the nearest first
+-- the command of the request that is open after these lines, the last one first
 abbrev pub open_after : List ScriptLine → Option Command
 open_after [] = None
 open_after (blank ∷ before) = None
@@ -29,31 +29,19 @@ kept_after (blank ∷ before) = 0
 kept_after (command c ∷ before) = 0
 kept_after (argument arg ∷ before) = kept_after before + length (written_text arg)
 
--- the text is this argument of the request that is open, no longer than a line may be, and within the limit
+-- the text is this argument of the request that is open after the lines, no longer than a line may be, and within the limit
 pub record IsArgumentAfter (offer : Offer) (limit : ℕ) (before : List ScriptLine) (text : List ℕ) (arg : Arg) : Type 0 where
   pub of : Command
-  pub is_open : open_after before ≡ Some of
+  pub is_open : open_after (reverse before) ≡ Some of
   pub reads : ReadsAs of offer text arg
   pub short : length text ≤ longest_line
-  pub fits : kept_after (argument arg ∷ before) ≤ limit
+  pub fits : kept_after (reverse before) + length (written_text arg) ≤ limit
 
--- the text is this line, which may follow those before it, the nearest first
+-- the text is this line, which may follow those before it
 abbrev pub MayFollow : Offer → ℕ → List ScriptLine → List ℕ → ScriptLine → Type 0
 MayFollow offer limit before text blank = text ≡ []
-MayFollow offer limit before text (command c) = (open_after before ≡ None) × (text ≡ name_of c)
+MayFollow offer limit before text (command c) = (open_after (reverse before) ≡ None) × (text ≡ name_of c)
 MayFollow offer limit before text (argument arg) = IsArgumentAfter offer limit before text arg
-
--- the texts are these lines, and each may follow those before it
-abbrev pub FollowAll : Offer → ℕ → List ScriptLine → List (List ℕ) → List ScriptLine → Type 0
-FollowAll offer limit before [] [] = Unit {0}
-FollowAll offer limit before (text ∷ texts) (line ∷ lines) =
-    MayFollow offer limit before text line × FollowAll offer limit (line ∷ before) texts lines
-FollowAll offer limit before _ _ = ⊥
-
--- the lines of a list, the last one first, and then those that were there before
-abbrev pub nearest : List ScriptLine → List ScriptLine → List ScriptLine
-nearest [] before = before
-nearest (line ∷ lines) before = nearest lines (line ∷ before)
 
 -- the arguments up to the first line that is none
 abbrev pub arguments_upto : List ScriptLine → List Arg
@@ -76,19 +64,12 @@ requests_in format limit (argument arg ∷ lines) = requests_in format limit lin
 -- the lines of the text contain these requests
 pub record IsScript (offer : Offer) (limit : ℕ) (text : List ℕ) (requests : List (Kept Asked)) : Type 0 where
   pub lines : List ScriptLine
-  pub follow : FollowAll offer limit [] (lines_of text) lines
+  pub follow : AreItems (MayFollow offer limit) [] (lines_of text) lines
   pub requests_are : requests ≡ requests_in offer.format limit lines
 
--- the lines before this one are allowed, and after them it is none that is
-pub record HasBadScriptLine (offer : Offer) (limit : ℕ) (texts : List (List ℕ)) (number : ℕ) : Type 0 where
-  pub before : List (List ℕ)
-  pub bad : List ℕ
-  pub others : List (List ℕ)
-  pub whole : texts ≡ before ++ bad ∷ others
-  pub at_number : number ≡ length before + 1
-  pub lines : List ScriptLine
-  pub follow : FollowAll offer limit [] before lines
-  pub refused : (line : ScriptLine) → ¬ MayFollow offer limit (nearest lines []) bad line
+-- the lines before the one with this number are allowed, and after them it is none that is
+abbrev pub HasBadScriptLine : Offer → ℕ → List (List ℕ) → ℕ → Type 0
+HasBadScriptLine offer limit texts number = HasBad (MayFollow offer limit) 1 number texts
 
 -- the line is kept in memory: a command, for its request, and some arguments
 abbrev pub TakesMemory : ScriptLine → Type 0
@@ -102,15 +83,10 @@ abbrev pub list_bytes : ℕ → ℕ → ℕ → ScriptLine → ℕ
 list_bytes each limit before (command c) = (before + 1) * each
 list_bytes each limit before line = limit
 
--- memory ran out at a line that takes some, and that may follow the lines before it: it refused a list that the line makes longer
-pub record WantsScriptMemory (refuses : ℕ → Type 0) (each : ℕ) (offer : Offer) (limit : ℕ) (texts : List (List ℕ)) : Type 0 where
-  pub before : List (List ℕ)
-  pub at : List ℕ
-  pub others : List (List ℕ)
-  pub whole : texts ≡ before ++ at ∷ others
-  pub lines : List ScriptLine
-  pub follow : FollowAll offer limit [] before lines
-  pub line : ScriptLine
-  pub may_follow : MayFollow offer limit (nearest lines []) at line
-  pub takes_memory : TakesMemory line
-  pub refused : HasRefused refuses (list_bytes each limit (length before) line)
+-- memory refused a list that a line makes longer, which takes some and may follow the lines before it
+abbrev pub LacksScriptMemory : (ℕ → Type 0) → ℕ → Offer → ℕ → List ScriptLine → List ℕ → Type 0
+LacksScriptMemory refuses each offer limit = LacksMemory (MayFollow offer limit) TakesMemory (λ before. list_bytes each limit (length before)) refuses
+
+-- memory ran out at such a line
+abbrev pub WantsScriptMemory : (ℕ → Type 0) → ℕ → Offer → ℕ → List (List ℕ) → Type 0
+WantsScriptMemory refuses each offer limit = StopsAt (MayFollow offer limit) (LacksScriptMemory refuses each offer limit)

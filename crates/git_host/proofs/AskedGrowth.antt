@@ -1,18 +1,14 @@
 -- The requests of bytes are one list, and with more bytes they are that list and perhaps more.
 use Rattle.std.proofs.Common.{arith, ◌≡◌, ℕ, ◌+◌, ◌≤◌, List, [], ◌∷◌, ◌++◌, length, refl, sym, ap, ◌∙◌, append_assoc, append-nil, length-append, subst}
-use Rattle.std.proofs.Common.{inl, inr}
-use Rattle.git_pkt.specs.Packets.{Pkt, flush}
+use Rattle.git_pkt.specs.Packets.{Pkt}
 use Rattle.git_pkt.specs.Splits.{Given, NoneBegins, SpellsAll}
 use Rattle.git_pkt.proofs.Spelling.{same_start}
 use Rattle.git_pkt.proofs.Streams.{spells_all_more}
 use Rattle.git_msg.specs.declared.offers.Offer.{Offer}
 use Rattle.git_msg.specs.Asked.{Asked}
-use Rattle.git_msg.specs.Requests.{Asks}
 use Rattle.git_msg.specs.WholeRequests.{AreRequests}
 use Rattle.git_msg.specs.Machine.RequestStreams.{AreAsked, IsOne}
-use Rattle.git_msg.proofs.Cuts.{two_cuts}
-use Rattle.git_msg.proofs.LineLaws.{one_request}
-use Rattle.git_msg.proofs.WholeRequests.{NoFlush, flush_inside, lines_have_no_flush, whole_then}
+use Rattle.git_msg.proofs.WholeRequests.{first_request}
 
 same_given : (g h : Given) → g.packet ≡ h.packet → g.offset ≡ h.offset → g ≡ h
 same_given g h e o =
@@ -31,33 +27,11 @@ split_front p bytes (g ∷ gs) (h ∷ hs) rest others (s, more, e, o, spells, ta
     let (extra, is) = split_front (p + length s) more gs hs rest others tail moved none in
     (extra, ap (λ (x : Given). x ∷ hs) (sym (same_given g h same.packet (o ∙ sym i))) ∙ ap (λ (xs : List Given). g ∷ xs) is)
 
-record SameFront (xs ys more others : List Given) (l m : Given) : Type 0 where
-  front : xs ++ l ∷ [] ≡ ys ++ m ∷ []
-  back : more ≡ others
-
-same_front : (xs ys more others : List Given) (l m : Given) → NoFlush xs → NoFlush ys → l.packet ≡ flush → m.packet ≡ flush
-    → xs ++ l ∷ more ≡ ys ++ m ∷ others → SameFront xs ys more others l m
-same_front xs ys more others l m none clear l_ends m_ends e = elim (two_cuts xs ys l m more others e) [
-  | inl here ↦ record { front = cc; back = here.2 }
-  | inr (inl (mid, is, left)) ↦ absurd (flush_inside ys mid xs m none m_ends is)
-  | inr (inr (mid, is, left)) ↦ absurd (flush_inside xs mid ys l clear l_ends is)
-]
-
 pub none_more : {X : Type 0} (xs : List X) → length xs ≤ 0 → xs ≡ []
 none_more [] few = refl
 none_more (x ∷ xs) few = absurd (omega (arith, few))
 
 module _ (offer : Offer) (limit : ℕ) where
-  first_request : (front more other behind : List Given) (q r : Asked) → IsOne offer limit front q → IsOne offer limit other r
-      → front ++ more ≡ other ++ behind → (q ≡ r) × (more ≡ behind)
-  first_request front more other behind q r (kept, a) (long, b) e =
-      let same = same_front a.front b.front more behind a.last b.last (lines_have_no_flush offer limit [] a.front a.lines a.taken)
-      (lines_have_no_flush offer limit [] b.front b.lines b.taken) a.ends b.ends
-      (sym (whole_then offer limit front more (front ++ more) q kept a refl) ∙ e
-      ∙ whole_then offer limit other behind (other ++ behind) r long b refl) in
-      let fronts : front ≡ other = a.whole ∙ same.front ∙ sym b.whole in
-      ((one_request offer limit other q r kept long (subst (λ (gs : List Given). Asks offer limit gs q kept) fronts a) b).0, same.back)
-
   requests_grow : (packets extra : List Given) (asked others : List Asked) (left rest : List Given) → AreRequests (IsOne offer limit) packets asked left
       → AreRequests (IsOne offer limit) (packets ++ extra) others rest → length asked ≤ length others
       → (further : List Asked) × (others ≡ asked ++ further)
@@ -65,7 +39,7 @@ module _ (offer : Offer) (limit : ℕ) where
   requests_grow packets extra (q ∷ qs) [] left rest h k fewer = absurd (omega (arith, fewer))
   requests_grow packets extra (q ∷ qs) (r ∷ rs) left rest (front, more, whole, is, later) (other, behind, all, is_other, its_later) fewer =
       let cut = sym (append_assoc front more extra) ∙ sym (ap (λ (gs : List Given). gs ++ extra) whole) ∙ all in
-      let same = first_request front (more ++ extra) other behind q r is is_other cut in
+      let same = first_request offer limit (IsOne offer limit) (λ front q is. is) front (more ++ extra) other behind q r is is_other cut in
       let tail = requests_grow more extra qs rs left rest later
       (subst (λ (gs : List Given). AreRequests (IsOne offer limit) gs rs rest) (sym same.1) its_later) (omega (arith, fewer)) in
       (tail.0, ap (λ (x : Asked). x ∷ rs) (sym same.0) ∙ ap (λ (l : List Asked). q ∷ l) tail.1)

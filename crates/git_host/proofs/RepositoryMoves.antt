@@ -229,21 +229,6 @@ whole_so repo at named format (object_info q) (of_sizes sizes) packets so h =
     front_all sizes (map repo.object_size q.oids) so (omega (arith, length-map q.oids repo.object_size, h.all))
 whole_so repo at named format q f packets so h = absurd so
 
--- ---- the last of a list
-
-pub no_end : {X : Type 0} (xs : List X) (x : X) → [] ≡ xs ++ x ∷ [] → ⊥
-no_end [] x is = cc
-no_end (y ∷ xs) x is = cc
-
-pub one_end : {X : Type 0} (xs ys : List X) (x y : X) → xs ++ x ∷ [] ≡ ys ++ y ∷ [] → (xs ≡ ys) × (x ≡ y)
-one_end [] [] x y is = (refl, cc)
-one_end [] (w ∷ ys) x y is = absurd (no_end ys y (let tails : [] ≡ ys ++ y ∷ [] = cc in tails))
-one_end (z ∷ xs) [] x y is = absurd (no_end xs x (let tails : [] ≡ xs ++ x ∷ [] = cc in tails))
-one_end {X = X} (z ∷ xs) (w ∷ ys) x y is =
-    let head : z ≡ w = cc in
-    let tail = one_end xs ys x y (let tails : xs ++ x ∷ [] ≡ ys ++ y ∷ [] = cc in tails) in
-    (ap (λ (v : X). v ∷ xs) head ∙ ap (λ (l : List X). w ∷ l) tail.0, tail.1)
-
 last_answer : (format : Format) (earlier : List Asked) (q : Asked) (fs : List Facts) (f : Facts) (packets : List Pkt)
     → AreAnswersBy format (earlier ++ q ∷ []) (fs ++ f ∷ []) packets → (answer : List Pkt) × IsAnswerBy whole format q f answer
 last_answer format [] q [] f packets (answer, more, cut, is, rest) = (answer, is)

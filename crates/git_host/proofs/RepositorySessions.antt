@@ -1,8 +1,10 @@
 -- A session over a store that answers as a repository does: at each move what was reported has come as far as the store's counter states.
 use Rattle.std.proofs.Common.{arith, ◌≡◌, ℕ, Bool, true, false, List, [], ◌∷◌, ◌++◌, length, Some}
 use Rattle.std.proofs.Common.{refl, sym, ap, ◌∙◌, append_assoc, append-nil, length-append, subst, inl, inr}
+use Rattle.std.proofs.lemmas.List.{same_from_push}
 use Rattle.git_pkt.specs.Packets.{Pkt}
 use Rattle.git_pkt.specs.Splits.{Given}
+use Rattle.git_msg.proofs.Cuts.{not_empty}
 use Rattle.git_msg.specs.Asked.{Asked}
 use Rattle.git_msg.specs.Machine.HeldRequest.{asked_of, holding_of}
 use Rattle.git_msg.specs.Machine.RequestStreams.{AreAsked}
@@ -36,7 +38,7 @@ use Rattle.git_host.proofs.HostedAnswers.{as_many, hosted_session}
 use Rattle.git_host.proofs.LentStreams.{last_on}
 use Rattle.git_host.proofs.LostAnswers.{closed_unanswered, fails_lost, first_unanswered, is_lost, lost_moves, needs_received, received_fed, refused_lost}
 use Rattle.git_host.proofs.LostAnswers.{was_answering, well_unlost}
-use Rattle.git_host.proofs.RepositoryMoves.{AllButPack, Came, Stands, all_so, came_or_not, no_end, one_end, one_reply, waits_reply, waits_whole}
+use Rattle.git_host.proofs.RepositoryMoves.{AllButPack, Came, Stands, all_so, came_or_not, one_reply, waits_reply, waits_whole}
 use Rattle.git_host.proofs.RepositoryMoves.{with_packs}
 use Rattle.git_host.proofs.RepositoryReports.{SoFar, nothing_so_far}
 use Rattle.git_host.proofs.StoreSteps.{any_moves, one_move}
@@ -191,9 +193,9 @@ module _ {R P : Type 0} (state : R → RepoState) (s : HostSetting) (repo : Repo
         (omega (arith, many_before, many_now, one_fact)) in
         let (y, single) = one_item further
         (omega (arith, many_before, many_now, one_fact, ap length is, length-append reading.asked further)) in
-        let asked_ends = one_end reading.asked last.earlier y last.q
+        let asked_ends = same_from_push reading.asked last.earlier y last.q
         (ap (λ (l : List Asked). reading.asked ++ l) (sym single) ∙ sym is ∙ last.asked_is) in
-        let fact_ends = one_end facts last.earlier_reported x last.f last.reported_is in
+        let fact_ends = same_from_push facts last.earlier_reported x last.f last.reported_is in
         let before = all_so repo received store.at store.named_unborn s.offer.format reading.asked facts reading.all.answers
         (h.so reading.asked r.reads.left r.reads.rest were many_before) reading.all.answered in
         record {
@@ -228,10 +230,10 @@ module _ {R P : Type 0} (state : R → RepoState) (s : HostSetting) (repo : Repo
           so = λ asked rest_packets rest are many.
               let same = asked_once s.offer s.limit used at.asked asked [] rest_packets [] rest at.are_asked are (many_now ∙ sym many) in
               elim (h.so asked rest_packets rest are many) as (λ x. Stands repo true left.at left.named_unborn asked facts) [
-                | inl none ↦ absurd (no_end last.earlier_reported last.f (sym none.1 ∙ last.reported_is))
+                | inl none ↦ absurd (not_empty last.earlier_reported last.f [] (sym none.1 ∙ last.reported_is))
                 | inr u ↦
-                    let asked_ends = one_end u.earlier last.earlier u.q last.q (sym u.asked_is ∙ same ∙ last.asked_is) in
-                    let fact_ends = one_end u.earlier_facts last.earlier_reported u.f last.f (sym u.facts_are ∙ last.reported_is) in
+                    let asked_ends = same_from_push u.earlier last.earlier u.q last.q (sym u.asked_is ∙ same ∙ last.asked_is) in
+                    let fact_ends = same_from_push u.earlier_facts last.earlier_reported u.f last.f (sym u.facts_are ∙ last.reported_is) in
                     let nothing : u.f ≡ nothing_for u.q = fact_ends.1 ∙ last.last.nothing ∙ ap nothing_for (sym asked_ends.1) in
                     inr (record {
                       earlier = u.earlier;
@@ -281,10 +283,10 @@ module _ {R P : Type 0} (state : R → RepoState) (s : HostSetting) (repo : Repo
               let same = asked_once s.offer s.limit used at.asked asked [] rest_packets [] rest at.are_asked are (many_now ∙ sym before_many) in
               elim (h.so asked rest_packets rest are before_many)
               as (λ x. Stands repo true left.at left.named_unborn asked (with_last with facts)) [
-                | inl none ↦ absurd (no_end last.earlier_reported last.f (sym none.1 ∙ last.reported_is))
+                | inl none ↦ absurd (not_empty last.earlier_reported last.f [] (sym none.1 ∙ last.reported_is))
                 | inr u ↦
-                    let asked_ends = one_end u.earlier last.earlier u.q last.q (sym u.asked_is ∙ same ∙ last.asked_is) in
-                    let fact_ends = one_end u.earlier_facts last.earlier_reported u.f last.f (sym u.facts_are ∙ last.reported_is) in
+                    let asked_ends = same_from_push u.earlier last.earlier u.q last.q (sym u.asked_is ∙ same ∙ last.asked_is) in
+                    let fact_ends = same_from_push u.earlier_facts last.earlier_reported u.f last.f (sym u.facts_are ∙ last.reported_is) in
                     let here = u.synced refl in
                     let so_far = subst (λ (n : ℕ). SoFar repo n store.named_unborn u.q u.f) here.0
                     (subst (λ (b : Bool). SoFar repo u.place b u.q u.f) here.1 u.so) in

@@ -2,7 +2,7 @@
 use Rattle.std.proofs.Common.{◌≡◌, ℕ, All, List, [], ◌∷◌, ◌++◌, Option, Some, None, IfSome, refl, ap, sym, ◌∙◌, subst, append_assoc}
 use Rattle.std.proofs.lemmas.Bool.{cond_both}
 use Rattle.std.proofs.lemmas.List.{append-nil}
-use Rattle.std.proofs.lemmas.List.Elements.{All-cons, All-head, All-nil, All-tail, All-weaker}
+use Rattle.std.proofs.lemmas.List.Elements.{All-head, All-tail}
 use Rattle.std.specs.List.{filter_map}
 use Rattle.std.specs.Ordering.{is_eq}
 use Rattle.git_names.specs.ObjectName.{ObjectName, IsOid}
@@ -30,11 +30,13 @@ use Rattle.git_server.specs.Sessions.{AreAnswers}
 use Rattle.git_server.specs.declared.list_repo.ListRepo.{ListRepo}
 use Rattle.git_repository.specs.Packs.{PackBytes}
 use Rattle.git_repository.specs.RepositoryLines.{LineContent, HasContent, boundary, object, ref_of, reference}
-use Rattle.git_repository.specs.RepositoryText.{IsRepositoryText, HaveContents, boundary_in, object_in, ref_in}
+use Rattle.git_repository.specs.RepositoryText.{IsRepositoryText, MayCome, boundary_in, object_in, ref_in}
 use Rattle.git_client.proofs.ConversationRules.{cut_at}
 use Rattle.git_client.proofs.Sequences.{give_all_append, nearest-append}
 use Rattle.git_laws.specs.AnnouncedAnswers.{AsksIn, IsEntryOfNames, CanBeWritten, end_packets, packets_of, announced_all, announced_by}
+use Rattle.git_msg.specs.ItemsInOrder.{AreItems}
 use Rattle.git_msg.proofs.FoundParts.{All-filter_map}
+use Rattle.git_msg.proofs.ItemLaws.{all_items}
 use Rattle.git_laws.proofs.ReceivingAnswers.{arrived, whole_after}
 
 -- ---- answers one after the other
@@ -87,24 +89,14 @@ names_of format line entry h = record {
       let there : named ≡ id = cc in
       subst IsOid there (IsOid-of_text format digits named is)
 
--- each item of a text is in a line
-each_stated : (format : Format) (lines : List (List ℕ)) (content : List LineContent) → HaveContents format lines content
-    → All (λ s. (line : List ℕ) × HasContent format line s) content
-each_stated format [] [] h = All-nil (λ s. (line : List ℕ) × HasContent format line s)
-each_stated format (line ∷ lines) (s ∷ content) (now, h) =
-    All-cons (λ s. (line : List ℕ) × HasContent format line s) s content (line, now.1) (each_stated format lines content h)
-each_stated format [] (s ∷ content) h = absurd h
-each_stated format (line ∷ lines) [] h = absurd h
-
 module _ (format : Format) where
   -- a property of the items that one line may have holds of those of all lines
   parts_written : {X : Type 0} (P : X → Type 0) (part : LineContent → Option X)
       → ((s : LineContent) (line : List ℕ) → HasContent format line s → IfSome (part s) P)
-      → (lines : List (List ℕ)) (content : List LineContent) → HaveContents format lines content → All P (filter_map part content)
+      → (lines : List (List ℕ)) (content : List LineContent) → AreItems (MayCome format) [] lines content → All P (filter_map part content)
   parts_written P part is lines content h =
       All-filter_map P part content
-      (All-weaker (λ s. (line : List ℕ) × HasContent format line s) (λ s. IfSome (part s) P) (λ s conveys. is s conveys.0 conveys.1) content
-      (each_stated format lines content h))
+      (all_items (MayCome format) (λ s. IfSome (part s) P) (λ before line s may. is s line may.0.1) [] lines content h)
 
   -- the object names of a reference are valid
   ref_written : (s : LineContent) (line : List ℕ) → HasContent format line s → IfSome (ref_in s) IsEntryOfNames
@@ -135,7 +127,7 @@ found_size (first ∷ objects) id size all found =
 pub can_be_written : (repo : ListRepo) (text : List ℕ) (packs : PackBytes) → IsRepositoryText text packs (lists_of repo) → CanBeWritten (state_of repo).answers
 can_be_written repo text packs h =
     let lines = h.begins.others in
-    let all = h.begins.send_each in
+    let all = h.begins.others_are in
     record {
       refs = rw (ap (λ (l : Lists). l.refs) h.lists_are) (parts_written h.format IsEntryOfNames ref_in (ref_written h.format) lines h.content all);
       boundaries = λ q. announced_keep (λ line. IsOid (object_of line)) (lists_of repo).boundaries q (rw (ap (λ (l : Lists). l.boundaries) h.lists_are)

@@ -11,9 +11,10 @@ use Rattle.git_msg.specs.declared.offers.Offer.{Offer}
 use Rattle.git_msg.specs.Admission.{nothing_barred, IsAdmitted, AreAdmitted, IsBarred, IsBarredAtLast, IsAnnouncedFor, IsUnbarred}
 use Rattle.git_msg.specs.Arguments.{Arg}
 use Rattle.git_msg.specs.Lines.{Line, argument_in, arguments_of, HasFault, HasFaultIn, IsArgumentText, IsLine, IsLineIn}
-use Rattle.git_msg.specs.Requests.{AreLines, IsAnnounced}
+use Rattle.git_msg.specs.Requests.{AreLines, IsLineAfter, IsAnnounced}
 use Rattle.git_msg.proofs.LineLaws.{argument_payload, fronts_same, one_argument_text, one_list_of_lines, payload_argument, refused_for_limit}
-use Rattle.git_msg.proofs.LineLists.{arguments_snoc, last_line}
+use Rattle.git_msg.proofs.ItemLaws.{last_item}
+use Rattle.git_msg.proofs.LineLists.{arguments_snoc}
 use Rattle.git_msg.proofs.WholeRequests.{last_same}
 
 -- if nothing refuses arguments, an error is one that a reader of requests reports
@@ -109,9 +110,9 @@ module _ (offer : Offer) (limit : ℕ) (barred : Arg → Option Kind) where
   pub admitted_more : (left : List Given) (g : Given) (before lines : List Line) → AreLines offer limit [] left before → AreAdmitted barred before
       → AreLines offer limit [] (left ++ g ∷ []) lines → IsUnbarred offer limit barred (left ++ g ∷ []) → AreAdmitted barred lines
   admitted_more left g before lines are admitted all unbarred =
-      let h = last_line offer limit [] left g lines all in
+      let h = last_item (IsLineAfter offer limit) [] left g lines all in
       let fronts = one_list_of_lines offer limit [] left before h.front are h.taken in
-      let last = last_admitted h.front g.packet h.last h.is_line (λ kind b. unbarred kind g.offset (record {
+      let last = last_admitted h.front g.packet h.last h.is_item (λ kind b. unbarred kind g.offset (record {
         front = left;
         last = g;
         lines = h.front;
@@ -128,9 +129,9 @@ module _ (offer : Offer) (limit : ℕ) (barred : Arg → Option Kind) where
   pub admitted_unbarred : (left : List Given) (lines : List Line) → AreLines offer limit [] left lines → AreAdmitted barred lines
       → IsUnbarred offer limit barred left
   admitted_unbarred left lines are admitted kind offset b =
-      let h = last_line offer limit [] b.front b.last lines (subst (λ (gs : List Given). AreLines offer limit [] gs lines) b.whole are) in
+      let h = last_item (IsLineAfter offer limit) [] b.front b.last lines (subst (λ (gs : List Given). AreLines offer limit [] gs lines) b.whole are) in
       let there = barred_after left b.front b.last h.front kind offset b.whole h.taken b in
-      let (arg, is, refuses) = barred_argument h.front b.last.packet h.last kind h.is_line there.is_barred in
+      let (arg, is, refuses) = barred_argument h.front b.last.packet h.last kind h.is_item there.is_barred in
       let all : arguments_of lines ≡ arguments_of h.front ++ option_to_list (argument_in h.last) = ap arguments_of h.whole ∙ arguments_snoc h.front h.last in
       let last = (All-pop (IsAdmitted barred) (arguments_of lines) (arguments_of h.front) (argument_in h.last) all admitted).1 in
       at (argument_in h.last) arg is refuses last

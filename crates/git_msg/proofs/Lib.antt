@@ -13,6 +13,7 @@ pub mod ReferenceIds
 pub mod LastValues
 pub mod LineLaws
 pub mod Cuts
+pub mod ItemLaws
 pub mod ReferenceLaws
 pub mod LinesLeft
 pub mod RoundTrip

@@ -1,5 +1,6 @@
 -- A packet is one line or has one error, never both.
 use Rattle.std.proofs.Common.{arith, ◌≡◌, ℕ, ◌+◌, ◌<◌, ◌≤◌, Bool, true, false, Option, Some, List, [], ◌∷◌, ◌++◌, refl, ap, sym, ◌∙◌, subst, length, inl, inr}
+use Rattle.std.proofs.lemmas.List.{same_from_push}
 use Rattle.git_names.specs.declared.object_format.Format.{Format}
 use Rattle.git_names.specs.declared.object_format.Format.TheVariants.{Sha1, Sha256}
 use Rattle.git_pkt.specs.Packets.{Pkt, flush, delim, resp_end, payload, text_of}
@@ -20,9 +21,9 @@ use Rattle.git_msg.specs.Lines.{Line, command, agent, server_option, object_form
 use Rattle.git_msg.specs.Lines.{has_delimiter, HasKey, NamesTaken, key_checks, by_key, capability_checks}
 use Rattle.git_msg.specs.Lines.{IsLineOf, IsCapabilityLine, IsFormatMeant, IsOtherFormatMeant, part_checks, argument_checks, IsArgumentLine}
 use Rattle.git_msg.specs.Lines.{IsArgumentText, IsArgumentRefused, end_checks, at_end, flush_checks_in, IsLine, IsLineIn, HasFault, HasFaultIn}
-use Rattle.git_msg.specs.Requests.{AreLines, Asks}
-use Rattle.git_msg.proofs.Cuts.{same_ends}
+use Rattle.git_msg.specs.Requests.{AreLines, Asks, IsLineAfter}
 use Rattle.git_msg.proofs.CheckLaws.{IsFair, AllFair, passes_or_refuses, one_name, fair_check}
+use Rattle.git_msg.proofs.ItemLaws.{one_list}
 use Rattle.git_msg.proofs.Keys.{one_capability}
 use Rattle.git_msg.proofs.Rows.{one_key, one_argument, argument_or_fault, one_argument_fault}
 use Rattle.std.proofs.Common.{rules}
@@ -251,22 +252,18 @@ pub one_fault : (offer : Offer) (limit : ℕ) (before : List Line) (packet : Pkt
     → HasFault offer limit before packet kind → HasFault offer limit before packet other → kind ≡ other
 one_fault offer limit before packet kind other h k = one_fault_in (has_delimiter before) offer limit before packet kind other h k
 
+pub one_line_after : (offer : Offer) (limit : ℕ) (before : List Line) (g : Given) (line other : Line)
+    → IsLineAfter offer limit before g line → IsLineAfter offer limit before g other → line ≡ other
+one_line_after offer limit before g = one_line offer limit before g.packet
+
 -- packets are lines in one way
 pub one_list_of_lines : (offer : Offer) (limit : ℕ) (before : List Line) (gs : List Given) (lines others : List Line)
     → AreLines offer limit before gs lines → AreLines offer limit before gs others → lines ≡ others
-one_list_of_lines offer limit before [] [] [] h k = refl
-one_list_of_lines offer limit before [] [] (m ∷ ms) h k = absurd k
-one_list_of_lines offer limit before [] (l ∷ ls) others h k = absurd h
-one_list_of_lines offer limit before (g ∷ gs) [] others h k = absurd h
-one_list_of_lines offer limit before (g ∷ gs) (l ∷ ls) [] h k = absurd k
-one_list_of_lines offer limit before (g ∷ gs) (l ∷ ls) (m ∷ ms) h k =
-    let same = one_line offer limit before g.packet l m h.0 k.0 in
-    let rest = one_list_of_lines offer limit (before ++ m ∷ []) gs ls ms (subst (λ (x : Line). AreLines offer limit (before ++ x ∷ []) gs ls) same h.1) k.1 in
-    cc
+one_list_of_lines offer limit = one_list (IsLineAfter offer limit) (one_line_after offer limit)
 
 -- equal lists have the same packets before the last one
 pub fronts_same : (xs ys : List Given) (x y : Given) → xs ++ x ∷ [] ≡ ys ++ y ∷ [] → xs ≡ ys
-fronts_same xs ys x y e = (same_ends xs ys x y e).0
+fronts_same xs ys x y e = (same_from_push xs ys x y e).0
 
 -- packets are one request
 pub one_request : (offer : Offer) (limit : ℕ) (packets : List Given) (asked other : Asked) (kept other_kept : ℕ)

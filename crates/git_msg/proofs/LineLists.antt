@@ -1,8 +1,6 @@
 -- Lists of lines, with one more line at the end.
-use Rattle.std.proofs.Common.{arith, ◌≡◌, ℕ, ◌+◌, Bool, true, false, ◌||◌, Option, Some, None, option_to_list, List, [], ◌∷◌, ◌++◌, refl, ap, sym, rules}
-use Rattle.std.proofs.Common.{◌∙◌, subst, append_assoc}
+use Rattle.std.proofs.Common.{arith, ◌≡◌, ℕ, ◌+◌, Bool, true, false, ◌||◌, Option, Some, None, option_to_list, List, [], ◌∷◌, ◌++◌, refl, ap, rules, ◌∙◌}
 use Rattle.std.specs.List.{list_any, filter_map}
-use Rattle.std.proofs.lemmas.List.{append-nil}
 use Rattle.std.proofs.lemmas.List.Elements.{filter_map-append}
 use Rattle.std.proofs.lemmas.List.Folds.{list_any-append}
 use Rattle.std.proofs.lemmas.List.Sums.{sum_by-append}
@@ -12,7 +10,8 @@ use Rattle.git_msg.specs.declared.offers.Offer.{Offer}
 use Rattle.git_msg.specs.Arguments.{Arg}
 use Rattle.git_msg.specs.Lines.{Line, argument, command_in, argument_in, long_of, is_object_format, is_delimiter, commands_of, arguments_of, kept_in}
 use Rattle.git_msg.specs.Lines.{has_format, has_delimiter, is_none, IsLine, IsArgumentLine, IsCapabilityLine}
-use Rattle.git_msg.specs.Requests.{AreLines}
+use Rattle.git_msg.specs.Requests.{AreLines, IsLineAfter}
+use Rattle.git_msg.proofs.ItemLaws.{items_more}
 
 or_false : (a b : Bool) → (a || (b || false)) ≡ (b || a)
 or_false true true = refl
@@ -47,43 +46,7 @@ kept_snoc lines line = omega (arith, sum_by-append long_of lines (line ∷ []))
 pub lines_snoc : (offer : Offer) (limit : ℕ) (before : List Line) (gs : List Given) (lines : List Line) (g : Given) (line : Line)
     → AreLines offer limit before gs lines → IsLine offer limit (before ++ lines) g.packet line
     → AreLines offer limit before (gs ++ g ∷ []) (lines ++ line ∷ [])
-lines_snoc offer limit before [] [] g line are is = (subst (λ (ls : List Line). IsLine offer limit ls g.packet line) (append-nil before) is, tt)
-lines_snoc offer limit before [] (l ∷ ls) g line are is = absurd are
-lines_snoc offer limit before (h ∷ hs) [] g line are is = absurd are
-lines_snoc offer limit before (h ∷ hs) (l ∷ ls) g line are is =
-    let behind : IsLine offer limit ((before ++ l ∷ []) ++ ls) g.packet line =
-    subst (λ (xs : List Line). IsLine offer limit xs g.packet line) (sym (append_assoc before (l ∷ []) ls)) is in
-    (are.0, lines_snoc offer limit (before ++ l ∷ []) hs ls g line are.1 behind)
-
--- the last packet, and its line
-pub record LastLine (offer : Offer) (limit : ℕ) (before : List Line) (gs : List Given) (g : Given) (lines : List Line) : Type 0 where
-  pub front : List Line
-  pub last : Line
-  pub whole : lines ≡ front ++ last ∷ []
-  pub taken : AreLines offer limit before gs front
-  pub is_line : IsLine offer limit (before ++ front) g.packet last
-
-pub last_line : (offer : Offer) (limit : ℕ) (before : List Line) (gs : List Given) (g : Given) (lines : List Line)
-    → AreLines offer limit before (gs ++ g ∷ []) lines → LastLine offer limit before gs g lines
-last_line offer limit before [] g (l ∷ []) are = record {
-  front = [];
-  last = l;
-  whole = refl;
-  taken = tt;
-  is_line = subst (λ (ls : List Line). IsLine offer limit ls g.packet l) (sym (append-nil before)) are.0;
-}
-last_line offer limit before [] g [] are = absurd are
-last_line offer limit before [] g (l ∷ m ∷ ls) are = absurd are.1
-last_line offer limit before (h ∷ hs) g [] are = absurd are
-last_line offer limit before (h ∷ hs) g (l ∷ ls) are =
-    let later = last_line offer limit (before ++ l ∷ []) hs g ls are.1 in
-    record {
-      front = l ∷ later.front;
-      last = later.last;
-      whole = ap (λ (xs : List Line). l ∷ xs) later.whole;
-      taken = (are.0, later.taken);
-      is_line = subst (λ (xs : List Line). IsLine offer limit xs g.packet later.last) (append_assoc before (l ∷ []) later.front) later.is_line;
-    }
+lines_snoc offer limit = items_more (IsLineAfter offer limit)
 
 -- the argument part's lines are argument lines
 pub argument_is_line : (offer : Offer) (limit : ℕ) (lines : List Line) (bytes : List ℕ) (arg : Arg) (long : ℕ)

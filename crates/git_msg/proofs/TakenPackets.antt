@@ -69,7 +69,15 @@ module _ {A : Type 0} (barred : Arg → Option Kind) (old new : RequestReader A)
         inl (record { front = packets; last = g; lines = t.lines; whole = refl; taken = front_lines; is_barred = rw offer b; at = refl })
     announced kind (inr (free, inl fault)) = inr (
       unbarred free,
-      inl (record { front = packets; bad = g; back = []; lines = t.lines; whole = refl; taken = front_lines; fault = rw (offer, limit) fault; at = refl }),
+      inl (record {
+        front = packets;
+        at = g;
+        back = [];
+        items = t.lines;
+        whole = refl;
+        taken = front_lines;
+        why = record { fault = rw (offer, limit) fault; offset_is = refl };
+      }),
     )
     announced kind (inr (free, inr lacks)) = inr (
       unbarred free,

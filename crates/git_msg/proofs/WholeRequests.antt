@@ -1,5 +1,6 @@
 -- Whole requests, with one more or one less; and packets are whole requests in one way.
 use Rattle.std.proofs.Common.{◌≡◌, ◌≢◌, ℕ, Bool, true, false, List, [], ◌∷◌, ◌++◌, refl, sym, ap, ◌∙◌, append_assoc, append-nil, subst, rules, arith, inl, inr}
+use Rattle.std.proofs.lemmas.List.{same_from_push}
 use Rattle.git_pkt.specs.Packets.{Pkt, flush}
 use Rattle.git_pkt.specs.Splits.{Given}
 use Rattle.git_msg.specs.declared.offers.Offer.{Offer}
@@ -7,12 +8,12 @@ use Rattle.git_msg.specs.Asked.{Asked}
 use Rattle.git_msg.specs.Lines.{Line, IsLine, IsLineIn}
 use Rattle.git_msg.specs.Requests.{AreLines, Asks}
 use Rattle.git_msg.specs.WholeRequests.{AreRequests}
-use Rattle.git_msg.proofs.Cuts.{same_ends, two_cuts}
+use Rattle.git_msg.proofs.Cuts.{two_cuts}
 use Rattle.git_msg.proofs.LineLaws.{one_request}
 use Rattle.std.proofs.lemmas.Grind.{common_steps}
 
 pub last_same : (xs ys : List Given) (x y : Given) → xs ++ x ∷ [] ≡ ys ++ y ∷ [] → x ≡ y
-last_same xs ys x y e = (same_ends xs ys x y e).1
+last_same xs ys x y e = (same_from_push xs ys x y e).1
 
 module _ (IsOne : List Given → Asked → Type 0) where
   -- more packets after those left
@@ -118,6 +119,19 @@ module _ (offer : Offer) (limit : ℕ) (IsOne : List Given → Asked → Type 0)
   pub none_without_flush : (left : List Given) → NoFlush left → NoRequest IsOne left
   none_without_flush left none front more q e is = grind (arith, common_steps, flush_inside, whole_then)
 
+  -- packets begin with one request, and the same packets come after it
+  pub first_request : (front more other behind : List Given) (q r : Asked) → IsOne front q → IsOne other r → front ++ more ≡ other ++ behind
+      → (q ≡ r) × (more ≡ behind)
+  first_request front more other behind q r is is_other e =
+      let (kept, a) = asks front q is in
+      let (long, b) = asks other r is_other in
+      let same = same_front a.front b.front more behind a.last b.last (lines_have_no_flush offer limit [] a.front a.lines a.taken)
+      (lines_have_no_flush offer limit [] b.front b.lines b.taken) a.ends b.ends
+      (sym (whole_then offer limit front more (front ++ more) q kept a refl) ∙ e
+      ∙ whole_then offer limit other behind (other ++ behind) r long b refl) in
+      let fronts : front ≡ other = a.whole ∙ same.front ∙ sym b.whole in
+      ((one_request offer limit other q r kept long (subst (λ (gs : List Given). Asks offer limit gs q kept) fronts a) b).0, same.back)
+
   -- packets are one list of requests, with the same packets left after them
   pub one_list_of_requests : (packets : List Given) (asked others : List Asked) (left rest : List Given) → NoRequest IsOne left → NoRequest IsOne rest
       → AreRequests IsOne packets asked left → AreRequests IsOne packets others rest → (asked ≡ others) × (left ≡ rest)
@@ -125,13 +139,7 @@ module _ (offer : Offer) (limit : ℕ) (IsOne : List Given → Asked → Type 0)
   one_list_of_requests packets [] (q ∷ qs) left rest none clear h (front, more, whole, is, later) = absurd (none front more q (sym h ∙ whole) is)
   one_list_of_requests packets (q ∷ qs) [] left rest none clear (front, more, whole, is, later) k = absurd (clear front more q (sym k ∙ whole) is)
   one_list_of_requests packets (q ∷ qs) (r ∷ rs) left rest none clear (front, more, whole, is, later) (other, behind, all, is_other, its_later) =
-      let (kept, a) = asks front q is in
-      let (long, b) = asks other r is_other in
-      let same = same_front a.front b.front more behind a.last b.last (lines_have_no_flush offer limit [] a.front a.lines a.taken)
-      (lines_have_no_flush offer limit [] b.front b.lines b.taken) a.ends b.ends
-      (sym (whole_then offer limit front more packets q kept a whole) ∙ whole_then offer limit other behind packets r long b all) in
-      let fronts : front ≡ other = a.whole ∙ same.front ∙ sym b.whole in
-      let first = (one_request offer limit other q r kept long (subst (λ (gs : List Given). Asks offer limit gs q kept) fronts a) b).0 in
+      let (first, behind_same) = first_request front more other behind q r is is_other (sym whole ∙ all) in
       let tail = one_list_of_requests more qs rs left rest none clear later
-      (subst (λ (gs : List Given). AreRequests IsOne gs rs rest) (sym same.back) its_later) in
+      (subst (λ (gs : List Given). AreRequests IsOne gs rs rest) (sym behind_same) its_later) in
       (ap (λ (x : Asked). x ∷ qs) first ∙ ap (λ (l : List Asked). r ∷ l) tail.0, tail.1)

@@ -6,6 +6,7 @@ pub mod Capability
 pub mod Checks
 pub mod Features
 pub mod Flags
+pub mod ItemsInOrder
 pub mod Kept
 pub mod Lines
 pub mod Memory

@@ -10,14 +10,16 @@ use Rattle.git_msg.specs.declared.arguments.Command.{Command}
 use Rattle.git_msg.specs.Arguments.{Arg, TakesMemory}
 use Rattle.git_msg.specs.Asked.{Asked, asked_by}
 use Rattle.git_msg.specs.Checks.{Passes}
+use Rattle.git_msg.specs.ItemsInOrder.{AreItems, StopsAt}
 use Rattle.git_msg.specs.Lines.{Line, argument, commands_of, arguments_of, kept_in, flush_checks, IsLine, HasFault}
+
+-- a packet is this line after those before it
+abbrev pub IsLineAfter : Offer → ℕ → List Line → Given → Line → Type 0
+IsLineAfter offer limit before g line = IsLine offer limit before g.packet line
 
 -- the packets are these lines, each after those before it
 abbrev pub AreLines : Offer → ℕ → List Line → List Given → List Line → Type 0
-AreLines offer limit before [] [] = Unit {0}
-AreLines offer limit before (g ∷ gs) (line ∷ lines) =
-    IsLine offer limit before g.packet line × AreLines offer limit (before ++ line ∷ []) gs lines
-AreLines offer limit before _ _ = ⊥
+AreLines offer limit = AreItems (IsLineAfter offer limit)
 
 -- the packets are lines that begin a request
 abbrev pub AreBegun : Offer → ℕ → List Given → Type 0
@@ -37,16 +39,14 @@ pub record Asks (offer : Offer) (limit : ℕ) (packets : List Given) (asked : As
   pub asked_is : asked ≡ asked_by command (arguments_of lines)
   pub kept_is : kept ≡ kept_in lines
 
+-- a packet at this offset is refused by this name after the lines
+pub record IsRefusedAfter (offer : Offer) (limit : ℕ) (kind : Kind) (offset : ℕ) (lines : List Line) (g : Given) : Type 0 where
+  pub fault : HasFault offer limit lines g.packet kind
+  pub offset_is : offset ≡ g.offset
+
 -- the first packet of a request that is refused, the name of the refusal, and its offset
-pub record FirstFault (offer : Offer) (limit : ℕ) (packets : List Given) (kind : Kind) (offset : ℕ) : Type 0 where
-  pub front : List Given
-  pub bad : Given
-  pub back : List Given
-  pub lines : List Line
-  pub whole : packets ≡ front ++ bad ∷ back
-  pub taken : AreLines offer limit [] front lines
-  pub fault : HasFault offer limit lines bad.packet kind
-  pub at : offset ≡ bad.offset
+abbrev pub FirstFault : Offer → ℕ → List Given → Kind → ℕ → Type 0
+FirstFault offer limit packets kind offset = StopsAt (IsLineAfter offer limit) (IsRefusedAfter offer limit kind offset) packets
 
 -- memory ran out while an argument was kept, in a packet that nothing refuses
 pub record WantsMemory (offer : Offer) (limit : ℕ) (packets : List Given) (kind : Kind) (offset : ℕ) : Type 0 where

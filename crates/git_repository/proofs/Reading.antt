@@ -1,18 +1,20 @@
 -- The lines of a repository's text, read one by one.
 use Rattle.std.proofs.Common.{arith, ◌≡◌, ℕ, ◌+◌, ◌<◌, ◌≤◌, List, [], ◌∷◌, ◌++◌, refl}
-use Rattle.std.proofs.Common.{ap, sym, ◌∙◌, subst, append_assoc, length, map, Option, Some, None, inl, inr}
+use Rattle.std.proofs.Common.{ap, sym, ◌∙◌, subst, length, map, Option, Some, None, inl, inr}
 use Rattle.std.specs.Option.{is_some}
 use Rattle.std.proofs.lemmas.List.{length-append, length-map}
 use Rattle.git_server.specs.Repository.{Entry}
 use Rattle.std.proofs.lemmas.List.Elements.{All-nil}
 use Rattle.git_names.specs.declared.object_format.Format.{Format}
 use Rattle.git_names.specs.declared.object_format.Format.TheVariants.{Sha1, Sha256}
+use Rattle.git_msg.specs.ItemsInOrder.{IsBadAt, LacksMemory, StopsAt}
 use Rattle.git_msg.specs.Memory.{HasRefused}
+use Rattle.git_msg.proofs.ItemLaws.{as_many, items_more, stops_with_more}
 use Rattle.git_server.specs.Lists.{Lists}
 use Rattle.git_repository.specs.Packs.{PackBytes}
 use Rattle.git_repository.specs.RepositoryLines.{LineContent, reference, unborn, object, ready, boundary}
 use Rattle.git_repository.specs.RepositoryLines.{IsLineOf, HasNoContent, format_line, lines_of, longest_line}
-use Rattle.git_repository.specs.RepositoryText.{Begins, IsRepositoryText, MayStand, HaveContents, WantsMemory, list_bytes}
+use Rattle.git_repository.specs.RepositoryText.{AfterFormat, Begins, IsRepositoryText, MayCome, MayStand, StopsIn, TakesMemory, WantsMemory, list_bytes}
 use Rattle.git_repository.specs.RepositoryText.{boundaries_in, counts_in, first_of, names_in, objects_in, refs_in, unborn_in}
 use Rattle.git_repository.specs.LinesAnnounced.{AreAnnounced}
 use Rattle.git_repository.specs.Machine.RepositoryProgress.{IsLinesFault, IsTooLong}
@@ -45,18 +47,10 @@ pub started : (format : Format) (line : List ℕ) (lists : Lists) → line ≡ f
 started format line lists is empty =
     let there : AreAnnounced (line ∷ []) (empty_lists format) = record {
       content = [];
-      begins = record { others = []; spelled = ap (λ (l : List ℕ). l ∷ []) is; send_each = tt; may_stand = nothing_stands };
+      begins = record { others = []; spelled = ap (λ (l : List ℕ). l ∷ []) is; others_are = tt };
       holds = nothing_holds format;
     } in
     subst (AreAnnounced (line ∷ [])) (sym empty) there
-
-state_more : (format : Format) (lines : List (List ℕ)) (content : List LineContent) (line : List ℕ) (next : LineContent) → HaveContents format lines content
-    → IsLineOf format line next
-    → HaveContents format (lines ++ line ∷ []) (content ++ next ∷ [])
-state_more format [] [] line next h is = (is, tt)
-state_more format (l ∷ ls) (s ∷ ss) line next h is = (h.0, state_more format ls ss line next h.1 is)
-state_more format [] (s ∷ ss) line next h is = absurd h
-state_more format (l ∷ ls) [] line next h is = absurd h
 
 pub stepped : (lines : List (List ℕ)) (old new : Lists) (line : List ℕ) (conveys : LineContent) → AreAnnounced lines old → IsLineOf old.format line conveys
     → (new ≡ with_content old conveys) × MayFollow old conveys → AreAnnounced (lines ++ line ∷ []) new
@@ -65,20 +59,13 @@ stepped lines old new line conveys h is kept =
     let begins : Begins old.format (lines ++ line ∷ []) (h.content ++ conveys ∷ []) = record {
       others = h.begins.others ++ line ∷ [];
       spelled = ap (λ (ls : List (List ℕ)). ls ++ line ∷ []) h.begins.spelled;
-      send_each = state_more old.format h.begins.others h.content line conveys h.begins.send_each is;
-      may_stand = held.may_stand;
+      others_are = items_more (MayCome old.format) [] h.begins.others h.content line conveys h.begins.others_are (is, held.may_stand);
     } in
     subst (AreAnnounced (lines ++ line ∷ [])) (sym kept.0) (record {
       content = h.content ++ conveys ∷ [];
       begins = subst (λ (f : Format). Begins f (lines ++ line ∷ []) (h.content ++ conveys ∷ [])) (sym (same_format h.content old h.holds conveys)) begins;
       holds = held;
     })
-
-length_all : (format : Format) (lines : List (List ℕ)) (content : List LineContent) → HaveContents format lines content → length lines ≡ length content
-length_all format [] [] h = refl
-length_all format (l ∷ ls) (s ∷ ss) h = let same = length_all format ls ss h.1 in omega (arith, same)
-length_all format [] (s ∷ ss) h = absurd h
-length_all format (l ∷ ls) [] h = absurd h
 
 length_of_contents : (content : List LineContent)
     → length content ≡ length (refs_in content) + length (objects_in content) + length (counts_in content) + length (boundaries_in content)
@@ -125,13 +112,14 @@ stated_behind content lists h =
       ap (λ (l : Lists). ready_lines l.ready_after) h.lists_are,
     )
 
+-- lines that begin a text are as many as their contents, and the first
+begun_lines : (format : Format) (lines : List (List ℕ)) (content : List LineContent) → Begins format lines content → length lines ≡ length content + 1
+begun_lines format lines content h = omega (arith, ap length h.spelled, as_many (MayCome format) [] h.others content h.others_are)
+
 -- the lists show how many lines contain them
 announced_lines : (lines : List (List ℕ)) (lists : Lists) → AreAnnounced lines lists → lines_behind lists ≡ length lines
 announced_lines lines lists h =
-    let whole = ap length h.begins.spelled in
-    let all = length_all lists.format h.begins.others h.content h.begins.send_each in
-    let behind = stated_behind h.content lists h.holds in
-    omega (arith, whole, all, behind)
+    omega (arith, begun_lines lists.format lines h.content h.begins, stated_behind h.content lists h.holds)
 
 format_short : (format : Format) → length (format_line format) ≤ 13
 format_short Sha1 = omega arith
@@ -165,21 +153,38 @@ whole_text text packs lists made h is = record {
   lists_are = is ∙ ap (λ (l : Lists). with_packs l packs) h.holds.lists_are;
 }
 
+module _ (Why : Format → List LineContent → List ℕ → Type 0) where
+  -- behind lines that begin a text it stops at a line
+  stops_behind : (format : Format) (lines : List (List ℕ)) (line : List ℕ) (more : List (List ℕ)) (content : List LineContent) → Begins format lines content
+      → Why format content line → AfterFormat (λ f. StopsAt (MayCome f) (Why f)) format (lines ++ line ∷ more)
+  stops_behind format lines line more content begins why = record {
+    others = begins.others ++ line ∷ more;
+    spelled = ap (λ (ls : List (List ℕ)). ls ++ line ∷ more) begins.spelled;
+    others_are =
+        record { front = begins.others; at = line; back = more; items = content; whole = refl; taken = begins.others_are; why = why };
+  }
+
+  -- and it does so whatever comes after
+  stops_with_others : (lines more : List (List ℕ)) → StopsIn Why lines → StopsIn Why (lines ++ more)
+  stops_with_others lines more (format, h) = (
+    format,
+    record {
+      others = h.others ++ more;
+      spelled = ap (λ (ls : List (List ℕ)). ls ++ more) h.spelled;
+      others_are = stops_with_more (MayCome format) (Why format) h.others more h.others_are;
+    },
+  )
+
 module _ (refuses : ℕ → Type 0) where
   refused_at : (lines : List (List ℕ)) (lists : Lists) (line : List ℕ) (number : ℕ) → (h : AreAnnounced lines lists) → number ≡ lines_behind lists + 1
       → ((more : LineContent) → IsLineOf lists.format line more → MayStand (h.content ++ more ∷ []) → ⊥)
       → IsLinesFault refuses (lines ++ line ∷ []) (Bad number)
-  refused_at lines lists line number h is refused = inr (record {
-    format = lists.format;
-    before = lines;
-    line = line;
-    behind = [];
-    whole = refl;
-    at_number = is ∙ ap (λ (n : ℕ). n + 1) (announced_lines lines lists h);
-    content = h.content;
-    begins = h.begins;
-    refused = refused;
-  })
+  refused_at lines lists line number h is refused =
+      inr (
+        lists.format,
+        stops_behind (λ f. IsBadAt (MayCome f) 2 number) lists.format lines line [] h.content h.begins
+            (record { at_number = omega (arith, is, stated_behind h.content lists h.holds); refused = λ more may. refused more may.0 may.1 }),
+      )
 
   pub conveys_nothing_at : (lines : List (List ℕ)) (lists : Lists) (line : List ℕ) (number : ℕ) → number ≡ lines_behind lists + 1
       → HasNoContent lists.format line → AreAnnounced lines lists → IsLinesFault refuses (lines ++ line ∷ []) (Bad number)
@@ -199,20 +204,16 @@ module _ (refuses : ℕ → Type 0) where
 
   pub memory_ran_out_at : (lines : List (List ℕ)) (lists : Lists) (line : List ℕ) (conveys : LineContent)
       → IsLineOf lists.format line conveys → IsLineFault refuses lists conveys OutOfMemory → AreAnnounced lines lists → WantsMemory refuses (lines ++ line ∷ [])
-  memory_ran_out_at lines lists line conveys is fault h = record {
-    format = lists.format;
-    before = lines;
-    line = line;
-    after = [];
-    whole = refl;
-    content = h.content;
-    begins = h.begins;
-    next = conveys;
-    conveys = is;
-    may_stand = stands_more h.content lists h.holds conveys fault.0;
-    takes_memory = fault.1;
-    refused = subst (λ (n : ℕ). HasRefused refuses (list_bytes n conveys)) (announced_lines lines lists h) fault.2;
-  }
+  memory_ran_out_at lines lists line conveys is fault h = (
+    lists.format,
+    stops_behind (λ f. LacksMemory (MayCome f) TakesMemory (λ before. list_bytes (length before + 1)) refuses) lists.format lines line []
+        h.content h.begins (record {
+          item = conveys;
+          may = (is, stands_more h.content lists h.holds conveys fault.0);
+          takes_memory = fault.1;
+          refused = subst (λ (n : ℕ). HasRefused refuses (list_bytes n conveys)) (stated_behind h.content lists h.holds) fault.2;
+        }),
+  )
 
   -- a line that has become too long is refused, whatever comes after it
   pub too_long_fault : (ended : List (List ℕ)) (line : List ℕ) (more : List (List ℕ)) (fault : TextFault) → IsTooLong ended line fault
@@ -226,17 +227,14 @@ module _ (refuses : ℕ → Type 0) where
           whole = ap (λ (ls : List (List ℕ)). ls ++ line ∷ more) none;
           no_format = λ format e. let short = format_short format in omega (arith, h.long, short, ap length e);
         })
-        | inr begins ↦ inr (record {
-          format = begins.0;
-          before = ended;
-          line = line;
-          behind = more;
-          whole = refl;
-          at_number = refl;
-          content = begins.1;
-          begins = begins.2;
-          refused = λ next is may. absurd (omega (arith, h.long, is.0));
-        })
+        | inr (format, content, begins) ↦
+            inr (
+              format,
+              stops_behind (λ f. IsBadAt (MayCome f) 2 (length ended + 1)) format ended line more content begins (record {
+                at_number = omega (arith, begun_lines format ended content begins);
+                refused = λ next may. absurd (omega (arith, h.long, may.0.0));
+              }),
+            )
       ])
 
   -- a fault stays the first with the lines after it
@@ -248,31 +246,9 @@ module _ (refuses : ℕ → Type 0) where
     whole = ap (λ (ls : List (List ℕ)). ls ++ more) h.whole;
     no_format = h.no_format;
   })
-  fault_stays lines more (Bad number) (inr h) = inr (record {
-    format = h.format;
-    before = h.before;
-    line = h.line;
-    behind = h.behind ++ more;
-    whole = ap (λ (ls : List (List ℕ)). ls ++ more) h.whole ∙ append_assoc h.before (h.line ∷ h.behind) more;
-    at_number = h.at_number;
-    content = h.content;
-    begins = h.begins;
-    refused = h.refused;
-  })
-  fault_stays lines more OutOfMemoryOfText h = record {
-    format = h.format;
-    before = h.before;
-    line = h.line;
-    after = h.after ++ more;
-    whole = ap (λ (ls : List (List ℕ)). ls ++ more) h.whole ∙ append_assoc h.before (h.line ∷ h.after) more;
-    content = h.content;
-    begins = h.begins;
-    next = h.next;
-    conveys = h.conveys;
-    may_stand = h.may_stand;
-    takes_memory = h.takes_memory;
-    refused = h.refused;
-  }
+  fault_stays lines more (Bad number) (inr h) = inr (stops_with_others (λ f. IsBadAt (MayCome f) 2 number) lines more h)
+  fault_stays lines more OutOfMemoryOfText h =
+      stops_with_others (λ f. LacksMemory (MayCome f) TakesMemory (λ before. list_bytes (length before + 1)) refuses) lines more h
 
   pub text_fault : (text : List ℕ) (fault : TextFault) → IsLinesFault refuses (lines_of text) fault → IsTextFault refuses text fault
   text_fault text (Bad number) h = h

@@ -2,7 +2,7 @@
 use Rattle.std.specs.Prelude.{◌==◌}
 use Rattle.std.proofs.Common.{arith, ◌≡◌, ℕ, ◌<◌, Bool, true, false, List, [], ◌∷◌, ◌++◌, refl, ap, sym, ◌∙◌, append_assoc, length, length-append, inl, inr}
 use Rattle.std.specs.List.{onto_first, join_with_byte}
-use Rattle.std.proofs.lemmas.List.{append-nil}
+use Rattle.std.proofs.lemmas.List.{append-nil, same_from_push}
 use Rattle.std.proofs.lemmas.List.Splits.{join_with_byte-slice_split, length-slice_split, slice_split-cons_no, slice_split-cons_yes}
 use Rattle.git_pkt.specs.Packets.{text_of}
 use Rattle.git_pkt.proofs.Texts.{text_loses_a_line_end, text_of-line_end}
@@ -38,13 +38,6 @@ last_among first (next ∷ others) =
 
 pub none_at_all : (x : List ℕ) (xs : List (List ℕ)) → x ∷ xs ≡ [] → ⊥
 none_at_all x xs e = let long : length (x ∷ xs) ≡ length {A = List ℕ} [] = ap length e in omega (arith, long)
-
-none_behind : (x : List ℕ) (xs : List (List ℕ)) → [] ≡ xs ++ x ∷ [] → ⊥
-none_behind x xs e = let long = ap length e ∙ length-append xs (x ∷ []) in omega (arith, long)
-
-one_before : (x : List ℕ) (y : List ℕ) (ys : List (List ℕ)) → x ∷ [] ≡ ys ++ y ∷ [] → (ys ≡ []) × (x ≡ y)
-one_before x y [] e = (refl, cc)
-one_before x y (z ∷ zs) e = let tails : [] ≡ zs ++ y ∷ [] = cc in absurd (none_behind y zs tails)
 
 module _ (c : ℕ) (a b first : List ℕ) (others : List (List ℕ))
     (again : (ended : List (List ℕ)) (begun : List ℕ) → parts_of 10 a ≡ ended ++ begun ∷ [] → parts_of 10 (a ++ b) ≡ ended ++ (begun ++ first) ∷ others) where
@@ -90,8 +83,8 @@ module _ (c : ℕ) (a b first : List ℕ) (others : List (List ℕ))
 pub parts_joined : (a b : List ℕ) (ended : List (List ℕ)) (begun first : List ℕ) (others : List (List ℕ)) → parts_of 10 a ≡ ended ++ begun ∷ []
     → parts_of 10 b ≡ first ∷ others → parts_of 10 (a ++ b) ≡ ended ++ (begun ++ first) ∷ others
 parts_joined [] b ended begun first others h k =
-    let same = one_before [] begun ended h in
-    k ∙ ap (λ (l : List ℕ). (l ++ first) ∷ others) same.1 ∙ ap (λ (ls : List (List ℕ)). ls ++ (begun ++ first) ∷ others) (sym same.0)
+    let same = same_from_push [] ended [] begun h in
+    k ∙ ap (λ (l : List ℕ). (l ++ first) ∷ others) same.1 ∙ ap (λ (ls : List (List ℕ)). ls ++ (begun ++ first) ∷ others) same.0
 parts_joined (c ∷ a) b ended begun first others h k =
     byte_joined c a b first others (λ ends line is. parts_joined a b ends line first others is k) ended begun h
 
@@ -100,15 +93,6 @@ pub parts_behind : (a b : List ℕ) (ended : List (List ℕ)) → parts_of 10 a 
 parts_behind a b ended h =
     let some = first_part b in
     parts_joined a b ended [] some.first some.others h some.is ∙ ap (λ (ls : List (List ℕ)). ended ++ ls) (sym some.is)
-
-one_end : (xs ys : List (List ℕ)) (x y : List ℕ) → xs ++ x ∷ [] ≡ ys ++ y ∷ [] → (xs ≡ ys) × (x ≡ y)
-one_end [] ys x y e = let same = one_before x y ys e in (sym same.0, same.1)
-one_end (z ∷ xs) [] x y e = let tails : [] ≡ xs ++ x ∷ [] = cc in absurd (none_behind x xs tails)
-one_end (z ∷ xs) (w ∷ ys) x y e =
-    let tails : xs ++ x ∷ [] ≡ ys ++ y ∷ [] = cc in
-    let heads : z ≡ w = cc in
-    let same = one_end xs ys x y tails in
-    (ap (λ (ls : List (List ℕ)). z ∷ ls) same.0 ∙ ap (λ (l : List ℕ). l ∷ ys) heads, same.1)
 
 join_end : (l : List ℕ) (ls : List (List ℕ)) → join_with_byte 10 ((l ∷ ls) ++ [] ∷ []) ≡ join_with_byte 10 (l ∷ ls) ++ 10 ∷ []
 join_end l [] = refl
@@ -140,7 +124,7 @@ text_ends text ended begun h = elim (text_loses_a_line_end text) [
       let lines : parts_of 10 (text_of text) ≡ last.front ++ last.last ∷ [] = some.is ∙ last.is in
       let all : parts_of 10 text ≡ last.front ++ (last.last ++ []) ∷ [] ∷ [] =
       ap (parts_of 10) less ∙ parts_joined (text_of text) (10 ∷ []) last.front last.last [] ([] ∷ []) lines refl in
-      let same = one_end ended (last.front ++ last.last ∷ []) begun []
+      let same = same_from_push ended (last.front ++ last.last ∷ []) begun []
       (sym h ∙ all ∙ ap (λ (l : List ℕ). last.front ++ l ∷ [] ∷ []) (append-nil last.last)
       ∙ sym (append_assoc last.front (last.last ∷ []) ([] ∷ []))) in
       by_line_end (lines ∙ sym same.0) same.1

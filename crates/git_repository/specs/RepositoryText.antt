@@ -4,19 +4,13 @@ use Rattle.std.specs.List.{AllAdjacentBelow, filter_map}
 use Rattle.git_names.specs.declared.object_format.Format.{Format}
 use Rattle.git_names.specs.ObjectName.{ObjectName}
 use Rattle.git_msg.specs.declared.Boundary.{Boundary}
-use Rattle.git_msg.specs.Memory.{HasRefused}
+use Rattle.git_msg.specs.ItemsInOrder.{AreItems, IsBadAt, LacksMemory, StopsAt}
 use Rattle.git_server.specs.NameBytes.{name_bytes}
 use Rattle.git_server.specs.Repository.{Entry, comes_before}
 use Rattle.git_server.specs.Objects.{AreRising}
 use Rattle.git_server.specs.Lists.{Lists}
 use Rattle.git_repository.specs.Packs.{PackBytes}
 use Rattle.git_repository.specs.RepositoryLines.{LineContent, reference, unborn, object, ready, boundary, IsLineOf, format_line, lines_of}
-
--- each line contains the item at its place
-abbrev pub HaveContents : Format → List (List ℕ) → List LineContent → Type 0
-HaveContents format [] [] = Unit {0}
-HaveContents format (line ∷ lines) (content ∷ more) = IsLineOf format line content × HaveContents format lines more
-HaveContents format _ _ = ⊥
 
 -- the reference that a line contains, and those of all lines, in order
 abbrev pub ref_in : LineContent → Option Entry
@@ -95,12 +89,19 @@ lists_of_contents format content packs = record {
   filtered = packs.filtered;
 }
 
--- lines that begin a text: a format, and the contents of the others
-pub record Begins (format : Format) (lines : List (List ℕ)) (content : List LineContent) : Type 0 where
+-- a line of a text of this format has these contents, which may come after those of the lines before it
+abbrev pub MayCome : Format → List LineContent → List ℕ → LineContent → Type 0
+MayCome format before line next = IsLineOf format line next × MayStand (before ++ next ∷ [])
+
+-- the first line names the format, and this is so of the others
+pub record AfterFormat (Are : Format → List (List ℕ) → Type 0) (format : Format) (lines : List (List ℕ)) : Type 0 where
   pub others : List (List ℕ)
   pub spelled : lines ≡ format_line format ∷ others
-  pub send_each : HaveContents format others content
-  pub may_stand : MayStand content
+  pub others_are : Are format others
+
+-- lines that begin a text: a format, and the contents of the others
+abbrev pub Begins : Format → List (List ℕ) → List LineContent → Type 0
+Begins format lines content = AfterFormat (λ f others. AreItems (MayCome f) [] others content) format lines
 
 -- the text is this repository, except for its packs
 pub record IsRepositoryText (text : List ℕ) (packs : PackBytes) (lists : Lists) : Type 0 where
@@ -117,17 +118,13 @@ pub record HasNoFormat (lines : List (List ℕ)) (number : ℕ) : Type 0 where
   pub whole : lines ≡ first ∷ others
   pub no_format : (format : Format) → first ≢ format_line format
 
--- the lines before this one begin a text, and together with it they do not
-pub record HasBadLine (lines : List (List ℕ)) (number : ℕ) : Type 0 where
-  pub format : Format
-  pub before : List (List ℕ)
-  pub line : List ℕ
-  pub behind : List (List ℕ)
-  pub whole : lines ≡ before ++ line ∷ behind
-  pub at_number : number ≡ length before + 1
-  pub content : List LineContent
-  pub begins : Begins format before content
-  pub refused : (next : LineContent) → IsLineOf format line next → ¬ MayStand (content ++ next ∷ [])
+-- the lines before one of them begin a text, and the reading stops at that one, for this reason
+abbrev pub StopsIn : (Format → List LineContent → List ℕ → Type 0) → List (List ℕ) → Type 0
+StopsIn Why lines = (format : Format) × AfterFormat (λ f. StopsAt (MayCome f) (Why f)) format lines
+
+-- the lines before the one with this number begin a text, and together with it they do not; the number of the first after the format is 2
+abbrev pub HasBadLine : List (List ℕ) → ℕ → Type 0
+HasBadLine lines number = StopsIn (λ format. IsBadAt (MayCome format) 2 number) lines
 
 -- the first bad line is the one with this number, counted from 1
 abbrev pub IsFirstBad : List ℕ → ℕ → Type 0
@@ -151,16 +148,5 @@ list_bytes before (ready count) = 0
 list_bytes before (boundary line) = 34 * before
 
 -- memory ran out at a line: together with it the lines before it begin a text, and its contents take memory, which refused a list that stores them
-pub record WantsMemory (refuses : ℕ → Type 0) (lines : List (List ℕ)) : Type 0 where
-  pub format : Format
-  pub before : List (List ℕ)
-  pub line : List ℕ
-  pub after : List (List ℕ)
-  pub whole : lines ≡ before ++ line ∷ after
-  pub content : List LineContent
-  pub begins : Begins format before content
-  pub next : LineContent
-  pub conveys : IsLineOf format line next
-  pub may_stand : MayStand (content ++ next ∷ [])
-  pub takes_memory : TakesMemory next
-  pub refused : HasRefused refuses (list_bytes (length before) next)
+abbrev pub WantsMemory : (ℕ → Type 0) → List (List ℕ) → Type 0
+WantsMemory refuses lines = StopsIn (λ format. LacksMemory (MayCome format) TakesMemory (λ before. list_bytes (length before + 1)) refuses) lines

@@ -8,15 +8,16 @@ use Rattle.git_pkt.specs.declared.fault.Kind.{Kind}
 use Rattle.git_pkt.specs.declared.fault.Kind.TheVariants.{StreamTooLong, Truncated}
 use Rattle.git_pkt.proofs.Cuttings.{one_offset, stops_once, not_open}
 use Rattle.git_pkt.proofs.Streams.{one_split}
-use Rattle.git_msg.specs.declared.offers.Offer.{Offer}
 use Rattle.git_msg.specs.Admission.{IsAnnouncedFor}
 use Rattle.git_msg.specs.Asked.{Asked}
-use Rattle.git_msg.specs.Lines.{Line, commands_of, HasFault}
-use Rattle.git_msg.specs.Requests.{AreLines, Asks, IsStop}
+use Rattle.git_msg.specs.Lines.{commands_of, HasFault}
+use Rattle.git_msg.specs.Requests.{Asks, FirstFault, IsStop}
 use Rattle.git_msg.specs.WholeRequests.{AreRequests}
+use Rattle.git_msg.proofs.LineLaws.{one_list_of_lines}
 use Rattle.git_msg.proofs.WholeRequests.{NoFlush, NoRequest, flush_inside, flush_is_no_line, last_same, whole_then}
 use Rattle.git_msg.proofs.Admission.{admitted_unbarred, no_flush_barred, one_barred}
-use Rattle.git_msg.proofs.FaultLaws.{no_fault_in_lines, no_fault_in_request, one_first_fault}
+use Rattle.git_msg.proofs.Cuts.{not_empty, two_cuts}
+use Rattle.git_msg.proofs.FaultLaws.{fault_at_last, no_fault_in_lines, no_fault_in_request, one_first_fault}
 use Rattle.git_server.specs.Admission.{barred}
 use Rattle.git_server.specs.Sessions.{Setting, Begins, FirstMalformed, GoesOn, IsRequest, EndsBy, IsOfTheBytes, IsRefusedAsRead, IsRefusedAtPacket}
 use Rattle.git_server.specs.Sessions.{IsSession, Stream}
@@ -26,37 +27,22 @@ use Rattle.git_server.specs.declared.outcome.Outcome.TheVariants.{Flush, Closed,
 use Rattle.git_server.proofs.Begun.{begun_has_no_flush}
 use Rattle.git_server.proofs.OneSession.{no_request, one_list}
 
-not_nothing : (xs more : List Given) (g : Given) → xs ++ g ∷ more ≡ [] → ⊥
-not_nothing [] more g e = cc
-not_nothing (x ∷ xs) more g e = cc
-
 -- before the only packet there is none
-alone : (xs more : List Given) (l m : Given) → xs ++ l ∷ more ≡ m ∷ [] → (xs ≡ []) × (l ≡ m)
-alone [] more l m e = (refl, cc)
-alone (x ∷ xs) more l m e = absurd (not_nothing xs more l (let tails : xs ++ l ∷ more ≡ [] = cc in tails))
+nothing_before : (xs more : List Given) (l m : Given) → xs ++ l ∷ more ≡ m ∷ [] → xs ≡ []
+nothing_before xs more l m e = elim (two_cuts xs [] l m more [] e) [
+  | inl here ↦ here.0
+  | inr (inl (mid, is, left)) ↦ absurd (not_empty mid l more left)
+  | inr (inr (mid, is, left)) ↦ absurd (not_empty xs l mid is)
+]
 
 -- what comes up to a packet ends before the last one, or is all
 last_or_before : (xs more front : List Given) (l m : Given) → xs ++ l ∷ more ≡ front ++ m ∷ []
     → (more ≡ []) ⊎ ((others : List Given) × (front ≡ xs ++ l ∷ others))
-last_or_before [] more [] l m e = inl (let tails : more ≡ [] = cc in tails)
-last_or_before [] more (f ∷ fs) l m e = inr (fs, let same : f ∷ fs ≡ l ∷ fs = cc in same)
-last_or_before (x ∷ xs) more [] l m e = absurd (not_nothing xs more l (let tails : xs ++ l ∷ more ≡ [] = cc in tails))
-last_or_before (x ∷ xs) more (f ∷ fs) l m e = one_more (last_or_before xs more fs l m (let tails : xs ++ l ∷ more ≡ fs ++ m ∷ [] = cc in tails))
-  where
-    one_more : (more ≡ []) ⊎ ((others : List Given) × (fs ≡ xs ++ l ∷ others)) → (more ≡ []) ⊎ ((others : List Given) × (f ∷ fs ≡ x ∷ xs ++ l ∷ others))
-    one_more (inl none) = inl none
-    one_more (inr (others, same)) =
-        let first : f ≡ x = cc in
-        inr (others, ap (λ (g : Given). g ∷ fs) first ∙ ap (λ (gs : List Given). x ∷ gs) same)
-
-no_lines_of_nothing : (offer : Offer) (limit : ℕ) (lines : List Line) → AreLines offer limit [] [] lines → lines ≡ []
-no_lines_of_nothing offer limit [] are = refl
-no_lines_of_nothing offer limit (l ∷ ls) are = absurd are
-
-no_lines_alone : (offer : Offer) (limit : ℕ) (xs more : List Given) (l m : Given) (lines : List Line)
-    → xs ++ l ∷ more ≡ m ∷ [] → AreLines offer limit [] xs lines → lines ≡ []
-no_lines_alone offer limit xs more l m lines e are =
-    no_lines_of_nothing offer limit lines (subst (λ (gs : List Given). AreLines offer limit [] gs lines) (alone xs more l m e).0 are)
+last_or_before xs more front l m e = elim (two_cuts xs front l m more [] e) [
+  | inl here ↦ inl here.2
+  | inr (inl (mid, is, left)) ↦ absurd (not_empty mid l more left)
+  | inr (inr (mid, is, left)) ↦ inr (mid, is)
+]
 
 same_fault : (f g : Fault) → f.kind ≡ g.kind → f.offset ≡ g.offset → f ≡ g
 same_fault f g kinds offsets = ap (λ (k : Kind). let h : Fault = record { kind = k; offset = f.offset } in h) kinds
@@ -74,8 +60,8 @@ bytes_once p end rest kind other m n a b h k = stops_once p end rest kind other 
 module _ (s : Setting) where
   none_in_stop : (left : List Given) → IsStop left → NoRequest (IsRequest s) left
   none_in_stop left stop front more q e (kept, asks, had) =
-      let lines : asks.lines ≡ [] = no_lines_alone s.offer s.limit asks.front more asks.last stop.last asks.lines
-      (sym (whole_then s.offer s.limit front more left q kept asks e) ∙ stop.alone) asks.taken in
+      let none_before = nothing_before asks.front more asks.last stop.last (sym (whole_then s.offer s.limit front more left q kept asks e) ∙ stop.alone) in
+      let lines : asks.lines ≡ [] = one_list_of_lines s.offer s.limit [] [] asks.lines [] (rw none_before at asks.taken) tt in
       let once : commands_of asks.lines ≡ asks.command ∷ [] = asks.once in
       let none : commands_of asks.lines ≡ [] = ap commands_of lines in
       cc
@@ -113,12 +99,9 @@ module _ (s : Setting) where
   stop_or_announced : (left : List Given) (fault : Fault) → IsStop left → IsAnnouncedFor s.offer s.limit (barred s.repo) left fault → ⊥
   stop_or_announced left fault stop (inl b) = no_flush_barred s.offer s.limit (barred s.repo) left [] stop.last fault.kind fault.offset stop.alone stop.ends b
   stop_or_announced left fault stop (inr (unbarred, inl first)) =
-      let here = sym first.whole ∙ stop.alone in
-      let lines : first.lines ≡ [] = no_lines_alone s.offer s.limit first.front first.back first.bad stop.last first.lines here first.taken in
-      let packet : first.bad.packet ≡ flush = ap (λ (g : Given). g.packet) (alone first.front first.back first.bad stop.last here).1 ∙ stop.ends in
       let refused : HasFault s.offer s.limit [] flush fault.kind =
-      subst (λ (ls : List Line). HasFault s.offer s.limit ls flush fault.kind) lines
-      (subst (λ (p : Pkt). HasFault s.offer s.limit first.lines p fault.kind) packet first.fault) in
+      subst (λ (p : Pkt). HasFault s.offer s.limit [] p fault.kind) stop.ends (fault_at_last s.offer s.limit [] stop.last [] fault.kind fault.offset tt
+      (subst (λ (gs : List Given). FirstFault s.offer s.limit gs fault.kind fault.offset) stop.alone first)) in
       refused.0 refl
   stop_or_announced left fault stop (inr (unbarred, inr w)) =
       let same : w.last ≡ stop.last = last_same w.front [] w.last stop.last (sym w.whole ∙ stop.alone) in
@@ -168,7 +151,7 @@ module _ (s : Setting) where
 
   closed_or_refused : (over : Bool) (left : List Given) (rest : List ℕ) (end : ℕ) (f : Fault) → (over ≡ true) × (left ≡ []) × (rest ≡ [])
       → IsRefusedAsRead s over left rest end f → ⊥
-  closed_or_refused over left rest end f closed (inl h) = not_nothing h.front [] h.last (sym h.whole ∙ closed.1)
+  closed_or_refused over left rest end f closed (inl h) = not_empty h.front h.last [] (sym closed.1 ∙ h.whole)
   closed_or_refused over left rest end f closed (inr (inl h)) = over_or_not over closed.0 h.goes_on
   closed_or_refused over left rest end f closed (inr (inr h)) = inside h.inside
     where

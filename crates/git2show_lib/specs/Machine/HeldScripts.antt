@@ -1,7 +1,7 @@
 -- What is held of a script after some of its lines, and what one more adds.
 use denote.RattleType.{RattleType}
 use Rattle.std.specs.declared.alloc.Allocator.{Ghosts}
-use Rattle.std.specs.Prelude.{◌≡◌, ℕ, ◌+◌, ◌*◌, ◌≤◌, Bool, true, false, List, [], ◌∷◌, ◌++◌, Some, None, All, Result, MatchResult, length, map}
+use Rattle.std.specs.Prelude.{◌≡◌, ℕ, ◌+◌, ◌*◌, ◌≤◌, Bool, true, false, List, [], ◌∷◌, ◌++◌, Some, None, All, Result, MatchResult, length, map, reverse}
 use Rattle.git_msg.specs.declared.offers.Offer.{Offer}
 use Rattle.git_msg.specs.declared.arguments.Command.{Command}
 use Rattle.git_msg.specs.declared.requests.Request.{Request}
@@ -12,7 +12,7 @@ use Rattle.git_msg.specs.Machine.HeldRequest.{IsEmpty, Keeps, command_of, format
 use Rattle.git_repository.specs.RepositoryLines.{longest_line}
 use Rattle.git_repository.specs.declared.text_faults.LineFault.{LineFault}
 use Rattle.git_repository.specs.declared.text_faults.LineFault.TheVariants.{Refused, OutOfMemory}
-use Rattle.git2show_lib.specs.Scripts.{ScriptLine, MayFollow, TakesMemory, kept_after, list_bytes, nearest, open_after, requests_in}
+use Rattle.git2show_lib.specs.Scripts.{ScriptLine, LacksScriptMemory, MayFollow, kept_after, open_after, requests_in}
 
 -- the number of bytes of a request, with memory from this allocator
 abbrev pub request_bytes : (A : RattleType) → Ghosts A.Denot → ℕ
@@ -39,13 +39,13 @@ module _ {A : Type 0} where
     pub others : List (Request A)
     pub last : Request A
     pub requests_are : requests ≡ others ++ last ∷ []
-    pub open_is : open_after (nearest lines []) ≡ Some (command_of last)
-    pub kept_is : kept_after (nearest lines []) ≡ kept_of last
+    pub open_is : open_after (reverse lines) ≡ Some (command_of last)
+    pub kept_is : kept_after (reverse lines) ≡ kept_of last
 
   -- whether one is
   abbrev pub IsOpenAs : Bool → List ScriptLine → List (Request A) → Type 0
   IsOpenAs true lines requests = HasOpen lines requests
-  IsOpenAs false lines requests = open_after (nearest lines []) ≡ None
+  IsOpenAs false lines requests = open_after (reverse lines) ≡ None
 
   -- this is held after the lines
   pub record Holds (lines : List ScriptLine) (held : Held A) : Type 0 where
@@ -95,7 +95,7 @@ module _ {A : Type 0} where
   -- after the lines the text is one more, which may follow them, and with it the new is held
   pub record GoesOn (lines : List ScriptLine) (old : Held A) (text : List ℕ) (new : Held A) : Type 0 where
     pub line : ScriptLine
-    pub may_follow : MayFollow old.offer old.limit (nearest lines []) text line
+    pub may_follow : MayFollow old.offer old.limit lines text line
     pub holds : Holds (lines ++ line ∷ []) new
     pub same_offer : new.offer ≡ old.offer
     pub same_limit : new.limit ≡ old.limit
@@ -107,7 +107,6 @@ module _ {A : Type 0} where
   -- why it is not taken: no line may follow that is this text, or one may and memory refused a list that it makes longer
   abbrev pub IsLineFault : (ℕ → Type 0) → ℕ → Held A → List ℕ → LineFault → Type 0
   IsLineFault refuses each old text Refused =
-      (lines : List ScriptLine) → Holds lines old → (line : ScriptLine) → ¬ MayFollow old.offer old.limit (nearest lines []) text line
-  IsLineFault refuses each old text OutOfMemory = (lines : List ScriptLine) → Holds lines old
-      → (line : ScriptLine) × MayFollow old.offer old.limit (nearest lines []) text line × TakesMemory line
-      × HasRefused refuses (list_bytes each old.limit (length lines) line)
+      (lines : List ScriptLine) → Holds lines old → (line : ScriptLine) → ¬ MayFollow old.offer old.limit lines text line
+  IsLineFault refuses each old text OutOfMemory =
+      (lines : List ScriptLine) → Holds lines old → LacksScriptMemory refuses each old.offer old.limit lines text

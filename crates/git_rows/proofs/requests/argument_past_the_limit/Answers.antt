@@ -21,9 +21,9 @@ refused = record {
   front =
       at 0 (text_line (codes "command=ls-refs")) ∷ at 20 delim ∷ at 24 (text_line (codes "peel"))
       ∷ at 33 (text_line (codes "ref-prefix refs/heads/")) ∷ [];
-  bad = at 60 (text_line (codes "symrefs"));
+  at = at 60 (text_line (codes "symrefs"));
   back = [];
-  lines =
+  items =
       command LsRefs ∷ delimiter ∷ argument (alone (of_flag Flag.Peel)) 4 ∷ argument (with_text ref_prefix (codes "refs/heads/")) 22 ∷ [];
   whole = refl;
   taken = (
@@ -57,12 +57,14 @@ refused = record {
       ),
     ),
   );
-  fault = record {
-    of = LsRefs;
-    asked = refl;
-    refuses = inr (no_error_by (codes "symrefs") refl, inr ((alone (of_flag Flag.Symrefs), symrefs_reads), inl (omega arith, refl)));
+  why = record {
+    fault = record {
+      of = LsRefs;
+      asked = refl;
+      refuses = inr (no_error_by (codes "symrefs") refl, inr ((alone (of_flag Flag.Symrefs), symrefs_reads), inl (omega arith, refl)));
+    };
+    offset_is = refl;
   };
-  at = refl;
 }
 
 pub returns-clause-refused : goal.returns-clause-refused

@@ -18,17 +18,19 @@ use Rattle.git_rows.proofs.requests.fetch_of_one_object.Goals as goal
 past_the_limit : FirstFault offer_all 48 fetch_done_packets TooMuchKept 72
 past_the_limit = record {
   front = want_alone_packets;
-  bad = at 72 (text_line (codes "done"));
+  at = at 72 (text_line (codes "done"));
   back = at 81 flush ∷ [];
-  lines = want_lines;
+  items = want_lines;
   whole = refl;
   taken = are_want_lines 48 (omega arith);
-  fault = record {
-    of = Fetch;
-    asked = refl;
-    refuses = inr (no_error_by (codes "done") refl, inr ((alone (of_flag Flag.Done), done_reads), inl (omega arith, refl)));
+  why = record {
+    fault = record {
+      of = Fetch;
+      asked = refl;
+      refuses = inr (no_error_by (codes "done") refl, inr ((alone (of_flag Flag.Done), done_reads), inl (omega arith, refl)));
+    };
+    offset_is = refl;
   };
-  at = refl;
 }
 
 pub returns-clause-asks : goal.returns-clause-asks

@@ -25,22 +25,22 @@ nothing_stated (boundary (Shallow id)) conveys = begins_otherwise (codes "shallo
 nothing_stated (boundary (Unshallow id)) conveys = begins_otherwise (codes "unshallow ") (codes "x") refl conveys.value conveys.spelled
 
 bad_word : IsFirstBad (codes "format sha1\nx\n") 2
-bad_word = inr (record {
-  format = Sha1;
-  before = codes "format sha1" ∷ [];
-  line = codes "x";
-  behind = [];
-  whole = refl;
-  at_number = refl;
-  content = [];
-  begins = record {
-    others = [];
+bad_word = inr (
+  Sha1,
+  record {
+    others = codes "x" ∷ [];
     spelled = refl;
-    send_each = tt;
-    may_stand = record { rising_names = λ k d lt. absurd (omega arith); rising_objects = λ k d lt. absurd (omega arith); one_count = omega arith };
-  };
-  refused = λ next is_line may_stand. nothing_stated next is_line.1;
-})
+    others_are = record {
+      front = [];
+      at = codes "x";
+      back = [];
+      items = [];
+      whole = refl;
+      taken = tt;
+      why = record { at_number = refl; refused = λ next may. nothing_stated next may.0.1 };
+    };
+  },
+)
 
 pub returns-clause-no_format : goal.returns-clause-no_format
 returns-clause-no_format c = inl (record { at_first = refl; first = []; others = []; whole = refl; no_format = no_line })

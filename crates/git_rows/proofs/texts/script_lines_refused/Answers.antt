@@ -44,14 +44,13 @@ none_follows (argument arg) h =
 
 refused : HasBadScriptLine offer_all 7 (lines_of (codes "fetch\nsymrefs\n")) 2
 refused = record {
-  before = codes "fetch" ∷ [];
-  bad = codes "symrefs";
-  others = [];
+  front = codes "fetch" ∷ [];
+  at = codes "symrefs";
+  back = [];
+  items = command Fetch ∷ [];
   whole = refl;
-  at_number = refl;
-  lines = command Fetch ∷ [];
-  follow = ((refl, refl), tt);
-  refused = none_follows;
+  taken = ((refl, refl), tt);
+  why = record { at_number = refl; refused = none_follows };
 }
 
 pub returns-clause-of_another_command : goal.returns-clause-of_another_command
