@@ -212,11 +212,10 @@ impl Draft {
         ensures { lists_of result ≡ with_packs (drafted self) (packs_of packs) }
     {
         let Packs { pack, filtered } = packs;
-        ListRepo::of_lists(RepoLists {
-            pack,
-            filtered,
-            ..self.lists
-        })
+        let mut lists = self.lists;
+        lists.pack = pack;
+        lists.filtered = filtered;
+        ListRepo::of_lists(lists)
     }
 }
 
