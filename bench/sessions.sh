@@ -1,6 +1,7 @@
 # shellcheck shell=bash disable=SC2154
 # How much memory examples/daemon.c takes for a hundred open sessions, for bench/run.sh, which reads this file: each has asked for the pack,
-# and does not read it, so that everything that the daemon and the library keep for a client is in use.
+# and does not read it, so that everything that the daemon and the library keep for a client is in use. The pack is mapped: what of it was read is
+# the kernel's to keep, and is counted apart.
 
 sessions=100
 
@@ -10,7 +11,7 @@ resident() {
 }
 
 tell_sessions() {
-    local daemon port i connection before after connections=()
+    local daemon port i connection whole before after mapped connections=()
     local one=1111111111111111111111111111111111111111
     printf 'format sha1\nref %s HEAD\nobject %s 1\n' "$one" "$one" > "$streams/one_text"
     head -c 20000000 "$streams/large" > "$streams/some_pack"
@@ -21,7 +22,8 @@ tell_sessions() {
         sleep 0.1
     done
     port=$(sed 's/.*:\([0-9]*\)\/.*/\1/' "$streams/listening")
-    before=$(resident "$daemon" VmRSS)
+    whole=$(resident "$daemon" VmRSS)
+    before=$(resident "$daemon" RssAnon)
     for ((i = 0; i < sessions; i++)); do
         exec {connection}<> "/dev/tcp/127.0.0.1/$port"
         printf '0034git-upload-pack /here\0host=127.0.0.1\0\0version=2\0' >&"$connection"
@@ -29,9 +31,11 @@ tell_sessions() {
         connections+=("$connection")
     done
     sleep 2
-    after=$(resident "$daemon" VmRSS)
+    after=$(resident "$daemon" RssAnon)
+    mapped=$(resident "$daemon" RssFile)
     for connection in "${connections[@]}"; do exec {connection}>&-; done
     kill -INT "$daemon"
     wait "$daemon"
-    echo "Resident set of examples/daemon.c: $before KiB with a pack of 20 MB and nobody, $after KiB with $sessions sessions amid the pack."
+    echo "Resident set of examples/daemon.c: $whole KiB with a pack of 20 MB and nobody, $((after - before)) KiB more with $sessions sessions amid the pack,"
+    echo "beside $mapped KiB of files, which are the program and what was read of the pack."
 }

@@ -254,6 +254,27 @@ gitwire_answer gitwire_repository_new_filtered(gitwire_repository **repository, 
 		pack_length, filtered, filtered_length));
 }
 
+gitwire_answer gitwire_repository_init_lent(struct handle *repository, const char *text, size_t text_length, const uint8_t *pack,
+	size_t pack_length);
+gitwire_answer gitwire_repository_new_lent(gitwire_repository **repository, const char *text, size_t text_length, const uint8_t *pack,
+	size_t pack_length)
+{
+	gitwire_repository *made = new_repository();
+
+	return kept(repository, made, made == NULL ? no_memory : gitwire_repository_init_lent(&made->handle, text, text_length, pack, pack_length));
+}
+
+gitwire_answer gitwire_repository_init_lent_filtered(struct handle *repository, const char *text, size_t text_length, const uint8_t *pack,
+	size_t pack_length, const uint8_t *filtered, size_t filtered_length);
+gitwire_answer gitwire_repository_new_lent_filtered(gitwire_repository **repository, const char *text, size_t text_length, const uint8_t *pack,
+	size_t pack_length, const uint8_t *filtered, size_t filtered_length)
+{
+	gitwire_repository *made = new_repository();
+
+	return kept(repository, made, made == NULL ? no_memory : gitwire_repository_init_lent_filtered(&made->handle, text, text_length, pack,
+		pack_length, filtered, filtered_length));
+}
+
 void gitwire_repository_clear(struct handle *repository);
 void gitwire_repository_free(gitwire_repository *repository)
 {

@@ -8,6 +8,7 @@
  * repository. FOLDER is one of Git's own: each client of it is handed over to a process of `upload-pack` (upload-pack.c), found on the
  * path. Or TEXT is a repository text, and PACK the pack of every fetch; a fetch with a filter gets FILTERED instead, if there is one. A
  * client that has not sent its first packet within so many SECONDS is closed, and so is one that then neither reads nor writes for as long.
+ * Packs are mapped and not copied: write a new one to another file and rename that, since a file that is made shorter ends the daemon.
  * SIGINT ends it.
  *
  * There is a place for MOST_CLIENTS. If another client comes, the one that has been expected to send a whole request for the longest time
@@ -22,7 +23,10 @@
 #include "common.h"
 
 #include <arpa/inet.h>
+#include <fcntl.h>
 #include <signal.h>
+#include <sys/mman.h>
+#include <sys/stat.h>
 
 #include "client.h"
 
@@ -31,6 +35,14 @@ enum { TICK = 500 /* milliseconds */ };
 /* The minimum number of seconds for which a request is waited for, whoever comes. */
 enum { LEAST_SECONDS = 1 };
 
+/* A pack, which the repository is lent. Of no bytes there is nothing to map. */
+struct pack {
+	void *bytes;
+	size_t length;
+	bool is_mapped;
+};
+
+static struct pack pack, filtered;
 static struct client clients[MOST_CLIENTS]; /* of zeros: NOBODY */
 static volatile sig_atomic_t is_over;
 
@@ -123,24 +135,56 @@ static void run(int listener)
 	}
 }
 
+/* Maps a whole file, or ends the program. What is no file, as a pipe, is read. */
+static struct pack open_pack(const char *name)
+{
+	struct pack opened = { NULL, 0, false };
+	struct stat status;
+	int file;
+
+	if (stat(name, &status) != 0 || !S_ISREG(status.st_mode)) {
+		opened.bytes = read_file(name, &opened.length);
+		return opened;
+	}
+	file = open(name, O_RDONLY | O_CLOEXEC);
+	if (file < 0 || fstat(file, &status) != 0)
+		stop("a file cannot be opened");
+	opened.length = (size_t)status.st_size;
+	if (opened.length > 0) {
+		opened.bytes = mmap(NULL, opened.length, PROT_READ, MAP_PRIVATE, file, 0);
+		opened.is_mapped = opened.bytes != MAP_FAILED;
+		if (!opened.is_mapped)
+			stop("a file cannot be mapped");
+	}
+	close(file);
+	return opened;
+}
+
+/* No server of the repository is left then. */
+static void close_pack(struct pack *opened)
+{
+	if (opened->is_mapped)
+		munmap(opened->bytes, opened->length);
+	else
+		free(opened->bytes);
+}
+
 /* Without a name of a filtered pack there is one pack for all. */
 static void open_repository(const char *text_name, const char *pack_name, const char *filtered_name)
 {
-	size_t text_length, pack_length, filtered_length;
+	size_t text_length;
 	char *text = read_file(text_name, &text_length);
-	uint8_t *pack = read_file(pack_name, &pack_length), *filtered = NULL;
 	gitwire_answer answer;
 	char why[64] = "no memory";
 
+	pack = open_pack(pack_name);
 	if (filtered_name != NULL) {
-		filtered = read_file(filtered_name, &filtered_length);
-		answer = gitwire_repository_new_filtered(&repository, text, text_length, pack, pack_length, filtered, filtered_length);
+		filtered = open_pack(filtered_name);
+		answer = gitwire_repository_new_lent_filtered(&repository, text, text_length, pack.bytes, pack.length, filtered.bytes, filtered.length);
 	} else {
-		answer = gitwire_repository_new(&repository, text, text_length, pack, pack_length);
+		answer = gitwire_repository_new_lent(&repository, text, text_length, pack.bytes, pack.length);
 	}
 	free(text);
-	free(pack);
-	free(filtered);
 	if (answer.kind == GITWIRE_FAILED)
 		snprintf(why, sizeof why, "BadRepo at %llu", (unsigned long long)answer.offset);
 	if (answer.kind != GITWIRE_DONE)
@@ -212,6 +256,8 @@ int main(int count, char **words)
 			forget(c);
 	close(listener);
 	gitwire_repository_free(repository);
+	close_pack(&pack);
+	close_pack(&filtered);
 	gitwire_writer_free(writer);
 	return 0;
 }

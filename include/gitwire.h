@@ -64,6 +64,8 @@
  *   - Each text, buffer and array has its whole length at its pointer, and no pointer is NULL if the length is above 0. No
  *     buffer or array overlaps a text, another buffer or array, or a handle, and no two handles of a call are the same. Nobody
  *     else writes to a text or touches a buffer or an array while the call runs.
+ *   - A pack that a repository is lent (gitwire_repository_new_lent) lasts, unchanged, until the handle and every server that was
+ *     made of it are freed.
  *   - Each bool of an array of events is 0 or 1 before the call, as in zeroed memory.
  *   - The stack has space for a call. The tests make each call in a thread with the 16 KiB of PTHREAD_STACK_MIN.
  *   - malloc, realloc and free are those of one allocator, which aligns as the C standard requires, and so are the calls that

@@ -229,12 +229,15 @@ forget_peak() {
     { echo 5 > "/proc/$daemon/clear_refs"; } 2> /dev/null || peak=VmRSS
 }
 
-# The pack is in memory once, and a client takes its struct and the library's buffer: at most half a megabyte.
+# The pack is mapped: none of it is in memory before a client comes, and it is never there twice. A client takes its struct and the library's
+# buffer: at most half a megabyte.
 case_a_daemon_in_c_takes_a_fixed_memory() {
-    local before after i clients=()
+    local before after mapped i clients=()
     start_daemon heavy daemon
     before=$(memory_of VmRSS)
-    [ "$before" -lt 32768 ] || differs "$before KiB for a pack that is there once"
+    [ "$before" -lt 8192 ] || differs "$before KiB before a client comes"
+    mapped=$(($(stat -c %s heavy.pack) / 1024))
+    [ $mapped -gt 8192 ] || differs "a pack of $mapped KiB, which shows nothing"
     forget_peak
     for i in {1..8}; do
         timeout 200 git -c protocol.version=2 clone -q --bare "$address" "fixed-$i" > /dev/null 2>&1 &
@@ -245,7 +248,7 @@ case_a_daemon_in_c_takes_a_fixed_memory() {
     done
     rm -rf fixed-*
     after=$(memory_of $peak)
-    [ $((after - before)) -lt 4096 ] || differs "$((after - before)) KiB for eight clients"
+    [ $((after - before - mapped)) -lt 4096 ] || differs "$((after - before)) KiB for eight clients and a pack of $mapped KiB"
     end_daemon
 }
 

@@ -386,7 +386,7 @@ case_library_frees_all_where_memory_is_refused() {
     run refused_memory-watched
     expect_status 0
     expect_same 'standard error' /dev/null err
-    grep -q -x -E '[1-9][0-9]*( [1-9][0-9]*){12}' out || differs 'what was printed' out
+    grep -q -x -E '[1-9][0-9]*( [1-9][0-9]*){13}' out || differs 'what was printed' out
     under_valgrind bin/refused_memory
     expect_status 0
 }

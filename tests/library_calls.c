@@ -475,6 +475,47 @@ static void try_filtered_packs(void)
 	memset(buffer, '#', sizeof buffer);
 }
 
+/* A pack of these bytes, which the caller frees. */
+static uint8_t *lent(const char *bytes)
+{
+	uint8_t *pack = malloc(strlen(bytes));
+
+	EXPECT(pack != NULL);
+	return memcpy(pack, bytes, strlen(bytes));
+}
+
+/*
+ * Packs that are lent: they are sent by servers that go on after the handle was freed, and freed after these. Under a sanitizer and under
+ * valgrind no call touches them afterwards.
+ */
+static void try_lent_packs(void)
+{
+	gitwire_repository *repository = NULL;
+	uint8_t *pack = lent("PACK"), *filtered = lent("TINY");
+
+	EXPECT(tells(gitwire_repository_new_lent(&repository, NULL, 0, NULL, 0), GITWIRE_FAILED, 0, 1, 0) && repository == NULL);
+	EXPECT(tells(gitwire_repository_new_lent(&repository, TEXT("format sha1\nref here\n"), pack, 4), GITWIRE_FAILED, 0, 2, 0));
+	EXPECT(repository == NULL);
+	EXPECT(tells(gitwire_repository_new_lent(&repository, TEXT(SMALL_TEXT), pack, 4), GITWIRE_DONE, 0, 0, 0));
+	EXPECT(gives_packs(repository, "pack PACK has-text\n", "pack PACK has-text\n"));
+	EXPECT(tells(gitwire_repository_new_lent(&repository, TEXT(SMALL_TEXT), NULL, 0), GITWIRE_DONE, 0, 0, 0));
+	EXPECT(gives_packs(repository, "", ""));
+	EXPECT(tells(gitwire_repository_new_lent_filtered(&repository, TEXT(SMALL_TEXT), pack, 4, filtered, 4), GITWIRE_DONE, 0, 0, 0));
+	EXPECT(gives_packs(repository, "pack PACK has-text\n", "pack TINY has-text\n"));
+	EXPECT(tells(gitwire_repository_new_lent_filtered(&repository, TEXT(SMALL_TEXT), pack, 4, pack, 4), GITWIRE_DONE, 0, 0, 0));
+	EXPECT(gives_packs(repository, "pack PACK has-text\n", "pack PACK has-text\n"));
+	EXPECT(tells(gitwire_repository_new_lent_filtered(&repository, TEXT(SMALL_TEXT), pack, 4, NULL, 0), GITWIRE_DONE, 0, 0, 0));
+	EXPECT(gives_packs(repository, "pack PACK has-text\n", ""));
+	EXPECT(tells(gitwire_repository_new_lent_filtered(&repository, TEXT(SMALL_TEXT), NULL, 0, filtered, 4), GITWIRE_DONE, 0, 0, 0));
+	EXPECT(gives_packs(repository, "", "pack TINY has-text\n"));
+	EXPECT(tells(gitwire_repository_new_lent_filtered(&repository, TEXT("format sha1\nref"), pack, 4, filtered, 4), GITWIRE_FAILED,
+		0, 2, 0) && repository == NULL);
+	EXPECT(memcmp(pack, "PACK", 4) == 0 && memcmp(filtered, "TINY", 4) == 0);
+	free(pack);
+	free(filtered);
+	memset(buffer, '#', sizeof buffer);
+}
+
 /* What comes beside a pack, and a fatal error in its middle, with its message. */
 static void try_bands(void)
 {
@@ -798,6 +839,7 @@ static void *try_all(void *nothing)
 	try_a_refused_session();
 	try_a_conversation();
 	try_filtered_packs();
+	try_lent_packs();
 	try_bands();
 	try_bands_in_place();
 	try_refusals_of_a_client();

@@ -17,11 +17,16 @@ void *__wrap_malloc(size_t size);
 void *__wrap_realloc(void *block, size_t size);
 void __wrap_free(void *block);
 
-/* How many blocks there are, how many requests were made of the program's calls, and after how many one is refused. */
+/* How many blocks there are, how many requests were made of the program's calls, after how many one is refused, and for how many bytes they were. */
 struct pool {
 	long live, asked, most;
+	size_t bytes;
 };
 
+enum { LARGE = 64 << 20 };
+
+static const uint8_t large[LARGE]; /* a pack */
+static size_t received;   /* how many bytes of a pack came */
 static long by_library;   /* how many calls reached the C library */
 static int failures;
 
@@ -50,6 +55,7 @@ static void *allocate(void *user, size_t size)
 	if (size == 0 || ++pool->asked > pool->most)
 		return NULL;
 	pool->live++;
+	pool->bytes += size;
 	return __real_malloc(size);
 }
 
@@ -57,6 +63,7 @@ static void *reallocate(void *user, void *block, size_t size)
 {
 	struct pool *pool = user;
 
+	pool->bytes += size;
 	return block == NULL || size == 0 || ++pool->asked > pool->most ? NULL : __real_realloc(block, size);
 }
 
@@ -88,6 +95,7 @@ static int answered(gitwire_server *server, gitwire_client *client)
 
 			used += event.used;
 			references += event.kind == GITWIRE_REFERENCE;
+			received += event.kind == GITWIRE_PACK ? event.text_length : 0;
 			if (event.kind == GITWIRE_FAILED || event.kind == GITWIRE_NOT_NOW)
 				return -1;
 		}
@@ -135,9 +143,51 @@ static bool lists(void)
 	return is_well;
 }
 
+/* A client that fetches a pack, which a server is lent: whether it received as many bytes as that has. */
+static bool fetches_lent(size_t length)
+{
+	static const char text[] = "format sha1\n" "object " ONE " 230\n";
+	gitwire_repository *repository;
+	gitwire_server *server = NULL;
+	gitwire_client *client = NULL;
+	gitwire_request *request = NULL;
+	bool is_well = gitwire_repository_new_lent(&repository, text, sizeof text - 1, large, length).kind == GITWIRE_DONE
+		&& gitwire_server_new(&server, repository, 1000, true) == GITWIRE_DONE
+		&& gitwire_client_new(&client, GITWIRE_SHA1, GITWIRE_ENDS_BY_FLUSH) == GITWIRE_DONE
+		&& gitwire_request_new(&request, GITWIRE_FETCH, GITWIRE_SHA1, 1000) == GITWIRE_DONE
+		&& gitwire_request_add(request, "want " ONE, 45).kind == GITWIRE_DONE
+		&& gitwire_request_add(request, "done", 4).kind == GITWIRE_DONE
+		&& gitwire_request_end(request).kind == GITWIRE_DONE
+		&& answered(server, client) == 0
+		&& gitwire_client_ask(client, request).kind == GITWIRE_DONE
+		&& asked(client, server);
+
+	gitwire_repository_free(repository);
+	received = 0;
+	is_well = is_well && answered(server, client) == 0 && received == length;
+	gitwire_request_free(request);
+	gitwire_client_free(client);
+	gitwire_server_free(server);
+	return is_well;
+}
+
+/* A pack that is lent takes no memory, however large it is: as many bytes are requested as with one of a byte. */
+static void try_lent_packs(struct pool *pool)
+{
+	size_t bytes;
+
+	*pool = (struct pool){ .most = 1000000 };
+	expect(fetches_lent(1) && pool->bytes > 0, "a pack of a byte is lent");
+	bytes = pool->bytes;
+	*pool = (struct pool){ .most = 1000000 };
+	expect(fetches_lent(LARGE), "a pack of 64 MiB is lent");
+	expect(pool->bytes == bytes, "a pack that is lent takes no memory");
+	expect(pool->live == 0, "all is given back after it");
+}
+
 int main(void)
 {
-	struct pool pool = { 0, 0, 1000000 };
+	struct pool pool = { .most = 1000000 };
 	long all;
 
 	expect(gitwire_set_memory(allocate, NULL, deallocate, &pool) == GITWIRE_BAD_VALUE, "a call that is missing is refused");
@@ -150,11 +200,12 @@ int main(void)
 	expect(by_library == 0, "it asks nobody else");
 	all = pool.asked;
 	for (long most = 0; most < all; most++) {
-		pool = (struct pool){ 0, 0, most };
+		pool = (struct pool){ .most = most };
 		expect(!lists(), "what is refused is reported");
 		expect(pool.live == 0, "all is given back then");
 	}
-	pool = (struct pool){ 0, 0, all };
+	try_lent_packs(&pool);
+	pool = (struct pool){ .most = all };
 	expect(lists(), "as much as is needed suffices");
 	expect(gitwire_set_memory(NULL, NULL, NULL, NULL) == GITWIRE_DONE, "the C library's calls can be had back");
 	by_library = 0;

@@ -266,6 +266,27 @@ static void run_filtered_repository(void)
 	gitwire_repository_free(repository);
 }
 
+/* Repositories with packs that are lent: no memory is requested for them, so with packs of any length there are as many requests. */
+static void run_lent_repository(void)
+{
+	gitwire_repository *repository = NULL;
+	long before = asked, for_one, for_none;
+
+	if (IS_MADE(repository, gitwire_repository_new_lent(&repository, TEXT(small), BYTES("PACK")).kind, "a repository with a pack that is lent")) {
+		for_one = asked - before;
+		gitwire_repository_free(repository);
+		before = asked;
+		if (IS_MADE(repository, gitwire_repository_new_lent(&repository, TEXT(small), NULL, 0).kind, "a repository with no pack")) {
+			for_none = asked - before;
+			expect(refused > 0 || for_one == for_none, "memory for a pack that is lent");
+		}
+	}
+	gitwire_repository_free(repository);
+	IS_MADE(repository, gitwire_repository_new_lent_filtered(&repository, TEXT(small), BYTES("PACK"), BYTES("TINY")).kind,
+		"a repository with two packs that are lent");
+	gitwire_repository_free(repository);
+}
+
 /* A session ends with the client's flush, or is refused as OutOfMemory. */
 static void run_server(void)
 {
@@ -508,7 +529,8 @@ static bool run(void (*scenario)(void), long at, bool after)
 int main(void)
 {
 	static void (*const scenarios[])(void) = { run_packet_reader, run_writer, run_request_reader, run_request, run_flags, run_repository,
-		run_filtered_repository, run_server, run_host, run_client, run_broken_requests, run_broken_session, run_broken_conversation };
+		run_filtered_repository, run_lent_repository, run_server, run_host, run_client, run_broken_requests, run_broken_session,
+		run_broken_conversation };
 
 	for (size_t i = 0; i < sizeof scenarios / sizeof *scenarios; i++) {
 		long at = 0;

@@ -42,6 +42,24 @@ GITWIRE_LOOKED_AT
 gitwire_answer gitwire_repository_new_filtered(gitwire_repository **repository, const char *text, size_t text_length,
 	const uint8_t *pack, size_t pack_length, const uint8_t *filtered, size_t filtered_length);
 
+/*
+ * As gitwire_repository_new, but the pack is lent: the text is copied, the pack is not, so the memory that the call takes does
+ * not grow with it. The program keeps the pack where it is, unchanged, until the handle and every server that was made of it are
+ * freed, in whatever order; then the pack is the program's to free. It can be a file that is mapped: one that is then made
+ * shorter ends the program, with SIGBUS, so a new pack is written to another file and renamed.
+ */
+GITWIRE_LOOKED_AT
+gitwire_answer gitwire_repository_new_lent(gitwire_repository **repository, const char *text, size_t text_length,
+	const uint8_t *pack, size_t pack_length);
+
+/*
+ * As gitwire_repository_new_filtered, but with both packs lent in this way. They may be the same bytes. NULL for `filtered`, with
+ * 0 for its length, is an empty pack for fetches with `filter`, as it is there, and not `pack` for them too.
+ */
+GITWIRE_LOOKED_AT
+gitwire_answer gitwire_repository_new_lent_filtered(gitwire_repository **repository, const char *text, size_t text_length,
+	const uint8_t *pack, size_t pack_length, const uint8_t *filtered, size_t filtered_length);
+
 /* Frees the handle, which no other thread uses then: the servers that share its repository keep that. For NULL it does nothing. */
 void gitwire_repository_free(gitwire_repository *repository);
 

@@ -4,7 +4,7 @@
 use git_msg::{Limits, Offer};
 use git_names::Steps;
 use git_repository::{Packs, read_repo};
-use git_server::{ListRepo, Outcome, Pulled, Repo, Server};
+use git_server::{ListRepo, Outcome, Pack, Pulled, Repo, Server};
 use std::alloc::Global;
 use std::io;
 use std::io::{BufRead, BufReader, ErrorKind, Write};
@@ -42,7 +42,7 @@ fn host<R: BufRead, W: Write>(
 fn main(rt: HostRuntime) -> io::Result<ExitCode> {
     let alloc = rt.alloc();
     let packs = Packs {
-        pack: Vec::new(alloc),
+        pack: Pack::Owned(Vec::new(alloc)),
         filtered: None,
     };
     let Ok(repo) = read_repo(alloc, REPOSITORY, packs) else {

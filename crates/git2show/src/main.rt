@@ -31,7 +31,7 @@ use git_msg::{Limits, Offer, Request};
 use git_names::Format;
 use git_pkt::{Discard, LONGEST_PACKET, Recorded, Retries, RunFault};
 use git_repository::{LONGEST_LINE, Packs, RepositoryReader, TextFault};
-use git_server::{LateRepo, ListRepo, Outcome, Repo, Server, serve, write_pending};
+use git_server::{LateRepo, ListRepo, Outcome, Pack, Repo, Server, serve, write_pending};
 use git2show_lib::{ProgramFault, play, read_script, report};
 use std::alloc::{AllocError, Global};
 use std::fs::File;
@@ -293,7 +293,7 @@ fn run_serve(rt: &HostRuntime, matches: &ArgMatches<'_>) -> Result<(), Failure> 
         None => None,
     };
     let no_packs = Packs {
-        pack: Vec::new(rt.alloc()),
+        pack: Pack::Owned(Vec::new(rt.alloc())),
         filtered: None,
     };
     let lists = judge_repository(text, no_packs)?;
@@ -499,9 +499,9 @@ fn judge_script(
 
 /// Reads the pack, and then the pack for requests that have a filter, if a file is named for it.
 fn read_packs(rt: &HostRuntime, matches: &ArgMatches<'_>) -> Result<Packs, Failure> {
-    let pack = read_whole(rt, matches, "pack")?;
+    let pack = Pack::Owned(read_whole(rt, matches, "pack")?);
     let filtered = match matches.get_str("filtered") {
-        Some(_) => Some(read_whole(rt, matches, "filtered")?),
+        Some(_) => Some(Pack::Owned(read_whole(rt, matches, "filtered")?)),
         None => None,
     };
     Ok(Packs { pack, filtered })

@@ -7,7 +7,7 @@ use crate::servers::{converse, object, usual};
 use git_msg::Offer;
 use git_names::Format;
 use git_pkt::{Fault, Kind, Recorded, RunFault};
-use git_server::{Faulty, ListRepo, Outcome, Repo, Server, serve};
+use git_server::{Faulty, ListRepo, Outcome, Pack, Repo, Server, serve};
 use std::process::Abort;
 use std::test::Fail;
 
@@ -38,7 +38,7 @@ fn repository(rt: &(impl Abort + AllocGlobal), pack: Vec<u8>) -> Result<ListRepo
         objects,
         None,
         Vec::new(rt.alloc()),
-        pack,
+        Pack::Owned(pack),
         None,
         None,
     );

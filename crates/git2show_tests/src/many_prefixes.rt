@@ -3,7 +3,7 @@
 use crate::servers::{converse, object, usual};
 use git_msg::Offer;
 use git_names::Format;
-use git_server::{ListRepo, Outcome, RefEntry, Repo, Server};
+use git_server::{ListRepo, Outcome, Pack, RefEntry, Repo, Server};
 use std::alloc::{AllocError, Global};
 use std::process::Abort;
 use std::test::Fail;
@@ -41,7 +41,7 @@ fn repository(rt: &(impl Abort + AllocGlobal)) -> Result<ListRepo, Fail> {
         objects,
         None,
         boundaries,
-        Vec::new(rt.alloc()),
+        Pack::Owned(Vec::new(rt.alloc())),
         None,
         None,
     );

@@ -4,7 +4,7 @@ ghost use Rattle.std.specs.Prelude.{◌≤◌};
 
 use git_msg::{Command, Fetch, Limits, Request};
 use git_names::Format;
-use git_server::{Faulty, ListRepo, PackFault, Repo};
+use git_server::{Faulty, ListRepo, Pack, PackFault, Repo};
 use std::alloc::{AllocError, Allocator};
 use std::process::Abort;
 use std::test::Fail;
@@ -18,7 +18,7 @@ fn repository(rt: &(impl Abort + AllocGlobal)) -> Result<ListRepo, Fail> {
         Vec::new(rt.alloc()),
         None,
         Vec::new(rt.alloc()),
-        Vec::from_slice(rt.alloc(), PACK)?,
+        Pack::Lent(PACK),
         None,
         None,
     );

@@ -1,7 +1,7 @@
 //! Memory that is refused while the text of a repository is read, at each growth in turn.
 use crate::expecting::expect;
 use git_repository::{Packs, RepositoryReader, TextFault, read_repo};
-use git_server::{ListRepo, Repo, RepoMemory};
+use git_server::{ListRepo, Pack, Repo, RepoMemory};
 use std::alloc::{AllocError, Global};
 use std::cell::Cell;
 use std::process::Abort;
@@ -60,7 +60,7 @@ impl RepoMemory for &Growths {
 /// No packs.
 fn no_packs(alloc: Global) -> Packs {
     Packs {
-        pack: Vec::new(alloc),
+        pack: Pack::Owned(Vec::new(alloc)),
         filtered: None,
     }
 }

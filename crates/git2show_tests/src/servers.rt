@@ -5,7 +5,7 @@ ghost use Rattle.git_pkt.specs.Machine.Recorded.{IsNew, has_failed};
 use git_msg::{Limits, Offer};
 use git_names::{Format, Oid, Steps};
 use git_pkt::{Fault, Kind, Recorded, RunFault};
-use git_server::{ListRepo, Outcome, Pulled, RefEntry, Repo, Server, serve};
+use git_server::{ListRepo, Outcome, Pack, Pulled, RefEntry, Repo, Server, serve};
 use hex::FromHex;
 use std::alloc::{AllocError, Allocator, Global};
 use std::io::{Read, Write};
@@ -81,9 +81,9 @@ pub fn repository(rt: &(impl Abort + AllocGlobal), format: Format) -> Result<Lis
         objects,
         None,
         Vec::new(rt.alloc()),
-        pack,
+        Pack::Owned(pack),
         None,
-        Some(filtered),
+        Some(Pack::Owned(filtered)),
     );
     Ok(repo.expect(rt, "a repository"))
 }

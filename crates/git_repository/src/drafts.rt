@@ -19,7 +19,7 @@ use crate::repository_lines::{Item, LineEntry, read_item};
 use crate::text_faults::{LONGEST_LINE, LineFault, TextFault};
 use git_msg::Boundary;
 use git_names::{Format, Oid};
-use git_server::{ListRepo, RefEntry, RepoLists, RepoMemory, copy_text};
+use git_server::{ListRepo, Pack, RefEntry, RepoLists, RepoMemory, copy_text};
 use std::alloc::{AllocError, Global};
 
 /// The contents of the lines so far. At every moment they make a repository, if packs are added.
@@ -47,7 +47,7 @@ impl Draft {
                 objects: Vec::new(alloc),
                 ready_after: None,
                 boundaries: Vec::new(alloc),
-                pack: Vec::new(alloc),
+                pack: Pack::Owned(Vec::new(alloc)),
                 unborn_head: None,
                 filtered: None,
             },
@@ -212,11 +212,10 @@ impl Draft {
         ensures { lists_of result ≡ with_packs (drafted self) (packs_of packs) }
     {
         let Packs { pack, filtered } = packs;
-        ListRepo::of_lists(RepoLists {
-            pack,
-            filtered,
-            ..self.lists
-        })
+        let mut lists = self.lists;
+        lists.pack = pack;
+        lists.filtered = filtered;
+        ListRepo::of_lists(lists)
     }
 }
 

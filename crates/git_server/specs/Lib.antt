@@ -11,5 +11,6 @@ pub mod Admission
 pub mod Sessions
 pub mod NextShown
 pub mod Packs
+pub mod PackBytes
 pub mod PackCuts
 pub mod Machine

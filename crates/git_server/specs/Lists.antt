@@ -8,6 +8,8 @@ use Rattle.git_msg.specs.Asked.{FetchAsked, is_empty}
 use Rattle.git_server.specs.Repository.{Entry, IsRising, IsOfFormat, IsUnbornHead, bytes_of}
 use Rattle.git_server.specs.Objects.{AreRising, object_of}
 use Rattle.git_server.specs.declared.list_repo.RepoLists.{RepoLists}
+use Rattle.git_server.specs.declared.pack.Pack.{Pack}
+use Rattle.git_server.specs.PackBytes.{bytes_in, bytes_in_some}
 use Rattle.git_server.specs.declared.list_repo.RepoFault.{RepoFault}
 use Rattle.git_server.specs.declared.list_repo.RepoFault.TheVariants.{UnsortedRefs, UnsortedObjects, MixedFormats, UnbornHead}
 
@@ -25,18 +27,18 @@ pub record Lists : Type 0 where
   pub filtered : Option (List ℕ)
 
 module _ {A : Type 0} where
-  -- the lists in these vectors
-  abbrev pub lists_from : Format → Vec Entry A → Vec (ObjectName × ℕ) A → Option ℕ → Vec Boundary A → Vec ℕ A → Option (Vec ℕ A)
-      → Option (Vec ℕ A) → Lists
+  -- the lists in these vectors and packs
+  abbrev pub lists_from : Format → Vec Entry A → Vec (ObjectName × ℕ) A → Option ℕ → Vec Boundary A → Pack → Option (Vec ℕ A)
+      → Option Pack → Lists
   lists_from format refs objects ready_after boundaries pack unborn_head filtered = record {
     format = format;
     refs = refs.items;
     objects = objects.items;
     ready_after = ready_after;
     boundaries = boundaries.items;
-    pack = pack.items;
+    pack = bytes_in pack;
     unborn_head = bytes_of unborn_head;
-    filtered = bytes_of filtered;
+    filtered = bytes_in_some filtered;
   }
 
 abbrev pub lists_in : RepoLists → Lists

@@ -8,12 +8,14 @@ ghost use Rattle.std.specs.Option.{ForSome};
 ghost use Rattle.std.specs.Ordering.{nat_cmp};
 ghost use Rattle.std.specs.Cmp.Lexicographic.{slice_cmp};
 ghost use Rattle.git_server.specs.Lists.{IsRepository, lists_in, repo_fault_name};
+ghost use Rattle.git_server.specs.PackBytes.{bytes_in, bytes_in_some};
 ghost use Rattle.git_server.specs.Objects.{object_cmp, object_of, has_object, precedes, AreRising};
 ghost use Rattle.git_server.specs.Packs.{IsPackPart};
 ghost use Rattle.git_server.specs.Repository.{IsNamed, IsOfFormat, IsRising, IsUnbornHead, bytes_of, comes_before};
 ghost use Rattle.git_server.specs.AnnouncedBoundary.{is_deepened, is_shallow_line, is_unshallow_line, announced_lines};
 
 use crate::entry::RefEntry;
+use crate::pack::Pack;
 use crate::repo::{PackFault, Repo};
 use git_msg::{Boundary, Fetch};
 use git_names::{Format, Oid, RefName, Steps};
@@ -64,11 +66,11 @@ pub struct RepoLists {
     /// The shallow boundary.
     pub boundaries: Vec<Boundary>,
     /// The pack for each request.
-    pub pack: Vec<u8>,
+    pub pack: Pack,
     /// The name that an unborn `HEAD` points to.
     pub unborn_head: Option<Vec<u8>>,
     /// The pack for each request that has a filter, if that is a different one.
-    pub filtered: Option<Vec<u8>>,
+    pub filtered: Option<Pack>,
 }
 
 /// A repository that consists of a few lists in memory.
@@ -77,8 +79,8 @@ pub struct ListRepo {
     lists: RepoLists,
     ghost fit: { IsRepository (lists_in lists) },
     ghost named: { All (λ ref. IsNamed ref.name ref.target) lists.refs.items },
-    ghost short: { length lists.pack.items < 9223372036854775808 },
-    ghost short_filtered: { ForSome (bytes_of lists.filtered) (λ bytes. length bytes < 9223372036854775808) },
+    ghost short: { length (bytes_in lists.pack) < 9223372036854775808 },
+    ghost short_filtered: { ForSome (bytes_in_some lists.filtered) (λ bytes. length bytes < 9223372036854775808) },
 }
 
 impl ListRepo {
@@ -100,9 +102,9 @@ impl ListRepo {
         objects: Vec<(Oid, u64)>,
         ready_after: Option<u32>,
         boundaries: Vec<Boundary>,
-        pack: Vec<u8>,
+        pack: Pack,
         unborn: Option<Vec<u8>>,
-        filtered: Option<Vec<u8>>,
+        filtered: Option<Pack>,
     ) -> Result<ListRepo, RepoFault>
         ensures { let lists : Lists = lists_from format refs objects ready_after boundaries pack unborn filtered in
             MatchResult result (λ repo. (lists_of repo ≡ lists) × IsRepository lists) (λ fault. IsUnfit fault lists) }
@@ -143,12 +145,15 @@ impl ListRepo {
         ListRepo { lists }
     }
 
-    /// Replaces its packs by these.
+    /// Replaces its packs by these, which it owns.
     pub(crate) fn set_packs(&mut self, pack: Vec<u8>, filtered: Option<Vec<u8>>)
         ensures { lists_of self.new ≡ record (lists_of self.old) { pack = pack.items; filtered = bytes_of filtered } }
     {
-        self.lists.pack = pack;
-        self.lists.filtered = filtered;
+        self.lists.pack = Pack::Owned(pack);
+        self.lists.filtered = match filtered {
+            Some(bytes) => Some(Pack::Owned(bytes)),
+            None => None,
+        };
     }
 
     // The pack for a request: the filtered one, if there is one and the request has a filter.
@@ -156,11 +161,11 @@ impl ListRepo {
         ensures { result.now ≡ pack_for (lists_of self.now) request.now.asked }
     {
         if request.filter(0).is_none() {
-            return &self.lists.pack;
+            return self.lists.pack.bytes();
         }
         match &self.lists.filtered {
-            Some(filtered) => filtered,
-            None => &self.lists.pack,
+            Some(filtered) => filtered.bytes(),
+            None => self.lists.pack.bytes(),
         }
     }
 

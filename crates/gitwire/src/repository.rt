@@ -10,7 +10,7 @@ ghost use Rattle.gitwire.specs.Answers.{answering};
 use crate::answer::{GitwireAnswer, What};
 use crate::handles::{GitwireRepository, Holds, fill};
 use git_repository::{Packs, TextFault, read_repo};
-use git_server::SharedRepo;
+use git_server::{Pack, SharedRepo};
 use std::alloc::Global;
 use std::mem::replace;
 
@@ -42,6 +42,42 @@ pub extern "C" fn gitwire_repository_init_filtered(
     begin(alloc, repository, text, pack, Some(filtered))
 }
 
+/// As `gitwire_repository_init`, but `pack` is lent and never copied. C keeps it, unchanged, until the handle and every server of it are freed.
+/// No lifetime states that of what C has, so it is `'static` here.
+#[unsafe(no_mangle)]
+pub extern "C" fn gitwire_repository_init_lent(
+    alloc: Global,
+    repository: &mut GitwireRepository,
+    text: &[u8],
+    pack: &'static [u8],
+) -> GitwireAnswer
+    ensures { Begins text.now (packs_given pack.now None) result (repository_in repository.new) }
+{
+    let packs = Packs {
+        pack: Pack::Lent(pack),
+        filtered: None,
+    };
+    begin_with(alloc, repository, text, packs)
+}
+
+/// The same, but with the pack `filtered`, which is lent too, for each fetch that has a filter, and `pack` for the others.
+#[unsafe(no_mangle)]
+pub extern "C" fn gitwire_repository_init_lent_filtered(
+    alloc: Global,
+    repository: &mut GitwireRepository,
+    text: &[u8],
+    pack: &'static [u8],
+    filtered: &'static [u8],
+) -> GitwireAnswer
+    ensures { Begins text.now (packs_given pack.now (Some filtered.now)) result (repository_in repository.new) }
+{
+    let packs = Packs {
+        pack: Pack::Lent(pack),
+        filtered: Some(Pack::Lent(filtered)),
+    };
+    begin_with(alloc, repository, text, packs)
+}
+
 fn begin(
     alloc: Global,
     repository: &mut GitwireRepository,
@@ -55,6 +91,18 @@ fn begin(
     let Some(packs) = copy_packs(alloc, pack, filtered) else {
         return GitwireAnswer::of(What::OutOfMemory);
     };
+    begin_with(alloc, repository, text, packs)
+}
+
+fn begin_with(
+    alloc: Global,
+    repository: &mut GitwireRepository,
+    text: &[u8],
+    packs: Packs,
+) -> GitwireAnswer
+    ensures { Begins text.now (packs_of packs) result (repository_in repository.new) }
+{
+    *repository = GitwireRepository::none(alloc);
     let made = match read(alloc, text, packs) {
         Ok(made) => made,
         Err(answer) => return answer,
@@ -74,14 +122,14 @@ fn copy_packs(alloc: Global, pack: &[u8], filtered: Option<&[u8]>) -> Option<Pac
     };
     let Some(filtered) = filtered else {
         return Some(Packs {
-            pack,
+            pack: Pack::Owned(pack),
             filtered: None,
         });
     };
     match Vec::from_slice(alloc, filtered) {
         Ok(filtered) => Some(Packs {
-            pack,
-            filtered: Some(filtered),
+            pack: Pack::Owned(pack),
+            filtered: Some(Pack::Owned(filtered)),
         }),
         Err(_) => None,
     }

@@ -4,7 +4,7 @@ use crate::texts::copied;
 use crate::trouble::Trouble;
 use git_msg::Boundary;
 use git_names::{Format, Oid};
-use git_server::{ListRepo, RefEntry};
+use git_server::{ListRepo, Pack, RefEntry};
 use hex::FromHex;
 use std::alloc::Global;
 
@@ -99,7 +99,7 @@ pub fn made(alloc: Global, format: Format, text: &str) -> Result<String, Trouble
         boundaries,
         unborn,
     } = lists;
-    let pack = Vec::new(alloc);
+    let pack = Pack::Owned(Vec::new(alloc));
     match ListRepo::new(format, refs, objects, None, boundaries, pack, unborn, None) {
         Ok(_) => Ok(String::from_str(alloc, "taken")?),
         Err(fault) => Ok(format!(in alloc; "{fault}")?),

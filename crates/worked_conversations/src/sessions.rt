@@ -8,7 +8,7 @@ use crate::trouble::Trouble;
 use git_names::Steps;
 use git_pkt::{Fault, Recorded, RunFault};
 use git_repository::{Packs, TextFault, read_repo};
-use git_server::{Faulty, ListRepo, Outcome, Pulled, Repo, Server, serve};
+use git_server::{Faulty, ListRepo, Outcome, Pack, Pulled, Repo, Server, serve};
 use std::alloc::{AllocError, Global};
 use test_streams::Chunks;
 
@@ -49,11 +49,11 @@ pub struct Setup<'a> {
 /// The repository of a text and its packs.
 pub fn repository(alloc: Global, contents: Contents<'_>) -> Result<ListRepo, Trouble> {
     let filtered = match contents.filtered {
-        Some(filtered) => Some(copied(alloc, filtered)?),
+        Some(filtered) => Some(Pack::Owned(copied(alloc, filtered)?)),
         None => None,
     };
     let packs = Packs {
-        pack: copied(alloc, contents.pack)?,
+        pack: Pack::Owned(copied(alloc, contents.pack)?),
         filtered,
     };
     match read_repo(alloc, contents.text, packs) {

@@ -13,7 +13,7 @@ use git_msg::{Argument, Caps, Command, read_capability, read_reference};
 use git_names::{Format, Oid, RefName, Steps};
 use git_pkt::{Hold, Packet, put, text};
 use git_repository::{Packs, TextFault, read_repo};
-use git_server::Repo;
+use git_server::{Pack, Repo};
 use git2show_lib::read_script;
 use hex::ToHex;
 use std::alloc::{AllocError, Global};
@@ -242,7 +242,7 @@ fn state_reference(
 // Appends the format of a repository text, the name that its `HEAD` points to if it is unborn, and its references.
 fn state_repository(alloc: Global, lines: &mut Vec<u8>, text: &[u8]) -> Result<(), Trouble> {
     let packs = Packs {
-        pack: Vec::new(alloc),
+        pack: Pack::Owned(Vec::new(alloc)),
         filtered: None,
     };
     let repo = match read_repo(alloc, text, packs) {
