@@ -1,16 +1,17 @@
 -- A run over one reader and one writer.
-use Rattle.std.proofs.Common.{arith, ◌≡◌, ◌≢◌, ◌⊎◌, inl, inr, ℕ, zero, suc, ◌+◌, ◌-◌, ◌≤◌, ◌^◌, min, Bool, true, false, Option, Some, None, Result, Ok, Err, IfErr, IsTrue}
+use Rattle.std.proofs.Common.{arith, ◌≡◌, ◌≢◌, inl, inr, ℕ, zero, suc, ◌+◌, ◌-◌, ◌≤◌, ◌^◌, min, Bool, true, false, Option, Some, None, Result, Ok, Err, IfErr, IsTrue}
 use Rattle.std.proofs.Common.{List, [], ◌∷◌, ◌++◌, length, take, drop, take-append-drop, append_assoc, refl, sym, ap, ◌∙◌, subst}
+use Rattle.std.proofs.lemmas.List.{drop-drop, drop-take, length-take}
 use Rattle.std.specs.Io.KnownBytes.{Consumes, Keeps, prepend_known}
 use Rattle.git_pkt.specs.Machine.Engine.{FailsAs, IsShownBy, IsSpent}
-use Rattle.git_pkt.specs.Machine.Recorded.{reads_of, has_ended}
-use Rattle.git_pkt.specs.Streams.{Moves, flow, is_broken, WrittenAs}
+use Rattle.git_pkt.specs.Machine.Recorded.{IsNew, inner_of, reads_of, has_ended, has_failed, has_wasted}
+use Rattle.git_pkt.specs.Streams.{flow, WrittenAs}
 use Rattle.git_pkt.specs.declared.fault.RunFault.{RunFault}
 use Rattle.git_pkt.specs.declared.fault.RunFault.TheVariants.{ReadFault, WriteFault, ReadLimit, Refused}
 use Rattle.git_pkt.specs.declared.recorded.Recorded.{Recorded}
 use Rattle.git_loop.specs.Moves.{ended_after, given_to, used_of}
-use Rattle.git_loop.specs.Streams.{InputState, IsOpen, KeepsOthers, Sends, one_input, one_output}
-use Rattle.git_loop.specs.Machines.{EndStates, EndsRun, IsWaiting, Ran, RanOver, RunStates, States, WaitsFor}
+use Rattle.git_loop.specs.Streams.{Consumed, InputState, KeepsOthers, Sends, one_input, one_output, recorded_input, window_of}
+use Rattle.git_loop.specs.Machines.{EndStates, EndsRun, IsWaiting, RanOne, RanOver, RunStates, States, WaitsFor}
 
 -- ---- the window
 
@@ -30,6 +31,37 @@ pub window_used : (left : Option (List ℕ)) (window : List ℕ) (count : ℕ)
 window_used None window count = tt
 window_used (Some left) window count =
     ap (λ (l : List ℕ). l ++ left) (sym (take-append-drop count window)) ∙ append_assoc (take count window) (drop count window) left
+
+-- the rest of a window lies later in the memory
+window_later : (start end count : ℕ) (memory : List ℕ) → count ≤ length (window_of start end memory)
+    → window_of (start + count) end memory ≡ drop count (window_of start end memory)
+window_later start end count memory within =
+    let rest = drop start memory in
+    let later = end - (start + count) in
+    let fits : count ≤ end - start = omega (arith, within, length-take (end - start) rest) in
+    let parts : end - start ≡ count + later = omega (arith, fits) in
+    sym (ap (λ (n : ℕ). drop count (take n rest)) parts ∙ drop-take count later rest ∙ ap (take later) (drop-drop count start memory))
+
+pub window_none : (start end : ℕ) (memory : List ℕ) → end ≡ start → window_of start end memory ≡ []
+window_none start end memory same = let none : end - start ≡ 0 = omega (arith, same) in ap (λ (n : ℕ). take n (drop start memory)) none
+
+pub consumes_first : {R : Type 0} (remaining : R → Option (List ℕ)) (reader : Recorded R) (n count start end : ℕ) (memory : List ℕ) → n ≡ 0
+    → count ≤ length (one_input (recorded_input remaining reader (window_of start end memory)) n).window
+    → Consumed count (one_input (recorded_input remaining reader (window_of start end memory)) n)
+    (one_input (recorded_input remaining reader (window_of (start + count) end memory)) n)
+consumes_first remaining reader zero count start end memory first within =
+    let later = window_later start end count memory within in
+    record {
+      left = subst (λ (l : List ℕ). Consumes (prepend_known (window_of start end memory) (remaining (inner_of reader)))
+          (prepend_known l (remaining (inner_of reader))) (take count (window_of start end memory))) (sym later)
+          (window_used (remaining (inner_of reader)) (window_of start end memory) count);
+      window = later;
+      reads = refl;
+      failed = refl;
+      ended = refl;
+      wasted = refl;
+    }
+consumes_first remaining reader (suc k) count start end memory first within = absurd (cc)
 
 -- what left the stream, and what waits of it, was read
 read_all : (before after : Option (List ℕ)) (window bytes : List ℕ) → Consumes (prepend_known [] before) (prepend_known window after) bytes
@@ -65,16 +97,15 @@ flushes_first before after kept (suc k) = tt
 
 -- ---- the run
 
-module _ {M : Type 0} (states : States M) (at_end : EndStates) (one : (k : ℕ) → at_end.needs_input k → k ≡ 0) {old new : M}
-    (r₀ r₁ c₀ c₁ : Option (List ℕ)) (w : List ℕ) (n₀ n₁ : ℕ) (f₀ f₁ e₀ e₁ x₀ x₁ : Bool) where
-  abbrev first : InputState
-  first = record { left = prepend_known [] r₀; window = []; reads = n₀; failed = f₀; ended = e₀; wasted = x₀ }
-
+module _ {M R W : Type 0} (states : States M) (at_end : EndStates) (one : (k : ℕ) → at_end.needs_input k → k ≡ 0) (old new : M)
+    (remaining : R → Option (List ℕ)) (contents : W → Option (List ℕ)) (reader reader_after : Recorded R) (writer writer_after : Recorded W)
+    (v w : List ℕ) (empty : v ≡ []) where
   abbrev now : InputState
-  now = record { left = prepend_known w r₁; window = w; reads = n₁; failed = f₁; ended = e₁; wasted = x₁ }
+  now = recorded_input remaining reader_after w
 
-  abbrev pub RanOne : Result (Unit {0}) RunFault → Type 0
-  RanOne result = RanOver states at_end (λ k. k ≡ 0) result old new (one_input first) (one_input now) (one_output c₀) (one_output c₁)
+  abbrev pub OverOne : Result (Unit {0}) RunFault → Type 0
+  OverOne result = RanOver states at_end (λ k. k ≡ 0) result old new (one_input (recorded_input remaining reader v)) (one_input now)
+      (one_output (contents (inner_of writer))) (one_output (contents (inner_of writer_after)))
 
   abbrev run_states : RunStates
   run_states = record {
@@ -84,67 +115,68 @@ module _ {M : Type 0} (states : States M) (at_end : EndStates) (one : (k : ℕ) 
     stopped_short_before = states.stopped_short old 0;
   }
 
-  pub ran_wasted : (result : Result (Unit {0}) RunFault) → RanOne result → x₀ ≡ false → x₁ ≡ false
-  ran_wasted result ran fresh = (ran.went.used 0).useful ∙ fresh
+  pub ran_useful : (result : Result (Unit {0}) RunFault) → OverOne result → IsNew reader → has_wasted reader_after ≡ false
+  ran_useful result ran fresh = (ran.went.used 0).useful ∙ fresh.useful
 
-  pub ran_fails : (result : Result (Unit {0}) RunFault) → RanOne result → FailsAs result f₁ at_end.write_failed
+  pub ran_fails : (result : Result (Unit {0}) RunFault) → OverOne result → FailsAs result (has_failed reader_after) at_end.write_failed
   ran_fails (Ok done) ran = (ran.failed.0 0 refl, ran.failed.1)
   ran_fails (Err ReadFault) ran =
-      let (from, alone) = ran.failed.0 in
-      (subst (λ (n : ℕ). (one_input now n).failed ≡ true) alone.exists alone.failed, ran.failed.1)
+      let alone = ran.failed.0.1 in (subst (λ (n : ℕ). (one_input now n).failed ≡ true) alone.exists alone.failed, ran.failed.1)
   ran_fails (Err WriteFault) ran = (ran.failed.0 0 refl, ran.failed.1)
   ran_fails (Err ReadLimit) ran = (ran.failed.0 0 refl, ran.failed.1)
   ran_fails (Err (Refused fault)) ran = absurd ran.ends
 
-  module _ (turns : ℕ) (bounded : turns ≤ 2 ^ 64 - 1) (spent : at_end.spent → min (n₀ + turns) (2 ^ 64 - 1) ≤ n₁) (unread : n₀ ≡ 0)
-      (unended : e₀ ≡ false) where
-    pub ran_shown : (result : Result (Unit {0}) RunFault) → RanOne result → n₁ ≤ turns → {T : Type 0} (reader : Recorded T) → reads_of reader ≡ n₁
-        → has_ended reader ≡ e₁ → IfErr result (IsShownBy (IsTrue f₁) (IsTrue at_end.write_failed) (IsSpent reader turns))
-    ran_shown (Ok done) ran most reader reads ended = tt
-    ran_shown (Err ReadFault) ran most reader reads ended = (ran_fails (Err ReadFault) ran).0
-    ran_shown (Err WriteFault) ran most reader reads ended = (ran_fails (Err WriteFault) ran).1
-    ran_shown (Err ReadLimit) ran most reader reads ended =
-        let (from, waits, all) = ran.ends in
-        record {
-          reads = omega (arith, spent all, most, reads, unread, bounded);
-          open_ended = ended ∙ subst (λ (n : ℕ). (one_input now n).ended ≡ false) (one from waits.needs) waits.still_open;
-        }
-    ran_shown (Err (Refused fault)) ran most reader reads ended = absurd ran.ends
+  module _ (turns : ℕ) (bounded : turns ≤ 2 ^ 64 - 1) (spent : at_end.spent → min (reads_of reader + turns) (2 ^ 64 - 1) ≤ reads_of reader_after)
+      (fresh : IsNew reader) where
+    ended_so : (result : Result (Unit {0}) RunFault) (ran : OverOne result) → has_ended reader_after ≡ ended_after 0 false ran.went.trace
+    ended_so result ran = ran.went.ended 0 ∙ ap (λ (b : Bool). ended_after 0 b ran.went.trace) fresh.open_ended
 
-    ended_so : (result : Result (Unit {0}) RunFault) (ran : RanOne result) → e₁ ≡ ended_after 0 false ran.went.trace
-    ended_so result ran = ran.went.ended 0 ∙ ap (λ (b : Bool). ended_after 0 b ran.went.trace) unended
+    waits_first : (from : ℕ) → WaitsFor at_end.needs_input (one_input now) from → WaitsFor at_end.needs_input (one_input now) 0
+    waits_first from waits = subst (λ (n : ℕ). WaitsFor at_end.needs_input (one_input now) n) (one from waits.needs) waits
 
-    waits_so : (result : Result (Unit {0}) RunFault) (ran : RanOne result) (from : ℕ) → WaitsFor at_end.needs_input (one_input now) from
+    waits_so : (result : Result (Unit {0}) RunFault) (ran : OverOne result) (from : ℕ) → WaitsFor at_end.needs_input (one_input now) from
         → IsWaiting run_states w (ended_after 0 false ran.went.trace)
     waits_so result ran from waits =
-        let first_one : WaitsFor at_end.needs_input (one_input now) 0 =
-            subst (λ (n : ℕ). WaitsFor at_end.needs_input (one_input now) n) (one from waits.needs) waits in
-        record { needs_input = first_one.needs; all = first_one.all; still_open = sym (ended_so result ran) ∙ first_one.still_open }
+        let first = waits_first from waits in
+        record { needs_input = first.needs; all = first.all; still_open = sym (ended_so result ran) ∙ first.still_open }
 
-    ends_so : (result : Result (Unit {0}) RunFault) (ran : RanOne result)
+    ends_so : (result : Result (Unit {0}) RunFault) (ran : OverOne result)
         → EndsRun result run_states turns (used_of 0 ran.went.trace) w (ended_after 0 false ran.went.trace)
     ends_so (Ok done) ran = record {
       finished = ran.ends;
-      short = λ (reachable, short).
-          elim (ran.went.short reachable 0 short) [
+      short = λ h.
+          elim (ran.went.short h.0 0 h.1) [
             | inl more ↦ inl more
             | inr before ↦ inr before.0
           ];
     }
-    ends_so (Err ReadFault) ran = waits_so (Err ReadFault) ran ran.ends.0 ran.ends.1.0
+    ends_so (Err ReadFault) ran = let (from, waits, failed) = ran.ends in waits_so (Err ReadFault) ran from waits
     ends_so (Err WriteFault) ran = tt
     ends_so (Err ReadLimit) ran =
-        let waits = waits_so (Err ReadLimit) ran ran.ends.0 ran.ends.1.0 in
-        let still_open : IsOpen now = record { sound = ran.failed.0 0 refl; unended = ended_so (Err ReadLimit) ran ∙ waits.still_open } in
-        (waits, omega (arith, spent ran.ends.1.1, ((ran.went.used 0).enough still_open).1, ap length waits.all, unread, bounded))
+        let (from, waits, all) = ran.ends in
+        let first = waits_first from waits in
+        let enough = (ran.went.used 0).enough (record { sound = ran.failed.0 0 refl; unended = first.still_open }) in
+        (waits_so (Err ReadLimit) ran from waits, omega (arith, spent all, enough.1, ap length first.all, ap length empty, fresh.unread, bounded))
     ends_so (Err (Refused fault)) ran = absurd ran.ends
 
-    pub ran_one : (result : Result (Unit {0}) RunFault) → RanOne result
-        → Moves (is_broken result) (Ran states.reaches old new run_states result e₁ turns) (flow r₀ r₁ ∷ []) (flow c₀ c₁ ∷ [])
+    pub ran_shown : (result : Result (Unit {0}) RunFault) → OverOne result → reads_of reader_after ≤ turns
+        → IfErr result (IsShownBy (IsTrue (has_failed reader_after)) (IsTrue at_end.write_failed) (IsSpent reader_after turns))
+    ran_shown (Ok done) ran most = tt
+    ran_shown (Err ReadFault) ran most = (ran_fails (Err ReadFault) ran).0
+    ran_shown (Err WriteFault) ran most = (ran_fails (Err WriteFault) ran).1
+    ran_shown (Err ReadLimit) ran most =
+        let (from, waits, all) = ran.ends in
+        record { reads = omega (arith, spent all, most, fresh.unread, bounded); open_ended = (waits_first from waits).still_open }
+    ran_shown (Err (Refused fault)) ran most = absurd ran.ends
+
+    pub ran_one : (result : Result (Unit {0}) RunFault) → OverOne result
+        → RanOne remaining contents states.reaches old new run_states result turns reader reader_after writer writer_after
     ran_one result ran = record {
       used = (used_of 0 ran.went.trace ++ w) ∷ [];
       given = given_to 0 ran.went.trace ∷ [];
-      read = (read_all r₀ r₁ w (used_of 0 ran.went.trace) (ran.went.used 0).left, tt);
+      read = (read_all (remaining (inner_of reader)) (remaining (inner_of reader_after)) w (used_of 0 ran.went.trace)
+          (subst (λ (l : List ℕ). Consumes (prepend_known l (remaining (inner_of reader))) (prepend_known w (remaining (inner_of reader_after)))
+          (used_of 0 ran.went.trace)) empty (ran.went.used 0).left), tt);
       written = (ran.went.written 0, tt);
       related = record {
         trace = ran.went.trace;
@@ -152,7 +184,8 @@ module _ {M : Type 0} (states : States M) (at_end : EndStates) (one : (k : ℕ) 
         received = refl;
         sent = refl;
         reaches = ran.went.reaches;
-        whole = λ closed. let e : e₁ ≡ true = ended_so result ran ∙ closed in ((ran.went.used 0).emptied (λ h. refl) e, e);
+        whole = λ closed.
+            let ended : has_ended reader_after ≡ true = ended_so result ran ∙ closed in ((ran.went.used 0).emptied (λ h. empty) ended, ended);
         ends = ends_so result ran;
       };
     }

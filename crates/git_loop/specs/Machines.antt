@@ -1,7 +1,9 @@
 -- One loop over any machine: it reads, feeds the machine, and writes what the machine gives.
 use Rattle.std.specs.Prelude.{◌≡◌, ◌≢◌, ◌⊎◌, ℕ, ◌+◌, ◌≤◌, Bool, true, false, List, [], ◌∷◌, ◌++◌, length, Option, Some, None, Result, Ok, Err}
 use Rattle.std.specs.Io.KnownBytes.{Consumes}
-use Rattle.git_pkt.specs.Streams.{flow, is_broken, WrittenAs}
+use Rattle.git_pkt.specs.Streams.{flow, is_broken, Moves, WrittenAs}
+use Rattle.git_pkt.specs.Machine.Recorded.{inner_of, has_ended}
+use Rattle.git_pkt.specs.declared.recorded.Recorded.{Recorded}
 use Rattle.git_pkt.specs.declared.fault.RunFault.{RunFault}
 use Rattle.git_pkt.specs.declared.fault.RunFault.TheVariants.{ReadFault, WriteFault, ReadLimit, Refused}
 use Rattle.git_loop.specs.Moves.{Move, gave, ended_after, given_to, used_of}
@@ -148,3 +150,11 @@ pub record Ran {M : Type 0} (Reaches : StateRelation M) (old new : M) (states : 
   pub reaches : Reaches old trace new
   pub whole : ended_after 0 false trace ≡ true → (unused ≡ []) × (ended ≡ true)
   pub ends : EndsRun result states turns (used_of 0 trace) unused (ended_after 0 false trace)
+
+-- a run led its machine from the one state to the other, over a reader and a writer
+abbrev pub RanOne : {M R W : Type 0} → (R → Option (List ℕ)) → (W → Option (List ℕ)) → StateRelation M → M → M → RunStates
+    → Result (Unit {0}) RunFault → ℕ → Recorded R → Recorded R → Recorded W → Recorded W → Type 0
+RanOne remaining contents Reaches old new states result turns reader reader_after writer writer_after =
+    Moves (is_broken result) (Ran Reaches old new states result (has_ended reader_after) turns)
+    (flow (remaining (inner_of reader)) (remaining (inner_of reader_after)) ∷ [])
+    (flow (contents (inner_of writer)) (contents (inner_of writer_after)) ∷ [])

@@ -1,8 +1,10 @@
 -- Inputs and outputs of a run, by their numbers: how each call changes them.
-use Rattle.std.specs.Prelude.{◌≡◌, ◌≢◌, ◌||◌, ℕ, zero, suc, ◌+◌, ◌≤◌, ◌<◌, Bool, true, false, List, [], length, take, drop, Option, None, Result, Ok, Err, is_err}
-use Rattle.std.specs.Io.KnownBytes.{Consumes, Keeps}
+use Rattle.std.specs.Prelude.{◌≡◌, ◌≢◌, ◌||◌, ℕ, zero, suc, ◌+◌, ◌-◌, ◌≤◌, ◌<◌, Bool, true, false, List, [], length, take, drop, Option, None, Result, Ok, Err, is_err}
+use Rattle.std.specs.Io.KnownBytes.{Consumes, Keeps, prepend_known}
 use Rattle.git_pkt.specs.Streams.{flow, WrittenAs}
 use Rattle.git_pkt.specs.declared.fault.RunFault.{RunFault}
+use Rattle.git_pkt.specs.declared.recorded.Recorded.{Recorded}
+use Rattle.git_pkt.specs.Machine.Recorded.{inner_of, reads_of, has_failed, has_ended, has_wasted}
 
 -- an input: the bytes that are left of it, if known; those of them that were read already, which wait in its window; and what its reads
 -- returned
@@ -57,7 +59,22 @@ pub record Sends (broken : Bool) (to : ℕ) (bytes : List ℕ) (before after : �
   pub written : WrittenAs broken (flow (before to) (after to)) bytes
   pub others : KeepsOthers to before after
 
--- ---- one input or output alone, of the number 0
+-- ---- one reader or writer alone, of the number 0
+
+-- what lies in memory between two indices
+abbrev pub window_of : ℕ → ℕ → List ℕ → List ℕ
+window_of start end memory = take (end - start) (drop start memory)
+
+-- a reader, and the bytes that were read already
+abbrev pub recorded_input : {R : Type 0} → (R → Option (List ℕ)) → Recorded R → List ℕ → InputState
+recorded_input remaining reader window = record {
+  left = prepend_known window (remaining (inner_of reader));
+  window = window;
+  reads = reads_of reader;
+  failed = has_failed reader;
+  ended = has_ended reader;
+  wasted = has_wasted reader;
+}
 
 abbrev pub one_input : InputState → ℕ → InputState
 one_input input zero = input

@@ -1,11 +1,11 @@
 //! One loop over any machine: it reads, feeds the machine, and writes the pieces that the machine gives.
 
 ghost use Rattle.std.specs.Prelude.{◌≡◌, ◌≢◌, ◌≤◌, ◌<◌, ◌⊎◌, ◌||◌, ◌+◌, min, ℕ, List, Option, [], ◌∷◌, length, true, false, IsTrue, IfOk, IfErr, OnErr, OnOk, is_err, Err};
-ghost use Rattle.git_pkt.specs.Machine.Recorded.{inner_of, reads_of, has_failed, has_ended, has_wasted, IsNew};
+ghost use Rattle.git_pkt.specs.Machine.Recorded.{reads_of, has_failed, has_wasted, IsNew};
 ghost use Rattle.git_pkt.specs.Machine.Engine.{FailsAs, IsShownBy, IsSpent};
-ghost use Rattle.git_pkt.specs.Streams.{flow, is_broken, Moves};
+ghost use Rattle.git_pkt.specs.Streams.{is_broken};
 ghost use Rattle.git_loop.specs.Streams.{InputState, IsOpen, KeepsOthers};
-ghost use Rattle.git_loop.specs.Machines.{HasNothing, IsAt, Ran, RanOver, SameCalls, WaitsFor, Went};
+ghost use Rattle.git_loop.specs.Machines.{HasNothing, IsAt, RanOne, RanOver, SameCalls, WaitsFor, Went};
 
 use crate::machine::{Machine, Next};
 use crate::streams::{Inputs, OneInput, OneOutput, Outputs};
@@ -172,14 +172,12 @@ pub fn run<M: Machine, R: Read, W: Write>(
 
     ensures reads { reads_of reader.new ≤ turns }
     ensures useful { has_wasted reader.new ≡ false }
-    ensures ran { Moves (is_broken result) (Ran M.reaches machine.old machine.new (record {
+    ensures ran { RanOne R.remaining W.contents M.reaches machine.old machine.new (record {
       needs_input = M.needs_input machine.new 0;
       finished = M.finished machine.new;
       stopped_short = M.reachable machine.old × M.stopped_short machine.new 0;
       stopped_short_before = M.stopped_short machine.old 0;
-    }) result (has_ended reader.new) turns)
-        (flow (R.remaining (inner_of reader.old)) (R.remaining (inner_of reader.new)) ∷ [])
-        (flow (W.contents (inner_of writer.old)) (W.contents (inner_of writer.new)) ∷ []) }
+    }) result turns reader.old reader.new writer.old writer.new }
     ensures fault { IfErr result (IsShownBy (IsTrue (has_failed reader.new)) (IsTrue (has_failed writer.new)) (IsSpent reader.new turns)) }
     ensures failed { FailsAs result (has_failed reader.new) (has_failed writer.new) }
 {
@@ -190,5 +188,36 @@ pub fn run<M: Machine, R: Read, W: Write>(
         end: 0,
     };
     let mut output = OneOutput { writer };
-    run_streams(machine, &mut input, &mut output, turns)
+    run_one(machine, &mut input, &mut output, turns)
+}
+
+// Runs a machine over the one input and the one output that it has.
+fn run_one<M: Machine, R: Read, W: Write>(
+    machine: &mut M,
+    input: &mut OneInput<'_, R>,
+    output: &mut OneOutput<'_, W>,
+    turns: u64,
+) -> Result<(), RunFault>
+    requires one { (m : M) (k : ℕ) → M.needs_input m k → k ≡ 0 }
+    requires holds { M.holds machine.old [] }
+    requires empty { input.old.end ≡ input.old.start }
+    requires new_reader { IsNew input.old.reader.now }
+    requires sound_writer { has_failed output.old.writer.now ≡ false }
+
+    ensures reads { reads_of input.new.reader.now ≤ turns }
+    ensures useful { has_wasted input.new.reader.now ≡ false }
+    ensures ran { RanOne R.remaining W.contents M.reaches machine.old machine.new (record {
+      needs_input = M.needs_input machine.new 0;
+      finished = M.finished machine.new;
+      stopped_short = M.reachable machine.old × M.stopped_short machine.new 0;
+      stopped_short_before = M.stopped_short machine.old 0;
+    }) result turns input.old.reader.now input.new.reader.now output.old.writer.now output.new.writer.now }
+    ensures fault { IfErr result (IsShownBy (IsTrue (has_failed input.new.reader.now)) (IsTrue (has_failed output.new.writer.now))
+      (IsSpent input.new.reader.now turns)) }
+    ensures failed { FailsAs result (has_failed input.new.reader.now) (has_failed output.new.writer.now) }
+    ensures same_reader { input.new.reader.ghost_name ≡ input.old.reader.ghost_name }
+    ensures same_buffer { input.new.buffer.ghost_name ≡ input.old.buffer.ghost_name }
+    ensures same_writer { output.new.writer.ghost_name ≡ output.old.writer.ghost_name }
+{
+    run_streams(machine, input, output, turns)
 }

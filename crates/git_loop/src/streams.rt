@@ -2,9 +2,9 @@
 
 ghost use Rattle.std.specs.Prelude.{◌≡◌, ◌≢◌, ◌≤◌, ◌<◌, ◌+◌, ◌-◌, min, ◌||◌, ℕ, Bool, true, false, List, [], length, take, drop, Option, OnErr, OnOk, IfErr, is_err};
 ghost use Rattle.std.proofs.Common.{refl, ◌∙◌};
-ghost use Rattle.std.specs.Io.KnownBytes.{Keeps, prepend_known};
-ghost use Rattle.git_pkt.specs.Machine.Recorded.{inner_of, reads_of, has_failed, has_ended, has_wasted};
-ghost use Rattle.git_loop.specs.Streams.{Consumed, Fills, InputState, KeepsOthers, Sends, one_input, one_output};
+ghost use Rattle.std.specs.Io.KnownBytes.{Keeps};
+ghost use Rattle.git_pkt.specs.Machine.Recorded.{inner_of, reads_of, has_failed};
+ghost use Rattle.git_loop.specs.Streams.{Consumed, Fills, InputState, KeepsOthers, Sends, one_input, one_output, recorded_input, window_of};
 
 use git_pkt::{Recorded, RunFault, flush, receive, send};
 use std::io::{Read, Write};
@@ -100,14 +100,7 @@ pub(crate) struct OneInput<'a, R> {
 impl<'a, R: Read> Inputs for OneInput<'a, R> {
     ghost has = { λ k. k ≡ 0 };
 
-    ghost input = { λ one k. one_input (record {
-      left = prepend_known (take (one.end - one.start) (drop one.start one.buffer.now)) (R.remaining (inner_of one.reader.now));
-      window = take (one.end - one.start) (drop one.start one.buffer.now);
-      reads = reads_of one.reader.now;
-      failed = has_failed one.reader.now;
-      ended = has_ended one.reader.now;
-      wasted = has_wasted one.reader.now;
-    }) k };
+    ghost input = { λ one k. one_input (recorded_input R.remaining one.reader.now (window_of one.start one.end one.buffer.now)) k };
 
     ghost reads = { λ one. reads_of one.reader.now };
 
