@@ -1,8 +1,8 @@
 -- One call of a host's server over its store, as a move.
 use Rattle.std.proofs.Common.{◌≡◌, ℕ, Bool, true, false, List, [], ◌∷◌, Option, Some, None, refl, sym, ap, ◌∙◌, subst, append-nil}
 use Rattle.std.specs.Prelude.{Result, Ok, Err, IsSome}
-use Rattle.git_loop.specs.declared.machine.Next.{Next}
-use Rattle.git_loop.specs.declared.machine.Next.TheVariants.{Packet as GivesPacket, NeedInput as WaitsForInput, Finished as HasFinished}
+use Rattle.git_host.specs.declared.hosted.Turn.{Turn}
+use Rattle.git_host.specs.declared.hosted.Turn.TheVariants.{Packet as GivesPacket, NeedInput as WaitsForInput, Finished as HasFinished}
 use Rattle.git_msg.specs.Asked.{Asked, fetch, ls_refs, object_info}
 use Rattle.git_host.specs.HostServer.{FeedsHost, ReportsHost, StepsHost, begun_in, bytes_of, given_with, outcome_of, reads_on}
 use Rattle.git_host.specs.Questions.{Question, Reply, ask_reference}
@@ -175,21 +175,21 @@ pub step_is : {A : Type 0} (step known : HostStep) (old new : HostServer A) → 
 step_is step known old new is steps = subst (λ (x : HostStep). StepsHost old x new) is steps
 
 module _ {A S : Type 0} (begins : S → Asked → S → Type 0) (replies : S → Question → Reply → S → Type 0) (old : HostServer A) (store : S)
-    (new : HostServer A) (left : S) (result : Option Next) where
-  pub packet_step : (next : Next) → result ≡ Some next → next ≡ GivesPacket → StepsOver begins replies result old store new left
+    (new : HostServer A) (left : S) (result : Option Turn) where
+  pub packet_step : (next : Turn) → result ≡ Some next → next ≡ GivesPacket → StepsOver begins replies result old store new left
       → Reaches begins replies [] (bytes_of new) old store new left
-  packet_step next some is steps = subst (λ (o : Option Next). StepsOver begins replies o old store new left) (some ∙ ap Some is) steps
+  packet_step next some is steps = subst (λ (o : Option Turn). StepsOver begins replies o old store new left) (some ∙ ap Some is) steps
 
-  pub input_step : (next : Next) → result ≡ Some next → next ≡ WaitsForInput → StepsOver begins replies result old store new left
+  pub input_step : (next : Turn) → result ≡ Some next → next ≡ WaitsForInput → StepsOver begins replies result old store new left
       → Reaches begins replies [] [] old store new left × (reads_on new ≡ true)
-  input_step next some is steps = subst (λ (o : Option Next). StepsOver begins replies o old store new left) (some ∙ ap Some is) steps
+  input_step next some is steps = subst (λ (o : Option Turn). StepsOver begins replies o old store new left) (some ∙ ap Some is) steps
 
-  pub last_step : (next : Next) → result ≡ Some next → next ≡ HasFinished → StepsOver begins replies result old store new left
+  pub last_step : (next : Turn) → result ≡ Some next → next ≡ HasFinished → StepsOver begins replies result old store new left
       → Reaches begins replies [] [] old store new left × IsSome (outcome_of new)
-  last_step next some is steps = subst (λ (o : Option Next). StepsOver begins replies o old store new left) (some ∙ ap Some is) steps
+  last_step next some is steps = subst (λ (o : Option Turn). StepsOver begins replies o old store new left) (some ∙ ap Some is) steps
 
   pub no_step : result ≡ None → StepsOver begins replies result old store new left → Reaches begins replies [] [] old store new left
-  no_step none steps = subst (λ (o : Option Next). StepsOver begins replies o old store new left) none steps
+  no_step none steps = subst (λ (o : Option Turn). StepsOver begins replies o old store new left) none steps
 
 -- a question for a reference
 pub reference_asked : (o : Option Asked) → IsSome (question_by o Needs.Reference) → question_by o Needs.Reference ≡ Some ask_reference

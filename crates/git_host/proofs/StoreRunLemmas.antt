@@ -1,8 +1,8 @@
 -- A run of a host's server over its store: what the states at both ends mean for its session.
 use Rattle.std.proofs.Common.{◌≡◌, ◌≢◌, ℕ, Bool, true, false, List, [], ◌∷◌, ◌++◌, Option, Some, None, Result, Ok, Err, IsErrAnd, IfErr}
 use Rattle.std.proofs.Common.{◌⊎◌, inl, inr, IsSome, refl, sym, ap, ◌∙◌, append-nil, subst}
-use Rattle.std.proofs.lemmas.Grind.{flat_map-append}
-use Rattle.git_loop.specs.Machines.{EndsRun, HasFinished, IsWaiting as RunWaits, Ran, RunReaches, RunStates, StateRelation}
+use Rattle.git_loop.specs.Machines.{EndsRun, GivesPiece, HasFinished, IsWaiting as RunWaits, Ran, RunStates, StateRelation}
+use Rattle.git_loop.specs.Moves.{closed as run_closed, ended_after, gave as run_gave, used as run_used}
 use Rattle.git_pkt.specs.Streams.{Flow, Moves, is_broken}
 use Rattle.git_pkt.specs.declared.fault.RunFault.{RunFault}
 use Rattle.git_pkt.specs.declared.fault.RunFault.TheVariants.{ReadFault, WriteFault, ReadLimit, Refused as RefusedRun}
@@ -10,11 +10,11 @@ use Rattle.git_pkt.proofs.EngineLemmas.{at_fault}
 use Rattle.git_msg.specs.Asked.{Asked}
 use Rattle.git_server.specs.declared.outcome.Outcome.{Outcome}
 use Rattle.git_host.specs.HostSessions.{Facts, HostSetting}
-use Rattle.git_host.specs.HostServer.{ClosesHost, Hosts, HostsIn, outcome_of, reads_on}
+use Rattle.git_host.specs.HostServer.{ClosesHost, Hosts, HostsIn, bytes_of, outcome_of, reads_on}
 use Rattle.git_host.specs.Hosted.{left_of, server_of, store_of}
 use Rattle.git_host.specs.Questions.{Question, Reply}
-use Rattle.git_host.specs.StoreMoves.{AllMade, AllOpen, Move, Reaches, all_made_append, closed, facts_after, given_by, given_in, is_closed, over_after}
-use Rattle.git_host.specs.StoreMoves.{over_with, used_by, used_in}
+use Rattle.git_host.specs.StoreMoves.{AllOpen, Move, Reaches, ReachesBy, closed, facts_after, given_in, is_closed, over_after}
+use Rattle.git_host.specs.StoreMoves.{over_with, used_in}
 use Rattle.git_host.specs.StoreRuns.{EndsStoreRun, ServedStore, WaitsForMore}
 use Rattle.git_host.specs.declared.host_server.Phase.{Phase}
 use Rattle.git_host.specs.declared.hosted.Hosted.{Hosted}
@@ -37,56 +37,65 @@ over_all_open [] over unclosed = refl
 over_all_open (move ∷ moves) over (here, more) =
     ap (λ (b : Bool). over_after b moves) (over_open move over here) ∙ over_all_open moves over more
 
-over_append : (front back : List Move) (over : Bool) → over_after over (front ++ back) ≡ over_after (over_after over front) back
-over_append [] back over = refl
-over_append (move ∷ moves) back over = over_append moves back (over_with move over)
-
 module _ {S A : Type 0} (begins : S → Asked → S → Type 0) (replies : S → Question → Reply → S → Type 0) where
   abbrev pub HostedReaches : StateRelation (Hosted S A)
-  HostedReaches old used given new = Reaches begins replies used given (server_of old) (store_of old) (server_of new) (store_of new)
+  HostedReaches old trace new = ReachesBy begins replies trace (server_of old) (store_of old) (server_of new) (store_of new)
 
-  abbrev pub HostedCloses : Hosted S A → Hosted S A → Type 0
-  HostedCloses old new = ClosesHost (server_of old) true (server_of new) × (store_of new ≡ store_of old)
+  module _ (old new : Hosted S A) where
+    pub by_quiet : Reaches begins replies [] [] (server_of old) (store_of old) (server_of new) (store_of new) → HostedReaches old [] new
+    by_quiet reaches = record {
+      moves = reaches.moves;
+      made = reaches.made;
+      used_are = reaches.used_are;
+      given_are = reaches.given_are;
+      over_is = λ over. sym (over_all_open reaches.moves over reaches.unclosed);
+    }
 
-  -- all moves of a run, with the end of its input
-  record AllOfRun (over : Bool) (used given : List ℕ) (old new : Hosted S A) : Type 0 where
-    moves : List Move
-    made : AllMade begins replies moves (server_of old) (store_of old) (server_of new) (store_of new)
-    used_are : used ≡ used_in moves
-    given_are : given ≡ given_in moves
-    over_is : over_after false moves ≡ over
+    pub by_packet : (bytes : List ℕ) → Reaches begins replies [] bytes (server_of old) (store_of old) (server_of new) (store_of new)
+        → HostedReaches old (run_gave 0 bytes ∷ []) new
+    by_packet bytes reaches = record {
+      moves = reaches.moves;
+      made = reaches.made;
+      used_are = reaches.used_are;
+      given_are = append-nil bytes ∙ reaches.given_are;
+      over_is = λ over. sym (over_all_open reaches.moves over reaches.unclosed);
+    }
 
-  all_of_run : (over : Bool) (used given : List ℕ) (old new : Hosted S A) → RunReaches over HostedReaches HostedCloses old used given new
-      → AllOfRun over used given old new
-  all_of_run false used given old new reaches = record {
-    moves = reaches.moves;
-    made = reaches.made;
-    used_are = reaches.used_are;
-    given_are = reaches.given_are;
-    over_is = over_all_open reaches.moves false reaches.unclosed;
-  }
-  all_of_run true used given old new through =
-      let first = through.before in
-      let second = through.after in
-      let later = closed ∷ second.moves in
-      record {
-        moves = first.moves ++ later;
-        made = all_made_append begins replies first.moves later (server_of old) (store_of old) (server_of through.fed) (store_of through.fed)
-            (server_of new) (store_of new) first.made
-            (server_of through.closed, store_of through.closed, through.closes, second.made);
-        used_are = sym (append-nil used) ∙ ap (λ (l : List ℕ). l ++ []) first.used_are ∙ ap (λ (l : List ℕ). used_in first.moves ++ l) second.used_are
-            ∙ sym (flat_map-append used_by first.moves later);
-        given_are = through.parts ∙ ap (λ (l : List ℕ). l ++ through.given_after) first.given_are
-            ∙ ap (λ (l : List ℕ). given_in first.moves ++ l) second.given_are
-            ∙ sym (flat_map-append given_by first.moves later);
-        over_is = over_append first.moves later false ∙ over_all_open second.moves true second.unclosed;
-      }
+    pub gives_first : (to : ℕ) → to ≡ 0
+        → Reaches begins replies [] (bytes_of (server_of new)) (server_of old) (store_of old) (server_of new) (store_of new)
+        → GivesPiece HostedReaches (λ hosted bytes. bytes ≡ bytes_of (server_of hosted)) old to new
+    gives_first to first reaches = record {
+      bytes = bytes_of (server_of new);
+      lent = refl;
+      reaches = subst (λ (n : ℕ). HostedReaches old (run_gave n (bytes_of (server_of new)) ∷ []) new) (sym first)
+          (by_packet (bytes_of (server_of new)) reaches);
+    }
+
+    pub by_bytes : (from : ℕ) (bytes : List ℕ) → from ≡ 0
+        → Reaches begins replies bytes [] (server_of old) (store_of old) (server_of new) (store_of new) → HostedReaches old (run_used from bytes ∷ []) new
+    by_bytes from bytes first reaches = subst (λ (n : ℕ). HostedReaches old (run_used n bytes ∷ []) new) (sym first) (record {
+      moves = reaches.moves;
+      made = reaches.made;
+      used_are = append-nil bytes ∙ reaches.used_are;
+      given_are = reaches.given_are;
+      over_is = λ over. sym (over_all_open reaches.moves over reaches.unclosed);
+    })
+
+    pub by_close : (from : ℕ) → from ≡ 0 → ClosesHost (server_of old) true (server_of new) → store_of new ≡ store_of old
+        → HostedReaches old (run_closed from ∷ []) new
+    by_close from first closes kept = subst (λ (n : ℕ). HostedReaches old (run_closed n ∷ []) new) (sym first) (record {
+      moves = closed ∷ [];
+      made = (server_of new, store_of new, (closes, kept), (refl, refl));
+      used_are = refl;
+      given_are = refl;
+      over_is = λ over. refl;
+    })
 
   module _ (old new : Hosted S A) (ended : Bool) (turns : ℕ) where
     -- what a run's clauses state of the server
     abbrev pub hosted_states : RunStates
     hosted_states = record {
-      needs_input = reads_on (server_of new) ≡ true;
+      needs_input = (◌≡◌ {A = ℕ} 0 0) × (reads_on (server_of new) ≡ true);
       finished = IsSome (outcome_of (server_of new)) ⊎ (left_of new ≡ 0);
       stopped_short = Unit {0} × ⊥;
       stopped_short_before = ⊥;
@@ -94,7 +103,7 @@ module _ {S A : Type 0} (begins : S → Asked → S → Type 0) (replies : S →
 
     abbrev pub HostedRan : Result (Unit {0}) RunFault → Flow → Flow → Type 0
     HostedRan result reader writer =
-        Moves (is_broken result) (Ran HostedReaches HostedCloses old new hosted_states result ended turns) (reader ∷ []) (writer ∷ [])
+        Moves (is_broken result) (Ran HostedReaches old new hosted_states result ended turns) (reader ∷ []) (writer ∷ [])
 
     abbrev pub ServedSo : Result (Option Outcome) RunFault → Flow → Flow → Type 0
     ServedSo answer reader writer = (s : HostSetting) (before : List ℕ) (facts : List Facts) (given : List ℕ)
@@ -108,12 +117,12 @@ module _ {S A : Type 0} (begins : S → Asked → S → Type 0) (replies : S →
           → Hosts s (before ++ used_in moves) (over_after false moves) (facts_after facts moves) (given ++ given_in moves) (server_of new)
           → EndsRun result hosted_states turns (used_in moves) unused (over_after false moves)
           → EndsStoreRun s answer turns before (used_in moves) unused (over_after false moves) (facts_after facts moves) (given ++ given_in moves))
-          → Moves broken (Ran HostedReaches HostedCloses old new hosted_states result ended turns) (reader ∷ []) (writer ∷ [])
+          → Moves broken (Ran HostedReaches old new hosted_states result ended turns) (reader ∷ []) (writer ∷ [])
           → Moves broken (ServedStore begins replies s before facts given answer ended turns (server_of old) (store_of old) (server_of new)
           (store_of new)) (reader ∷ []) (writer ∷ [])
       moved_so broken result answer ends ran =
           let x = ran.related in
-          let all = all_of_run x.closed x.used x.given old new x.reaches in
+          let all = x.reaches in
           let stands = any_moves begins replies s all.moves (server_of old) (store_of old) (server_of new) (store_of new) all.made before false facts
           given h in
           record {
@@ -128,10 +137,10 @@ module _ {S A : Type 0} (begins : S → Asked → S → Type 0) (replies : S →
               received = x.received ∙ ap (λ (l : List ℕ). (l ++ x.unused) ∷ []) all.used_are;
               sent = x.sent ∙ ap (λ (l : List ℕ). l ∷ []) all.given_are;
               stands = stands;
-              whole = λ over. x.whole (sym all.over_is ∙ over);
+              whole = λ over. x.whole (all.over_is false ∙ over);
               ends = ends all.moves x.unused stands
-                  (subst (λ (b : Bool). EndsRun result hosted_states turns (used_in all.moves) x.unused b) (sym all.over_is)
-                  (subst (λ (l : List ℕ). EndsRun result hosted_states turns l x.unused x.closed) all.used_are x.ends));
+                  (subst (λ (b : Bool). EndsRun result hosted_states turns (used_in all.moves) x.unused b) (all.over_is false)
+                  (subst (λ (l : List ℕ). EndsRun result hosted_states turns l x.unused (ended_after 0 false x.trace)) all.used_are x.ends));
             };
           }
 
@@ -145,7 +154,7 @@ module _ {S A : Type 0} (begins : S → Asked → S → Type 0) (replies : S →
         answered = waits_so s (before ++ used_in moves) (over_after false moves) (facts_after facts moves) (given ++ given_in moves)
             (server_of new).stream
             (subst (λ (p : Phase A). HostsIn p s (before ++ used_in moves) (over_after false moves) (facts_after facts moves) (given ++ given_in moves)
-            (server_of new).stream (server_of new).flush) (is_reading_now (server_of new) rests.needs_input) stands.stands);
+            (server_of new).stream (server_of new).flush) (is_reading_now (server_of new) rests.needs_input.1) stands.stands);
       }
 
       -- the session ended so, or was stopped
@@ -184,9 +193,9 @@ module _ {S A : Type 0} (begins : S → Asked → S → Type 0) (replies : S →
 
     waits_after : (fault : RunFault) {reader writer : Flow} → HostedRan (Err fault) reader writer → fault ≢ WriteFault
         → reads_on (server_of new) ≡ true
-    waits_after ReadFault ran other = ran.related.ends.needs_input
+    waits_after ReadFault ran other = ran.related.ends.needs_input.1
     waits_after WriteFault ran other = absurd (other refl)
-    waits_after ReadLimit ran other = ran.related.ends.0.needs_input
+    waits_after ReadLimit ran other = ran.related.ends.0.needs_input.1
     waits_after (RefusedRun fault) ran other = absurd ran.related.ends
 
     -- the fault that `?` returns is the one that it met

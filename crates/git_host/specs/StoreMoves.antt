@@ -2,8 +2,7 @@
 use Rattle.std.specs.Prelude.{◌≡◌, ℕ, Bool, true, false, List, [], ◌∷◌, ◌++◌, flat_map, Option, Some, None, IsSome, Result, Ok, Err}
 use Rattle.std.proofs.Common.{refl, sym, ◌∙◌, ap, subst}
 use Rattle.std.proofs.lemmas.Grind.{flat_map-append}
-use Rattle.git_loop.specs.declared.machine.Next.{Next}
-use Rattle.git_loop.specs.declared.machine.Next.TheVariants.{Packet as GivesPacket, NeedInput as WaitsForInput, Finished as HasFinished}
+use Rattle.git_loop.specs.Moves.{Move as RunMove, ended_after, given_to, used_of, ended_after-append, given_to-append, used_of-append}
 use Rattle.git_msg.specs.Asked.{Asked}
 use Rattle.git_host.specs.HostLookups.{request_of}
 use Rattle.git_host.specs.HostSessions.{Facts}
@@ -12,6 +11,8 @@ use Rattle.git_host.specs.HostServer.{AcceptsHost, ClosesHost, FeedsHost, Report
 use Rattle.git_host.specs.HostServer.{outcome_of, reads_on, with_last}
 use Rattle.git_host.specs.Questions.{IsNoReport, IsReportOf, Question, Reply, question_of}
 use Rattle.git_host.specs.declared.host_server.HostServer.{HostServer}
+use Rattle.git_host.specs.declared.hosted.Turn.{Turn}
+use Rattle.git_host.specs.declared.hosted.Turn.TheVariants.{Packet as GivesPacket, NeedInput as WaitsForInput, Finished as HasFinished}
 use Rattle.git_host.specs.declared.report.HostReported.{HostReported}
 use Rattle.git_host.specs.declared.report.HostReported.TheVariants.{Packet as WasGiven, Taken, Hidden}
 use Rattle.git_host.specs.declared.report.HostStep.{HostStep}
@@ -69,6 +70,10 @@ facts_after facts (move ∷ moves) = facts_after (facts_with move facts) moves
 abbrev pub over_after : Bool → List Move → Bool
 over_after over [] = over
 over_after over (move ∷ moves) = over_after (over_with move over) moves
+
+over_append : (front back : List Move) (over : Bool) → over_after over (front ++ back) ≡ over_after (over_after over front) back
+over_append [] back over = refl
+over_append (move ∷ moves) back over = over_append moves back (over_with move over)
 
 -- the input did not end in them
 abbrev pub is_closed : Move → Bool
@@ -228,8 +233,32 @@ module _ {A : Type 0} where
           ∙ sym (flat_map-append given_by first.moves second.moves);
     }
 
+    -- moves lead from the one state to the other, and use, send and end what those of a run do
+    pub record ReachesBy (trace : List RunMove) (old : HostServer A) (store : S) (new : HostServer A) (left : S) : Type 0 where
+      pub moves : List Move
+      pub made : AllMade moves old store new left
+      pub used_are : used_of 0 trace ≡ used_in moves
+      pub given_are : given_to 0 trace ≡ given_in moves
+      pub over_is : (over : Bool) → ended_after 0 over trace ≡ over_after over moves
+
+    pub by_itself : (server : HostServer A) (store : S) → ReachesBy [] server store server store
+    by_itself server store = record { moves = []; made = (refl, refl); used_are = refl; given_are = refl; over_is = λ over. refl }
+
+    pub by_further : (old : HostServer A) (store : S) (middle : HostServer A) (then : S) (new : HostServer A) (left : S) (t u : List RunMove)
+        → ReachesBy t old store middle then → ReachesBy u middle then new left → ReachesBy (t ++ u) old store new left
+    by_further old store middle then new left t u first second = record {
+      moves = first.moves ++ second.moves;
+      made = all_made_append first.moves second.moves old store middle then new left first.made second.made;
+      used_are = used_of-append 0 t u ∙ ap (λ (l : List ℕ). l ++ used_of 0 u) first.used_are
+          ∙ ap (λ (l : List ℕ). used_in first.moves ++ l) second.used_are ∙ sym (flat_map-append used_by first.moves second.moves);
+      given_are = given_to-append 0 t u ∙ ap (λ (l : List ℕ). l ++ given_to 0 u) first.given_are
+          ∙ ap (λ (l : List ℕ). given_in first.moves ++ l) second.given_are ∙ sym (flat_map-append given_by first.moves second.moves);
+      over_is = λ over. ended_after-append 0 over t u ∙ second.over_is (ended_after 0 over t)
+          ∙ ap (λ (b : Bool). over_after b second.moves) (first.over_is over) ∙ sym (over_append first.moves second.moves over);
+    }
+
     -- what a step of a host's server over its store does, by what it returns
-    abbrev pub StepsOver : Option Next → HostServer A → S → HostServer A → S → Type 0
+    abbrev pub StepsOver : Option Turn → HostServer A → S → HostServer A → S → Type 0
     StepsOver (Some GivesPacket) old store new left = Reaches [] (bytes_of new) old store new left
     StepsOver (Some WaitsForInput) old store new left = Reaches [] [] old store new left × (reads_on new ≡ true)
     StepsOver (Some HasFinished) old store new left = Reaches [] [] old store new left × IsSome (outcome_of new)

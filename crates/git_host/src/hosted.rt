@@ -6,7 +6,6 @@ use crate::asking::{answer_need, begin};
 use crate::host_server::HostServer;
 use crate::report::{HostStep, LONGEST_PART};
 use crate::store::Store;
-use git_loop::Next;
 use git_msg::{Limits, Memory, Offer};
 use git_names::Steps;
 use git_server::Outcome;
@@ -25,6 +24,14 @@ pub struct Hosted<S, A: Allocator + Copy> {
     // Where the bytes of a reply lie.
     buffer: [u8; LONGEST_PART],
     ghost session: { ∥ IsOfAHost server ∥₁ },
+}
+
+// What a server over its store does next.
+#[derive(Clone, Copy, Debug)]
+pub(crate) enum Turn {
+    Packet,
+    NeedInput,
+    Finished,
 }
 
 impl<S: Store, A: Allocator + Copy> Hosted<S, A> {
@@ -78,13 +85,13 @@ impl<S: Store, A: Allocator + Copy> Hosted<S, A> {
     }
 
     // Goes on to the next packet, by as many questions as that takes.
-    pub(crate) fn go_on(&mut self) -> Next
-        ensures packet { result ≡ Next.Packet
+    pub(crate) fn go_on(&mut self) -> Turn
+        ensures packet { result ≡ Turn.Packet
             → Reaches S.begins S.replies [] (bytes_of (server_of self.new)) (server_of self.old) (store_of self.old) (server_of self.new) (store_of self.new) }
-        ensures fewer { result ≡ Next.Packet → left_of self.new < left_of self.old }
-        ensures needs_input { result ≡ Next.NeedInput → (reads_on (server_of self.new) ≡ true)
+        ensures fewer { result ≡ Turn.Packet → left_of self.new < left_of self.old }
+        ensures needs_input { result ≡ Turn.NeedInput → (reads_on (server_of self.new) ≡ true)
             × Reaches S.begins S.replies [] [] (server_of self.old) (store_of self.old) (server_of self.new) (store_of self.new) }
-        ensures finished { result ≡ Next.Finished → (IsSome (outcome_of (server_of self.new)) ⊎ (left_of self.new ≡ 0))
+        ensures finished { result ≡ Turn.Finished → (IsSome (outcome_of (server_of self.new)) ⊎ (left_of self.new ≡ 0))
             × Reaches S.begins S.replies [] [] (server_of self.old) (store_of self.old) (server_of self.new) (store_of self.new) }
         ensures over { is_over (server_of self.old) ≡ true → is_over (server_of self.new) ≡ true }
     {
@@ -95,26 +102,26 @@ impl<S: Store, A: Allocator + Copy> Hosted<S, A> {
                 None => {}
             }
         }
-        Next::Finished
+        Turn::Finished
     }
 
     // Takes one step of the server, and asks the store what that needs. None if nothing came of it yet.
-    fn step(&mut self) -> Option<Next>
+    fn step(&mut self) -> Option<Turn>
         ensures left { left_of self.new ≡ left_of self.old }
         ensures steps { StepsOver S.begins S.replies result (server_of self.old) (store_of self.old) (server_of self.new) (store_of self.new) }
         ensures over { is_over (server_of self.old) ≡ true → is_over (server_of self.new) ≡ true }
     {
         match self.server.next() {
-            HostStep::Packet => Some(Next::Packet),
-            HostStep::NeedInput => Some(Next::NeedInput),
-            HostStep::Ended(_) => Some(Next::Finished),
+            HostStep::Packet => Some(Turn::Packet),
+            HostStep::NeedInput => Some(Turn::NeedInput),
+            HostStep::Ended(_) => Some(Turn::Finished),
             HostStep::Asked => {
                 begin(&mut self.server, &mut self.store);
                 None
             }
             HostStep::Need(need) => {
                 if answer_need(&mut self.server, &mut self.store, &mut self.buffer, need) {
-                    return Some(Next::Packet);
+                    return Some(Turn::Packet);
                 }
                 None
             }

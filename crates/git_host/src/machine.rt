@@ -2,58 +2,65 @@
 
 ghost use Rattle.std.specs.Prelude.{◌≡◌, ◌⊎◌, true, IsSome};
 ghost use Rattle.git_host.specs.Hosted.{left_of, server_of, store_of};
-ghost use Rattle.git_host.specs.HostServer.{ClosesHost, bytes_of, outcome_of, reads_on};
+ghost use Rattle.git_host.specs.HostServer.{bytes_of, outcome_of, reads_on};
 ghost use Rattle.git_host.specs.HostStates.{is_over, over_reads_none};
-ghost use Rattle.git_host.specs.StoreMoves.{Reaches, reaches_further, reaches_itself};
+ghost use Rattle.git_host.specs.StoreMoves.{ReachesBy, by_further, by_itself};
 
-use crate::hosted::Hosted;
+use crate::hosted::{Hosted, Turn};
 use crate::store::Store;
 use git_loop::{Machine, Next};
 use git_msg::Memory;
 
 impl<S: Store, A: Memory + Copy> Machine for Hosted<S, A> {
-    ghost reaches = { λ old used given new.
-        Reaches S.begins S.replies used given (server_of old) (store_of old) (server_of new) (store_of new) };
+    ghost reaches = { λ old trace new. ReachesBy S.begins S.replies trace (server_of old) (store_of old) (server_of new) (store_of new) };
 
-    ghost closes = { λ old new. ClosesHost (server_of old) true (server_of new) × (store_of new ≡ store_of old) };
+    ghost holds = { λ hosted fed. Unit {0} };
 
-    ghost lends = { λ hosted bytes. bytes ≡ bytes_of (server_of hosted) };
+    ghost lends = { λ hosted fed bytes. bytes ≡ bytes_of (server_of hosted) };
 
-    ghost packets_left = { λ hosted. left_of hosted };
+    ghost pieces_left = { λ hosted. left_of hosted };
 
-    ghost needs_input = { λ hosted. reads_on (server_of hosted) ≡ true };
+    ghost needs_input = { λ hosted k. (k ≡ 0) × (reads_on (server_of hosted) ≡ true) };
 
-    ghost done_with_input = { λ hosted. is_over (server_of hosted) ≡ true };
+    ghost done_with = { λ hosted k. is_over (server_of hosted) ≡ true };
 
-    ghost stopped_short = { λ hosted. ⊥ };
+    ghost stopped_short = { λ hosted k. ⊥ };
 
     ghost finished = { λ hosted. IsSome (outcome_of (server_of hosted)) ⊎ (left_of hosted ≡ 0) };
 
     ghost reachable = { λ hosted. Unit {0} };
 
-    ghost reaches_itself = { λ hosted. reaches_itself S.begins S.replies (server_of hosted) (store_of hosted) };
+    ghost reaches_itself = { λ hosted. by_itself S.begins S.replies (server_of hosted) (store_of hosted) };
 
-    ghost reaches_further = { λ old middle new u g v h first second.
-        reaches_further S.begins S.replies (server_of old) (store_of old) (server_of middle) (store_of middle) (server_of new) (store_of new) u v g h
+    ghost reaches_further = { λ old middle new t u first second.
+        by_further S.begins S.replies (server_of old) (store_of old) (server_of middle) (store_of middle) (server_of new) (store_of new) t u
         first second };
 
-    ghost stays_reachable = { λ old new u g reaches before. tt };
+    ghost stays_reachable = { λ old new t reaches before. tt };
 
-    ghost done_needs_none = { λ hosted needs done. over_reads_none (server_of hosted) needs done };
+    ghost done_needs_none = { λ hosted k needs done. over_reads_none (server_of hosted) needs.1 done };
 
-    fn next(&mut self) -> Next {
-        self.go_on()
+    ghost short_needs_none = { λ hosted k needs short. short };
+
+    ghost needing_holds_none = { λ hosted k needs. tt };
+
+    fn next(&mut self, fed: &[u8]) -> Next {
+        match self.go_on() {
+            Turn::Packet => Next::Piece(0),
+            Turn::NeedInput => Next::NeedInput(0),
+            Turn::Finished => Next::Finished,
+        }
     }
 
-    fn packet(&self) -> &[u8] {
+    fn piece<'a>(&'a self, fed: &'a [u8]) -> &'a [u8] {
         self.given()
     }
 
-    fn feed(&mut self, chunk: &[u8]) -> usize {
+    fn feed(&mut self, from: u8, chunk: &[u8]) -> usize {
         self.take(chunk)
     }
 
-    fn close(&mut self) {
+    fn close(&mut self, from: u8) {
         self.end()
     }
 }

@@ -1,1 +1,3 @@
+pub mod OneStream
+pub mod Numbers
 pub mod RunLemmas

@@ -1,235 +1,303 @@
 -- A run of a machine, one call after another.
-use Rattle.std.proofs.Common.{arith, ◌≡◌, ℕ, ◌+◌, ◌-◌, ◌≤◌, ◌<◌, Bool, true, false, Option, Result, Err, IsErrAnd, OnErr}
-use Rattle.std.proofs.Common.{List, [], ◌∷◌, ◌++◌, length, length-drop, take, drop, take-append-drop, append_assoc, append-nil}
+use Rattle.std.proofs.Common.{arith, ◌≡◌, ◌≢◌, ◌⊎◌, inl, inr, ℕ, ◌+◌, ◌≤◌, ◌<◌, Bool, true, false, Option, Some, None, Result, Ok, Err, IsErrAnd, OnErr, ◌||◌, eqb}
+use Rattle.std.proofs.Common.{List, [], ◌∷◌, ◌++◌, length, length-drop, take, drop, length-append, append_assoc, append-nil}
 use Rattle.std.proofs.Common.{refl, sym, ap, ◌∙◌, subst}
+use Rattle.std.proofs.lemmas.Bool.{eqb-true, eqb-false}
+use Rattle.std.proofs.Math.Seq.{drop-nil}
+use Rattle.std.proofs.lemmas.List.{length-take-le}
 use Rattle.std.specs.Io.KnownBytes.{Consumes, Keeps}
-use Rattle.std.proofs.KnownBytes.{Consumes-nil}
-use Rattle.git_pkt.specs.Streams.{Flow, flow, WrittenAs, Moves, is_broken}
+use Rattle.std.proofs.KnownBytes.{Consumes-nil, Consumes-trans, Consumes-kept}
+use Rattle.git_pkt.specs.Streams.{flow, WrittenAs}
 use Rattle.git_pkt.specs.declared.fault.RunFault.{RunFault}
-use Rattle.git_pkt.proofs.EngineLemmas.{written_nothing, written_then, written_flushed, at_fault, brings_more}
-use Rattle.git_pkt.proofs.EngineLemmas.{Moved, moved_nothing, moved_flushed, moved_on, moves}
-use Rattle.git_pkt.proofs.Chunks.{left_of, take_joined}
-use Rattle.git_loop.specs.Machines.{StateRelation, RunStates, EndsRun, IsAt, Ran, Writes, WritesEnd, WritesPart}
-
--- a machine that needs no input has finished
-pub at_its_end : (over : Bool) {needs_input finished : Type 0} → IsAt over needs_input finished → (needs_input → ⊥) → finished
-at_its_end true at not = at
-at_its_end false at not = absurd (not at)
+use Rattle.git_pkt.proofs.EngineLemmas.{written_nothing, written_then, written_flushed, written_whole, at_fault}
+use Rattle.git_loop.specs.Moves.{Move, closed, gave, used, ended_after, given_to, used_of, ended_after-append, given_to-append, used_of-append}
+use Rattle.git_loop.specs.Streams.{Consumed, Fills, InputState, IsOpen, KeepsOthers, Sends, found_end}
+use Rattle.git_loop.specs.Machines.{AreSound, EndStates, FailedAlone, GivesPiece, IsAt, RanOver, SameCalls, States, Uses, Went}
+use Rattle.git_loop.proofs.Numbers.{at_number, over_number}
 
 -- the fault that `?` returns is the one that it met
 pub on_err_at : {T : Type 0} (r : Result T RunFault) (fault : RunFault) (P : Type 0) → IsErrAnd r (λ e. e ≡ fault) → P → OnErr r P
 on_err_at {T} r fault P met holds = at_fault r fault fault (λ (x : Result T RunFault). OnErr x P) refl met holds
 
--- a read of no bytes took none
-pub read_nothing : (before after : Option (List ℕ)) (n : ℕ) (buffer : List ℕ) → n ≡ 0 → Consumes before after (take n buffer)
-    → Consumes before after []
-read_nothing before after n buffer none read = subst (λ (k : ℕ). Consumes before after (take k buffer)) none read
+pub ran_at : {M : Type 0} {states : States M} {at_end : EndStates} {has : ℕ → Type 0} (met : RunFault) {result : Result (Unit {0}) RunFault}
+    {fault : RunFault} {old new : M} {first now : ℕ → InputState} {before after : ℕ → Option (List ℕ)} → fault ≡ met
+    → IsErrAnd result (λ e. e ≡ fault) → RanOver states at_end has (Err met) old new first now before after
+    → RanOver states at_end has result old new first now before after
+ran_at {M} {states} {at_end} {has} met {result} {fault} {old} {new} {first} {now} {before} {after} named returned ran =
+    at_fault result fault met (λ (r : Result (Unit {0}) RunFault). RanOver states at_end has r old new first now before after) named returned ran
 
--- the laws of a machine that join its calls
-abbrev pub ReachesItself : {M : Type 0} → StateRelation M → Type 0
-ReachesItself {M} Reaches = (m : M) → Reaches m [] [] m
+or-false : (b : Bool) → (b || false) ≡ b
+or-false true = refl
+or-false false = refl
 
-abbrev pub ReachesFurther : {M : Type 0} → StateRelation M → Type 0
-ReachesFurther {M} Reaches =
-    (old middle new : M) (u g v h : List ℕ) → Reaches old u g middle → Reaches middle v h new → Reaches old (u ++ v) (g ++ h) new
+or-true : (b : Bool) → (b || true) ≡ true
+or-true true = refl
+or-true false = refl
 
-module _ {M : Type 0} {Reaches : StateRelation M} where
-  -- nothing was written yet
-  pub writes_nothing : ReachesItself Reaches → (m : M) (held : Option (List ℕ)) → Writes Reaches false m m [] (flow held held)
-  writes_nothing itself m held = record { given = []; written = written_nothing held; reaches = itself m }
+-- one while the machine needs input
+abbrev pub if_needed : Option ℕ → ℕ
+if_needed (Some from) = 1
+if_needed None = 0
 
-  -- all of it is a front of it
-  pub all_in_part : (broken : Bool) {old new : M} {bytes : List ℕ} {writer : Flow} → Writes Reaches broken old new bytes writer
-      → WritesPart Reaches broken old new bytes writer
-  all_in_part broken {old} {new} {bytes} writes = record { used = bytes; unused = []; parts = sym (append-nil bytes); writes = writes }
+-- a turn used bytes that wait, or no input is needed after it
+pub turn_less : (next : Option ℕ) (old now count : ℕ) → now + count ≡ old → (0 < count) ⊎ (if_needed next ≡ 0) → now + if_needed next < old + 1
+turn_less (Some from) old now count uses (inl some) = omega (arith, uses, some)
+turn_less None old now count uses (inl some) = omega (arith, uses, some)
+turn_less next old now count uses (inr none) = omega (arith, uses, none)
 
-  module _ {old new : M} {before held after : Option (List ℕ)} where
-    -- the writer was flushed, or failed in that
-    pub flushed : (broken : Bool) {bytes : List ℕ} → Writes Reaches false old new bytes (flow before held) → Keeps held after
-        → Writes Reaches broken old new bytes (flow before after)
-    flushed broken writes kept = record {
-      given = writes.given;
-      written = written_flushed broken before held after writes.given writes.written kept;
-      reaches = writes.reaches;
-    }
+pub none_needed : (next : Option ℕ) (needs_input : ℕ → Type 0) (finished : Type 0) → IsAt next needs_input finished → ((k : ℕ) → needs_input k → ⊥)
+    → if_needed next ≡ 0
+none_needed (Some from) needs_input finished at none = absurd (none from at)
+none_needed None needs_input finished at none = refl
 
-    pub part_flushed : (broken : Bool) {bytes : List ℕ} → WritesPart Reaches false old new bytes (flow before held) → Keeps held after
-        → WritesPart Reaches broken old new bytes (flow before after)
-    part_flushed broken part kept = record {
-      used = part.used;
-      unused = part.unused;
-      parts = part.parts;
-      writes = flushed broken part.writes kept;
-    }
+-- bytes of an input were used, and no read was made
+pub calls_consumed : (from count : ℕ) {first mid now : ℕ → InputState} → ((k : ℕ) → SameCalls (first k) (mid k))
+    → Consumed count (mid from) (now from) → KeepsOthers from mid now → (k : ℕ) → SameCalls (first k) (now k)
+calls_consumed from count {first} {mid} {now} so_far consumed others k = over_number k from true (λ (b : Bool). SameCalls (first k) (now k))
+    (λ here. subst (λ (n : ℕ). SameCalls (first n) (now n)) (sym here)
+    (record { failed = consumed.failed ∙ (so_far from).failed; ended = consumed.ended ∙ (so_far from).ended }))
+    (λ other. subst (λ (i : InputState). SameCalls (first k) i) (sym (others k other)) (so_far k))
 
-    pub end_flushed : {short : Type 0} {bytes : List ℕ} → WritesEnd Reaches short old new bytes (flow before held) → Keeps held after
-        → WritesEnd Reaches short old new bytes (flow before after)
-    unfolding part_flushed
-    end_flushed end kept = record { part = part_flushed false end.part kept; short = end.short }
+-- ---- what each input knows of its reads
 
--- how a run led a machine from its first state to its last
-abbrev pub RunEnds : {M : Type 0} → StateRelation M → (M → M → Type 0) → M → M → RunStates → Bool → ℕ → Result (Unit {0}) RunFault → Flow → Flow
-    → Type 0
-RunEnds Reaches Closes first new states ended turns result reader writer =
-    Moves (is_broken result) (Ran Reaches Closes first new states result ended turns) (reader ∷ []) (writer ∷ [])
+pub sound_so : {has : ℕ → Type 0} {first now : ℕ → InputState} → ((k : ℕ) → SameCalls (first k) (now k)) → AreSound has first → AreSound has now
+sound_so calls sound k exists = (calls k).failed ∙ sound k exists
 
--- these calls led the machine on, and so many reads brought their bytes
-abbrev pub After : {M : Type 0} → StateRelation M → ℕ → M → M → List ℕ → List ℕ → Type 0
-After Reaches count old new used given = Reaches old used given new × (count ≤ length used)
+-- a read of the input of this number left it sound
+pub sound_read : {has : ℕ → Type 0} {first now : ℕ → InputState} (from : ℕ) → (now from).failed ≡ ((first from).failed || false)
+    → KeepsOthers from first now → AreSound has first → AreSound has now
+sound_read {has} {first} {now} from failed others sound k exists = over_number k from true (λ (b : Bool). (now k).failed ≡ false)
+    (λ here. subst (λ (n : ℕ). (now n).failed ≡ false) (sym here)
+    (failed ∙ or-false (first from).failed ∙ sound from (subst has here exists)))
+    (λ other. ap (λ (i : InputState). i.failed) (others k other) ∙ sound k exists)
 
-module _ {M : Type 0} {Reaches : StateRelation M} (further : ReachesFurther Reaches) where
-  -- what a call gave was written after what was written before, as far as that went
-  pub writes_more : (broken : Bool) (old middle new : M) (u v h : List ℕ) {before held after : Option (List ℕ)}
-      → Writes Reaches false old middle u (flow before held) → WrittenAs broken (flow held after) h → Reaches middle v h new
-      → Writes Reaches broken old new (u ++ v) (flow before after)
-  writes_more broken old middle new u v h {before} {held} {after} so_far written reaches = record {
-    given = so_far.given ++ h;
-    written = written_then broken before held after so_far.given h so_far.written written;
-    reaches = further old middle new u so_far.given v h so_far.reaches reaches;
+-- or it failed, alone
+pub failed_alone : {has : ℕ → Type 0} {first now : ℕ → InputState} (from : ℕ) → has from → (now from).failed ≡ ((first from).failed || true)
+    → KeepsOthers from first now → AreSound has first → FailedAlone has now from
+failed_alone {has} {first} {now} from exists failed others sound = record {
+  exists = exists;
+  failed = failed ∙ or-true (first from).failed;
+  others = λ k here other. ap (λ (i : InputState). i.failed) (others k other) ∙ sound k here;
+}
+
+-- the machine is done with each input that has ended
+abbrev pub EndsKnown : (ℕ → Type 0) → (ℕ → InputState) → (ℕ → Type 0) → Type 0
+EndsKnown has inputs done = (k : ℕ) → has k → (inputs k).ended ≡ true → done k
+
+pub known_so : {has done after : ℕ → Type 0} {first now : ℕ → InputState} → ((k : ℕ) → SameCalls (first k) (now k)) → ((k : ℕ) → done k → after k)
+    → EndsKnown has first done → EndsKnown has now after
+known_so calls goes known k exists ended = goes k (known k exists (sym (calls k).ended ∙ ended))
+
+pub known_read : {has done after : ℕ → Type 0} {first now : ℕ → InputState} (from : ℕ) → ((now from).ended ≡ true → after from)
+    → KeepsOthers from first now → ((k : ℕ) → done k → after k) → EndsKnown has first done → EndsKnown has now after
+known_read {has} {done} {after} {first} {now} from found others goes known k exists ended = over_number k from true (λ (b : Bool). after k)
+    (λ here. subst after (sym here) (found (subst (λ (n : ℕ). (now n).ended ≡ true) here ended)))
+    (λ other. goes k (known k exists (sym (ap (λ (i : InputState). i.ended) (others k other)) ∙ ended)))
+
+-- before the first read no input has ended
+pub known_first : {has : ℕ → Type 0} (done : ℕ → Type 0) {first now : ℕ → InputState} → ((k : ℕ) → SameCalls (first k) (now k)) → ((k : ℕ) → has k → IsOpen (first k))
+    → EndsKnown has now done
+known_first done calls unended k exists ended =
+    let e : true ≡ false = sym ended ∙ (calls k).ended ∙ (unended k exists).unended in absurd (cc)
+
+pub not_ended : (b : Bool) → (b ≡ true → ⊥) → b ≡ false
+not_ended true not = absurd (not refl)
+not_ended false not = refl
+
+-- ---- an input
+
+uses_nothing : (input : InputState) → Uses input input []
+uses_nothing input = record { left = Consumes-nil input.left; useful = refl; enough = λ o. (o, omega arith); emptied = λ e. e }
+
+uses_then : {a b c : InputState} {u v : List ℕ} → Uses a b u → Uses b c v → Uses a c (u ++ v)
+uses_then {a} {b} {c} {u} {v} first second = record {
+  left = Consumes-trans a.left b.left c.left u v first.left second.left;
+  useful = second.useful ∙ first.useful;
+  enough = λ o.
+      let (middle, later) = second.enough o in
+      let (start, before) = first.enough middle in
+      (start, omega (arith, later, before, length-append u v));
+  emptied = λ e. second.emptied (first.emptied e);
+}
+
+uses_consumed : {old new : InputState} (count : ℕ) → count ≤ length old.window → Consumed count old new → Uses old new (take count old.window)
+uses_consumed {old} {new} count within consumed = record {
+  left = consumed.left;
+  useful = consumed.wasted;
+  enough = λ o. (record { sound = sym consumed.failed ∙ o.sound; unended = sym consumed.ended ∙ o.unended },
+      omega (arith, consumed.reads, ap length consumed.window, length-drop count old.window, length-take-le count old.window within));
+  emptied = λ e ended. consumed.window ∙ ap (drop count) (e (sym consumed.ended ∙ ended)) ∙ drop-nil count;
+}
+
+-- a read of an input that had not ended
+uses_filled : {old new : InputState} (result : Result Bool RunFault) → old.window ≡ [] → old.ended ≡ false → Fills result old new → Uses old new []
+uses_filled {old} {new} result empty unended fills = record {
+  left = Consumes-kept old.left old.left new.left [] (Consumes-nil old.left) fills.kept;
+  useful = fills.wasted ∙ ap (λ (b : Bool). old.wasted || b) unended ∙ or-false old.wasted;
+  enough = filled result fills;
+  emptied = emptied result fills;
+}
+  where
+    filled : (result : Result Bool RunFault) → Fills result old new → IsOpen new
+        → IsOpen old × (new.reads + length old.window ≤ old.reads + 0 + length new.window)
+    filled (Ok true) fills o =
+        (record { sound = sym (or-false old.failed) ∙ sym fills.failed ∙ o.sound; unended = unended },
+        omega (arith, fills.counted, fills.brings, ap length empty))
+    filled (Ok false) fills o = let e : true ≡ false = sym (or-true old.ended) ∙ sym fills.ended ∙ o.unended in absurd (cc)
+    filled (Err fault) fills o = let e : true ≡ false = sym (or-true old.failed) ∙ sym fills.failed ∙ o.sound in absurd (cc)
+
+    emptied : (result : Result Bool RunFault) → Fills result old new → (old.ended ≡ true → old.window ≡ []) → new.ended ≡ true → new.window ≡ []
+    emptied (Ok true) fills e ended = let e : false ≡ true = sym (fills.ended ∙ or-false old.ended ∙ unended) ∙ ended in absurd (cc)
+    emptied (Ok false) fills e ended = fills.brings
+    emptied (Err fault) fills e ended = fills.brings
+
+module _ {M : Type 0} (states : States M) where
+  -- a call that used and gave nothing
+  pub went_quiet : {old new : M} (inputs : ℕ → InputState) (held : ℕ → Option (List ℕ)) → states.reaches old [] new
+      → ((k : ℕ) → states.done_with old k → states.done_with new k) → ((k : ℕ) → states.stopped_short new k → states.stopped_short old k)
+      → Went states false old new inputs inputs held held
+  went_quiet inputs held reaches done short = record {
+    trace = [];
+    reaches = reaches;
+    used = λ k. uses_nothing (inputs k);
+    ended = λ k. refl;
+    written = λ k. written_nothing (held k);
+    done = done;
+    short = λ r k s. inr (short k s, refl);
   }
 
-  -- a front of the chunk was used, and what the machine sent for a further part of it was written, as far as that went
-  module _ {old middle fed new : M} {before held after : Option (List ℕ)} (bytes : List ℕ) (done used : ℕ) (within : done ≤ length bytes)
-      (so_far : Writes Reaches false old middle (take done bytes) (flow before held))
-      (feeds : Reaches middle (take used (take (length bytes - done) (drop done bytes))) [] fed) where
-    pub fed_on : (broken : Bool) → Writes Reaches broken fed new [] (flow held after)
-        → Writes Reaches broken old new (take (done + used) bytes) (flow before after)
-    fed_on broken writes =
-        let fed_so_far : Writes Reaches false old fed (take (done + used) bytes) (flow before held) =
-        subst (λ (l : List ℕ). Writes Reaches false old fed l (flow before held)) (take_joined bytes done used within)
-        (writes_more false old middle fed (take done bytes) _ [] so_far (written_nothing held) feeds) in
-        subst (λ (l : List ℕ). Writes Reaches broken old new l (flow before after)) (append-nil (take (done + used) bytes))
-        (writes_more broken old fed new (take (done + used) bytes) [] writes.given fed_so_far writes.written writes.reaches)
+  pub went_nothing : ((m : M) → states.reaches m [] m) → (m : M) (inputs : ℕ → InputState) (held : ℕ → Option (List ℕ))
+      → Went states false m m inputs inputs held held
+  went_nothing itself m inputs held = went_quiet inputs held (itself m) (λ k d. d) (λ k s. s)
 
-    pub fed_part : (broken : Bool) → Writes Reaches broken fed new [] (flow held after) → WritesPart Reaches broken old new bytes (flow before after)
-    fed_part broken writes = record {
-      used = take (done + used) bytes;
-      unused = drop (done + used) bytes;
-      parts = sym (take-append-drop (done + used) bytes);
-      writes = fed_on broken writes;
+  module _ (further : (old middle new : M) (t u : List Move) → states.reaches old t middle → states.reaches middle u new → states.reaches old (t ++ u) new)
+      (stays : (old new : M) (t : List Move) → states.reaches old t new → states.reachable old → states.reachable new) where
+    -- one part of a run after another
+    pub went_then : (broken : Bool) {old middle new : M} {first mid now : ℕ → InputState} {before held after : ℕ → Option (List ℕ)}
+        → Went states false old middle first mid before held → Went states broken middle new mid now held after
+        → Went states broken old new first now before after
+    went_then broken {old} {middle} {new} {first} {mid} {now} {before} {held} {after} a b = record {
+      trace = a.trace ++ b.trace;
+      reaches = further old middle new a.trace b.trace a.reaches b.reaches;
+      used = λ k. subst (λ (l : List ℕ). Uses (first k) (now k) l) (sym (used_of-append k a.trace b.trace)) (uses_then (a.used k) (b.used k));
+      ended = λ k. b.ended k ∙ ap (λ (o : Bool). ended_after k o b.trace) (a.ended k) ∙ sym (ended_after-append k (first k).ended a.trace b.trace);
+      written = λ k. subst (λ (l : List ℕ). WrittenAs broken (flow (before k) (after k)) l) (sym (given_to-append k a.trace b.trace))
+          (written_then broken (before k) (held k) (after k) (given_to k a.trace) (given_to k b.trace) (a.written k) (b.written k));
+      done = λ k d. b.done k (a.done k d);
+      short = λ r k s.
+          elim (b.short (stays old middle a.trace a.reaches r) k s) [
+            | inl more ↦ inl more
+            | inr (s_before, same) ↦ short_then k (a.short r k s_before) same
+          ];
     }
+      where
+        short_then : (k : ℕ) → ((mid k).window ≢ []) ⊎ (states.stopped_short old k × ((mid k).window ≡ (first k).window))
+            → (now k).window ≡ (mid k).window → ((now k).window ≢ []) ⊎ (states.stopped_short old k × ((now k).window ≡ (first k).window))
+        short_then k (inl more) same = inl (λ none. more (sym same ∙ none))
+        short_then k (inr (s, before_same)) same = inr (s, same ∙ before_same)
 
-    pub fed_end : {short : Type 0} → Writes Reaches false fed new [] (flow held after)
-        → (short → used < length (take (length bytes - done) (drop done bytes))) → WritesEnd Reaches short old new bytes (flow before after)
-    unfolding fed_part
-    fed_end writes short = record {
-      part = fed_part false writes;
-      short = λ h none. omega (
-        arith,
-        short h,
-        ap length (left_of bytes done within),
-        length-drop done bytes,
-        length-drop (done + used) bytes,
-        ap length none,
-      );
-    }
+  -- a piece was given, and written as far as that went
+  pub went_gave : (broken : Bool) {old new : M} (to : ℕ) (inputs : ℕ → InputState) {held after : ℕ → Option (List ℕ)} {Lends : M → List ℕ → Type 0}
+      → (gives : GivesPiece states.reaches Lends old to new) → Sends broken to gives.bytes held after
+      → ((k : ℕ) → states.done_with old k → states.done_with new k) → ((k : ℕ) → states.stopped_short new k → states.stopped_short old k)
+      → Went states broken old new inputs inputs held after
+  went_gave broken to inputs {held} {after} gives sends done short = record {
+    trace = gave to gives.bytes ∷ [];
+    reaches = gives.reaches;
+    used = λ k. uses_nothing (inputs k);
+    ended = λ k. refl;
+    written = λ k. at_number k to gives.bytes (λ (l : List ℕ). WrittenAs broken (flow (held k) (after k)) l)
+        (λ here. subst (λ (n : ℕ). WrittenAs broken (flow (held n) (after n)) gives.bytes) (sym here) sends.written)
+        (λ other. subst (λ (o : Option (List ℕ)). WrittenAs broken (flow (held k) o) []) (sym (sends.others k other))
+        (written_whole broken (flow (held k) (held k)) [] (written_nothing (held k))));
+    done = done;
+    short = λ r k s. inr (short k s, refl);
+  }
 
-  module _ (itself : ReachesItself Reaches) where
-    at_once : (old : M) (left held : Option (List ℕ)) → Moved false (After Reaches 0 old old) (flow left left) (flow held held)
-    at_once old left held = moved_nothing left held (itself old, omega arith)
+  -- the outputs were flushed, or failed in that
+  pub went_flushed : (broken : Bool) → ((m : M) → states.reaches m [] m) → (m : M) (inputs : ℕ → InputState) {held after : ℕ → Option (List ℕ)}
+      → ((k : ℕ) → Keeps (held k) (after k)) → Went states broken m m inputs inputs held after
+  went_flushed broken itself m inputs {held} {after} kept = record {
+    trace = [];
+    reaches = itself m;
+    used = λ k. uses_nothing (inputs k);
+    ended = λ k. refl;
+    written = λ k. written_flushed broken (held k) (held k) (after k) [] (written_nothing (held k)) (kept k);
+    done = λ k d. d;
+    short = λ r k s. inr (s, refl);
+  }
 
-    -- what the machine had to give was written, and nothing was read yet
-    pub starts_on : (old new : M) (left : Option (List ℕ)) {held held_after : Option (List ℕ)}
-        → Writes Reaches false old new [] (flow held held_after) → Moved false (After Reaches 0 old new) (flow left left) (flow held held_after)
-    starts_on old new left {held} all =
-        moved_on false (After Reaches 0 old new) [] all.given
-        (λ used given at. (further old old new used given [] all.given at.0 all.reaches, omega arith))
-        (at_once old left held) (Consumes-nil left) all.written
+  -- the machine was fed what waits of an input
+  pub went_fed : {old new : M} (from count : ℕ) {first now : ℕ → InputState} (held : ℕ → Option (List ℕ))
+      → states.reaches old (used from (take count (first from).window) ∷ []) new → count ≤ length (first from).window
+      → Consumed count (first from) (now from) → KeepsOthers from first now → ((k : ℕ) → states.done_with old k → states.done_with new k)
+      → (states.reachable old → states.stopped_short new from → count < length (first from).window)
+      → ((k : ℕ) → k ≢ from → states.stopped_short new k → states.stopped_short old k)
+      → Went states false old new first now held held
+  went_fed {old} {new} from count {first} {now} held reaches within consumed others done short rest = record {
+    trace = used from (take count (first from).window) ∷ [];
+    reaches = reaches;
+    used = λ k. at_number k from (take count (first from).window) (λ (l : List ℕ). Uses (first k) (now k) l)
+        (λ here. subst (λ (n : ℕ). Uses (first n) (now n) (take count (first from).window)) (sym here) (uses_consumed count within consumed))
+        (λ other. subst (λ (i : InputState). Uses (first k) i []) (sym (others k other)) (uses_nothing (first k)));
+    ended = λ k. over_number k from true (λ (b : Bool). (now k).ended ≡ (first k).ended)
+        (λ here. subst (λ (n : ℕ). (now n).ended ≡ (first n).ended) (sym here) consumed.ended)
+        (λ other. ap (λ (i : InputState). i.ended) (others k other));
+    written = λ k. written_nothing (held k);
+    done = done;
+    short = λ r k s. by_number k (eqb k from) refl r s;
+  }
+    where
+      by_number : (k : ℕ) (b : Bool) → eqb k from ≡ b → states.reachable old → states.stopped_short new k
+          → ((now k).window ≢ []) ⊎ (states.stopped_short old k × ((now k).window ≡ (first k).window))
+      by_number k true is r s =
+          let here : k ≡ from = eqb-true k from is in
+          let less = short r (subst (λ (n : ℕ). states.stopped_short new n) here s) in
+          inl (λ none. omega (arith, less, length-drop count (first from).window,
+          ap length (sym consumed.window ∙ subst (λ (n : ℕ). (now n).window ≡ []) here none)))
+      by_number k false is r s =
+          let other : k ≢ from = eqb-false k from is in inr (rest k other s, ap (λ (i : InputState). i.window) (others k other))
 
-  -- one more read was used, and what the machine sent for it was written
-  pub turns_on : (count n : ℕ) (buffer : List ℕ) (first old new : M) {left_before left left_after before held kept after : Option (List ℕ)}
-      → Moved false (After Reaches count first old) (flow left_before left) (flow before held) → Keeps held kept
-      → Consumes left left_after (take n buffer) → Writes Reaches false old new (take n buffer) (flow kept after) → n ≤ length buffer → 0 < n
-      → Moved false (After Reaches (count + 1) first new) (flow left_before left_after) (flow before after)
-  turns_on count n buffer first old new so_far flush read all within some =
-      moved_on false (After Reaches (count + 1) first new) (take n buffer) all.given
-      (λ used given r.
-      (further first old new used given (take n buffer) all.given r.0 all.reaches, brings_more count n used buffer r.1 within some))
-      (moved_flushed false so_far flush) read all.written
+  -- a read was made of an input that the machine needs, and it did not find the end
+  pub went_read : ((m : M) → states.reaches m [] m) → (m : M) (from : ℕ) (result : Result Bool RunFault) {first now : ℕ → InputState}
+      (held : ℕ → Option (List ℕ)) → (first from).window ≡ [] → (first from).ended ≡ false → found_end result ≡ false
+      → Fills result (first from) (now from) → KeepsOthers from first now → (states.stopped_short m from → ⊥)
+      → Went states false m m first now held held
+  went_read itself m from result {first} {now} held empty unended unfound fills others short = record {
+    trace = [];
+    reaches = itself m;
+    used = λ k. over_number k from true (λ (b : Bool). Uses (first k) (now k) [])
+        (λ here. subst (λ (n : ℕ). Uses (first n) (now n) []) (sym here) (uses_filled result empty unended fills))
+        (λ other. subst (λ (i : InputState). Uses (first k) i []) (sym (others k other)) (uses_nothing (first k)));
+    ended = λ k. over_number k from true (λ (b : Bool). (now k).ended ≡ (first k).ended)
+        (λ here. subst (λ (n : ℕ). (now n).ended ≡ (first n).ended) (sym here)
+        (fills.ended ∙ ap (λ (b : Bool). (first from).ended || b) unfound ∙ or-false (first from).ended))
+        (λ other. ap (λ (i : InputState). i.ended) (others k other));
+    written = λ k. written_nothing (held k);
+    done = λ k d. d;
+    short = λ r k s. over_number k from true (λ (b : Bool). ((now k).window ≢ []) ⊎ (states.stopped_short m k × ((now k).window ≡ (first k).window)))
+        (λ here. absurd (short (subst (λ (n : ℕ). states.stopped_short m n) here s)))
+        (λ other. inr (s, ap (λ (i : InputState). i.window) (others k other)));
+  }
 
-  module _ {Closes : M → M → Type 0} {states : RunStates} {ended : Bool} {turns : ℕ} {first new : M} where
-    -- all that was read was used
-    pub rests : (count : ℕ) (result : Result (Unit {0}) RunFault) {reader writer : Flow}
-        → Moved (is_broken result) (After Reaches count first new) reader writer
-        → ((used : List ℕ) → count ≤ length used → EndsRun result states turns used [] false)
-        → RunEnds Reaches Closes first new states ended turns result reader writer
-    rests count result so_far ends = moves (λ used given r. record {
-      used = used;
-      unused = [];
-      closed = false;
-      given = given;
-      received = ap (λ (l : List ℕ). l ∷ []) (sym (append-nil used));
-      sent = refl;
-      reaches = r.0;
-      whole = λ e. absurd (cc);
-      ends = ends used r.1;
-    }) so_far
-
-    -- the run ended in a step, with a front of the bytes
-    pub stops : (count : ℕ) (old : M) (bytes : List ℕ) {left_before left left_after before held after : Option (List ℕ)}
-        → Moved false (After Reaches count first old) (flow left_before left) (flow before held) → Consumes left left_after bytes
-        → (result : Result (Unit {0}) RunFault) → (part : WritesPart Reaches (is_broken result) old new bytes (flow held after))
-        → ((used : List ℕ) → EndsRun result states turns used part.unused false)
-        → RunEnds Reaches Closes first new states ended turns result (flow left_before left_after) (flow before after)
-    stops count old bytes so_far read result part ends =
-        moves (λ used given ran. ran) (moved_on (is_broken result)
-        (λ used given. Ran Reaches Closes first new states result ended turns (used ∷ []) (given ∷ [])) bytes part.writes.given
-        (λ used given r. record {
-          used = used ++ part.used;
-          unused = part.unused;
-          closed = false;
-          given = given ++ part.writes.given;
-          received = ap (λ (l : List ℕ). (used ++ l) ∷ []) part.parts
-              ∙ ap (λ (l : List ℕ). l ∷ []) (sym (append_assoc used part.used part.unused));
-          sent = refl;
-          reaches = further first old new used given part.used part.writes.given r.0 part.writes.reaches;
-          whole = λ e. absurd (cc);
-          ends = ends (used ++ part.used);
-        }) so_far read part.writes.written)
-
-    -- nothing was read yet
-    pub stops_at_once : ReachesItself Reaches → (left : Option (List ℕ)) {held after : Option (List ℕ)}
-        → (result : Result (Unit {0}) RunFault) → Writes Reaches (is_broken result) first new [] (flow held after)
-        → ((used : List ℕ) → EndsRun result states turns used [] false)
-        → RunEnds Reaches Closes first new states ended turns result (flow left left) (flow held after)
-    unfolding all_in_part
-    stops_at_once itself left {held} result writes ends =
-        stops 0 first [] (at_once itself first left held) (Consumes-nil left) result (all_in_part (is_broken result) writes) ends
-
-    -- the input had ended
-    pub stops_closed : (count : ℕ) (old closed : M) {left_before left left_after before held after : Option (List ℕ)}
-        → Moved false (After Reaches count first old) (flow left_before left) (flow before held) → Consumes left left_after []
-        → Closes old closed → ended ≡ true
-        → (result : Result (Unit {0}) RunFault) → Writes Reaches (is_broken result) closed new [] (flow held after)
-        → ((used : List ℕ) → EndsRun result states turns used [] true)
-        → RunEnds Reaches Closes first new states ended turns result (flow left_before left_after) (flow before after)
-    stops_closed count old closed so_far read closes reported result writes ends =
-        moves (λ used given ran. ran) (moved_on (is_broken result)
-        (λ used given. Ran Reaches Closes first new states result ended turns (used ∷ []) (given ∷ [])) [] writes.given
-        (λ used given r. record {
-          used = used;
-          unused = [];
-          closed = true;
-          given = given ++ writes.given;
-          received = refl;
-          sent = refl;
-          reaches = record {
-            fed = old;
-            closed = closed;
-            given_before = given;
-            given_after = writes.given;
-            parts = refl;
-            before = r.0;
-            closes = closes;
-            after = writes.reaches;
-          };
-          whole = λ e. (refl, reported);
-          ends = ends used;
-        }) so_far read writes.written)
-
-    -- the fault that `?` returns is the one that it met
-    pub ran_at : (met : RunFault) {result : Result (Unit {0}) RunFault} {fault : RunFault} {reader writer : Flow}
-        → fault ≡ met → IsErrAnd result (λ e. e ≡ fault) → RunEnds Reaches Closes first new states ended turns (Err met) reader writer
-        → RunEnds Reaches Closes first new states ended turns result reader writer
-    ran_at met {result} {fault} {reader} {writer} named returned ran =
-        at_fault result fault met (λ (r : Result (Unit {0}) RunFault). RunEnds Reaches Closes first new states ended turns r reader writer) named returned ran
+  -- it found the end, and the input was closed
+  pub went_closed : {old new : M} (from : ℕ) {first now : ℕ → InputState} (held : ℕ → Option (List ℕ))
+      → states.reaches old (closed from ∷ []) new → (first from).window ≡ [] → (first from).ended ≡ false
+      → Fills (Ok false) (first from) (now from) → KeepsOthers from first now → ((k : ℕ) → states.done_with old k → states.done_with new k)
+      → (states.reachable old → (k : ℕ) → states.stopped_short new k → states.stopped_short old k) → (states.stopped_short old from → ⊥)
+      → Went states false old new first now held held
+  went_closed {old} {new} from {first} {now} held reaches empty unended fills others done short none = record {
+    trace = closed from ∷ [];
+    reaches = reaches;
+    used = λ k. over_number k from true (λ (b : Bool). Uses (first k) (now k) [])
+        (λ here. subst (λ (n : ℕ). Uses (first n) (now n) []) (sym here) (uses_filled (Ok false) empty unended fills))
+        (λ other. subst (λ (i : InputState). Uses (first k) i []) (sym (others k other)) (uses_nothing (first k)));
+    ended = λ k. over_number k from (first k).ended (λ (b : Bool). (now k).ended ≡ b)
+        (λ here. subst (λ (n : ℕ). (now n).ended ≡ true) (sym here) (fills.ended ∙ or-true (first from).ended))
+        (λ other. ap (λ (i : InputState). i.ended) (others k other));
+    written = λ k. written_nothing (held k);
+    done = done;
+    short = λ r k s. over_number k from true (λ (b : Bool). ((now k).window ≢ []) ⊎ (states.stopped_short old k × ((now k).window ≡ (first k).window)))
+        (λ here. absurd (none (subst (λ (n : ℕ). states.stopped_short old n) here (short r k s))))
+        (λ other. inr (short r k s, ap (λ (i : InputState). i.window) (others k other)));
+  }

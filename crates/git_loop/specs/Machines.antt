@@ -1,70 +1,117 @@
 -- One loop over any machine: it reads, feeds the machine, and writes what the machine gives.
-use Rattle.std.specs.Prelude.{◌≡◌, ◌≢◌, ◌⊎◌, ◌≤◌, ℕ, Bool, true, false, List, [], ◌∷◌, ◌++◌, length, Result, Ok, Err}
-use Rattle.git_pkt.specs.Streams.{Flow, WrittenAs}
+use Rattle.std.specs.Prelude.{◌≡◌, ◌≢◌, ◌⊎◌, ℕ, ◌+◌, ◌≤◌, Bool, true, false, List, [], ◌∷◌, ◌++◌, length, Option, Some, None, Result, Ok, Err}
+use Rattle.std.specs.Io.KnownBytes.{Consumes}
+use Rattle.git_pkt.specs.Streams.{flow, is_broken, Moves, WrittenAs}
+use Rattle.git_pkt.specs.Machine.Recorded.{inner_of, has_ended}
+use Rattle.git_pkt.specs.declared.recorded.Recorded.{Recorded}
 use Rattle.git_pkt.specs.declared.fault.RunFault.{RunFault}
 use Rattle.git_pkt.specs.declared.fault.RunFault.TheVariants.{ReadFault, WriteFault, ReadLimit, Refused}
+use Rattle.git_loop.specs.Moves.{Move, gave, ended_after, given_to, used_of}
+use Rattle.git_loop.specs.Streams.{InputState, IsOpen}
 
--- calls lead from the first state to the last, use these bytes and give these
+-- calls lead from the first state to the last, with these moves
 abbrev pub StateRelation : Type 0 → Type 1
-StateRelation M = M → List ℕ → List ℕ → M → Type 0
+StateRelation M = M → List Move → M → Type 0
 
--- ---- one call
+-- what a machine names of its states
+pub record States (M : Type 0) : Type 1 where
+  pub reaches : StateRelation M
+  pub done_with : M → ℕ → Type 0
+  pub stopped_short : M → ℕ → Type 0
+  pub reachable : M → Type 0
 
--- the last call gave the packet of these bytes, and the machine lends it
-pub record GivesPacket {M : Type 0} (Reaches : StateRelation M) (Lends : M → List ℕ → Type 0) (old new : M) : Type 0 where
+-- the last call gave the piece of these bytes to the output of this number, and the machine lends it
+pub record GivesPiece {M : Type 0} (Reaches : StateRelation M) (Lends : M → List ℕ → Type 0) (old : M) (to : ℕ) (new : M) : Type 0 where
   pub bytes : List ℕ
   pub lent : Lends new bytes
-  pub reaches : Reaches old [] bytes new
+  pub reaches : Reaches old (gave to bytes ∷ []) new
 
--- ---- some calls, and what they wrote
+-- ---- a part of a run
 
--- these bytes were used, and the output for them was written; if a write failed, a prefix of it
-pub record Writes {M : Type 0} (Reaches : StateRelation M) (broken : Bool) (old new : M) (bytes : List ℕ) (writer : Flow) : Type 0 where
-  pub given : List ℕ
-  pub written : WrittenAs broken writer given
-  pub reaches : Reaches old bytes given new
+-- these bytes of an input were used. If it is still open, its reads brought at least a byte each.
+pub record Uses (old new : InputState) (bytes : List ℕ) : Type 0 where
+  pub left : Consumes old.left new.left bytes
+  pub useful : new.wasted ≡ old.wasted
+  pub enough : IsOpen new → IsOpen old × (new.reads + length old.window ≤ old.reads + length bytes + length new.window)
+  pub emptied : (old.ended ≡ true → old.window ≡ []) → new.ended ≡ true → new.window ≡ []
 
--- a prefix of the bytes was used, and the output for it was written
-pub record WritesPart {M : Type 0} (Reaches : StateRelation M) (broken : Bool) (old new : M) (bytes : List ℕ) (writer : Flow) : Type 0 where
-  pub used : List ℕ
-  pub unused : List ℕ
-  pub parts : bytes ≡ used ++ unused
-  pub writes : Writes Reaches broken old new used writer
-
--- the machine has finished with a prefix of the bytes; if it stopped short, a byte is left
-pub record WritesEnd {M : Type 0} (Reaches : StateRelation M) (stopped_short : Type 0) (old new : M) (bytes : List ℕ) (writer : Flow)
+-- The machine went from the one state to the other. What it used left its inputs, what it gave was written to its outputs, and inputs
+-- ended where the moves say. If it stopped short of a byte, that byte waits.
+pub record Went {M : Type 0} (states : States M) (broken : Bool) (old new : M) (first now : ℕ → InputState) (before after : ℕ → Option (List ℕ))
     : Type 0 where
-  pub part : WritesPart Reaches false old new bytes writer
-  pub short : stopped_short → part.unused ≢ []
+  pub trace : List Move
+  pub reaches : states.reaches old trace new
+  pub used : (k : ℕ) → Uses (first k) (now k) (used_of k trace)
+  pub ended : (k : ℕ) → (now k).ended ≡ ended_after k (first k).ended trace
+  pub written : (k : ℕ) → WrittenAs broken (flow (before k) (after k)) (given_to k trace)
+  pub done : (k : ℕ) → states.done_with old k → states.done_with new k
+  pub short : states.reachable old → (k : ℕ) → states.stopped_short new k
+      → ((now k).window ≢ []) ⊎ (states.stopped_short old k × ((now k).window ≡ (first k).window))
 
--- the state of a machine whose packets were all written: it has finished, or it needs input
-abbrev pub IsAt : Bool → Type 0 → Type 0 → Type 0
-IsAt true needs_input finished = finished
-IsAt false needs_input finished = needs_input
+-- the state of a machine whose pieces were all written: it needs an input, or it has finished
+abbrev pub IsAt : Option ℕ → (ℕ → Type 0) → Type 0 → Type 0
+IsAt (Some from) needs_input finished = needs_input from
+IsAt None needs_input finished = finished
 
--- if it needs input, all the bytes were used; if it has finished, a prefix of them
-abbrev pub WritesChunk : {M : Type 0} → Bool → StateRelation M → Type 0 → M → M → List ℕ → Flow → Type 0
-WritesChunk true Reaches stopped_short old new bytes writer = WritesEnd Reaches stopped_short old new bytes writer
-WritesChunk false Reaches stopped_short old new bytes writer = Writes Reaches false old new bytes writer
+-- no bytes wait of the input that it needs
+abbrev pub HasNothing : Option ℕ → (ℕ → InputState) → Type 0
+HasNothing (Some from) inputs = (inputs from).window ≡ []
+HasNothing None inputs = Unit {0}
 
--- ---- a run
+-- no read failed or found the end
+pub record SameCalls (old new : InputState) : Type 0 where
+  pub failed : new.failed ≡ old.failed
+  pub ended : new.ended ≡ old.ended
 
--- the input ended on the way: the machine's output before that, and after it
-pub record ReachesThroughClose {M : Type 0} (Reaches : StateRelation M) (Closes : M → M → Type 0) (old : M) (used given : List ℕ) (new : M)
-    : Type 0 where
-  pub fed : M
-  pub closed : M
-  pub given_before : List ℕ
-  pub given_after : List ℕ
-  pub parts : given ≡ given_before ++ given_after
-  pub before : Reaches old used given_before fed
-  pub closes : Closes fed closed
-  pub after : Reaches closed [] given_after new
+-- ---- the end of a run
 
--- a run led its machine from the one state to the other, with the end of the input or without it
-abbrev pub RunReaches : {M : Type 0} → Bool → StateRelation M → (M → M → Type 0) → M → List ℕ → List ℕ → M → Type 0
-RunReaches true Reaches Closes old used given new = ReachesThroughClose Reaches Closes old used given new
-RunReaches false Reaches Closes old used given new = Reaches old used given new
+-- the machine needs the input of this number, all of which was used that was read, and which has not ended
+pub record WaitsFor (needs_input : ℕ → Type 0) (inputs : ℕ → InputState) (from : ℕ) : Type 0 where
+  pub needs : needs_input from
+  pub all : (inputs from).window ≡ []
+  pub still_open : (inputs from).ended ≡ false
+
+-- the state of the machine, by the result of the run; `spent` says that all reads were made
+abbrev pub Ends : Result (Unit {0}) RunFault → (ℕ → Type 0) → Type 0 → Type 0 → (ℕ → InputState) → Type 0
+Ends (Ok done) needs_input finished spent inputs = finished
+Ends (Err ReadFault) needs_input finished spent inputs = (from : ℕ) × WaitsFor needs_input inputs from × ((inputs from).failed ≡ true)
+Ends (Err ReadLimit) needs_input finished spent inputs = (from : ℕ) × WaitsFor needs_input inputs from × spent
+Ends (Err WriteFault) needs_input finished spent inputs = Unit {0}
+Ends (Err (Refused fault)) needs_input finished spent inputs = ⊥
+
+abbrev pub AreSound : (ℕ → Type 0) → (ℕ → InputState) → Type 0
+AreSound has inputs = (k : ℕ) → has k → (inputs k).failed ≡ false
+
+-- of all inputs the one of this number failed
+pub record FailedAlone (has : ℕ → Type 0) (inputs : ℕ → InputState) (from : ℕ) : Type 0 where
+  pub exists : has from
+  pub failed : (inputs from).failed ≡ true
+  pub others : (k : ℕ) → has k → k ≢ from → (inputs k).failed ≡ false
+
+-- which streams failed, by the result of the run: an input or the outputs, as it reports, or else none
+abbrev pub FailsIn : Result (Unit {0}) RunFault → (ℕ → Type 0) → (ℕ → InputState) → Bool → Type 0
+FailsIn (Ok done) has inputs write_failed = AreSound has inputs × (write_failed ≡ false)
+FailsIn (Err ReadFault) has inputs write_failed = ((from : ℕ) × FailedAlone has inputs from) × (write_failed ≡ false)
+FailsIn (Err WriteFault) has inputs write_failed = AreSound has inputs × (write_failed ≡ true)
+FailsIn (Err ReadLimit) has inputs write_failed = AreSound has inputs × (write_failed ≡ false)
+FailsIn (Err (Refused fault)) has inputs write_failed = AreSound has inputs × (write_failed ≡ false)
+
+-- what a run's clauses state at its end: whether its machine needs an input, or has finished, whether all reads were made, and whether a
+-- write failed
+pub record EndStates : Type 1 where
+  pub needs_input : ℕ → Type 0
+  pub finished : Type 0
+  pub spent : Type 0
+  pub write_failed : Bool
+
+-- a run led its machine from the one state to the other, over its inputs and outputs
+pub record RanOver {M : Type 0} (states : States M) (at_end : EndStates) (has : ℕ → Type 0) (result : Result (Unit {0}) RunFault) (old new : M)
+    (first now : ℕ → InputState) (before after : ℕ → Option (List ℕ)) : Type 0 where
+  pub went : Went states (is_broken result) old new first now before after
+  pub ends : Ends result at_end.needs_input at_end.finished at_end.spent now
+  pub failed : FailsIn result has now at_end.write_failed
+
+-- ---- a run over one reader and one writer
 
 -- the facts about its machine that a run's clauses state: those after the run, and whether it had stopped short before the run
 pub record RunStates : Type 1 where
@@ -94,14 +141,20 @@ EndsRun (Err (Refused fault)) states turns used unused closed = ⊥
 
 -- how the bytes read and written relate to the machine: it used a prefix of those read, and its output was written. If its
 -- input was closed, all bytes were used, and the reader had reported the end.
-pub record Ran {M : Type 0} (Reaches : StateRelation M) (Closes : M → M → Type 0) (old new : M) (states : RunStates)
+pub record Ran {M : Type 0} (Reaches : StateRelation M) (old new : M) (states : RunStates)
     (result : Result (Unit {0}) RunFault) (ended : Bool) (turns : ℕ) (read written : List (List ℕ)) : Type 0 where
-  pub used : List ℕ
+  pub trace : List Move
   pub unused : List ℕ
-  pub closed : Bool
-  pub given : List ℕ
-  pub received : read ≡ (used ++ unused) ∷ []
-  pub sent : written ≡ given ∷ []
-  pub reaches : RunReaches closed Reaches Closes old used given new
-  pub whole : closed ≡ true → (unused ≡ []) × (ended ≡ true)
-  pub ends : EndsRun result states turns used unused closed
+  pub received : read ≡ (used_of 0 trace ++ unused) ∷ []
+  pub sent : written ≡ given_to 0 trace ∷ []
+  pub reaches : Reaches old trace new
+  pub whole : ended_after 0 false trace ≡ true → (unused ≡ []) × (ended ≡ true)
+  pub ends : EndsRun result states turns (used_of 0 trace) unused (ended_after 0 false trace)
+
+-- a run led its machine from the one state to the other, over a reader and a writer
+abbrev pub RanOne : {M R W : Type 0} → (R → Option (List ℕ)) → (W → Option (List ℕ)) → StateRelation M → M → M → RunStates
+    → Result (Unit {0}) RunFault → ℕ → Recorded R → Recorded R → Recorded W → Recorded W → Type 0
+RanOne remaining contents Reaches old new states result turns reader reader_after writer writer_after =
+    Moves (is_broken result) (Ran Reaches old new states result (has_ended reader_after) turns)
+    (flow (remaining (inner_of reader)) (remaining (inner_of reader_after)) ∷ [])
+    (flow (contents (inner_of writer)) (contents (inner_of writer_after)) ∷ [])

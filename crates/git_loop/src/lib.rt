@@ -1,8 +1,10 @@
-//! Machines that take bytes in chunks and give packets, and the one loop that runs any of them over a reader and a writer.
+//! Machines that take bytes of inputs in chunks and give pieces for outputs, and the one loop that runs any of them.
 #![tactic(auto)]
 
 mod machine;
 mod running;
+mod streams;
 
 pub use crate::machine::{Machine, Next};
-pub use crate::running::run;
+pub use crate::streams::{Inputs, Outputs};
+pub use crate::running::{run, run_streams};

@@ -8,89 +8,100 @@
 //!       v                        |
 //!    Giving -- next: NeedInput -> Waiting -- close, or feed: it takes no more --> Ending -- next: Finished --> Finished
 //!     |  ^                                                                         |  ^
-//!     +--+ next: Packet                                                            +--+ next: Packet
+//!     +--+ next: Piece                                                            +--+ next: Piece
 //!
 //!  In Waiting it needs input; in Ending and Finished it is done with it. A machine may also go from Giving to Ending by `next`
 //!  alone, as a server does when it cannot read its pack any further.
 //! ```
 
-ghost use Rattle.std.specs.Prelude.{◌≡◌, ◌≤◌, ◌<◌, ◌⊎◌, ℕ, List, [], ◌++◌, length, take};
-ghost use Rattle.git_loop.specs.Machines.{GivesPacket};
+ghost use Rattle.std.specs.Prelude.{◌≡◌, ◌≢◌, ◌≤◌, ◌<◌, ◌⊎◌, ℕ, List, [], ◌∷◌, ◌++◌, length, take};
+ghost use Rattle.git_loop.specs.Moves.{Move, closed, used};
+ghost use Rattle.git_loop.specs.Machines.{GivesPiece};
 
 /// What a machine does next.
 #[derive(Clone, Copy, Debug)]
 pub enum Next {
-    /// It gives a packet, which [`Machine::packet`] lends.
-    Packet,
-    /// It gives nothing until it is fed bytes, or its input is closed.
-    NeedInput,
-    /// It has given all its packets.
+    /// It gives a piece to the output of this number. [`Machine::piece`] lends the piece.
+    Piece(u8),
+    /// It gives nothing until it is fed bytes of the input of this number, or that input is closed.
+    NeedInput(u8),
+    /// It has given all its pieces.
     Finished,
 }
 
-/// Takes the bytes of an input in chunks, cut anywhere, and gives packets for an output. It reads and writes nothing itself:
-/// [`run`](crate::run) does that, and knows nothing else about it.
+/// Takes the bytes of its inputs in chunks, cut anywhere, and gives pieces for its outputs. It reads and writes nothing itself:
+/// [`run_streams`](crate::run_streams) does that, and knows nothing else about it. Inputs and outputs have numbers, from 0.
 ///
-/// By the ghost items above the calls, an implementation names its states during a run and the bytes that lead from one
+/// By the ghost items above the calls, an implementation names its states during a run and the moves that lead from one
 /// state to another. It meets the contracts of the four calls, and proves the laws below them. Counts are of bytes, except
-/// `packets_left`.
+/// `pieces_left`.
 pub trait Machine {
-    /// Calls lead from the first state to the last; they use these bytes of the input and give these of the output.
-    ghost reaches: { Self → List ℕ → List ℕ → Self → Type 0 };
-    /// The end of the input leads from the one state to the other.
-    ghost closes: { Self → Self → Type 0 };
-    /// The packet that the machine lends has these bytes.
-    ghost lends: { Self → List ℕ → Type 0 };
-    /// How many packets it gives at most before it needs input or has finished.
-    ghost packets_left: { Self → ℕ };
-    /// It has given all, and waits for bytes or for the end of the input.
-    ghost needs_input: { Self → Type 0 };
-    /// It uses no more bytes, though it may still have packets to give.
-    ghost done_with_input: { Self → Type 0 };
-    /// It is done with its input because of a byte that it did not use, such as one above its limit.
-    ghost stopped_short: { Self → Type 0 };
-    /// It has given all, and is done with its input.
+    /// Calls lead from the first state to the last, with these moves.
+    ghost reaches: { Self → List Move → Self → Type 0 };
+    /// The pieces that it gives until it is fed again lie in its own memory or in these bytes, which were fed last.
+    ghost holds: { Self → List ℕ → Type 0 };
+    /// With the first bytes fed last, the piece that the machine lends has the second ones.
+    ghost lends: { Self → List ℕ → List ℕ → Type 0 };
+    /// How many pieces it gives at most before it needs input or has finished.
+    ghost pieces_left: { Self → ℕ };
+    /// It has given all, and waits for bytes of the input of this number or for its end.
+    ghost needs_input: { Self → ℕ → Type 0 };
+    /// It uses no more bytes of the input of this number, though it may still have pieces to give.
+    ghost done_with: { Self → ℕ → Type 0 };
+    /// It is done with the input of this number because of a byte that it did not use, such as one above its limit.
+    ghost stopped_short: { Self → ℕ → Type 0 };
+    /// It has given all, and is done with its inputs.
     ghost finished: { Self → Type 0 };
     /// A new machine reaches this state by using and giving some bytes.
     ghost reachable: { Self → Type 0 };
 
-    /// Goes on to the next packet, if there is one; otherwise it uses and gives nothing.
-    fn next(&mut self) -> Next
-        ensures packet { result ≡ Next.Packet → GivesPacket reaches lends self.old self.new }
-        ensures fewer { result ≡ Next.Packet → packets_left self.new < packets_left self.old }
-        ensures needs_input { result ≡ Next.NeedInput → needs_input self.new × reaches self.old [] [] self.new }
-        ensures finished { result ≡ Next.Finished → finished self.new × reaches self.old [] [] self.new }
-        ensures done { done_with_input self.old → done_with_input self.new }
-        ensures short { stopped_short self.new → stopped_short self.old };
+    /// Goes on to the next piece, if there is one; otherwise it uses and gives nothing. It is passed the bytes that were fed last.
+    fn next(&mut self, fed: &[u8]) -> Next
+        requires { holds self.old fed.now }
+        ensures holds { holds self.new fed.now }
+        ensures piece { (to : ℕ) → result ≡ Next.Piece to → GivesPiece reaches (λ m bytes. lends m fed.now bytes) self.old to self.new }
+        ensures fewer { (to : ℕ) → result ≡ Next.Piece to → pieces_left self.new < pieces_left self.old }
+        ensures needs_input { (from : ℕ) → result ≡ Next.NeedInput from → needs_input self.new from × reaches self.old [] self.new }
+        ensures finished { result ≡ Next.Finished → finished self.new × reaches self.old [] self.new }
+        ensures done { (k : ℕ) → done_with self.old k → done_with self.new k }
+        ensures short { (k : ℕ) → stopped_short self.new k → stopped_short self.old k };
 
-    /// The bytes of the packet that `next` went on to.
-    fn packet(&self) -> &[u8]
-        requires { (bytes : List ℕ) × lends self.now bytes }
-        ensures { (bytes : List ℕ) → lends self.now bytes → result.now ≡ bytes };
+    /// The bytes of the piece that `next` went on to: some of its own, or some of those fed last.
+    fn piece<'a>(&'a self, fed: &'a [u8]) -> &'a [u8]
+        requires { (bytes : List ℕ) × lends self.now fed.now bytes }
+        ensures { (bytes : List ℕ) → lends self.now fed.now bytes → result.now ≡ bytes };
 
-    /// Uses bytes from the front of the chunk, and returns how many: at least one if the chunk has any, unless the machine
-    /// is then done with its input. The caller feeds the others after the next `NeedInput`.
-    fn feed(&mut self, chunk: &[u8]) -> usize
-        requires { needs_input self.old }
+    /// Uses bytes from the front of a chunk of the input of this number, and returns how many: at least one if the chunk has any, unless
+    /// the machine is then done with all inputs. The caller feeds the others after the next `NeedInput` of that number.
+    fn feed(&mut self, from: u8, chunk: &[u8]) -> usize
+        requires { needs_input self.old from }
         ensures used { result ≤ length chunk.now }
-        ensures some { 0 < length chunk.now → 0 < result ⊎ done_with_input self.new }
-        ensures reaches { reaches self.old (take result chunk.now) [] self.new }
-        ensures short { reachable self.old → stopped_short self.new → result < length chunk.now };
+        ensures some { 0 < length chunk.now → 0 < result ⊎ ((k : ℕ) → done_with self.new k) }
+        ensures holds { holds self.new chunk.now }
+        ensures reaches { reaches self.old (used from (take result chunk.now) ∷ []) self.new }
+        ensures done { (k : ℕ) → done_with self.old k → done_with self.new k }
+        ensures short { reachable self.old → stopped_short self.new from → result < length chunk.now }
+        ensures others { (k : ℕ) → k ≢ from → stopped_short self.new k → stopped_short self.old k };
 
-    /// Records that the input ends here.
-    fn close(&mut self)
-        requires { needs_input self.old }
-        ensures closes { closes self.old self.new }
-        ensures done { done_with_input self.new }
-        ensures short { reachable self.old → stopped_short self.new → ⊥ };
+    /// Records that the input of this number ends here.
+    fn close(&mut self, from: u8)
+        requires { needs_input self.old from }
+        ensures holds { holds self.new [] }
+        ensures reaches { reaches self.old (closed from ∷ []) self.new }
+        ensures ended { done_with self.new from }
+        ensures done { (k : ℕ) → done_with self.old k → done_with self.new k }
+        ensures short { reachable self.old → (k : ℕ) → stopped_short self.new k → stopped_short self.old k };
 
     /// Zero calls lead from each state to itself.
-    ghost reaches_itself: { (m : Self) → reaches m [] [] m };
+    ghost reaches_itself: { (m : Self) → reaches m [] m };
     /// Calls that follow other calls lead on from where those led.
-    ghost reaches_further: { (old middle new : Self) (u g v h : List ℕ) → reaches old u g middle → reaches middle v h new
-        → reaches old (u ++ v) (g ++ h) new };
+    ghost reaches_further: { (old middle new : Self) (t u : List Move) → reaches old t middle → reaches middle u new → reaches old (t ++ u) new };
     /// Calls lead from a reachable state to a reachable one.
-    ghost stays_reachable: { (old new : Self) (u g : List ℕ) → reaches old u g new → reachable old → reachable new };
-    /// A machine that is done with its input does not need any.
-    ghost done_needs_none: { (m : Self) → needs_input m → done_with_input m → ⊥ };
+    ghost stays_reachable: { (old new : Self) (t : List Move) → reaches old t new → reachable old → reachable new };
+    /// A machine that is done with an input does not need it.
+    ghost done_needs_none: { (m : Self) (k : ℕ) → needs_input m k → done_with m k → ⊥ };
+    /// Nor does one that stopped short of a byte of it.
+    ghost short_needs_none: { (m : Self) (k : ℕ) → needs_input m k → stopped_short m k → ⊥ };
+    /// A machine that needs input has given all.
+    ghost needing_holds_none: { (m : Self) (k : ℕ) → needs_input m k → holds m [] };
 }

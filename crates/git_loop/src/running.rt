@@ -1,64 +1,158 @@
-//! One loop over any machine: it reads, feeds the machine, and writes the packets that the machine gives.
+//! One loop over any machine: it reads, feeds the machine, and writes the pieces that the machine gives.
 
-ghost use Rattle.std.specs.Prelude.{◌≡◌, ◌≤◌, ◌<◌, ◌||◌, [], ◌∷◌, length, true, false, IsTrue, IfOk, IfErr, OnErr, OnOk, is_err};
-ghost use Rattle.git_pkt.specs.Machine.Recorded.{inner_of, reads_of, has_failed, has_ended, has_wasted, IsNew};
+ghost use Rattle.std.specs.Prelude.{◌≡◌, ◌≢◌, ◌≤◌, ◌<◌, ◌⊎◌, ◌||◌, ◌+◌, min, ℕ, List, Option, [], ◌∷◌, length, true, false, IsTrue, IfOk, IfErr, OnErr, OnOk, is_err, Err};
+ghost use Rattle.git_pkt.specs.Machine.Recorded.{reads_of, has_failed, has_wasted, IsNew};
 ghost use Rattle.git_pkt.specs.Machine.Engine.{FailsAs, IsShownBy, IsSpent};
-ghost use Rattle.git_pkt.specs.Streams.{flow, is_broken, Moves};
-ghost use Rattle.git_loop.specs.Machines.{IsAt, Ran, Writes, WritesChunk, WritesPart};
+ghost use Rattle.git_pkt.specs.Streams.{is_broken};
+ghost use Rattle.git_loop.specs.Streams.{InputState, IsOpen, KeepsOthers};
+ghost use Rattle.git_loop.specs.Machines.{HasNothing, IsAt, RanOne, RanOver, SameCalls, WaitsFor, Went};
 
 use crate::machine::{Machine, Next};
-use git_pkt::{Recorded, RunFault, flush, receive, send};
+use crate::streams::{Inputs, OneInput, OneOutput, Outputs};
+use git_pkt::{Recorded, RunFault};
 use std::io::{Read, Write};
 
-// Writes the packets that the machine gives until it needs input or has finished. Returns whether it has finished.
-fn drain<M: Machine, W: Write>(machine: &mut M, writer: &mut Recorded<W>) -> Result<bool, RunFault>
-    ensures ok { OnOk result (Writes M.reaches false machine.old machine.new []
-        (flow (W.contents (inner_of writer.old)) (W.contents (inner_of writer.new)))) }
-    ensures front { OnErr result (Writes M.reaches true machine.old machine.new []
-        (flow (W.contents (inner_of writer.old)) (W.contents (inner_of writer.new)))) }
-    ensures at { IfOk result (λ finished. IsAt finished (M.needs_input machine.new) (M.finished machine.new)) }
-    ensures done { M.done_with_input machine.old → M.done_with_input machine.new }
-    ensures short { M.stopped_short machine.new → M.stopped_short machine.old }
-    ensures fault { IfErr result (λ fault. fault ≡ RunFault.WriteFault) }
-    ensures failed { has_failed writer.new ≡ (has_failed writer.old || is_err result) }
-{
-    'packets: loop {
-        match machine.next() {
-            Next::Packet => send(writer, machine.packet())?,
-            Next::NeedInput => return Ok(false),
-            Next::Finished => return Ok(true),
-        }
-    }
-}
-
-// Feeds the chunk, and writes the packets that the machine gives for it. Returns whether the machine has finished; then it
-// may have left bytes unused.
-fn feed_all<M: Machine, W: Write>(
+// Writes the pieces that the machine gives until it needs input or has finished. Returns the input that it needs, or none if it has
+// finished. `fed` are the bytes that it was fed last.
+fn drain<M: Machine, O: Outputs>(
     machine: &mut M,
-    writer: &mut Recorded<W>,
-    chunk: &[u8],
-) -> Result<bool, RunFault>
-    requires { M.needs_input machine.old }
-    ensures ok { IfOk result (λ finished. WritesChunk finished M.reaches (M.reachable machine.old × M.stopped_short machine.new)
-        machine.old machine.new chunk.now (flow (W.contents (inner_of writer.old)) (W.contents (inner_of writer.new)))) }
-    ensures front { OnErr result (WritesPart M.reaches true machine.old machine.new chunk.now
-        (flow (W.contents (inner_of writer.old)) (W.contents (inner_of writer.new)))) }
-    ensures at { IfOk result (λ finished. IsAt finished (M.needs_input machine.new) (M.finished machine.new)) }
+    fed: &[u8],
+    outputs: &mut O,
+) -> Result<Option<u8>, RunFault>
+    requires { M.holds machine.old fed.now }
+    ensures ok { OnOk result ((inputs : ℕ → InputState) → Went (record { reaches = M.reaches; done_with = M.done_with;
+      stopped_short = M.stopped_short; reachable = M.reachable }) false machine.old machine.new inputs inputs
+      (O.contents outputs.old) (O.contents outputs.new)) }
+    ensures front { OnErr result ((inputs : ℕ → InputState) → Went (record { reaches = M.reaches; done_with = M.done_with;
+      stopped_short = M.stopped_short; reachable = M.reachable }) true machine.old machine.new inputs inputs
+      (O.contents outputs.old) (O.contents outputs.new)) }
+    ensures at { IfOk result (λ next. IsAt next (M.needs_input machine.new) (M.finished machine.new)) }
     ensures fault { IfErr result (λ fault. fault ≡ RunFault.WriteFault) }
-    ensures failed { has_failed writer.new ≡ (has_failed writer.old || is_err result) }
+    ensures failed { O.failed outputs.new ≡ (O.failed outputs.old || is_err result) }
+    ensures same_writers { O.same_writers outputs.old outputs.new }
 {
-    let mut used = 0;
-    while used < chunk.len() {
-        used += machine.feed(&chunk[used..]);
-        if drain(machine, writer)? {
-            return Ok(true);
+    loop {
+        match machine.next(fed) {
+            Next::Piece(to) => outputs.send(to, machine.piece(fed))?,
+            Next::NeedInput(from) => return Ok(Some(from)),
+            Next::Finished => return Ok(None),
         }
     }
-    Ok(false)
 }
 
-/// Runs a machine, from its current state, over a reader and a writer, until it has finished. Makes at most `turns` reads,
-/// each into the whole buffer, which may not be empty. Flushes the writer before each read and at the end.
+// Reads once more of the input that the machine needs, of which no bytes wait, and closes it if it ended.
+fn read_more<M: Machine, I: Inputs>(machine: &mut M, inputs: &mut I, from: u8) -> Result<(), RunFault>
+    requires needs { M.needs_input machine.old from }
+    requires exists { I.has from }
+    requires empty { (I.input inputs.old from).window ≡ [] }
+    requires unended { (I.input inputs.old from).ended ≡ false }
+    ensures went { (held : ℕ → Option (List ℕ)) → Went (record { reaches = M.reaches; done_with = M.done_with;
+      stopped_short = M.stopped_short; reachable = M.reachable }) false machine.old machine.new (I.input inputs.old) (I.input inputs.new)
+      held held }
+    ensures holds { OnOk result (M.holds machine.new []) }
+    ensures ended { (I.input inputs.new from).ended ≡ true → M.done_with machine.new from }
+    ensures unread { OnErr result ((machine.new ≡ machine.old) × WaitsFor (M.needs_input machine.new) (I.input inputs.new) from) }
+    ensures failed { (I.input inputs.new from).failed ≡ ((I.input inputs.old from).failed || is_err result) }
+    ensures others { KeepsOthers from (I.input inputs.old) (I.input inputs.new) }
+    ensures counted { I.reads inputs.new ≡ min (I.reads inputs.old + 1) u64.MAX }
+    ensures fault { IfErr result (λ fault. fault ≡ RunFault.ReadFault) }
+    ensures same_readers { I.same_readers inputs.old inputs.new }
+{
+    if inputs.fill(from)? {
+        return Ok(());
+    }
+    machine.close(from);
+    Ok(())
+}
+
+// Writes the pieces that the machine gives, and feeds it what waits of its inputs, until no bytes wait of the input that it needs.
+// Returns that input, or none if the machine has finished.
+fn advance<M: Machine, I: Inputs, O: Outputs>(
+    machine: &mut M,
+    inputs: &mut I,
+    outputs: &mut O,
+) -> Result<Option<u8>, RunFault>
+    requires inputs { (m : M) (k : ℕ) → M.needs_input m k → I.has k }
+    requires holds { M.holds machine.old [] }
+    ensures ok { OnOk result (Went (record { reaches = M.reaches; done_with = M.done_with;
+      stopped_short = M.stopped_short; reachable = M.reachable }) false machine.old machine.new (I.input inputs.old) (I.input inputs.new)
+      (O.contents outputs.old) (O.contents outputs.new)) }
+    ensures front { OnErr result (Went (record { reaches = M.reaches; done_with = M.done_with;
+      stopped_short = M.stopped_short; reachable = M.reachable }) true machine.old machine.new (I.input inputs.old) (I.input inputs.new)
+      (O.contents outputs.old) (O.contents outputs.new)) }
+    ensures at { IfOk result (λ next. IsAt next (M.needs_input machine.new) (M.finished machine.new)) }
+    ensures nothing { IfOk result (λ next. HasNothing next (I.input inputs.new)) }
+    ensures calls { (k : ℕ) → SameCalls (I.input inputs.old k) (I.input inputs.new k) }
+    ensures counted { I.reads inputs.new ≡ I.reads inputs.old }
+    ensures fault { IfErr result (λ fault. fault ≡ RunFault.WriteFault) }
+    ensures failed { O.failed outputs.new ≡ (O.failed outputs.old || is_err result) }
+    ensures same_readers { I.same_readers inputs.old inputs.new }
+    ensures same_writers { O.same_writers outputs.old outputs.new }
+{
+    let mut next = drain(machine, &[], outputs)?;
+    loop {
+        let Some(from) = next else {
+            return Ok(None);
+        };
+        let chunk = inputs.window(from);
+        if chunk.is_empty() {
+            return Ok(Some(from));
+        }
+        let used = machine.feed(from, chunk);
+        let drained = drain(machine, chunk, outputs);
+        inputs.consume(from, used);
+        next = drained?;
+    }
+}
+
+/// Runs a machine, from its current state, over inputs and outputs, until it has finished. Makes at most `turns` reads, of all inputs
+/// together, and each only when the machine needs that input and no bytes wait of it. Flushes the outputs before each read and at the
+/// end. Bytes that the machine did not use wait in the windows of the inputs.
+///
+/// Returns `ReadFault` if a read fails, `WriteFault` if a write or a flush fails, and `ReadLimit` if one more read than
+/// `turns` would be needed. After `ReadFault` and `ReadLimit` the machine needs input, and may be run again. After `WriteFault` it
+/// cannot be run again, since it may have given more than was written.
+pub fn run_streams<M: Machine, I: Inputs, O: Outputs>(
+    machine: &mut M,
+    inputs: &mut I,
+    outputs: &mut O,
+    turns: u64,
+) -> Result<(), RunFault>
+    requires inputs { (m : M) (k : ℕ) → M.needs_input m k → I.has k }
+    requires open_inputs { (k : ℕ) → I.has k → IsOpen (I.input inputs.old k) }
+    requires sound_outputs { O.failed outputs.old ≡ false }
+    requires holds { M.holds machine.old [] }
+
+    ensures reads { I.reads inputs.new ≤ I.reads inputs.old + turns }
+    ensures ran { RanOver (record { reaches = M.reaches; done_with = M.done_with; stopped_short = M.stopped_short; reachable = M.reachable })
+      (record {
+        needs_input = M.needs_input machine.new;
+        finished = M.finished machine.new;
+        spent = min (I.reads inputs.old + turns) u64.MAX ≤ I.reads inputs.new;
+        write_failed = O.failed outputs.new;
+      }) I.has result machine.old machine.new (I.input inputs.old) (I.input inputs.new) (O.contents outputs.old) (O.contents outputs.new) }
+    ensures same_readers { I.same_readers inputs.old inputs.new }
+    ensures same_writers { O.same_writers outputs.old outputs.new }
+{
+    let mut next = advance(machine, inputs, outputs)?;
+    for _ in 0..turns {
+        outputs.flush()?;
+        let Some(from) = next else {
+            return Ok(());
+        };
+        read_more(machine, inputs, from)?;
+        next = advance(machine, inputs, outputs)?;
+    }
+    outputs.flush()?;
+    match next {
+        Some(_) => Err(RunFault::ReadLimit),
+        None => Ok(()),
+    }
+}
+
+/// Runs a machine that needs only the input 0, from its current state, over a reader, and over a writer of what it gives to the output 0,
+/// until it has finished. Makes at most `turns` reads, each into the whole buffer, which may not be empty. Flushes the writer before each
+/// read and at the end.
 ///
 /// Returns `ReadFault` if a read fails, `WriteFault` if a write or a flush fails, and `ReadLimit` if one more read than
 /// `turns` would be needed. After `ReadFault` and `ReadLimit` the machine needs input, and may be run again over another
@@ -70,41 +164,60 @@ pub fn run<M: Machine, R: Read, W: Write>(
     buffer: &mut [u8],
     turns: u64,
 ) -> Result<(), RunFault>
+    requires one { (m : M) (k : ℕ) → M.needs_input m k → k ≡ 0 }
+    requires holds { M.holds machine.old [] }
     requires space { 0 < length buffer.old }
     requires new_reader { IsNew reader.old }
     requires sound_writer { has_failed writer.old ≡ false }
 
     ensures reads { reads_of reader.new ≤ turns }
     ensures useful { has_wasted reader.new ≡ false }
-    ensures ran { Moves (is_broken result) (Ran M.reaches M.closes machine.old machine.new (record {
-      needs_input = M.needs_input machine.new;
+    ensures ran { RanOne R.remaining W.contents M.reaches machine.old machine.new (record {
+      needs_input = M.needs_input machine.new 0;
       finished = M.finished machine.new;
-      stopped_short = M.reachable machine.old × M.stopped_short machine.new;
-      stopped_short_before = M.stopped_short machine.old;
-    }) result (has_ended reader.new) turns)
-        (flow (R.remaining (inner_of reader.old)) (R.remaining (inner_of reader.new)) ∷ [])
-        (flow (W.contents (inner_of writer.old)) (W.contents (inner_of writer.new)) ∷ []) }
+      stopped_short = M.reachable machine.old × M.stopped_short machine.new 0;
+      stopped_short_before = M.stopped_short machine.old 0;
+    }) result turns reader.old reader.new writer.old writer.new }
     ensures fault { IfErr result (IsShownBy (IsTrue (has_failed reader.new)) (IsTrue (has_failed writer.new)) (IsSpent reader.new turns)) }
     ensures failed { FailsAs result (has_failed reader.new) (has_failed writer.new) }
 {
-    if drain(machine, writer)? {
-        flush(writer)?;
-        return Ok(());
-    }
-    for _ in 0..turns {
-        flush(writer)?;
-        let count = receive(reader, buffer)?;
-        if count == 0 {
-            machine.close();
-            drain(machine, writer)?;
-            flush(writer)?;
-            return Ok(());
-        }
-        if feed_all(machine, writer, &buffer[..count])? {
-            flush(writer)?;
-            return Ok(());
-        }
-    }
-    flush(writer)?;
-    Err(RunFault::ReadLimit)
+    let mut input = OneInput {
+        reader,
+        buffer,
+        start: 0,
+        end: 0,
+    };
+    let mut output = OneOutput { writer };
+    run_one(machine, &mut input, &mut output, turns)
+}
+
+// Runs a machine over the one input and the one output that it has.
+fn run_one<M: Machine, R: Read, W: Write>(
+    machine: &mut M,
+    input: &mut OneInput<'_, R>,
+    output: &mut OneOutput<'_, W>,
+    turns: u64,
+) -> Result<(), RunFault>
+    requires one { (m : M) (k : ℕ) → M.needs_input m k → k ≡ 0 }
+    requires holds { M.holds machine.old [] }
+    requires empty { input.old.end ≡ input.old.start }
+    requires new_reader { IsNew input.old.reader.now }
+    requires sound_writer { has_failed output.old.writer.now ≡ false }
+
+    ensures reads { reads_of input.new.reader.now ≤ turns }
+    ensures useful { has_wasted input.new.reader.now ≡ false }
+    ensures ran { RanOne R.remaining W.contents M.reaches machine.old machine.new (record {
+      needs_input = M.needs_input machine.new 0;
+      finished = M.finished machine.new;
+      stopped_short = M.reachable machine.old × M.stopped_short machine.new 0;
+      stopped_short_before = M.stopped_short machine.old 0;
+    }) result turns input.old.reader.now input.new.reader.now output.old.writer.now output.new.writer.now }
+    ensures fault { IfErr result (IsShownBy (IsTrue (has_failed input.new.reader.now)) (IsTrue (has_failed output.new.writer.now))
+      (IsSpent input.new.reader.now turns)) }
+    ensures failed { FailsAs result (has_failed input.new.reader.now) (has_failed output.new.writer.now) }
+    ensures same_reader { input.new.reader.ghost_name ≡ input.old.reader.ghost_name }
+    ensures same_buffer { input.new.buffer.ghost_name ≡ input.old.buffer.ghost_name }
+    ensures same_writer { output.new.writer.ghost_name ≡ output.old.writer.ghost_name }
+{
+    run_streams(machine, input, output, turns)
 }

@@ -1,17 +1,18 @@
 -- The server as a machine: what its calls mean for a run.
-use Rattle.std.proofs.Common.{◌≡◌, ℕ, true, List, Option, Some, None, IsSome, inl, inr, refl, sym, ◌∙◌, subst}
-use Rattle.git_loop.specs.Machines.{GivesPacket, StateRelation}
+use Rattle.std.proofs.Common.{◌≡◌, ℕ, true, List, [], ◌∷◌, ◌++◌, append-nil, Option, Some, None, IsSome, inl, inr, refl, sym, ◌∙◌, subst}
+use Rattle.git_loop.specs.Machines.{GivesPiece}
+use Rattle.git_loop.specs.Moves.{closed, gave, used}
 use Rattle.git_pkt.specs.Packets.{spelling_of}
 use Rattle.git_pkt.specs.Fronts.{HasFront}
 use Rattle.git_pkt.specs.Machine.PacketReader.{held_of}
 use Rattle.git_pkt.proofs.Written.{spells_written}
 use Rattle.git_server.specs.Repository.{RepoState}
-use Rattle.git_server.specs.Machine.Moved.{IsOfASession, IsTooLong, LendsPacket}
+use Rattle.git_server.specs.Machine.Moved.{IsOfASession, IsTooLong, LendsPacket, ServerReaches}
 use Rattle.git_server.specs.Machine.Phases.{reads_in, turn_in}
 use Rattle.git_server.specs.Machine.ServerCalls.{Closes, Gives, Goes, IsAfterPull, IsClosing}
 use Rattle.git_server.specs.declared.outcome.Outcome.{Outcome}
 use Rattle.git_server.specs.declared.outcome.Outcome.TheVariants.{Closed, Refused}
-use Rattle.git_server.specs.Machine.Server.{outcome_of}
+use Rattle.git_server.specs.Machine.Server.{Running, outcome_of}
 use Rattle.git_server.specs.declared.server.Phase.{Phase}
 use Rattle.git_server.specs.declared.server.Phase.TheVariants.{Advertising, Between, Within, Answering, Refusing, Ended}
 use Rattle.git_server.specs.declared.server.Server.{Server}
@@ -37,23 +38,35 @@ too_long_by_pull old now after (fault, is, name) = (fault, too_long_before old n
 
 -- the end of the input is never a stream that is too long
 pub close_not_too_long : (o : Option Outcome) → IsClosing o → IsTooLong o → ⊥
-close_not_too_long o (inl closed) (fault, is, name) = let same : Some Closed ≡ Some (Refused fault) = sym closed ∙ is in cc
+close_not_too_long o (inl between) (fault, is, name) = let same : Some Closed ≡ Some (Refused fault) = sym between ∙ is in cc
 close_not_too_long o (inr (cut, ends, why)) (fault, is, name) = let same : Some (Refused cut) ≡ Some (Refused fault) = sym ends ∙ is in cc
 
-module _ {R A : Type 0} (state : R → RepoState) where
-  abbrev pub ServerReaches : StateRelation (Server R A)
-  ServerReaches old used given new = Goes state used given old new
-
-  pub gives_packet : (old new : Server R A) → Gives state old new → GivesPacket ServerReaches LendsPacket old new
-  gives_packet old new gives = record {
+module _ {R A : Type 0} (state : R → RepoState) (old new : Server R A) where
+  pub gives_piece : (to : ℕ) → to ≡ 0 → Gives state old new → GivesPiece (ServerReaches state) LendsPacket old to new
+  gives_piece to first gives = record {
     bytes = spelling_of gives.packet;
     lent = (gives.packet, spells_written gives.packet gives.fits, gives.held);
-    reaches = gives.goes;
+    reaches = subst (λ (n : ℕ). ServerReaches state old (gave n (spelling_of gives.packet) ∷ []) new) (sym first)
+        (λ s so_far over before r.
+        subst (λ (l : List ℕ). Running state s (so_far ++ []) over (before ++ l) new) (sym (append-nil (spelling_of gives.packet)))
+        (gives.goes s so_far over before r));
   }
 
-  pub closes_in_time : (old new : Server R A) → Closes state old new → IsOfASession state old → IsTooLong (outcome_of new) → ⊥
-  closes_in_time old new closes h too_long =
-      close_not_too_long (outcome_of new) (closes h.s h.used h.over h.given h.running).1 too_long
+  pub reaches_used : (from : ℕ) (bytes : List ℕ) → from ≡ 0 → Goes state bytes [] old new → ServerReaches state old (used from bytes ∷ []) new
+  reaches_used from bytes first goes =
+      subst (λ (n : ℕ). ServerReaches state old (used n bytes ∷ []) new) (sym first)
+      (λ s so_far over before r.
+      subst (λ (l : List ℕ). Running state s (so_far ++ l) over (before ++ []) new) (sym (append-nil bytes)) (goes s so_far over before r))
+
+  pub reaches_closed : (from : ℕ) → from ≡ 0 → Closes state old new → ServerReaches state old (closed from ∷ []) new
+  reaches_closed from first closes =
+      subst (λ (n : ℕ). ServerReaches state old (closed n ∷ []) new) (sym first)
+      (λ s so_far over before r.
+      subst (λ (l : List ℕ). Running state s l true (before ++ []) new) (sym (append-nil so_far))
+      (subst (λ (l : List ℕ). Running state s so_far true l new) (sym (append-nil before)) (closes s so_far over before r).0))
+
+  pub closes_in_time : Closes state old new → IsOfASession state old → IsTooLong (outcome_of new) → ⊥
+  closes_in_time closes h too_long = close_not_too_long (outcome_of new) (closes h.s h.used h.over h.given h.running).1 too_long
 
 pub lent_front : {R A : Type 0} (server : Server R A) → (bytes : List ℕ) × LendsPacket server bytes → HasFront (held_of server.reader)
 lent_front server (bytes, (packet, spells, starts)) = record { packet = packet; spelling = bytes; spells = spells; starts = starts }

@@ -1,7 +1,8 @@
 -- A run of a server: what the machine's states at both ends mean for its session.
 use Rattle.std.proofs.Common.{◌≡◌, ◌≢◌, inl, inr, ℕ, Bool, true, false, List, [], ◌∷◌, ◌++◌, length, Result, Ok, Err, IsErrAnd, IfErr, Some}
 use Rattle.std.proofs.Common.{sym, ap, ◌∙◌, refl, append_assoc, append-nil, subst}
-use Rattle.git_loop.specs.Machines.{EndsRun, HasFinished as RunHasFinished, IsWaiting, Ran, RunReaches, RunStates}
+use Rattle.git_loop.specs.Machines.{EndsRun, HasFinished as RunHasFinished, IsWaiting, Ran, RunStates}
+use Rattle.git_loop.specs.Moves.{ended_after, given_to, used_of}
 use Rattle.git_pkt.specs.Faults.{last_position}
 use Rattle.git_pkt.specs.Streams.{Flow, Moves, is_broken}
 use Rattle.git_pkt.specs.declared.fault.RunFault.{RunFault}
@@ -9,16 +10,14 @@ use Rattle.git_pkt.specs.declared.fault.RunFault.TheVariants.{ReadFault, WriteFa
 use Rattle.git_pkt.proofs.EngineLemmas.{at_fault}
 use Rattle.git_server.specs.Repository.{RepoState}
 use Rattle.git_server.specs.Sessions.{Setting, IsSession}
-use Rattle.git_server.specs.Machine.Moved.{HasFinished, IsOfASession, IsTooLong}
+use Rattle.git_server.specs.Machine.Moved.{HasFinished, IsOfASession, IsTooLong, ServerReaches}
 use Rattle.git_server.specs.Machine.Phases.{turn_in}
 use Rattle.git_server.specs.Machine.Runs.{EndsRun as EndsSession, IsWholeRun, Served, Waits}
 use Rattle.git_server.specs.Machine.Server.{Running, outcome_of, wants_input}
-use Rattle.git_server.specs.Machine.ServerCalls.{Closes}
 use Rattle.git_server.specs.declared.outcome.Outcome.{Outcome}
 use Rattle.git_server.specs.declared.outcome.Outcome.TheVariants.{Refused}
 use Rattle.git_server.specs.declared.server.Server.{Server}
 use Rattle.git_server.specs.declared.server.Turn.TheVariants.{Finished}
-use Rattle.git_server.proofs.Machines.{ServerReaches}
 use Rattle.git_server.proofs.SessionLaws.{all_answered, ending, ends_now, every_moment}
 use Rattle.git_server.proofs.TooLong.{refused_too_long}
 
@@ -26,57 +25,47 @@ module _ {R A : Type 0} (state : R → RepoState) (old new : Server R A) (ended 
   -- what a run's clauses state of the server
   abbrev pub run_states : RunStates
   run_states = record {
-    needs_input = wants_input new ≡ true;
+    needs_input = (◌≡◌ {A = ℕ} 0 0) × (wants_input new ≡ true);
     finished = HasFinished new;
-    stopped_short = IsOfASession state old × IsTooLong (outcome_of new);
-    stopped_short_before = IsTooLong (outcome_of old);
+    stopped_short = IsOfASession state old × ((◌≡◌ {A = ℕ} 0 0) × IsTooLong (outcome_of new));
+    stopped_short_before = (◌≡◌ {A = ℕ} 0 0) × IsTooLong (outcome_of old);
   }
 
   abbrev pub RanSo : Result (Unit {0}) RunFault → Flow → Flow → Type 0
   RanSo result reader writer =
-      Moves (is_broken result) (Ran (ServerReaches state) (Closes state) old new run_states result ended turns) (reader ∷ []) (writer ∷ [])
+      Moves (is_broken result) (Ran (ServerReaches state) old new run_states result ended turns) (reader ∷ []) (writer ∷ [])
 
   abbrev pub ServedSo : Result Outcome RunFault → Flow → Flow → Type 0
   ServedSo answer reader writer = (s : Setting) (before given : List ℕ) → Running state s before false given old
       → Moves (is_broken answer) (Served state s before given answer ended turns new) (reader ∷ []) (writer ∷ [])
 
   module _ (s : Setting) (before given : List ℕ) (r : Running state s before false given old) where
-    stands_by : (over : Bool) (used content : List ℕ) → RunReaches over (ServerReaches state) (Closes state) old used content new
-        → Running state s (before ++ used) over (given ++ content) new
-    stands_by false used content went = went s before false given r
-    stands_by true used content went =
-        let first : Running state s (before ++ used) false (given ++ went.given_before) went.fed = went.before s before false given r in
-        let closed : Running state s (before ++ used) true (given ++ went.given_before) went.closed =
-        (went.closes s (before ++ used) false (given ++ went.given_before) first).0 in
-        let after : Running state s ((before ++ used) ++ []) true ((given ++ went.given_before) ++ went.given_after) new =
-        went.after s (before ++ used) true (given ++ went.given_before) closed in
-        subst (λ (l : List ℕ). Running state s (before ++ used) true l new)
-        (append_assoc given went.given_before went.given_after ∙ ap (λ (l : List ℕ). given ++ l) (sym went.parts))
-        (subst (λ (l : List ℕ). Running state s l true ((given ++ went.given_before) ++ went.given_after) new) (append-nil (before ++ used)) after)
-
     moved_so : (broken : Bool) (result : Result (Unit {0}) RunFault) (answer : Result Outcome RunFault) {reader writer : Flow}
         → ((used unused : List ℕ) (over : Bool) (content : List ℕ) → Running state s (before ++ used) over (given ++ content) new
         → EndsRun result run_states turns used unused over → EndsSession s answer turns before used unused over (given ++ content))
-        → Moves broken (Ran (ServerReaches state) (Closes state) old new run_states result ended turns) (reader ∷ []) (writer ∷ [])
+        → Moves broken (Ran (ServerReaches state) old new run_states result ended turns) (reader ∷ []) (writer ∷ [])
         → Moves broken (Served state s before given answer ended turns new) (reader ∷ []) (writer ∷ [])
     moved_so broken result answer ends ran =
         let x = ran.related in
-        let stands = stands_by x.closed x.used x.given x.reaches in
+        let bytes = used_of 0 x.trace in
+        let over = ended_after 0 false x.trace in
+        let content = given_to 0 x.trace in
+        let stands = x.reaches s before false given r in
         record {
           used = ran.used;
           given = ran.given;
           read = ran.read;
           written = ran.written;
           related = record {
-            used = x.used;
+            used = bytes;
             unused = x.unused;
-            over = x.closed;
-            content = x.given;
+            over = over;
+            content = content;
             arrived = x.received;
             announced = x.sent;
             stands = stands;
             whole = x.whole;
-            ends = ends x.used x.unused x.closed x.given stands x.ends;
+            ends = ends bytes x.unused over content stands x.ends;
           };
         }
 
@@ -86,7 +75,7 @@ module _ {R A : Type 0} (state : R → RepoState) (old new : Server R A) (ended 
     waits used unused over content stands rests = record {
       all = rests.all;
       goes_on = rests.still_open;
-      answered = all_answered state new s (before ++ used) over (given ++ content) stands rests.needs_input;
+      answered = all_answered state new s (before ++ used) over (given ++ content) stands rests.needs_input.1;
     }
 
     -- the session ended so
@@ -100,9 +89,9 @@ module _ {R A : Type 0} (state : R → RepoState) (old new : Server R A) (ended 
         record {
           session = session;
           in_time = λ fault is too_long.
-              elim (rests.short (here, (fault, announces.0 ∙ ap Some is, too_long))) [
+              elim (rests.short (here, (refl, (fault, announces.0 ∙ ap Some is, too_long)))) [
                 | inl more ↦ inl more
-                | inr early ↦ inr (used_before early)
+                | inr early ↦ inr (used_before early.1)
               ];
         }
       where
@@ -128,9 +117,9 @@ module _ {R A : Type 0} (state : R → RepoState) (old new : Server R A) (ended 
   breaks (RefusedRun fault) ran s before given r = absurd ran.related.ends
 
   pub waits_after : (fault : RunFault) {reader writer : Flow} → RanSo (Err fault) reader writer → fault ≢ WriteFault → wants_input new ≡ true
-  waits_after ReadFault ran other = ran.related.ends.needs_input
+  waits_after ReadFault ran other = ran.related.ends.needs_input.1
   waits_after WriteFault ran other = absurd (other refl)
-  waits_after ReadLimit ran other = ran.related.ends.0.needs_input
+  waits_after ReadLimit ran other = ran.related.ends.0.needs_input.1
   waits_after (RefusedRun fault) ran other = absurd ran.related.ends
 
   -- the fault that `?` returns is the one that it met

@@ -1,45 +1,44 @@
-use Rattle.std.proofs.Common.{rules, sym, refl, [], true, false}
-use Rattle.git_pkt.proofs.EngineLemmas.{written_nothing}
-use Rattle.git_loop.proofs.RunLemmas.{on_err_at, writes_more, writes_nothing}
+use Rattle.std.proofs.Common.{rules, sym, refl, subst, true, false}
+use Rattle.git_loop.proofs.RunLemmas.{on_err_at, went_gave, went_nothing, went_quiet, went_then}
 use Rattle.git_loop.proofs.running.drain.Goals as goal
 
-pub packets-init : goal.packets-init
-packets-init g c = record {
+pub loop-to-init : goal.loop-to-init
+loop-to-init g c = record {
   failed = search rules;
-  done = λ e. e;
-  short = λ e. e;
-  writes = writes_nothing g.met.M.Machine.reaches_itself _ _;
+  holds = search rules;
+  same_writers = g.met.O.Outputs.same_itself _;
+  went = λ inputs. went_nothing _ g.met.M.Machine.reaches_itself _ inputs _;
 }
 
-pub packet-requires : goal.packet-requires
-packet-requires g c =
-    let gives = c.in-Packet.ensures.packet refl in
-    (gives.bytes, gives.lent)
+pub piece-requires : goal.piece-requires
+piece-requires g c = let gives = c.next.ensures.piece _ c.in-Piece.is in (gives.bytes, gives.lent)
 
-pub packets-preserved : goal.packets-preserved
-packets-preserved g c =
-    let gives = c.in-Packet.ensures.packet refl in
+pub loop-to-preserved : goal.loop-to-preserved
+loop-to-preserved g c =
+    let gives = c.next.ensures.piece _ c.in-Piece.is in
     record {
       failed = search rules;
-      done = λ e. c.next.ensures.done (c.packets.invariant.done e);
-      short = λ e. c.packets.invariant.short (c.next.ensures.short e);
-      writes = writes_more g.met.M.Machine.reaches_further false _ _ _ [] [] _ c.packets.invariant.writes
-          (rw (sym (c.packet.ensures gives.bytes gives.lent)) (search rules)) gives.reaches;
+      holds = search rules;
+      same_writers = g.met.O.Outputs.same_further _ _ _ c.loop-to.invariant.same_writers c.in_ok-send-in-Piece.ensures.same_writers;
+      went = λ inputs. went_then _ g.met.M.Machine.reaches_further g.met.M.Machine.stays_reachable false (c.loop-to.invariant.went inputs)
+          (went_gave _ false _ inputs gives (rw (sym (c.piece.ensures gives.bytes gives.lent)) c.in_ok-send-in-Piece.ensures.ok) c.next.ensures.done
+          c.next.ensures.short);
     }
 
+pub returns-in_err-send-in-Piece-clause-front : goal.returns-in_err-send-in-Piece-clause-front
+returns-in_err-send-in-Piece-clause-front g c =
+    let gives = c.next.ensures.piece _ c.in-Piece.is in
+    on_err_at _ _ _ c.from_residual.ensures.1
+    (λ inputs. went_then _ g.met.M.Machine.reaches_further g.met.M.Machine.stays_reachable true (c.loop-to.invariant.went inputs)
+    (went_gave _ true _ inputs gives (rw (sym (c.piece.ensures gives.bytes gives.lent)) c.in_err-send-in-Piece.ensures.front) c.next.ensures.done
+    c.next.ensures.short))
+
 pub returns-in-NeedInput-clause-ok : goal.returns-in-NeedInput-clause-ok
-returns-in-NeedInput-clause-ok g c =
-    writes_more g.met.M.Machine.reaches_further false _ _ _ [] [] [] c.packets.invariant.writes (written_nothing _)
-    (c.in-NeedInput.ensures.needs_input refl).1
+returns-in-NeedInput-clause-ok g c = λ inputs.
+    went_then _ g.met.M.Machine.reaches_further g.met.M.Machine.stays_reachable false (c.loop-to.invariant.went inputs)
+    (went_quiet _ inputs _ (c.in-NeedInput.ensures.needs_input _ refl).1 c.in-NeedInput.ensures.done c.in-NeedInput.ensures.short)
 
 pub returns-in-Finished-clause-ok : goal.returns-in-Finished-clause-ok
-returns-in-Finished-clause-ok g c =
-    writes_more g.met.M.Machine.reaches_further false _ _ _ [] [] [] c.packets.invariant.writes (written_nothing _)
-    (c.in-Finished.ensures.finished refl).1
-
-pub returns-in_err-send-in-Packet-clause-front : goal.returns-in_err-send-in-Packet-clause-front
-returns-in_err-send-in-Packet-clause-front g c =
-    let gives = c.in-Packet.ensures.packet refl in
-    on_err_at _ _ _ c.from_residual.ensures.1
-    (writes_more g.met.M.Machine.reaches_further true _ _ _ [] [] _ c.packets.invariant.writes
-    (rw (sym (c.packet.ensures gives.bytes gives.lent)) c.in_err-send-in-Packet.ensures.sends.err) gives.reaches)
+returns-in-Finished-clause-ok g c = λ inputs.
+    went_then _ g.met.M.Machine.reaches_further g.met.M.Machine.stays_reachable false (c.loop-to.invariant.went inputs)
+    (went_quiet _ inputs _ (c.in-Finished.ensures.finished refl).1 c.in-Finished.ensures.done c.in-Finished.ensures.short)

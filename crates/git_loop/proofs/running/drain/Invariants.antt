@@ -1,18 +1,21 @@
--- What the machine sent was written, and nothing has failed since the call began.
-use Rattle.std.proofs.Common.{◌≡◌, false, []}
-use Rattle.git_pkt.specs.Machine.Recorded.{inner_of, has_failed}
-use Rattle.git_pkt.specs.Streams.{flow}
-use Rattle.git_loop.specs.Machines.{Writes}
+-- What the machine gave was written, and nothing has failed since the call began.
+use Rattle.std.proofs.Common.{◌≡◌, ℕ, false}
+use Rattle.git_loop.specs.Streams.{InputState}
+use Rattle.git_loop.specs.Machines.{Went}
 use Rattle.git_loop.proofs.running.drain.Given as goal
 
-abbrev pub invariant-packets : goal.invariant-packets
-invariant-packets g l = record {
-  failed : has_failed l.writer ≡ has_failed l.fn.writer;
-  done : g.M.Machine.done_with_input l.fn.machine → g.M.Machine.done_with_input l.machine;
-  short : g.M.Machine.stopped_short l.machine → g.M.Machine.stopped_short l.fn.machine;
-  writes : Writes g.M.Machine.reaches false l.fn.machine l.machine []
-      (flow (g.W.Write.contents (inner_of l.fn.writer)) (g.W.Write.contents (inner_of l.writer)));
+abbrev pub invariant-loop-to : goal.invariant-loop-to
+invariant-loop-to g l = record {
+  failed : g.O.Outputs.failed l.outputs ≡ g.O.Outputs.failed l.fn.outputs;
+  holds : g.M.Machine.holds l.machine l.fed;
+  same_writers : g.O.Outputs.same_writers l.fn.outputs l.outputs;
+  went : (inputs : ℕ → InputState) → Went (record {
+    reaches = g.M.Machine.reaches;
+    done_with = g.M.Machine.done_with;
+    stopped_short = g.M.Machine.stopped_short;
+    reachable = g.M.Machine.reachable;
+  }) false l.fn.machine l.machine inputs inputs (g.O.Outputs.contents l.fn.outputs) (g.O.Outputs.contents l.outputs);
 }
 
-abbrev pub decreases-packets : goal.decreases-packets
-decreases-packets g l = g.M.Machine.packets_left l.machine
+abbrev pub decreases-loop-to : goal.decreases-loop-to
+decreases-loop-to g l = g.M.Machine.pieces_left l.machine

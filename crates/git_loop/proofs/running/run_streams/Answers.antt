@@ -1,0 +1,99 @@
+use Rattle.std.proofs.Common.{rules, true, false, refl, ℕ}
+use Rattle.git_pkt.specs.declared.fault.RunFault.TheVariants.{ReadFault, WriteFault}
+use Rattle.git_loop.proofs.RunLemmas.{failed_alone, known_first, known_read, known_so, not_ended, ran_at, sound_read, sound_so, went_flushed, went_then}
+use Rattle.git_loop.proofs.running.run_streams.Goals as goal
+
+-- ---- before the first read
+
+pub returns-in_err-next-clause-ran : goal.returns-in_err-next-clause-ran
+returns-in_err-next-clause-ran g c =
+    ran_at WriteFault c.in_err-next.ensures.fault c.from_residual.ensures.1 (record {
+      went = c.in_err-next.ensures.front;
+      ends = tt;
+      failed = (sound_so c.in_err-next.ensures.calls (λ k exists. (c.requires.open_inputs k exists).sound), search rules);
+    })
+
+pub loop-init : goal.loop-init
+loop-init g c = record {
+  at = c.in_ok-next.ensures.at;
+  nothing = c.in_ok-next.ensures.nothing;
+  most = search rules;
+  all = search rules;
+  sound = sound_so c.in_ok-next.ensures.calls (λ k exists. (c.requires.open_inputs k exists).sound);
+  known = known_first _ c.in_ok-next.ensures.calls c.requires.open_inputs;
+  sound_outputs = search rules;
+  same_readers = c.in_ok-next.ensures.same_readers;
+  same_writers = c.in_ok-next.ensures.same_writers;
+  went = c.in_ok-next.ensures.ok;
+}
+
+-- ---- a turn
+
+pub returns-in_err-flush-clause-ran : goal.returns-in_err-flush-clause-ran
+returns-in_err-flush-clause-ran g c =
+    ran_at WriteFault c.in_err-flush.ensures.fault c.from_residual-in_err-flush.ensures.1 (record {
+      went = went_then _ g.met.M.Machine.reaches_further g.met.M.Machine.stays_reachable true c.loop.invariant.went
+          (went_flushed _ true g.met.M.Machine.reaches_itself _ _ c.in_err-flush.ensures.kept);
+      ends = tt;
+      failed = (c.loop.invariant.sound, search rules);
+    })
+
+pub returns-in_err-read_more-clause-ran : goal.returns-in_err-read_more-clause-ran
+returns-in_err-read_more-clause-ran g c =
+    let alone = failed_alone c.in-Some.from (c.requires.inputs _ _ (rw c.in-Some.is at c.loop.invariant.at)) c.in_err-read_more.ensures.failed
+        c.in_err-read_more.ensures.others c.loop.invariant.sound in
+    ran_at ReadFault c.in_err-read_more.ensures.fault c.from_residual-in_err-read_more.ensures.1 (record {
+      went = went_then _ g.met.M.Machine.reaches_further g.met.M.Machine.stays_reachable false
+          (went_then _ g.met.M.Machine.reaches_further g.met.M.Machine.stays_reachable false c.loop.invariant.went
+          (went_flushed _ false g.met.M.Machine.reaches_itself _ _ c.in_ok-flush.ensures.kept))
+          (c.in_err-read_more.ensures.went _);
+      ends = (c.in-Some.from, c.in_err-read_more.ensures.unread.1, alone.failed);
+      failed = ((c.in-Some.from, alone), search rules);
+    })
+
+pub returns-in_err-next-2-clause-ran : goal.returns-in_err-next-2-clause-ran
+returns-in_err-next-2-clause-ran g c =
+    ran_at WriteFault c.in_err-next-2.ensures.fault c.from_residual-in_err-next-2.ensures.1 (record {
+      went = went_then _ g.met.M.Machine.reaches_further g.met.M.Machine.stays_reachable true
+          (went_then _ g.met.M.Machine.reaches_further g.met.M.Machine.stays_reachable false
+          (went_then _ g.met.M.Machine.reaches_further g.met.M.Machine.stays_reachable false c.loop.invariant.went
+          (went_flushed _ false g.met.M.Machine.reaches_itself _ _ c.in_ok-flush.ensures.kept))
+          (c.in_ok-read_more.ensures.went _)) c.in_err-next-2.ensures.front;
+      ends = tt;
+      failed = (sound_so c.in_err-next-2.ensures.calls
+      (sound_read c.in-Some.from c.in_ok-read_more.ensures.failed c.in_ok-read_more.ensures.others c.loop.invariant.sound), search rules);
+    })
+
+pub loop-preserved : goal.loop-preserved
+loop-preserved g c =
+    let after : (k : ℕ) → g.M.Machine.done_with c.loop.machine k → g.M.Machine.done_with c.read_more.new.machine k =
+        (c.in_ok-read_more.ensures.went (g.O.Outputs.contents c.loop.outputs)).done in
+    record {
+      at = c.in_ok-next-2.ensures.at;
+      nothing = c.in_ok-next-2.ensures.nothing;
+      most = search rules;
+      all = search rules;
+      sound = sound_so c.in_ok-next-2.ensures.calls
+          (sound_read c.in-Some.from c.in_ok-read_more.ensures.failed c.in_ok-read_more.ensures.others c.loop.invariant.sound);
+      known = known_so c.in_ok-next-2.ensures.calls c.in_ok-next-2.ensures.ok.done
+          (known_read c.in-Some.from c.in_ok-read_more.ensures.ended c.in_ok-read_more.ensures.others after c.loop.invariant.known);
+      sound_outputs = search rules;
+      same_readers = g.met.I.Inputs.same_further _ _ _ (g.met.I.Inputs.same_further _ _ _ c.loop.invariant.same_readers
+          c.in_ok-read_more.ensures.same_readers) c.in_ok-next-2.ensures.same_readers;
+      same_writers = g.met.O.Outputs.same_further _ _ _ (g.met.O.Outputs.same_further _ _ _ c.loop.invariant.same_writers
+          c.in_ok-flush.ensures.same_writers) c.in_ok-next-2.ensures.same_writers;
+      went = went_then _ g.met.M.Machine.reaches_further g.met.M.Machine.stays_reachable false
+          (went_then _ g.met.M.Machine.reaches_further g.met.M.Machine.stays_reachable false
+          (went_then _ g.met.M.Machine.reaches_further g.met.M.Machine.stays_reachable false c.loop.invariant.went
+          (went_flushed _ false g.met.M.Machine.reaches_itself _ _ c.in_ok-flush.ensures.kept))
+          (c.in_ok-read_more.ensures.went _)) c.in_ok-next-2.ensures.ok;
+    }
+
+pub returns-in_err-flush-2-clause-ran : goal.returns-in_err-flush-2-clause-ran
+returns-in_err-flush-2-clause-ran g c =
+    ran_at WriteFault c.in_err-flush-2.ensures.fault c.from_residual-in_err-flush-2.ensures.1 (record {
+      went = went_then _ g.met.M.Machine.reaches_further g.met.M.Machine.stays_reachable true c.loop.invariant.went
+          (went_flushed _ true g.met.M.Machine.reaches_itself _ _ c.in_err-flush-2.ensures.kept);
+      ends = tt;
+      failed = (c.loop.invariant.sound, search rules);
+    })
