@@ -51,9 +51,7 @@ git_server object_info: ls_refs fetching server io
 git_server admission: Packet PacketReader
 git_server machine: io
 git_server run: answer Request
-git_host admission asking fetch_answer host_answer host_server hosted laws machine references_answer report request_at_hand sizes_answer: io Recorded
-git_host store: io Recorded host_server hosted
-git_host repo_store: Recorded host_server hosted
+git_host *: io Recorded
 git_host admission: put Packet
 git_host fetch_answer: references_answer sizes_answer host_server
 git_host references_answer: fetch_answer sizes_answer host_server
@@ -61,6 +59,9 @@ git_host sizes_answer: fetch_answer references_answer host_server
 git_host report: host_server host_answer
 git_host host_answer: host_server RequestStream
 git_host request_at_hand: report
+git_store asking hosted laws machine: io Recorded
+git_store store: io Recorded HostServer hosted
+git_store repo_store: Recorded HostServer hosted
 git_client phase sections judge judge_lines asking events event_parts client: io Recorded transcript line
 git_client judge judge_lines: Hold Fault client
 git_client sections: judge judge_lines

@@ -216,55 +216,44 @@ module _ {A : Type 0} where
       absurd (none_needed A need (subst (λ (o : HostAnswer A). IsNeeded need o) was needed))
 
   module _ (a : AdmissionMachine A) where
-    want_still : (at : ℕ) → admission_step a ≡ AskWant at → (need : Need) → IsNeeded need (Admission a)
-        → (Needs (NeedOf.Want at) ≡ Needs need) × (Admission a ≡ Admission a)
-    want_still at is (NeedOf.Want other) needed = (
-      let both : AskWant at ≡ AskWant other = sym is ∙ needed in
-          let same : at ≡ other = cc in ap (λ (n : ℕ). Needs (NeedOf.Want n)) same,
-      refl,
-    )
-    want_still at is (NeedOf.WantRef other) needed = absurd (let both : AskWant at ≡ AskWantRef other = sym is ∙ needed in cc)
-    want_still at is (NeedOf.Have other) needed = absurd needed
-    want_still at is NeedOf.Ready needed = absurd needed
-    want_still at is NeedOf.Boundary needed = absurd needed
-    want_still at is NeedOf.Pack needed = absurd needed
-    want_still at is NeedOf.Reference needed = absurd needed
-    want_still at is (NeedOf.Size other) needed = absurd needed
+    abbrev need_of : AdmissionStep → Option Need
+    need_of (AskWant at) = Some (NeedOf.Want at)
+    need_of (AskWantRef at) = Some (NeedOf.WantRef at)
+    need_of step = None
 
-    want_ref_still : (at : ℕ) → admission_step a ≡ AskWantRef at → (need : Need) → IsNeeded need (Admission a)
-        → (Needs (NeedOf.WantRef at) ≡ Needs need) × (Admission a ≡ Admission a)
-    want_ref_still at is (NeedOf.WantRef other) needed = (
-      let both : AskWantRef at ≡ AskWantRef other = sym is ∙ needed in
-          let same : at ≡ other = cc in ap (λ (n : ℕ). Needs (NeedOf.WantRef n)) same,
-      refl,
-    )
-    want_ref_still at is (NeedOf.Want other) needed = absurd (let both : AskWantRef at ≡ AskWant other = sym is ∙ needed in cc)
-    want_ref_still at is (NeedOf.Have other) needed = absurd needed
-    want_ref_still at is NeedOf.Ready needed = absurd needed
-    want_ref_still at is NeedOf.Boundary needed = absurd needed
-    want_ref_still at is NeedOf.Pack needed = absurd needed
-    want_ref_still at is NeedOf.Reference needed = absurd needed
-    want_ref_still at is (NeedOf.Size other) needed = absurd needed
+    -- the need of an admission is that of its step
+    needs_that : (need : Need) → IsNeeded need (Admission a) → need_of (admission_step a) ≡ Some need
+    needs_that (NeedOf.Want at) needed = ap need_of needed
+    needs_that (NeedOf.WantRef at) needed = ap need_of needed
+    needs_that (NeedOf.Have other) needed = absurd needed
+    needs_that NeedOf.Ready needed = absurd needed
+    needs_that NeedOf.Boundary needed = absurd needed
+    needs_that NeedOf.Pack needed = absurd needed
+    needs_that NeedOf.Reference needed = absurd needed
+    needs_that (NeedOf.Size other) needed = absurd needed
+
+    admission_still : (known : Need) → need_of (admission_step a) ≡ Some known → (need : Need) → IsNeeded need (Admission a)
+        → (Needs known ≡ Needs need) × (Admission a ≡ Admission a)
+    admission_still known is need needed = (let both : Some known ≡ Some need = sym is ∙ needs_that need needed in cc, refl)
+
+    none_through : (step : AdmissionStep) → asks_wanted step ≡ false → need_of step ≡ None
+    none_through (AskWant at) through = absurd (cc)
+    none_through (AskWantRef at) through = absurd (cc)
+    none_through step through = refl
 
     through_needs : (step : AdmissionStep) → admission_step a ≡ step → asks_wanted step ≡ false → (need : Need) → IsNeeded need (Admission a) → ⊥
-    through_needs step is through (NeedOf.Want at) needed =
-        let both : asks_wanted (AskWant at) ≡ false = ap asks_wanted (sym needed ∙ is) ∙ through in cc
-    through_needs step is through (NeedOf.WantRef at) needed =
-        let both : asks_wanted (AskWantRef at) ≡ false = ap asks_wanted (sym needed ∙ is) ∙ through in cc
-    through_needs step is through (NeedOf.Have other) needed = needed
-    through_needs step is through NeedOf.Ready needed = needed
-    through_needs step is through NeedOf.Boundary needed = needed
-    through_needs step is through NeedOf.Pack needed = needed
-    through_needs step is through NeedOf.Reference needed = needed
-    through_needs step is through (NeedOf.Size other) needed = needed
+    through_needs step is through need needed =
+        let both : None ≡ Some need = sym (ap need_of is ∙ none_through step through) ∙ needs_that need needed in cc
 
     pub want_waits : (old : HostAnswer A) (at : ℕ) → old ≡ Admission a → admission_step a ≡ AskWant at → WaitsStill old (Needs (NeedOf.Want at)) (Admission a)
-    want_waits old at was is = subst (λ (o : HostAnswer A). WaitsStill o (Needs (NeedOf.Want at)) (Admission a)) (sym was) (want_still at is)
+    want_waits old at was is = subst (λ (o : HostAnswer A). WaitsStill o (Needs (NeedOf.Want at)) (Admission a)) (sym was)
+        (admission_still (NeedOf.Want at) (ap need_of is))
 
     pub want_ref_waits : (old : HostAnswer A) (at : ℕ) → old ≡ Admission a → admission_step a ≡ AskWantRef at
         → WaitsStill old (Needs (NeedOf.WantRef at)) (Admission a)
     want_ref_waits old at was is =
-        subst (λ (o : HostAnswer A). WaitsStill o (Needs (NeedOf.WantRef at)) (Admission a)) (sym was) (want_ref_still at is)
+        subst (λ (o : HostAnswer A). WaitsStill o (Needs (NeedOf.WantRef at)) (Admission a)) (sym was)
+        (admission_still (NeedOf.WantRef at) (ap need_of is))
 
     pub through_waits : (old new : HostAnswer A) (step : AdmissionStep) (r : AnswerStep) → old ≡ Admission a → admission_step a ≡ step
         → asks_wanted step ≡ false → WaitsStill old r new

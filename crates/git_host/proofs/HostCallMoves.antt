@@ -35,7 +35,7 @@ use Rattle.git_host.specs.declared.report.HostReported.TheVariants.{NotShallow, 
 use Rattle.git_host.proofs.AnswerFronts.{answering_so_far, start_so_far}
 use Rattle.git_host.proofs.HostFaults.{memory_after, memory_at_first, memory_closed}
 use Rattle.git_host.proofs.HostMemoryMoves.{host_bounded, host_holds}
-use Rattle.git_host.proofs.HostMoves.{as_asked, is_reading_now}
+use Rattle.git_host.proofs.HostBytes.{as_asked, is_reading_now}
 use Rattle.git_host.proofs.LentStreams.{last_goes, same_last}
 
 module _ {A : Type 0} where

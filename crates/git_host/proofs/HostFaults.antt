@@ -18,7 +18,7 @@ use Rattle.git_host.specs.declared.host_answer.HostAnswer.{HostAnswer}
 use Rattle.git_host.specs.declared.host_server.HostServer.{HostServer}
 use Rattle.git_host.specs.declared.host_server.Phase.{Phase}
 use Rattle.git_host.specs.declared.host_server.Phase.TheVariants.{Advertising, Reading, Asked as Whole, Answering, Refusing, Ended}
-use Rattle.git_host.proofs.HostMoves.{four_bytes, not_none}
+use Rattle.git_host.proofs.HostBytes.{four_bytes, not_none}
 
 pub same_fault : (o : Option Fault) → IsFaultAfter o o
 same_fault None = tt

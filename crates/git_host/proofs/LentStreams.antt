@@ -1,6 +1,7 @@
 -- What was sent for the last request of a session, and a stream whose hold was lent.
-use Rattle.std.proofs.Common.{arith, ◌≡◌, ◌≢◌, ℕ, ◌≤◌, Bool, true, false, List, [], ◌∷◌, ◌++◌, length}
+use Rattle.std.proofs.Common.{arith, ◌≡◌, ◌≢◌, ℕ, ◌≤◌, Bool, true, false, List, [], ◌∷◌, ◌++◌, length, Option, Some, None}
 use Rattle.std.proofs.Common.{refl, sym, ap, ◌∙◌, subst}
+use Rattle.std.specs.Prelude.{IsSome, OnSome}
 use Rattle.std.proofs.Common.{append_assoc, append-nil, length-append}
 use Rattle.arrayvec.specs.ArrayVec.{ArrayVec}
 use Rattle.git_pkt.specs.Digits.{digits_of}
@@ -140,6 +141,15 @@ module _ (s : HostSetting) (asked : List Asked) (reported : List Facts) (given :
         }
 
 -- ---- a stream whose hold was lent
+
+pub on_some : {X : Type 0} (o : Option X) (x : X) (P : Type 0) → o ≡ Some x → OnSome o P → P
+on_some None x P is h = absurd (cc)
+on_some (Some y) x P is h = h
+
+-- the hold was not lent
+pub none_lent : {X : Type 0} (o : Option X) → o ≡ None → IsSome o → ⊥
+none_lent None none some = absurd (cc)
+none_lent (Some x) none some = cc
 
 pub some_packets : (packets : List Pkt) → packets ≢ [] → 4 ≤ length (spelled packets)
 some_packets [] some = absurd (some refl)

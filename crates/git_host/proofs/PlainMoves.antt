@@ -23,7 +23,7 @@ use Rattle.git_host.specs.declared.report.ReferenceFault.TheVariants.{BadRefName
 use Rattle.git_host.specs.declared.report.Report.{Report}
 use Rattle.git_host.specs.declared.report.Report.TheVariants.{Reference}
 use Rattle.git_host.proofs.HostAnswerMoves.{reference_reported}
-use Rattle.git_host.proofs.HostMoves.{not_asked}
+use Rattle.git_host.proofs.HostAnswering.{not_asked}
 
 module _ {A : Type 0} where
   -- the answer for references takes it

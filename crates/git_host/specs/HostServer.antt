@@ -190,6 +190,9 @@ module _ {A : Type 0} where
   begun_in Reading (Whole request) = nothing_for (asked_of request) ∷ []
   begun_in old new = []
 
+  abbrev pub begun_by : HostServer A → HostServer A → List Facts
+  begun_by old new = begun_in old.phase new.phase
+
   -- a request is answered
   abbrev pub is_answering : Phase A → Bool
   is_answering (Answering answer) = true

@@ -14,11 +14,4 @@ pub mod HostServer
 pub mod HostLookups
 pub mod HostMemory
 pub mod HostCalls
-pub mod HostedRepository
-pub mod Questions
 pub mod HostStates
-pub mod StoreMoves
-pub mod StoreRuns
-pub mod RepoReplies
-pub mod Hosted
-pub mod RepositoryRuns

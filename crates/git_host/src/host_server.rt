@@ -44,6 +44,15 @@ enum Phase<A: Allocator + Copy> {
     Ended(Outcome),
 }
 
+impl<A: Allocator + Copy> Phase<A> {
+    // Goes on to this phase. What is dropped with the one before it is looked at here alone, and not where a session goes on.
+    fn move_to(&mut self, next: Phase<A>)
+        ensures { self.new ≡ next }
+    {
+        *self = next;
+    }
+}
+
 /// The server's end of a session over a store of the host's own.
 #[derive(Drop)]
 pub struct HostServer<A: Allocator + Copy> {
@@ -102,7 +111,7 @@ impl<A: Allocator + Copy> HostServer<A> {
         ensures { StopsHost fault self.old self.new }
     {
         self.stream = RequestStream::new(self.alloc, self.offer, self.limits);
-        self.phase = refusal(fault);
+        self.phase.move_to(refusal(fault));
     }
 
     /// The input ends here. Between two requests the session ends well; inside one it is refused as truncated, at the end of the last whole
@@ -158,7 +167,7 @@ impl<A: Allocator + Copy> HostServer<A> {
         };
         put_advertisement(hold, &self.offer);
         let _ = hold.len();
-        self.phase = Phase::Reading;
+        self.phase.move_to(Phase::Reading);
         HostStep::Packet
     }
 
@@ -182,12 +191,12 @@ impl<A: Allocator + Copy> HostServer<A> {
             AnswerStep::Packet => HostStep::Packet,
             AnswerStep::Need(need) => HostStep::Need(need),
             AnswerStep::Whole => {
-                self.phase = Phase::Reading;
+                self.phase.move_to(Phase::Reading);
                 HostStep::NeedInput
             }
             AnswerStep::Broken => {
                 let outcome = ended_by(Kind::PackSource, flush);
-                self.phase = Phase::Ended(outcome);
+                self.phase.move_to(Phase::Ended(outcome));
                 HostStep::Ended(outcome)
             }
             AnswerStep::Refused(kind) => {
@@ -199,7 +208,7 @@ impl<A: Allocator + Copy> HostServer<A> {
                     },
                 );
                 let _ = hold.len();
-                self.phase = Phase::Ended(ended_by(kind, flush));
+                self.phase.move_to(Phase::Ended(ended_by(kind, flush)));
                 HostStep::Packet
             }
         }
@@ -218,7 +227,7 @@ impl<A: Allocator + Copy> HostServer<A> {
         };
         put_error(hold, fault);
         let _ = hold.len();
-        self.phase = Phase::Ended(Outcome::Refused(fault));
+        self.phase.move_to(Phase::Ended(Outcome::Refused(fault)));
         HostStep::Packet
     }
 
@@ -250,7 +259,7 @@ impl<A: Allocator + Copy> HostServer<A> {
                     },
                 );
                 let _ = hold.len();
-                self.phase = Phase::Ended(ended_by(Kind::PackSource, flush));
+                self.phase.move_to(Phase::Ended(ended_by(Kind::PackSource, flush)));
                 HostReported::Packet
             }
         }
@@ -266,7 +275,7 @@ impl<A: Allocator + Copy> HostServer<A> {
             return false;
         }
         let phase = mem::replace(&mut self.phase, Phase::Reading);
-        self.phase = accepted(self.alloc, phase, self.offer.format);
+        self.phase.move_to(accepted(self.alloc, phase, self.offer.format));
         true
     }
 
@@ -288,7 +297,7 @@ impl<A: Allocator + Copy> HostServer<A> {
         };
         put_line(hold, b"ERR ", text);
         let _ = hold.len();
-        self.phase = Phase::Ended(ended_by(Kind::NotOurs, self.flush));
+        self.phase.move_to(Phase::Ended(ended_by(Kind::NotOurs, self.flush)));
         true
     }
 
@@ -325,11 +334,11 @@ impl<A: Memory + Copy> HostServer<A> {
             ReadGot::Request(request) => {
                 let _ = request.kept();
                 self.flush = self.stream.position().saturating_sub(4);
-                self.phase = Phase::Asked(request);
+                self.phase.move_to(Phase::Asked(request));
                 used
             }
             ReadGot::Stop => {
-                self.phase = Phase::Ended(Outcome::Flush);
+                self.phase.move_to(Phase::Ended(Outcome::Flush));
                 used
             }
             ReadGot::Failed(fault) => {

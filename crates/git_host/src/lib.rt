@@ -2,32 +2,22 @@
 #![tactic(auto)]
 
 mod admission;
-mod asking;
 mod fetch_answer;
 mod host_answer;
 mod host_server;
-mod hosted;
 mod last_name;
 pub mod laws;
-mod machine;
 mod next_name;
 mod references_answer;
-mod repo_store;
 mod report;
 mod request_at_hand;
 mod sizes_answer;
-mod store;
-mod store_run;
 mod written_digits;
 
 pub use admission::{Admission, AdmissionStep, WantRefReported};
 pub use fetch_answer::{BoundaryEnd, BoundaryReported, FetchAnswer, ProgressReported, Step};
 pub use host_server::{HostServer, LONGEST_REFUSAL};
-pub use hosted::Hosted;
 pub use references_answer::{ReferencesAnswer, Reported};
-pub use repo_store::RepoStore;
 pub use report::{HostReported, HostStep, LONGEST_PART, Need, ReferenceFault, Report};
 pub use request_at_hand::RequestAtHand;
 pub use sizes_answer::{SizesAnswer, SizesStep};
-pub use store::{Listed, Part, Store, StoreFault};
-pub use store_run::serve_store;

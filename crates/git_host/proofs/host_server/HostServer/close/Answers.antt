@@ -3,7 +3,8 @@ use Rattle.git_pkt.specs.declared.fault.Fault.{Fault}
 use Rattle.git_msg.specs.Machine.RequestStreams.{Closes}
 use Rattle.git_host.specs.HostServer.{HostsIn}
 use Rattle.git_host.specs.declared.host_server.Phase.{Phase}
-use Rattle.git_host.proofs.HostMoves.{cut_off, is_reading_now, quiet_now, stopped_credit, stopped_hosts}
+use Rattle.git_host.proofs.HostBytes.{cut_off, is_reading_now, quiet_now, stopped_hosts}
+use Rattle.git_host.proofs.HostCredits.{stopped_credit}
 use Rattle.git_host.proofs.host_server.HostServer.close.Goals as goal
 
 pub returns-in-Err-clause-closes : goal.returns-in-Err-clause-closes

@@ -1,14 +1,16 @@
-use Rattle.std.proofs.Common.{arith, ◌≤◌, inl, inr, List, [], ◌++◌, refl, subst, sym, take, ◌∙◌}
+use Rattle.std.proofs.Common.{arith, ◌≤◌, ap, inl, inr, List, [], ◌++◌, subst, sym, take, ◌∙◌}
+use Rattle.git_msg.specs.Memory.{FaultNeedsRefusal}
 use Rattle.git_msg.specs.declared.requests.Request.{Request}
 use Rattle.git_msg.specs.Machine.HeldRequest.{kept_of, stored_of}
 use Rattle.git_server.specs.declared.outcome.Outcome.TheVariants.{Flush}
 use Rattle.git_host.specs.HostSessions.{Facts}
-use Rattle.git_host.specs.HostServer.{Hosts, HostsIn, begun_in}
+use Rattle.git_host.specs.HostServer.{Hosts, HostsIn, begun_in, credit_in, fault_in, is_answering}
 use Rattle.git_host.specs.declared.host_server.Phase.{Phase}
 use Rattle.git_host.specs.declared.host_server.Phase.TheVariants.{Asked as Whole, Ended}
 use Rattle.git_host.proofs.FeedMoves.{needed_by, some_fault, some_used}
-use Rattle.git_host.proofs.HostMoves.{brought_fault, brought_more, brought_request, brought_stop, feeds_none, is_reading_now, none_now, pays_at, pays_off}
-use Rattle.git_host.proofs.HostMoves.{reading_leads, reads_itself, stopped_credit, stopped_hosts, stopped_leads}
+use Rattle.git_host.proofs.HostBytes.{brought_fault, brought_more, brought_request, brought_stop, feeds_none, is_reading_now, none_now}
+use Rattle.git_host.proofs.HostBytes.{reading_leads, reads_itself, stopped_hosts, stopped_leads}
+use Rattle.git_host.proofs.HostCredits.{pays_at, pays_off, stopped_credit}
 use Rattle.git_host.proofs.host_server.HostServer.feed.Goals as goal
 
 pub returns-then-not-wants_input-clause-feeds : goal.returns-then-not-wants_input-clause-feeds
@@ -40,7 +42,10 @@ returns-in-Request-clause-feeds g c s so_far over reported given h =
     let used = so_far ++ take c.feed-read.result.used c.args.chunk.now in
     let flush = c.saturating_sub-self.result in
     let request = c.in-Request.request in (
-      subst (λ (r : Request g.row.A.Denot). Hosts s used over (reported ++ begun_in old.phase (Whole r)) given
+      subst (λ (p : Phase g.row.A.Denot). Hosts s used over (reported ++ begun_in old.phase p) given
+          (record { alloc = old.alloc; offer = old.offer; limits = old.limits; stream = c.feed-read.new.self; flush = flush; phase = p }))
+          (sym c.move_to.ensures)
+          (subst (λ (r : Request g.row.A.Denot). Hosts s used over (reported ++ begun_in old.phase (Whole r)) given
           (record { alloc = old.alloc; offer = old.offer; limits = old.limits; stream = c.feed-read.new.self; flush = flush; phase = Whole r }))
           (sym c.in-Request.request-is)
           (subst (λ (p : Phase g.row.A.Denot). Hosts s used over (reported ++ begun_in p (Whole request)) given
@@ -54,8 +59,8 @@ returns-in-Request-clause-feeds g c s so_far over reported given h =
                 c.feed-read.ensures.feeds stands request flush c.in-Request.is
                 (omega (arith, c.saturating_sub-self.ensures, c.position.ensures))
                 (subst (λ (r : Request g.row.A.Denot). stored_of r ≤ kept_of r) c.in-Request.request-is c.kept.ensures.stored);
-          })),
-      reading_leads old.phase _ reading refl,
+          }))),
+      reading_leads old.phase c.move_to.new.self reading (ap is_answering c.move_to.ensures),
     )
 
 pub returns-in-Stop-clause-feeds : goal.returns-in-Stop-clause-feeds
@@ -64,7 +69,10 @@ returns-in-Stop-clause-feeds g c s so_far over reported given h =
     let reading = is_reading_now old (sym c.wants_input.ensures ∙ c.if-not-wants_input.false) in
     let stands = subst (λ (p : Phase g.row.A.Denot). HostsIn p s so_far over reported given old.stream old.flush) reading h.stands in
     let used = so_far ++ take c.feed-read.result.used c.args.chunk.now in (
-      subst (λ (p : Phase g.row.A.Denot). Hosts s used over (reported ++ begun_in p (Ended Flush)) given
+      subst (λ (p : Phase g.row.A.Denot). Hosts s used over (reported ++ begun_in old.phase p) given
+          (record { alloc = old.alloc; offer = old.offer; limits = old.limits; stream = c.feed-read.new.self; flush = old.flush; phase = p }))
+          (sym c.move_to-in-Stop.ensures)
+          (subst (λ (p : Phase g.row.A.Denot). Hosts s used over (reported ++ begun_in p (Ended Flush)) given
           (record { alloc = old.alloc; offer = old.offer; limits = old.limits; stream = c.feed-read.new.self; flush = old.flush; phase = Ended Flush }))
           (sym reading)
           (record {
@@ -73,8 +81,8 @@ returns-in-Stop-clause-feeds g c s so_far over reported given h =
             reads_within = c.feed-read.ensures.feeds.limit ∙ h.reads_within;
             stands = brought_stop s so_far over reported given old.stream c.feed-read.new.self c.args.chunk.now
                 c.feed-read.result c.feed-read.ensures.feeds stands c.in-Stop.is;
-          }),
-      reading_leads old.phase (Ended Flush) reading refl,
+          })),
+      reading_leads old.phase c.move_to-in-Stop.new.self reading (ap is_answering c.move_to-in-Stop.ensures),
     )
 
 pub returns-in-Failed-clause-feeds : goal.returns-in-Failed-clause-feeds
@@ -143,18 +151,21 @@ pub returns-in-Request-clause-cost : goal.returns-in-Request-clause-cost
 returns-in-Request-clause-cost g c =
     let old = c.args.self.now in
     pays_at old c.feed-read.new.self _ _ _ (is_reading_now old (sym c.wants_input.ensures ∙ c.if-not-wants_input.false)) c.feed-read.ensures.cost
-    (Whole c.in-Request.request)
+    c.move_to.new.self
 
 pub returns-in-Request-clause-memory : goal.returns-in-Request-clause-memory
-returns-in-Request-clause-memory g c s so_far over reported given h needed = tt
+returns-in-Request-clause-memory g c s so_far over reported given h needed =
+    subst (λ (p : Phase g.row.A.Denot). FaultNeedsRefusal g.A.Memory.refuses s.limit (fault_in p)) (sym c.move_to.ensures) tt
 
 pub returns-in-Stop-clause-cost : goal.returns-in-Stop-clause-cost
 returns-in-Stop-clause-cost g c =
     let old = c.args.self.now in
-    pays_off old c.feed-read.new.self _ _ _ (is_reading_now old (sym c.wants_input.ensures ∙ c.if-not-wants_input.false)) c.feed-read.ensures.cost 0 refl
+    pays_off old c.feed-read.new.self _ _ _ (is_reading_now old (sym c.wants_input.ensures ∙ c.if-not-wants_input.false)) c.feed-read.ensures.cost _
+    (ap (λ (p : Phase g.row.A.Denot). credit_in p c.feed-read.new.self) c.move_to-in-Stop.ensures)
 
 pub returns-in-Stop-clause-memory : goal.returns-in-Stop-clause-memory
-returns-in-Stop-clause-memory g c s so_far over reported given h needed = tt
+returns-in-Stop-clause-memory g c s so_far over reported given h needed =
+    subst (λ (p : Phase g.row.A.Denot). FaultNeedsRefusal g.A.Memory.refuses s.limit (fault_in p)) (sym c.move_to-in-Stop.ensures) tt
 
 pub returns-in-Failed-clause-cost : goal.returns-in-Failed-clause-cost
 returns-in-Failed-clause-cost g c =

@@ -1,7 +1,7 @@
 use Rattle.std.proofs.Common.{◌≡◌, subst, sym}
 use Rattle.git_host.specs.HostServer.{credit_in}
 use Rattle.git_host.specs.declared.host_server.Phase.{Phase}
-use Rattle.git_host.proofs.HostMoves.{first_credit}
+use Rattle.git_host.proofs.HostCredits.{first_credit}
 use Rattle.git_host.proofs.host_server.HostServer.new.Goals as goal
 
 pub returns-clause-credit : goal.returns-clause-credit

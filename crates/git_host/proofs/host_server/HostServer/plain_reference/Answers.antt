@@ -1,16 +1,15 @@
 use Rattle.std.proofs.Common.{arith, ◌≡◌, ◌≤◌, ℕ, List, length, refl, sym, ap, subst, ◌∙◌}
 use Rattle.git_names.specs.ObjectName.{hex_of}
 use Rattle.git_pkt.specs.Packets.{spelling_of}
-use Rattle.git_host.specs.HostServer.{EndsHost, HasReason, HostsIn, fault_in}
+use Rattle.git_host.specs.HostServer.{fault_in}
 use Rattle.git_host.specs.ReferencesPlaces.{plain_entry, plain_line}
 use Rattle.git_host.specs.WrittenDigits.{SpellsId}
-use Rattle.git_host.specs.declared.host_server.Phase.{Phase}
 use Rattle.git_host.specs.declared.host_server.Phase.TheVariants.{Answering}
 use Rattle.git_host.specs.declared.report.HostReported.TheVariants.{OutOfMemory, Packet}
 use Rattle.git_host.specs.declared.report.Report.TheVariants.{Reference}
+use Rattle.git_host.proofs.HostAnswering.{falls, reports_on}
 use Rattle.git_host.proofs.HostFaults.{quiet_fault, same_fault}
-use Rattle.git_host.proofs.HostMoves.{answering_credit, credit_falls, lent_credit, on_some, report_done}
-use Rattle.git_host.proofs.LentStreams.{lent_within}
+use Rattle.git_host.proofs.LentStreams.{on_some}
 use Rattle.git_host.proofs.PlainLines.{short_id}
 use Rattle.git_host.proofs.PlainMoves.{no_memory, texts_unasked, unasked_memory, unasked_never, written_report}
 use Rattle.git_host.proofs.host_server.HostServer.plain_reference.Goals as goal
@@ -47,17 +46,9 @@ returns-clause-reports g c =
       spells.id,
       spells.named,
       named,
-      λ s used over facts given h.
-          let old = c.args.self.now in
-          let lent = on_some c.lend.result c.in-Some-lend.hold _ c.in-Some-lend.is (c.lend.follows.holds w) in
-          let stands = subst (λ (p : Phase g.row.A.Denot). HostsIn p s used over facts given old.stream old.flush) c.in-Answering.is h.stands in
-          let (is, handed, why, ends) = report_done s used over facts given old.flush old.stream (c.lend.follows.lender w) w lent
-          (omega (arith, c.len.ensures.value, c.len.ensures.fits)) c.in-Answering.answer c.plain.new.self stands (Reference entry) r done in (
-            record { offer = h.offer; limit = h.limit; reads_within = lent_within old.stream w (c.lend.follows.lender w) lent s h.reads_within; stands = is },
-            handed,
-            subst (λ (p : Phase g.row.A.Denot). HasReason (Reference entry) p r) (sym c.in-Answering.is) why,
-            subst (λ (p : Phase g.row.A.Denot). EndsHost (Reference entry) r p (Answering c.plain.new.self)) (sym c.in-Answering.is) ends,
-          ),
+      reports_on c.args.self.now c.in-Answering.answer c.plain.new.self c.in-Answering.is w (c.lend.follows.lender w)
+          (on_some c.lend.result c.in-Some-lend.hold _ c.in-Some-lend.is (c.lend.follows.holds w)) (omega (arith, c.len.ensures.value, c.len.ensures.fits))
+          (Reference entry) r done,
     )
 
 pub returns-clause-never : goal.returns-clause-never
@@ -73,8 +64,7 @@ pub returns-clause-credit : goal.returns-clause-credit
 returns-clause-credit g c =
     let w = c.put_reported.new.hold in
     let lent = on_some c.lend.result c.in-Some-lend.hold _ c.in-Some-lend.is (c.lend.follows.holds w) in
-    credit_falls (Answering c.plain.new.self) c.args.self.now (c.lend.follows.lender w)
-    (answering_credit c.args.self.now c.in-Answering.answer c.in-Answering.is) (lent_credit c.args.self.now.stream w (c.lend.follows.lender w) lent)
+    falls c.args.self.now c.in-Answering.answer c.plain.new.self c.in-Answering.is w (c.lend.follows.lender w) lent (Answering c.plain.new.self)
 
 pub returns-in_default-phase-clause-credit : goal.returns-in_default-phase-clause-credit
 returns-in_default-phase-clause-credit g c = omega arith

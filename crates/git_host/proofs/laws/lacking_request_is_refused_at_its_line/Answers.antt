@@ -1,5 +1,0 @@
-use Rattle.git_host.proofs.HostedWants.{at_its_line}
-use Rattle.git_host.proofs.laws.lacking_request_is_refused_at_its_line.Goals as goal
-
-pub returns : goal.returns
-returns c s repo failures used reported given fault of h = at_its_line s repo failures used reported given fault of h.1

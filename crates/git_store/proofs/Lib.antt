@@ -1,0 +1,12 @@
+pub mod HostedAnswers
+pub mod HostedRefusals
+pub mod HostedWants
+pub mod StoreSteps
+pub mod LostAnswers
+pub mod StoreReaches
+pub mod StoreWaits
+pub mod StoreRunLemmas
+pub mod AskedGrowth
+pub mod RepositoryReports
+pub mod RepositoryMoves
+pub mod RepositorySessions
