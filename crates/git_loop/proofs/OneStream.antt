@@ -1,5 +1,6 @@
 -- A run over one reader and one writer.
-use Rattle.std.proofs.Common.{arith, ◌≡◌, ◌≢◌, inl, inr, ℕ, zero, suc, ◌+◌, ◌-◌, ◌≤◌, ◌^◌, min, Bool, true, false, Option, Some, None, Result, Ok, Err, IfErr, IsTrue}
+use Rattle.std.proofs.Common.{arith, ◌≡◌, ◌≢◌, inl, inr, ℕ, zero, suc, ◌+◌, ◌-◌, ◌≤◌, ◌^◌, min, Bool, true, false, Option, Some, None}
+use Rattle.std.proofs.Common.{Result, Ok, Err, IfErr, IsTrue}
 use Rattle.std.proofs.Common.{List, [], ◌∷◌, ◌++◌, length, take, drop, take-append-drop, append_assoc, refl, sym, ap, ◌∙◌, subst}
 use Rattle.std.proofs.lemmas.List.{drop-drop, drop-take, length-take}
 use Rattle.std.specs.Io.KnownBytes.{Consumes, Keeps, prepend_known}
@@ -174,9 +175,12 @@ module _ {M R W : Type 0} (states : States M) (at_end : EndStates) (one : (k : �
     ran_one result ran = record {
       used = (used_of 0 ran.went.trace ++ w) ∷ [];
       given = given_to 0 ran.went.trace ∷ [];
-      read = (read_all (remaining (inner_of reader)) (remaining (inner_of reader_after)) w (used_of 0 ran.went.trace)
-          (subst (λ (l : List ℕ). Consumes (prepend_known l (remaining (inner_of reader))) (prepend_known w (remaining (inner_of reader_after)))
-          (used_of 0 ran.went.trace)) empty (ran.went.used 0).left), tt);
+      read = (
+        read_all (remaining (inner_of reader)) (remaining (inner_of reader_after)) w (used_of 0 ran.went.trace)
+            (subst (λ (l : List ℕ). Consumes (prepend_known l (remaining (inner_of reader))) (prepend_known w (remaining (inner_of reader_after)))
+            (used_of 0 ran.went.trace)) empty (ran.went.used 0).left),
+        tt,
+      );
       written = (ran.went.written 0, tt);
       related = record {
         trace = ran.went.trace;

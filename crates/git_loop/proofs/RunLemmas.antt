@@ -1,5 +1,6 @@
 -- A run of a machine, one call after another.
-use Rattle.std.proofs.Common.{arith, ◌≡◌, ◌≢◌, ◌⊎◌, inl, inr, ℕ, ◌+◌, ◌≤◌, ◌<◌, Bool, true, false, Option, Some, None, Result, Ok, Err, IsErrAnd, OnErr, ◌||◌, eqb}
+use Rattle.std.proofs.Common.{arith, ◌≡◌, ◌≢◌, ◌⊎◌, inl, inr, ℕ, ◌+◌, ◌≤◌, ◌<◌, Bool, true, false, Option, Some, None, Result, Ok, Err}
+use Rattle.std.proofs.Common.{IsErrAnd, OnErr, ◌||◌, eqb}
 use Rattle.std.proofs.Common.{List, [], ◌∷◌, ◌++◌, length, length-drop, take, drop, length-append, append_assoc, append-nil}
 use Rattle.std.proofs.Common.{refl, sym, ap, ◌∙◌, subst}
 use Rattle.std.proofs.lemmas.Bool.{eqb-true, eqb-false}
@@ -12,7 +13,7 @@ use Rattle.git_pkt.specs.declared.fault.RunFault.{RunFault}
 use Rattle.git_pkt.proofs.EngineLemmas.{written_nothing, written_then, written_flushed, written_whole, at_fault}
 use Rattle.git_loop.specs.Moves.{Move, closed, gave, used, ended_after, given_to, used_of, ended_after-append, given_to-append, used_of-append}
 use Rattle.git_loop.specs.Streams.{Consumed, Fills, InputState, IsOpen, KeepsOthers, Sends, found_end}
-use Rattle.git_loop.specs.Machines.{AreSound, EndStates, FailedAlone, GivesPiece, IsAt, RanOver, SameCalls, States, Uses, Went}
+use Rattle.git_loop.specs.Machines.{AreSound, EndStates, FailedAlone, GivesPart, IsAt, RanOver, SameCalls, States, Uses, Went}
 use Rattle.git_loop.proofs.Numbers.{at_number, over_number}
 
 -- the fault that `?` returns is the one that it met
@@ -95,8 +96,8 @@ known_read {has} {done} {after} {first} {now} from found others goes known k exi
     (λ other. goes k (known k exists (sym (ap (λ (i : InputState). i.ended) (others k other)) ∙ ended)))
 
 -- before the first read no input has ended
-pub known_first : {has : ℕ → Type 0} (done : ℕ → Type 0) {first now : ℕ → InputState} → ((k : ℕ) → SameCalls (first k) (now k)) → ((k : ℕ) → has k → IsOpen (first k))
-    → EndsKnown has now done
+pub known_first : {has : ℕ → Type 0} (done : ℕ → Type 0) {first now : ℕ → InputState} → ((k : ℕ) → SameCalls (first k) (now k))
+    → ((k : ℕ) → has k → IsOpen (first k)) → EndsKnown has now done
 known_first done calls unended k exists ended =
     let e : true ≡ false = sym ended ∙ (calls k).ended ∙ (unended k exists).unended in absurd (cc)
 
@@ -124,8 +125,10 @@ uses_consumed : {old new : InputState} (count : ℕ) → count ≤ length old.wi
 uses_consumed {old} {new} count within consumed = record {
   left = consumed.left;
   useful = consumed.wasted;
-  enough = λ o. (record { sound = sym consumed.failed ∙ o.sound; unended = sym consumed.ended ∙ o.unended },
-      omega (arith, consumed.reads, ap length consumed.window, length-drop count old.window, length-take-le count old.window within));
+  enough = λ o. (
+    record { sound = sym consumed.failed ∙ o.sound; unended = sym consumed.ended ∙ o.unended },
+    omega (arith, consumed.reads, ap length consumed.window, length-drop count old.window, length-take-le count old.window within),
+  );
   emptied = λ e ended. consumed.window ∙ ap (drop count) (e (sym consumed.ended ∙ ended)) ∙ drop-nil count;
 }
 
@@ -140,9 +143,10 @@ uses_filled {old} {new} result empty unended fills = record {
   where
     filled : (result : Result Bool RunFault) → Fills result old new → IsOpen new
         → IsOpen old × (new.reads + length old.window ≤ old.reads + 0 + length new.window)
-    filled (Ok true) fills o =
-        (record { sound = sym (or-false old.failed) ∙ sym fills.failed ∙ o.sound; unended = unended },
-        omega (arith, fills.counted, fills.brings, ap length empty))
+    filled (Ok true) fills o = (
+      record { sound = sym (or-false old.failed) ∙ sym fills.failed ∙ o.sound; unended = unended },
+      omega (arith, fills.counted, fills.brings, ap length empty),
+    )
     filled (Ok false) fills o = let e : true ≡ false = sym (or-true old.ended) ∙ sym fills.ended ∙ o.unended in absurd (cc)
     filled (Err fault) fills o = let e : true ≡ false = sym (or-true old.failed) ∙ sym fills.failed ∙ o.sound in absurd (cc)
 
@@ -172,7 +176,7 @@ module _ {M : Type 0} (states : States M) where
 
   module _ (further : (old middle new : M) (t u : List Move) → states.reaches old t middle → states.reaches middle u new → states.reaches old (t ++ u) new)
       (stays : (old new : M) (t : List Move) → states.reaches old t new → states.reachable old → states.reachable new) where
-    -- one part of a run after another
+    -- some calls of a run, and then others
     pub went_then : (broken : Bool) {old middle new : M} {first mid now : ℕ → InputState} {before held after : ℕ → Option (List ℕ)}
         → Went states false old middle first mid before held → Went states broken middle new mid now held after
         → Went states broken old new first now before after
@@ -196,9 +200,9 @@ module _ {M : Type 0} (states : States M) where
         short_then k (inl more) same = inl (λ none. more (sym same ∙ none))
         short_then k (inr (s, before_same)) same = inr (s, same ∙ before_same)
 
-  -- a piece was given, and written as far as that went
+  -- the machine gave a part, which was written as far as that went
   pub went_gave : (broken : Bool) {old new : M} (to : ℕ) (inputs : ℕ → InputState) {held after : ℕ → Option (List ℕ)} {Lends : M → List ℕ → Type 0}
-      → (gives : GivesPiece states.reaches Lends old to new) → Sends broken to gives.bytes held after
+      → (gives : GivesPart states.reaches Lends old to new) → Sends broken to gives.bytes held after
       → ((k : ℕ) → states.done_with old k → states.done_with new k) → ((k : ℕ) → states.stopped_short new k → states.stopped_short old k)
       → Went states broken old new inputs inputs held after
   went_gave broken to inputs {held} {after} gives sends done short = record {
@@ -253,8 +257,12 @@ module _ {M : Type 0} (states : States M) where
       by_number k true is r s =
           let here : k ≡ from = eqb-true k from is in
           let less = short r (subst (λ (n : ℕ). states.stopped_short new n) here s) in
-          inl (λ none. omega (arith, less, length-drop count (first from).window,
-          ap length (sym consumed.window ∙ subst (λ (n : ℕ). (now n).window ≡ []) here none)))
+          inl (λ none. omega (
+            arith,
+            less,
+            length-drop count (first from).window,
+            ap length (sym consumed.window ∙ subst (λ (n : ℕ). (now n).window ≡ []) here none),
+          ))
       by_number k false is r s =
           let other : k ≢ from = eqb-false k from is in inr (rest k other s, ap (λ (i : InputState). i.window) (others k other))
 

@@ -20,13 +20,13 @@ pub record States (M : Type 0) : Type 1 where
   pub stopped_short : M → ℕ → Type 0
   pub reachable : M → Type 0
 
--- the last call gave the piece of these bytes to the output of this number, and the machine lends it
-pub record GivesPiece {M : Type 0} (Reaches : StateRelation M) (Lends : M → List ℕ → Type 0) (old : M) (to : ℕ) (new : M) : Type 0 where
+-- the last call gave these bytes as the next part of the output of this number, and the machine lends them
+pub record GivesPart {M : Type 0} (Reaches : StateRelation M) (Lends : M → List ℕ → Type 0) (old : M) (to : ℕ) (new : M) : Type 0 where
   pub bytes : List ℕ
   pub lent : Lends new bytes
   pub reaches : Reaches old (gave to bytes ∷ []) new
 
--- ---- a part of a run
+-- ---- some calls of a run
 
 -- these bytes of an input were used. If it is still open, its reads brought at least a byte each.
 pub record Uses (old new : InputState) (bytes : List ℕ) : Type 0 where
@@ -36,7 +36,7 @@ pub record Uses (old new : InputState) (bytes : List ℕ) : Type 0 where
   pub emptied : (old.ended ≡ true → old.window ≡ []) → new.ended ≡ true → new.window ≡ []
 
 -- The machine went from the one state to the other. What it used left its inputs, what it gave was written to its outputs, and inputs
--- ended where the moves say. If it stopped short of a byte, that byte waits.
+-- ended as the moves have it. If it stopped short of a byte, that byte waits.
 pub record Went {M : Type 0} (states : States M) (broken : Bool) (old new : M) (first now : ℕ → InputState) (before after : ℕ → Option (List ℕ))
     : Type 0 where
   pub trace : List Move
@@ -48,7 +48,7 @@ pub record Went {M : Type 0} (states : States M) (broken : Bool) (old new : M) (
   pub short : states.reachable old → (k : ℕ) → states.stopped_short new k
       → ((now k).window ≢ []) ⊎ (states.stopped_short old k × ((now k).window ≡ (first k).window))
 
--- the state of a machine whose pieces were all written: it needs an input, or it has finished
+-- the state of a machine when all that it gave was written: it needs an input, or it has finished
 abbrev pub IsAt : Option ℕ → (ℕ → Type 0) → Type 0 → Type 0
 IsAt (Some from) needs_input finished = needs_input from
 IsAt None needs_input finished = finished
@@ -65,13 +65,13 @@ pub record SameCalls (old new : InputState) : Type 0 where
 
 -- ---- the end of a run
 
--- the machine needs the input of this number, all of which was used that was read, and which has not ended
+-- the machine needs the input of this number, which has not ended, and has used all that was read of it
 pub record WaitsFor (needs_input : ℕ → Type 0) (inputs : ℕ → InputState) (from : ℕ) : Type 0 where
   pub needs : needs_input from
   pub all : (inputs from).window ≡ []
   pub still_open : (inputs from).ended ≡ false
 
--- the state of the machine, by the result of the run; `spent` says that all reads were made
+-- the state of the machine, by the result of the run; `spent` states that all reads were made
 abbrev pub Ends : Result (Unit {0}) RunFault → (ℕ → Type 0) → Type 0 → Type 0 → (ℕ → InputState) → Type 0
 Ends (Ok done) needs_input finished spent inputs = finished
 Ends (Err ReadFault) needs_input finished spent inputs = (from : ℕ) × WaitsFor needs_input inputs from × ((inputs from).failed ≡ true)

@@ -2,7 +2,7 @@
 use Rattle.std.specs.Prelude.{◌≡◌, ℕ, eqb, Bool, true, false, if◌then◌else◌, List, [], ◌∷◌, ◌++◌}
 use Rattle.std.proofs.Common.{refl, sym, ap, ◌∙◌, append_assoc}
 
--- bytes of the input of this number were used, that input ended, or bytes were given to the output of this number
+-- bytes of the input of this number were used, that input ended, or bytes went to the output of this number
 pub data Move : Type 0 where
   used : ℕ → List ℕ → Move
   closed : ℕ → Move
@@ -18,7 +18,7 @@ abbrev pub used_of : ℕ → List Move → List ℕ
 used_of k [] = []
 used_of k (move ∷ moves) = used_by k move ++ used_of k moves
 
--- the bytes that were given to one output
+-- the bytes that went to one output
 abbrev pub given_by : ℕ → Move → List ℕ
 given_by k (used n bytes) = []
 given_by k (closed n) = []

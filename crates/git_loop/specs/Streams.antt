@@ -1,5 +1,6 @@
 -- Inputs and outputs of a run, by their numbers: how each call changes them.
-use Rattle.std.specs.Prelude.{◌≡◌, ◌≢◌, ◌||◌, ℕ, zero, suc, ◌+◌, ◌-◌, ◌≤◌, ◌<◌, Bool, true, false, List, [], length, take, drop, Option, None, Result, Ok, Err, is_err}
+use Rattle.std.specs.Prelude.{◌≡◌, ◌≢◌, ◌||◌, ℕ, zero, suc, ◌+◌, ◌-◌, ◌≤◌, ◌<◌, Bool, true, false, List, [], length, take, drop, Option}
+use Rattle.std.specs.Prelude.{None, Result, Ok, Err, is_err}
 use Rattle.std.specs.Io.KnownBytes.{Consumes, Keeps, prepend_known}
 use Rattle.git_pkt.specs.Streams.{flow, WrittenAs}
 use Rattle.git_pkt.specs.declared.fault.RunFault.{RunFault}

@@ -1,4 +1,4 @@
-//! Machines that take bytes of inputs in chunks and give pieces for outputs, and the one loop that runs any of them.
+//! Machines that take the bytes of inputs in chunks and give outputs in parts, and the one loop that runs any of them.
 #![tactic(auto)]
 
 mod machine;
@@ -6,5 +6,5 @@ mod running;
 mod streams;
 
 pub use crate::machine::{Machine, Next};
-pub use crate::streams::{Inputs, Outputs};
 pub use crate::running::{run, run_streams};
+pub use crate::streams::{Inputs, Outputs};

@@ -8,7 +8,7 @@
 //!       v                        |
 //!    Giving -- next: NeedInput -> Waiting -- close, or feed: it takes no more --> Ending -- next: Finished --> Finished
 //!     |  ^                                                                         |  ^
-//!     +--+ next: Piece                                                            +--+ next: Piece
+//!     +--+ next: Part                                                              +--+ next: Part
 //!
 //!  In Waiting it needs input; in Ending and Finished it is done with it. A machine may also go from Giving to Ending by `next`
 //!  alone, as a server does when it cannot read its pack any further.
@@ -16,37 +16,37 @@
 
 ghost use Rattle.std.specs.Prelude.{◌≡◌, ◌≢◌, ◌≤◌, ◌<◌, ◌⊎◌, ℕ, List, [], ◌∷◌, ◌++◌, length, take};
 ghost use Rattle.git_loop.specs.Moves.{Move, closed, used};
-ghost use Rattle.git_loop.specs.Machines.{GivesPiece};
+ghost use Rattle.git_loop.specs.Machines.{GivesPart};
 
 /// What a machine does next.
 #[derive(Clone, Copy, Debug)]
 pub enum Next {
-    /// It gives a piece to the output of this number. [`Machine::piece`] lends the piece.
-    Piece(u8),
+    /// It gives the next part of the output of this number, which [`Machine::part`] lends.
+    Part(u8),
     /// It gives nothing until it is fed bytes of the input of this number, or that input is closed.
     NeedInput(u8),
-    /// It has given all its pieces.
+    /// It has given all.
     Finished,
 }
 
-/// Takes the bytes of its inputs in chunks, cut anywhere, and gives pieces for its outputs. It reads and writes nothing itself:
+/// Takes the bytes of its inputs in chunks, cut anywhere, and gives its outputs in parts. It reads and writes nothing itself:
 /// [`run_streams`](crate::run_streams) does that, and knows nothing else about it. Inputs and outputs have numbers, from 0.
 ///
 /// By the ghost items above the calls, an implementation names its states during a run and the moves that lead from one
 /// state to another. It meets the contracts of the four calls, and proves the laws below them. Counts are of bytes, except
-/// `pieces_left`.
+/// `parts_left`.
 pub trait Machine {
     /// Calls lead from the first state to the last, with these moves.
     ghost reaches: { Self → List Move → Self → Type 0 };
-    /// The pieces that it gives until it is fed again lie in its own memory or in these bytes, which were fed last.
+    /// What it gives until it is fed again lies in its own memory or in these bytes, which were fed last.
     ghost holds: { Self → List ℕ → Type 0 };
-    /// With the first bytes fed last, the piece that the machine lends has the second ones.
+    /// With the first bytes fed last, the second ones are the part that the machine lends.
     ghost lends: { Self → List ℕ → List ℕ → Type 0 };
-    /// How many pieces it gives at most before it needs input or has finished.
-    ghost pieces_left: { Self → ℕ };
+    /// How many parts it gives at most before it needs input or has finished.
+    ghost parts_left: { Self → ℕ };
     /// It has given all, and waits for bytes of the input of this number or for its end.
     ghost needs_input: { Self → ℕ → Type 0 };
-    /// It uses no more bytes of the input of this number, though it may still have pieces to give.
+    /// It uses no more bytes of the input of this number, though it may still have some to give.
     ghost done_with: { Self → ℕ → Type 0 };
     /// It is done with the input of this number because of a byte that it did not use, such as one above its limit.
     ghost stopped_short: { Self → ℕ → Type 0 };
@@ -55,19 +55,19 @@ pub trait Machine {
     /// A new machine reaches this state by using and giving some bytes.
     ghost reachable: { Self → Type 0 };
 
-    /// Goes on to the next piece, if there is one; otherwise it uses and gives nothing. It is passed the bytes that were fed last.
+    /// Goes on to the next part, if there is one; otherwise it uses and gives nothing. It is passed the bytes that were fed last.
     fn next(&mut self, fed: &[u8]) -> Next
         requires { holds self.old fed.now }
         ensures holds { holds self.new fed.now }
-        ensures piece { (to : ℕ) → result ≡ Next.Piece to → GivesPiece reaches (λ m bytes. lends m fed.now bytes) self.old to self.new }
-        ensures fewer { (to : ℕ) → result ≡ Next.Piece to → pieces_left self.new < pieces_left self.old }
+        ensures part { (to : ℕ) → result ≡ Next.Part to → GivesPart reaches (λ m bytes. lends m fed.now bytes) self.old to self.new }
+        ensures fewer { (to : ℕ) → result ≡ Next.Part to → parts_left self.new < parts_left self.old }
         ensures needs_input { (from : ℕ) → result ≡ Next.NeedInput from → needs_input self.new from × reaches self.old [] self.new }
         ensures finished { result ≡ Next.Finished → finished self.new × reaches self.old [] self.new }
         ensures done { (k : ℕ) → done_with self.old k → done_with self.new k }
         ensures short { (k : ℕ) → stopped_short self.new k → stopped_short self.old k };
 
-    /// The bytes of the piece that `next` went on to: some of its own, or some of those fed last.
-    fn piece<'a>(&'a self, fed: &'a [u8]) -> &'a [u8]
+    /// The bytes of the part that `next` went on to: some of its own, or some of those fed last.
+    fn part<'a>(&'a self, fed: &'a [u8]) -> &'a [u8]
         requires { (bytes : List ℕ) × lends self.now fed.now bytes }
         ensures { (bytes : List ℕ) → lends self.now fed.now bytes → result.now ≡ bytes };
 

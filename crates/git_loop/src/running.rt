@@ -1,6 +1,7 @@
-//! One loop over any machine: it reads, feeds the machine, and writes the pieces that the machine gives.
+//! One loop over any machine: it reads, feeds the machine, and writes what the machine gives.
 
-ghost use Rattle.std.specs.Prelude.{◌≡◌, ◌≢◌, ◌≤◌, ◌<◌, ◌⊎◌, ◌||◌, ◌+◌, min, ℕ, List, Option, [], ◌∷◌, length, true, false, IsTrue, IfOk, IfErr, OnErr, OnOk, is_err, Err};
+ghost use Rattle.std.specs.Prelude.{◌≡◌, ◌≢◌, ◌≤◌, ◌<◌, ◌⊎◌, ◌||◌, ◌+◌, min, ℕ, List, Option, [], ◌∷◌, length, true, false, IsTrue, IfOk};
+ghost use Rattle.std.specs.Prelude.{IfErr, OnErr, OnOk, is_err, Err};
 ghost use Rattle.git_pkt.specs.Machine.Recorded.{reads_of, has_failed, has_wasted, IsNew};
 ghost use Rattle.git_pkt.specs.Machine.Engine.{FailsAs, IsShownBy, IsSpent};
 ghost use Rattle.git_pkt.specs.Streams.{is_broken};
@@ -12,7 +13,7 @@ use crate::streams::{Inputs, OneInput, OneOutput, Outputs};
 use git_pkt::{Recorded, RunFault};
 use std::io::{Read, Write};
 
-// Writes the pieces that the machine gives until it needs input or has finished. Returns the input that it needs, or none if it has
+// Writes what the machine gives until it needs input or has finished. Returns the input that it needs, or none if it has
 // finished. `fed` are the bytes that it was fed last.
 fn drain<M: Machine, O: Outputs>(
     machine: &mut M,
@@ -20,12 +21,20 @@ fn drain<M: Machine, O: Outputs>(
     outputs: &mut O,
 ) -> Result<Option<u8>, RunFault>
     requires { M.holds machine.old fed.now }
-    ensures ok { OnOk result ((inputs : ℕ → InputState) → Went (record { reaches = M.reaches; done_with = M.done_with;
-      stopped_short = M.stopped_short; reachable = M.reachable }) false machine.old machine.new inputs inputs
-      (O.contents outputs.old) (O.contents outputs.new)) }
-    ensures front { OnErr result ((inputs : ℕ → InputState) → Went (record { reaches = M.reaches; done_with = M.done_with;
-      stopped_short = M.stopped_short; reachable = M.reachable }) true machine.old machine.new inputs inputs
-      (O.contents outputs.old) (O.contents outputs.new)) }
+    ensures ok { OnOk result ((inputs : ℕ → InputState) → Went (record {
+      reaches = M.reaches;
+      done_with = M.done_with;
+      stopped_short = M.stopped_short;
+      reachable = M.reachable;
+    }) false machine.old machine.new inputs inputs
+        (O.contents outputs.old) (O.contents outputs.new)) }
+    ensures front { OnErr result ((inputs : ℕ → InputState) → Went (record {
+      reaches = M.reaches;
+      done_with = M.done_with;
+      stopped_short = M.stopped_short;
+      reachable = M.reachable;
+    }) true machine.old machine.new inputs inputs
+        (O.contents outputs.old) (O.contents outputs.new)) }
     ensures at { IfOk result (λ next. IsAt next (M.needs_input machine.new) (M.finished machine.new)) }
     ensures fault { IfErr result (λ fault. fault ≡ RunFault.WriteFault) }
     ensures failed { O.failed outputs.new ≡ (O.failed outputs.old || is_err result) }
@@ -33,22 +42,30 @@ fn drain<M: Machine, O: Outputs>(
 {
     loop {
         match machine.next(fed) {
-            Next::Piece(to) => outputs.send(to, machine.piece(fed))?,
+            Next::Part(to) => outputs.send(to, machine.part(fed))?,
             Next::NeedInput(from) => return Ok(Some(from)),
             Next::Finished => return Ok(None),
         }
     }
 }
 
-// Reads once more of the input that the machine needs, of which no bytes wait, and closes it if it ended.
-fn read_more<M: Machine, I: Inputs>(machine: &mut M, inputs: &mut I, from: u8) -> Result<(), RunFault>
+// Reads once more of the input that the machine needs, if no bytes of it wait, and closes it if it ended.
+fn read_more<M: Machine, I: Inputs>(
+    machine: &mut M,
+    inputs: &mut I,
+    from: u8,
+) -> Result<(), RunFault>
     requires needs { M.needs_input machine.old from }
     requires exists { I.has from }
     requires empty { (I.input inputs.old from).window ≡ [] }
     requires unended { (I.input inputs.old from).ended ≡ false }
-    ensures went { (held : ℕ → Option (List ℕ)) → Went (record { reaches = M.reaches; done_with = M.done_with;
-      stopped_short = M.stopped_short; reachable = M.reachable }) false machine.old machine.new (I.input inputs.old) (I.input inputs.new)
-      held held }
+    ensures went { (held : ℕ → Option (List ℕ)) → Went (record {
+      reaches = M.reaches;
+      done_with = M.done_with;
+      stopped_short = M.stopped_short;
+      reachable = M.reachable;
+    }) false machine.old machine.new (I.input inputs.old) (I.input inputs.new)
+        held held }
     ensures holds { OnOk result (M.holds machine.new []) }
     ensures ended { (I.input inputs.new from).ended ≡ true → M.done_with machine.new from }
     ensures unread { OnErr result ((machine.new ≡ machine.old) × WaitsFor (M.needs_input machine.new) (I.input inputs.new) from) }
@@ -65,7 +82,7 @@ fn read_more<M: Machine, I: Inputs>(machine: &mut M, inputs: &mut I, from: u8) -
     Ok(())
 }
 
-// Writes the pieces that the machine gives, and feeds it what waits of its inputs, until no bytes wait of the input that it needs.
+// Writes what the machine gives, and feeds it what waits of its inputs, until no bytes wait of the input that it needs.
 // Returns that input, or none if the machine has finished.
 fn advance<M: Machine, I: Inputs, O: Outputs>(
     machine: &mut M,
@@ -74,12 +91,20 @@ fn advance<M: Machine, I: Inputs, O: Outputs>(
 ) -> Result<Option<u8>, RunFault>
     requires inputs { (m : M) (k : ℕ) → M.needs_input m k → I.has k }
     requires holds { M.holds machine.old [] }
-    ensures ok { OnOk result (Went (record { reaches = M.reaches; done_with = M.done_with;
-      stopped_short = M.stopped_short; reachable = M.reachable }) false machine.old machine.new (I.input inputs.old) (I.input inputs.new)
-      (O.contents outputs.old) (O.contents outputs.new)) }
-    ensures front { OnErr result (Went (record { reaches = M.reaches; done_with = M.done_with;
-      stopped_short = M.stopped_short; reachable = M.reachable }) true machine.old machine.new (I.input inputs.old) (I.input inputs.new)
-      (O.contents outputs.old) (O.contents outputs.new)) }
+    ensures ok { OnOk result (Went (record {
+      reaches = M.reaches;
+      done_with = M.done_with;
+      stopped_short = M.stopped_short;
+      reachable = M.reachable;
+    }) false machine.old machine.new (I.input inputs.old) (I.input inputs.new)
+        (O.contents outputs.old) (O.contents outputs.new)) }
+    ensures front { OnErr result (Went (record {
+      reaches = M.reaches;
+      done_with = M.done_with;
+      stopped_short = M.stopped_short;
+      reachable = M.reachable;
+    }) true machine.old machine.new (I.input inputs.old) (I.input inputs.new)
+        (O.contents outputs.old) (O.contents outputs.new)) }
     ensures at { IfOk result (λ next. IsAt next (M.needs_input machine.new) (M.finished machine.new)) }
     ensures nothing { IfOk result (λ next. HasNothing next (I.input inputs.new)) }
     ensures calls { (k : ℕ) → SameCalls (I.input inputs.old k) (I.input inputs.new k) }
@@ -125,12 +150,12 @@ pub fn run_streams<M: Machine, I: Inputs, O: Outputs>(
 
     ensures reads { I.reads inputs.new ≤ I.reads inputs.old + turns }
     ensures ran { RanOver (record { reaches = M.reaches; done_with = M.done_with; stopped_short = M.stopped_short; reachable = M.reachable })
-      (record {
-        needs_input = M.needs_input machine.new;
-        finished = M.finished machine.new;
-        spent = min (I.reads inputs.old + turns) u64.MAX ≤ I.reads inputs.new;
-        write_failed = O.failed outputs.new;
-      }) I.has result machine.old machine.new (I.input inputs.old) (I.input inputs.new) (O.contents outputs.old) (O.contents outputs.new) }
+        (record {
+          needs_input = M.needs_input machine.new;
+          finished = M.finished machine.new;
+          spent = min (I.reads inputs.old + turns) u64.MAX ≤ I.reads inputs.new;
+          write_failed = O.failed outputs.new;
+        }) I.has result machine.old machine.new (I.input inputs.old) (I.input inputs.new) (O.contents outputs.old) (O.contents outputs.new) }
     ensures same_readers { I.same_readers inputs.old inputs.new }
     ensures same_writers { O.same_writers outputs.old outputs.new }
 {
@@ -213,7 +238,7 @@ fn run_one<M: Machine, R: Read, W: Write>(
       stopped_short_before = M.stopped_short machine.old 0;
     }) result turns input.old.reader.now input.new.reader.now output.old.writer.now output.new.writer.now }
     ensures fault { IfErr result (IsShownBy (IsTrue (has_failed input.new.reader.now)) (IsTrue (has_failed output.new.writer.now))
-      (IsSpent input.new.reader.now turns)) }
+        (IsSpent input.new.reader.now turns)) }
     ensures failed { FailsAs result (has_failed input.new.reader.now) (has_failed output.new.writer.now) }
     ensures same_reader { input.new.reader.ghost_name ≡ input.old.reader.ghost_name }
     ensures same_buffer { input.new.buffer.ghost_name ≡ input.old.buffer.ghost_name }

@@ -1,6 +1,7 @@
 //! The inputs and the outputs of a run, each with its number, from 0.
 
-ghost use Rattle.std.specs.Prelude.{◌≡◌, ◌≢◌, ◌≤◌, ◌<◌, ◌+◌, ◌-◌, min, ◌||◌, ℕ, Bool, true, false, List, [], length, take, drop, Option, OnErr, OnOk, IfErr, is_err};
+ghost use Rattle.std.specs.Prelude.{◌≡◌, ◌≢◌, ◌≤◌, ◌<◌, ◌+◌, ◌-◌, min, ◌||◌, ℕ, Bool, true, false, List, [], length, take, drop, Option};
+ghost use Rattle.std.specs.Prelude.{OnErr, OnOk, IfErr, is_err};
 ghost use Rattle.std.proofs.Common.{refl, ◌∙◌};
 ghost use Rattle.std.specs.Io.KnownBytes.{Keeps};
 ghost use Rattle.git_pkt.specs.Machine.Recorded.{inner_of, reads_of, has_failed};
@@ -27,7 +28,7 @@ pub trait Inputs {
         requires { has from }
         ensures { result.now ≡ (input self.now from).window };
 
-    /// Reads once, of one of which no bytes wait. Returns whether any came: there are none at the end. The fault is `ReadFault`,
+    /// Reads once, of an input that has no bytes waiting. Returns whether any came: there are none at the end. The fault is `ReadFault`,
     /// exactly if the read fails.
     fn fill(&mut self, from: u8) -> Result<bool, RunFault>
         requires exists { has from }

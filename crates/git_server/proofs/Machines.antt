@@ -1,6 +1,6 @@
 -- The server as a machine: what its calls mean for a run.
 use Rattle.std.proofs.Common.{◌≡◌, ℕ, true, List, [], ◌∷◌, ◌++◌, append-nil, Option, Some, None, IsSome, inl, inr, refl, sym, ◌∙◌, subst}
-use Rattle.git_loop.specs.Machines.{GivesPiece}
+use Rattle.git_loop.specs.Machines.{GivesPart}
 use Rattle.git_loop.specs.Moves.{closed, gave, used}
 use Rattle.git_pkt.specs.Packets.{spelling_of}
 use Rattle.git_pkt.specs.Fronts.{HasFront}
@@ -42,8 +42,8 @@ close_not_too_long o (inl between) (fault, is, name) = let same : Some Closed �
 close_not_too_long o (inr (cut, ends, why)) (fault, is, name) = let same : Some (Refused cut) ≡ Some (Refused fault) = sym ends ∙ is in cc
 
 module _ {R A : Type 0} (state : R → RepoState) (old new : Server R A) where
-  pub gives_piece : (to : ℕ) → to ≡ 0 → Gives state old new → GivesPiece (ServerReaches state) LendsPacket old to new
-  gives_piece to first gives = record {
+  pub gives_part : (to : ℕ) → to ≡ 0 → Gives state old new → GivesPart (ServerReaches state) LendsPacket old to new
+  gives_part to first gives = record {
     bytes = spelling_of gives.packet;
     lent = (gives.packet, spells_written gives.packet gives.fits, gives.held);
     reaches = subst (λ (n : ℕ). ServerReaches state old (gave n (spelling_of gives.packet) ∷ []) new) (sym first)

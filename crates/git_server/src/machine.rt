@@ -19,7 +19,7 @@ impl<R: Repo, A: Allocator + Copy> Machine for Server<R, A> {
 
     ghost lends = { λ server fed bytes. LendsPacket server bytes };
 
-    ghost pieces_left = { λ server. most_left R.state server };
+    ghost parts_left = { λ server. most_left R.state server };
 
     ghost needs_input = { λ server k. (k ≡ 0) × (wants_input server ≡ true) };
 
@@ -49,12 +49,12 @@ impl<R: Repo, A: Allocator + Copy> Machine for Server<R, A> {
             Turn::Finished(_) => Next::Finished,
             Turn::Packet => {
                 self.give();
-                Next::Piece(0)
+                Next::Part(0)
             }
         }
     }
 
-    fn piece<'a>(&'a self, fed: &'a [u8]) -> &'a [u8] {
+    fn part<'a>(&'a self, fed: &'a [u8]) -> &'a [u8] {
         self.packet()
     }
 

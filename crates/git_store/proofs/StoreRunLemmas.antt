@@ -1,7 +1,7 @@
 -- A run of a host's server over its store: what the states at both ends mean for its session.
 use Rattle.std.proofs.Common.{◌≡◌, ◌≢◌, ℕ, Bool, true, false, List, [], ◌∷◌, ◌++◌, Option, Some, None, Result, Ok, Err, IsErrAnd, IfErr}
 use Rattle.std.proofs.Common.{◌⊎◌, inl, inr, IsSome, refl, sym, ap, ◌∙◌, append-nil, subst}
-use Rattle.git_loop.specs.Machines.{EndsRun, GivesPiece, HasFinished, IsWaiting as RunWaits, Ran, RunStates, StateRelation}
+use Rattle.git_loop.specs.Machines.{EndsRun, GivesPart, HasFinished, IsWaiting as RunWaits, Ran, RunStates, StateRelation}
 use Rattle.git_loop.specs.Moves.{closed as run_closed, ended_after, gave as run_gave, used as run_used}
 use Rattle.git_pkt.specs.Streams.{Flow, Moves, is_broken}
 use Rattle.git_pkt.specs.declared.fault.RunFault.{RunFault}
@@ -63,7 +63,7 @@ module _ {S A : Type 0} (begins : S → Asked → S → Type 0) (replies : S →
 
     pub gives_first : (to : ℕ) → to ≡ 0
         → Reaches begins replies [] (bytes_of (server_of new)) (server_of old) (store_of old) (server_of new) (store_of new)
-        → GivesPiece HostedReaches (λ hosted bytes. bytes ≡ bytes_of (server_of hosted)) old to new
+        → GivesPart HostedReaches (λ hosted bytes. bytes ≡ bytes_of (server_of hosted)) old to new
     gives_first to first reaches = record {
       bytes = bytes_of (server_of new);
       lent = refl;

@@ -18,7 +18,7 @@ impl<S: Store, A: Memory + Copy> Machine for Hosted<S, A> {
 
     ghost lends = { λ hosted fed bytes. bytes ≡ bytes_of (server_of hosted) };
 
-    ghost pieces_left = { λ hosted. left_of hosted };
+    ghost parts_left = { λ hosted. left_of hosted };
 
     ghost needs_input = { λ hosted k. (k ≡ 0) × (reads_on (server_of hosted) ≡ true) };
 
@@ -46,13 +46,13 @@ impl<S: Store, A: Memory + Copy> Machine for Hosted<S, A> {
 
     fn next(&mut self, fed: &[u8]) -> Next {
         match self.go_on() {
-            Turn::Packet => Next::Piece(0),
+            Turn::Packet => Next::Part(0),
             Turn::NeedInput => Next::NeedInput(0),
             Turn::Finished => Next::Finished,
         }
     }
 
-    fn piece<'a>(&'a self, fed: &'a [u8]) -> &'a [u8] {
+    fn part<'a>(&'a self, fed: &'a [u8]) -> &'a [u8] {
         self.given()
     }
 

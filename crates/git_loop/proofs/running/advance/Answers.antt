@@ -6,9 +6,9 @@ use Rattle.git_loop.proofs.running.advance.Goals as goal
 pub returns-in_err-next-2-clause-front : goal.returns-in_err-next-2-clause-front
 returns-in_err-next-2-clause-front g c =
     let fed = went_fed _ c.in-Some.from c.feed-used.result (g.O.Outputs.contents c.loop-next.outputs)
-        (rw c.window-chunk.ensures at c.feed-used.ensures.reaches) (rw c.window-chunk.ensures at c.feed-used.ensures.used)
-        c.consume.ensures.consumed c.consume.ensures.others c.feed-used.ensures.done (rw c.window-chunk.ensures at c.feed-used.ensures.short)
-        c.feed-used.ensures.others in
+    (rw c.window-chunk.ensures at c.feed-used.ensures.reaches) (rw c.window-chunk.ensures at c.feed-used.ensures.used)
+    c.consume.ensures.consumed c.consume.ensures.others c.feed-used.ensures.done (rw c.window-chunk.ensures at c.feed-used.ensures.short)
+    c.feed-used.ensures.others in
     on_err_at _ _ _ c.from_residual-in_err-next-2.ensures.1
     (went_then _ g.met.M.Machine.reaches_further g.met.M.Machine.stays_reachable true c.loop-next.invariant.went
     (went_then _ g.met.M.Machine.reaches_further g.met.M.Machine.stays_reachable true fed (c.in_err-next-2.ensures.front _)))
@@ -37,9 +37,9 @@ loop-next-smaller g c =
 pub loop-next-preserved : goal.loop-next-preserved
 loop-next-preserved g c =
     let fed = went_fed _ c.in-Some.from c.feed-used.result (g.O.Outputs.contents c.loop-next.outputs)
-        (rw c.window-chunk.ensures at c.feed-used.ensures.reaches) (rw c.window-chunk.ensures at c.feed-used.ensures.used)
-        c.consume.ensures.consumed c.consume.ensures.others c.feed-used.ensures.done (rw c.window-chunk.ensures at c.feed-used.ensures.short)
-        c.feed-used.ensures.others in
+    (rw c.window-chunk.ensures at c.feed-used.ensures.reaches) (rw c.window-chunk.ensures at c.feed-used.ensures.used)
+    c.consume.ensures.consumed c.consume.ensures.others c.feed-used.ensures.done (rw c.window-chunk.ensures at c.feed-used.ensures.short)
+    c.feed-used.ensures.others in
     record {
       at = c.in_ok-next-2.ensures.at;
       failed = search rules;

@@ -10,27 +10,27 @@ loop-to-init g c = record {
   went = λ inputs. went_nothing _ g.met.M.Machine.reaches_itself _ inputs _;
 }
 
-pub piece-requires : goal.piece-requires
-piece-requires g c = let gives = c.next.ensures.piece _ c.in-Piece.is in (gives.bytes, gives.lent)
+pub part-requires : goal.part-requires
+part-requires g c = let gives = c.next.ensures.part _ c.in-Part.is in (gives.bytes, gives.lent)
 
 pub loop-to-preserved : goal.loop-to-preserved
 loop-to-preserved g c =
-    let gives = c.next.ensures.piece _ c.in-Piece.is in
+    let gives = c.next.ensures.part _ c.in-Part.is in
     record {
       failed = search rules;
       holds = search rules;
-      same_writers = g.met.O.Outputs.same_further _ _ _ c.loop-to.invariant.same_writers c.in_ok-send-in-Piece.ensures.same_writers;
+      same_writers = g.met.O.Outputs.same_further _ _ _ c.loop-to.invariant.same_writers c.in_ok-send-in-Part.ensures.same_writers;
       went = λ inputs. went_then _ g.met.M.Machine.reaches_further g.met.M.Machine.stays_reachable false (c.loop-to.invariant.went inputs)
-          (went_gave _ false _ inputs gives (rw (sym (c.piece.ensures gives.bytes gives.lent)) c.in_ok-send-in-Piece.ensures.ok) c.next.ensures.done
+          (went_gave _ false _ inputs gives (rw (sym (c.part.ensures gives.bytes gives.lent)) c.in_ok-send-in-Part.ensures.ok) c.next.ensures.done
           c.next.ensures.short);
     }
 
-pub returns-in_err-send-in-Piece-clause-front : goal.returns-in_err-send-in-Piece-clause-front
-returns-in_err-send-in-Piece-clause-front g c =
-    let gives = c.next.ensures.piece _ c.in-Piece.is in
+pub returns-in_err-send-in-Part-clause-front : goal.returns-in_err-send-in-Part-clause-front
+returns-in_err-send-in-Part-clause-front g c =
+    let gives = c.next.ensures.part _ c.in-Part.is in
     on_err_at _ _ _ c.from_residual.ensures.1
     (λ inputs. went_then _ g.met.M.Machine.reaches_further g.met.M.Machine.stays_reachable true (c.loop-to.invariant.went inputs)
-    (went_gave _ true _ inputs gives (rw (sym (c.piece.ensures gives.bytes gives.lent)) c.in_err-send-in-Piece.ensures.front) c.next.ensures.done
+    (went_gave _ true _ inputs gives (rw (sym (c.part.ensures gives.bytes gives.lent)) c.in_err-send-in-Part.ensures.front) c.next.ensures.done
     c.next.ensures.short))
 
 pub returns-in-NeedInput-clause-ok : goal.returns-in-NeedInput-clause-ok

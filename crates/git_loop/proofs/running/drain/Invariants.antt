@@ -18,4 +18,4 @@ invariant-loop-to g l = record {
 }
 
 abbrev pub decreases-loop-to : goal.decreases-loop-to
-decreases-loop-to g l = g.M.Machine.pieces_left l.machine
+decreases-loop-to g l = g.M.Machine.parts_left l.machine

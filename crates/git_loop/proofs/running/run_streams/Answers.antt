@@ -41,7 +41,7 @@ returns-in_err-flush-clause-ran g c =
 pub returns-in_err-read_more-clause-ran : goal.returns-in_err-read_more-clause-ran
 returns-in_err-read_more-clause-ran g c =
     let alone = failed_alone c.in-Some.from (c.requires.inputs _ _ (rw c.in-Some.is at c.loop.invariant.at)) c.in_err-read_more.ensures.failed
-        c.in_err-read_more.ensures.others c.loop.invariant.sound in
+    c.in_err-read_more.ensures.others c.loop.invariant.sound in
     ran_at ReadFault c.in_err-read_more.ensures.fault c.from_residual-in_err-read_more.ensures.1 (record {
       went = went_then _ g.met.M.Machine.reaches_further g.met.M.Machine.stays_reachable false
           (went_then _ g.met.M.Machine.reaches_further g.met.M.Machine.stays_reachable false c.loop.invariant.went
@@ -60,14 +60,17 @@ returns-in_err-next-2-clause-ran g c =
           (went_flushed _ false g.met.M.Machine.reaches_itself _ _ c.in_ok-flush.ensures.kept))
           (c.in_ok-read_more.ensures.went _)) c.in_err-next-2.ensures.front;
       ends = tt;
-      failed = (sound_so c.in_err-next-2.ensures.calls
-      (sound_read c.in-Some.from c.in_ok-read_more.ensures.failed c.in_ok-read_more.ensures.others c.loop.invariant.sound), search rules);
+      failed = (
+        sound_so c.in_err-next-2.ensures.calls
+            (sound_read c.in-Some.from c.in_ok-read_more.ensures.failed c.in_ok-read_more.ensures.others c.loop.invariant.sound),
+        search rules,
+      );
     })
 
 pub loop-preserved : goal.loop-preserved
 loop-preserved g c =
     let after : (k : ℕ) → g.M.Machine.done_with c.loop.machine k → g.M.Machine.done_with c.read_more.new.machine k =
-        (c.in_ok-read_more.ensures.went (g.O.Outputs.contents c.loop.outputs)).done in
+    (c.in_ok-read_more.ensures.went (g.O.Outputs.contents c.loop.outputs)).done in
     record {
       at = c.in_ok-next-2.ensures.at;
       nothing = c.in_ok-next-2.ensures.nothing;

@@ -4,8 +4,8 @@ use Rattle.git_store.specs.Hosted.{server_of}
 use Rattle.git_store.proofs.StoreRunLemmas.{by_packet, by_quiet, gives_first}
 use Rattle.git_store.proofs.machine.HostedMachine.next.Goals as goal
 
-pub returns-in-Packet-clause-piece : goal.returns-in-Packet-clause-piece
-returns-in-Packet-clause-piece g c = λ to is.
+pub returns-in-Packet-clause-part : goal.returns-in-Packet-clause-part
+returns-in-Packet-clause-part g c = λ to is.
     gives_first g.S.Store.begins g.S.Store.replies c.args.self.now c.go_on.new.self to (cc) (c.go_on.ensures.packet c.in-Packet.is)
 
 pub returns-in-NeedInput-clause-needs_input : goal.returns-in-NeedInput-clause-needs_input

@@ -1,5 +1,5 @@
 use Rattle.git_server.proofs.Machines.{lent_front}
-use Rattle.git_server.proofs.machine.ServerMachine.piece.Goals as goal
+use Rattle.git_server.proofs.machine.ServerMachine.part.Goals as goal
 
 pub packet-requires : goal.packet-requires
 packet-requires g c = lent_front c.args.self.now c.requires
