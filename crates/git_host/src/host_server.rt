@@ -259,7 +259,8 @@ impl<A: Allocator + Copy> HostServer<A> {
                     },
                 );
                 let _ = hold.len();
-                self.phase.move_to(Phase::Ended(ended_by(Kind::PackSource, flush)));
+                self.phase
+                    .move_to(Phase::Ended(ended_by(Kind::PackSource, flush)));
                 HostReported::Packet
             }
         }
@@ -275,7 +276,8 @@ impl<A: Allocator + Copy> HostServer<A> {
             return false;
         }
         let phase = mem::replace(&mut self.phase, Phase::Reading);
-        self.phase.move_to(accepted(self.alloc, phase, self.offer.format));
+        self.phase
+            .move_to(accepted(self.alloc, phase, self.offer.format));
         true
     }
 
@@ -297,7 +299,8 @@ impl<A: Allocator + Copy> HostServer<A> {
         };
         put_line(hold, b"ERR ", text);
         let _ = hold.len();
-        self.phase.move_to(Phase::Ended(ended_by(Kind::NotOurs, self.flush)));
+        self.phase
+            .move_to(Phase::Ended(ended_by(Kind::NotOurs, self.flush)));
         true
     }
 

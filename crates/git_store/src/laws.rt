@@ -18,6 +18,7 @@ ghost use Rattle.git_pkt.specs.declared.fault.Kind.TheVariants.{PackSource};
 ghost use Rattle.git_host.specs.HostServer.{is_of_host};
 
 use crate::repo_store::RepoStore;
+use git_host::HostServer;
 use git_server::Repo;
 use std::alloc::Allocator;
 
