@@ -20,9 +20,9 @@ wants_nothing (inr negotiates) = cc
 pub returns-clause-refused : goal.returns-clause-refused
 returns-clause-refused c = record {
   front = at 0 (text_line (codes "command=fetch")) ∷ at 18 delim ∷ at 22 (text_line (codes "done")) ∷ [];
-  bad = at 31 flush;
+  at = at 31 flush;
   back = [];
-  lines = command Fetch ∷ delimiter ∷ argument (alone (of_flag Flag.Done)) 4 ∷ [];
+  items = command Fetch ∷ delimiter ∷ argument (alone (of_flag Flag.Done)) 4 ∷ [];
   whole = refl;
   taken = (
     fetch_command 49,
@@ -38,8 +38,7 @@ returns-clause-refused c = record {
       ),
     ),
   );
-  fault = inl (Fetch, refl, inr (refl, inl (wants_nothing, refl)));
-  at = refl;
+  why = record { fault = inl (Fetch, refl, inr (refl, inl (wants_nothing, refl))); offset_is = refl };
 }
 
 pub returns-clause-not_where_there_is_a_want : goal.returns-clause-not_where_there_is_a_want

@@ -101,13 +101,12 @@ returns-clause-unknown_command c = record {
       first_is_unbarred offer_all 49 (barred repo) (at 0 (text_line (codes "command=bundle-uri"))),
       inl (record {
         front = [];
-        bad = at 0 (text_line (codes "command=bundle-uri"));
+        at = at 0 (text_line (codes "command=bundle-uri"));
         back = [];
-        lines = [];
+        items = [];
         whole = refl;
         taken = tt;
-        fault = unknown_command 49;
-        at = refl;
+        why = record { fault = unknown_command 49; offset_is = refl };
       }),
     );
     no_rest = refl;
