@@ -513,8 +513,8 @@ module _ {A : Type 0} (old new : JudgedRequests A) (used : ℕ) (ready : IsJudgi
     (same_limit : new.judge.limits.args ≡ old.judge.limits.args) where
   -- it goes on
   ready_with : takes_bytes new.judge.stage ≡ true → reader_fault new.judge.requests ≡ None → HasTaken new.judge.requests
-      → offer_in new.judge.requests ≡ offer_in old.judge.requests → limit_in new.judge.requests ≡ limit_in old.judge.requests
-      → new.judge.kept ≤ old.judge.limits.args → IsReady new
+      → offer_in new.judge.requests ≡ offer_in old.judge.requests
+      → limit_in new.judge.requests ≡ limit_in old.judge.requests → new.judge.kept ≤ old.judge.limits.args → IsReady new
   ready_with wants open_ended taken offer limit kept = record {
     judging = record {
       wants = wants;
