@@ -95,6 +95,18 @@ case_a_daemon_in_c_serves_a_filtered_pack() {
     expect_same 'what the daemon reported' /dev/null daemon.err
 }
 
+# A pipe is read, and of no bytes there is nothing to map.
+case_a_daemon_in_c_takes_packs_that_cannot_be_mapped() {
+    : > nothing
+    start_daemon history-sha1 bash -c 'exec daemon-watched "${@:1:5}" <(cat "$6") nothing' daemon
+    clone "$address" ours --mirror
+    expect 0 /dev/null /dev/null
+    git -C ours fsck --full --strict --no-dangling
+    end_daemon
+    expect_same 'what the daemon reported' /dev/null daemon.err
+    rm nothing
+}
+
 case_a_daemon_in_c_serves_git_sha256() {
     start_daemon history-sha256
     clone "$address" ours
