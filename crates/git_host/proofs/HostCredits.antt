@@ -1,5 +1,5 @@
 -- What the bytes of an open packet leave for the steps of its end, at a host's server.
-use Rattle.std.proofs.Common.{arith, ◌≡◌, ℕ, ◌-◌, ◌*◌, ◌≤◌, Bool, true, false, [], Option, Some, None, refl, ap, ◌∙◌}
+use Rattle.std.proofs.Common.{arith, ◌≡◌, ℕ, ◌*◌, ◌≤◌, Bool, true, false, [], Option, Some, None, refl, ap, ◌∙◌}
 use Rattle.std.specs.Prelude.{IfNone}
 use Rattle.arrayvec.specs.ArrayVec.{ArrayVec}
 use Rattle.git_pkt.specs.Machine.ReaderState.{come_in, is_open_in}

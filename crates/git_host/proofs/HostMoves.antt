@@ -1,5 +1,5 @@
 -- A host's server that gives its advertisement, or the error packet of a fault, or waits.
-use Rattle.std.proofs.Common.{arith, ◌≡◌, ℕ, ◌-◌, ◌≤◌, Bool, if◌then◌else◌, List, [], ◌++◌, length, refl, sym, ap, ◌∙◌, subst, append-nil, inl}
+use Rattle.std.proofs.Common.{arith, ◌≡◌, ℕ, ◌≤◌, Bool, if◌then◌else◌, List, [], ◌++◌, length, refl, sym, ap, ◌∙◌, subst, append-nil, inl}
 use Rattle.arrayvec.specs.ArrayVec.{ArrayVec}
 use Rattle.git_pkt.specs.Packets.{spelling_of}
 use Rattle.git_pkt.specs.declared.fault.Fault.{Fault}
