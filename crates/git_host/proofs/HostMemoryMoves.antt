@@ -78,7 +78,7 @@ module _ {A : Type 0} where
     pub host_holds : length (bytes_of server) ≤ 65520 → bytes_held server ≤ 65520 + 2 * s.limit + 33 * wanted_by server + last_by server
     host_holds fits =
         let (covered, within, named) = host_bounded in
-        omega (arith, fits, server.stream.requests.bounded.covered, server.stream.within, h.reads_within, covered, within, named)
+        omega (arith, fits, server.stream.requests.bounded.covered, server.stream.requests.bounded.within, h.reads_within, covered, within, named)
 
   answer_counted : (answer : HostAnswer A) → answer_by_fields answer ≡ stored_for answer + 33 * objects_for answer + last_for answer
   answer_counted (Admission answer) = refl
