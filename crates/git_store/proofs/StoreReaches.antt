@@ -1,8 +1,8 @@
 -- One call of a host's server over its store, as a move.
 use Rattle.std.proofs.Common.{◌≡◌, ℕ, Bool, true, false, List, [], ◌∷◌, Option, Some, None, refl, sym, ap, ◌∙◌, subst, append-nil}
 use Rattle.std.specs.Prelude.{Result, Ok, Err, IsSome}
-use Rattle.git_host.specs.declared.hosted.Turn.{Turn}
-use Rattle.git_host.specs.declared.hosted.Turn.TheVariants.{Packet as GivesPacket, NeedInput as WaitsForInput, Finished as HasFinished}
+use Rattle.git_store.specs.declared.hosted.Turn.{Turn}
+use Rattle.git_store.specs.declared.hosted.Turn.TheVariants.{Packet as GivesPacket, NeedInput as WaitsForInput, Finished as HasFinished}
 use Rattle.git_msg.specs.Asked.{Asked, fetch, ls_refs, object_info}
 use Rattle.git_host.specs.HostServer.{FeedsHost, ReportsHost, StepsHost, begun_in, bytes_of, given_with, outcome_of, reads_on}
 use Rattle.git_store.specs.Questions.{Question, Reply, ask_reference}

@@ -11,8 +11,8 @@ use Rattle.git_host.specs.HostServer.{AcceptsHost, ClosesHost, FeedsHost, Report
 use Rattle.git_host.specs.HostServer.{outcome_of, reads_on, with_last}
 use Rattle.git_store.specs.Questions.{IsNoReport, IsReportOf, Question, Reply, question_of}
 use Rattle.git_host.specs.declared.host_server.HostServer.{HostServer}
-use Rattle.git_host.specs.declared.hosted.Turn.{Turn}
-use Rattle.git_host.specs.declared.hosted.Turn.TheVariants.{Packet as GivesPacket, NeedInput as WaitsForInput, Finished as HasFinished}
+use Rattle.git_store.specs.declared.hosted.Turn.{Turn}
+use Rattle.git_store.specs.declared.hosted.Turn.TheVariants.{Packet as GivesPacket, NeedInput as WaitsForInput, Finished as HasFinished}
 use Rattle.git_host.specs.declared.report.HostReported.{HostReported}
 use Rattle.git_host.specs.declared.report.HostReported.TheVariants.{Packet as WasGiven, Taken, Hidden}
 use Rattle.git_host.specs.declared.report.HostStep.{HostStep}
