@@ -1,7 +1,7 @@
 //! A recorded conversation in two files: checked, and shown.
 
 use crate::conversation::{Columns, Half, show_conversation};
-use crate::failures::{Failure, Stream, Watched};
+use crate::failures::{Failure, FileArgument, Stream, Watched};
 use crate::showing::{look_on, width_argument};
 use crate::{
     CHUNK, TURNS, buffered_output, ending_of, flag_argument, format_argument, format_of, open,
@@ -63,8 +63,8 @@ pub(crate) fn run_check(rt: &HostRuntime, matches: &ArgMatches<'_>) -> Result<()
     if matches.get_flag("pretty") {
         return show_checked(rt, matches);
     }
-    let mut requests = watched_file(rt, matches, "REQUESTS")?;
-    let mut responses = watched_file(rt, matches, "RESPONSES")?;
+    let mut requests = watched_file(rt, matches, FileArgument::Requests)?;
+    let mut responses = watched_file(rt, matches, FileArgument::Responses)?;
     let mut output = buffered_output(rt)?;
     check_streams(rt, matches, &mut requests, &mut responses, &mut output)
 }
@@ -97,21 +97,21 @@ fn check_streams<Q: Read, R: Read, W: Write>(
 /// Checks the two named files, and shows their packets on standard output. The files are read twice, so what has no beginning to go back to,
 /// such as a pipe, is refused before anything is read.
 fn show_checked(rt: &HostRuntime, matches: &ArgMatches<'_>) -> Result<(), Failure> {
-    let requests = open(rt, matches, "REQUESTS")?;
-    let responses = open(rt, matches, "RESPONSES")?;
+    let requests = open(rt, matches, FileArgument::Requests)?;
+    let responses = open(rt, matches, FileArgument::Responses)?;
     let checked = check_streams(
         rt,
         matches,
-        &mut from_start(&requests, "REQUESTS")?,
-        &mut from_start(&responses, "RESPONSES")?,
+        &mut from_start(&requests, FileArgument::Requests)?,
+        &mut from_start(&responses, FileArgument::Responses)?,
         &mut Watched::new(Stream::Output, io::sink()),
     );
     let refused = Refused::of(&checked);
     let shown = show_files(
         rt,
         matches,
-        from_start(&requests, "REQUESTS")?,
-        from_start(&responses, "RESPONSES")?,
+        from_start(&requests, FileArgument::Requests)?,
+        from_start(&responses, FileArgument::Responses)?,
         refused,
     );
     checked?;
@@ -121,7 +121,7 @@ fn show_checked(rt: &HostRuntime, matches: &ArgMatches<'_>) -> Result<(), Failur
 /// A file that is read from its start.
 fn from_start<'a>(
     file: &'a File,
-    argument: &'static str,
+    argument: FileArgument,
 ) -> Result<Watched<Retries<&'a File>>, Failure> {
     let mut file = file;
     match file.seek(SeekFrom::Start(0)) {

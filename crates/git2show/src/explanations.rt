@@ -1,6 +1,6 @@
 //! The second line, which explains in words the error that the first line names.
 
-use crate::failures::{Cause, FailedCall, Failure, Stream};
+use crate::failures::{Cause, FailedCall, Failure, FileArgument, Stream};
 use crate::line_reasons::{repository_reason, script_reason};
 use crate::packets_around::show_around;
 use crate::reasons::Shown;
@@ -33,18 +33,28 @@ pub(crate) fn explain(
 ) -> io::Result<()> {
     match (failure.fault, failure.cause) {
         (ProgramFault::Repo(number), _) => {
-            explain_line(rt, path_of(words, "repo"), number, Text::Repository)
+            explain_line(
+                rt,
+                path_of(words, FileArgument::Repo),
+                number,
+                Text::Repository,
+            )
         }
         (ProgramFault::Script(number), Cause::ScriptLine(format)) => {
-            explain_line(rt, path_of(words, "script"), number, Text::Script(format))
+            explain_line(
+                rt,
+                path_of(words, FileArgument::Script),
+                number,
+                Text::Script(format),
+            )
         }
         // What is shown ends with the packet that is refused.
         (ProgramFault::Check(_), Cause::Unknown) if shows_packets(words) => Ok(()),
         (ProgramFault::Check(CheckFault::Requests(fault)), _) => {
-            show_around(rt, path_of(words, "REQUESTS"), fault.offset)
+            show_around(rt, path_of(words, FileArgument::Requests), fault.offset)
         }
         (ProgramFault::Check(CheckFault::Responses(fault)), _) => {
-            show_around(rt, path_of(words, "RESPONSES"), fault.offset)
+            show_around(rt, path_of(words, FileArgument::Responses), fault.offset)
         }
         (_, Cause::Call(call)) => explain_call(rt, words, call),
         (_, Cause::Stray) => eprintln!(rt; "not what a client sent: no request begins there"),
@@ -53,9 +63,9 @@ pub(crate) fn explain(
 }
 
 /// The file that an argument names.
-fn path_of<'a>(words: Option<&'a ArgMatches<'_>>, argument: &str) -> &'a str {
+fn path_of<'a>(words: Option<&'a ArgMatches<'_>>, argument: FileArgument) -> &'a str {
     match words {
-        Some(words) => words.get_str(argument).unwrap_or(""),
+        Some(words) => words.get_str(argument.name()).unwrap_or(""),
         None => "",
     }
 }

@@ -34,11 +34,38 @@ pub(crate) struct FailedCall {
     pub(crate) error: io::Error,
 }
 
+/// An argument of the command line that names a file. It is no text, so that a stream borrows nothing.
+#[derive(Clone, Copy, Debug)]
+pub(crate) enum FileArgument {
+    Repo,
+    Pack,
+    Filtered,
+    Script,
+    Transcript,
+    Requests,
+    Responses,
+}
+
+impl FileArgument {
+    /// Its name, as clap knows it.
+    pub(crate) fn name(self) -> &'static str {
+        match self {
+            FileArgument::Repo => "repo",
+            FileArgument::Pack => "pack",
+            FileArgument::Filtered => "filtered",
+            FileArgument::Script => "script",
+            FileArgument::Transcript => "transcript",
+            FileArgument::Requests => "REQUESTS",
+            FileArgument::Responses => "RESPONSES",
+        }
+    }
+}
+
 /// What the program reads or writes.
 #[derive(Clone, Copy, Debug)]
 pub(crate) enum Stream {
-    /// The file that the argument of this name names.
-    File(&'static str),
+    /// The file that this argument names.
+    File(FileArgument),
     /// Standard input.
     Input,
     /// Standard output.
@@ -49,7 +76,7 @@ pub(crate) enum Stream {
 
 impl Failure {
     /// The failure of an argument's file that cannot be opened, made, read or put in its place.
-    pub(crate) fn of_file(argument: &'static str, error: io::Error) -> Failure {
+    pub(crate) fn of_file(argument: FileArgument, error: io::Error) -> Failure {
         let fault = match error.kind() {
             io::ErrorKind::OutOfMemory => ProgramFault::OutOfMemory,
             _ => ProgramFault::File,

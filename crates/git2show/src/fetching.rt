@@ -3,7 +3,7 @@
 ghost use Rattle.std.specs.Prelude.{◌≡◌, true, false};
 ghost use Rattle.git_client.specs.Machine.Client.{wants_input};
 
-use crate::failures::{Failure, Stream, Watched};
+use crate::failures::{Failure, FileArgument, Stream, Watched};
 use crate::pack_file::PackFile;
 use crate::remote_lines::RemoteLines;
 use crate::{CHUNK, TURNS, ending_of, format_of, read_requests};
@@ -44,7 +44,7 @@ pub(crate) fn run_fetch(rt: &HostRuntime, matches: &ArgMatches<'_>) -> Result<()
 
 /// The failure of a pack that cannot be made, or put in its place.
 fn pack_failure(error: io::Error) -> Failure {
-    Failure::of_file("pack", error)
+    Failure::of_file(FileArgument::Pack, error)
 }
 
 /// Sends the requests in their order, writes the bytes of packs, and writes the transcript to the place that the command line names.
@@ -57,10 +57,11 @@ fn fetch_into(
     match matches.get_str("transcript") {
         Some(path) => {
             let transcript = File::create(rt, path).map_err(|error| Failure::of_file(
-                "transcript",
+                FileArgument::Transcript,
                 error,
             ))?;
-            let transcript = Watched::new(Stream::File("transcript"), buffered(rt, transcript)?);
+            let stream = Stream::File(FileArgument::Transcript);
+            let transcript = Watched::new(stream, buffered(rt, transcript)?);
             fetch(rt, matches, requests, pack, transcript)
         }
         None => {
@@ -109,7 +110,7 @@ fn ask_all<O: Write + Drop, E: Output>(
 {
     let mut input = Watched::new(Stream::Input, Retries::new(rt.stdin()));
     let mut output = Watched::new(Stream::Output, rt.stdout());
-    let mut pack = Watched::new(Stream::File("pack"), pack);
+    let mut pack = Watched::new(Stream::File(FileArgument::Pack), pack);
     let done = converse(
         &mut Recorded::new(&mut input),
         &mut Recorded::new(&mut output),

@@ -19,7 +19,7 @@ mod tracing;
 
 use crate::checking::{check_command, run_check};
 use crate::explanations::explain;
-use crate::failures::{Cause, FailedCall, Failure, Stream, Watched};
+use crate::failures::{Cause, FailedCall, Failure, FileArgument, Stream, Watched};
 use crate::fetching::run_fetch;
 use crate::one_request::{Left, take_request};
 use crate::showing::{run_show, show_command};
@@ -205,7 +205,7 @@ fn flag_argument<'a>(alloc: Global, name: &'a str) -> Arg<'a> {
 fn watched_file(
     rt: &HostRuntime,
     matches: &ArgMatches<'_>,
-    argument: &'static str,
+    argument: FileArgument,
 ) -> Result<WatchedFile, Failure> {
     let file = open(rt, matches, argument)?;
     Ok(Watched::new(Stream::File(argument), Retries::new(file)))
@@ -231,9 +231,9 @@ fn ending_of(matches: &ArgMatches<'_>) -> Ending {
 fn open(
     rt: &HostRuntime,
     matches: &ArgMatches<'_>,
-    argument: &'static str,
+    argument: FileArgument,
 ) -> Result<File, Failure> {
-    let path = matches.get_str(argument).unwrap_or("");
+    let path = matches.get_str(argument.name()).unwrap_or("");
     File::open(rt, path).map_err(|error| Failure::of_file(argument, error))
 }
 
@@ -286,10 +286,10 @@ fn limits_of(matches: &ArgMatches<'_>) -> Limits {
 
 /// Serves the named repository on standard input and output. Nothing of its packs is read before one is needed.
 fn run_serve(rt: &HostRuntime, matches: &ArgMatches<'_>) -> Result<(), Failure> {
-    let text = read_text(rt, open(rt, matches, "repo")?)?;
-    let mut pack = watched_file(rt, matches, "pack")?;
+    let text = read_text(rt, open(rt, matches, FileArgument::Repo)?)?;
+    let mut pack = watched_file(rt, matches, FileArgument::Pack)?;
     let mut filtered = match matches.get_str("filtered") {
-        Some(_) => Some(watched_file(rt, matches, "filtered")?),
+        Some(_) => Some(watched_file(rt, matches, FileArgument::Filtered)?),
         None => None,
     };
     let no_packs = Packs {
@@ -409,7 +409,7 @@ fn ended(done: Result<Outcome, RunFault>, call: Option<FailedCall>) -> Result<()
 /// Plays the named script over the named repository, and writes the transcript to standard output. All files are read before any is
 /// checked.
 fn run_play(rt: &HostRuntime, matches: &ArgMatches<'_>) -> Result<(), Failure> {
-    let text = read_text(rt, open(rt, matches, "repo")?)?;
+    let text = read_text(rt, open(rt, matches, FileArgument::Repo)?)?;
     let packs = read_packs(rt, matches)?;
     let script = read_script_text(rt, matches)?;
     let repo = judge_repository(text, packs)?;
@@ -460,13 +460,13 @@ fn read_requests(
 
 /// Reads the text of the named script, but nothing after a line that is too long already.
 fn read_script_text(rt: &HostRuntime, matches: &ArgMatches<'_>) -> Result<Vec<u8>, Failure> {
-    let mut file = Retries::new(open(rt, matches, "script")?);
+    let mut file = Retries::new(open(rt, matches, FileArgument::Script)?);
     let mut text = Vec::new(rt.alloc());
     let mut chunk = [0; CHUNK];
     for _ in 0..u64::MAX {
         let count = file
             .read(&mut chunk)
-            .map_err(|error| Failure::of_file("script", error))?;
+            .map_err(|error| Failure::of_file(FileArgument::Script, error))?;
         text.extend_from_slice(&chunk[..count])
             .map_err(|_| ProgramFault::OutOfMemory)?;
         if count == 0 || ends_too_long(&text) {
@@ -499,9 +499,9 @@ fn judge_script(
 
 /// Reads the pack, and then the pack for requests that have a filter, if a file is named for it.
 fn read_packs(rt: &HostRuntime, matches: &ArgMatches<'_>) -> Result<Packs, Failure> {
-    let pack = Pack::Owned(read_whole(rt, matches, "pack")?);
+    let pack = Pack::Owned(read_whole(rt, matches, FileArgument::Pack)?);
     let filtered = match matches.get_str("filtered") {
-        Some(_) => Some(Pack::Owned(read_whole(rt, matches, "filtered")?)),
+        Some(_) => Some(Pack::Owned(read_whole(rt, matches, FileArgument::Filtered)?)),
         None => None,
     };
     Ok(Packs { pack, filtered })
@@ -537,7 +537,7 @@ fn read_chunk(
 ) -> Result<bool, Failure> {
     let count = file
         .read(chunk)
-        .map_err(|error| Failure::of_file("repo", error))?;
+        .map_err(|error| Failure::of_file(FileArgument::Repo, error))?;
     if count == 0 {
         return Ok(false);
     }
@@ -551,9 +551,9 @@ fn read_chunk(
 fn read_whole(
     rt: &HostRuntime,
     matches: &ArgMatches<'_>,
-    argument: &'static str,
+    argument: FileArgument,
 ) -> Result<Vec<u8>, Failure> {
-    let path = matches.get_str(argument).unwrap_or("");
+    let path = matches.get_str(argument.name()).unwrap_or("");
     fs::read(rt, path).map_err(|error| Failure::of_file(argument, error))
 }
 
