@@ -10,8 +10,8 @@ use crate::sessions::{self, Reads, repository};
 use crate::setup::{TURNS, limits, offer};
 use crate::texts::append_str;
 use crate::trouble::Trouble;
-use git_pkt::Recorded;
-use git_server::{Faulty, Repo};
+use git_pkt::{Recorded, RunFault};
+use git_server::{Faulty, Outcome, Repo};
 use git_store::{Hosted, RepoStore, Store, serve_store};
 use std::alloc::Global;
 use std::io::Cursor;
@@ -69,20 +69,15 @@ pub fn of_repository(
     }
 }
 
-// Serves the chunks with a host's server over its store, and appends what it sends. Returns how the run ended.
+// Serves the chunks with a host's server over its store, and appends what it sends.
 fn serve_chunks<S: Store>(
-    alloc: Global,
     hosted: &mut Hosted<S, Global>,
     chunks: &[&[u8]],
     output: &mut Vec<u8>,
-) -> Result<String, Trouble> {
+) -> Result<Option<Outcome>, RunFault> {
     let mut reader = Recorded::new(Chunks::new(chunks));
     let mut writer = Recorded::new(output);
-    match serve_store(&mut reader, &mut writer, &mut [0; 256], hosted, TURNS) {
-        Ok(Some(outcome)) => Ok(ending_of(alloc, outcome)?),
-        Ok(None) => Err(Trouble::Breaks("a served session has no outcome")),
-        Err(fault) => Ok(format!(in alloc; "{fault}\n")?),
-    }
+    serve_store(&mut reader, &mut writer, &mut [0; 256], hosted, TURNS)
 }
 
 /// Serves the chunks over a store with the answers of the repository, whose packs come from readers.
@@ -99,6 +94,10 @@ pub fn served(
     let store = RepoStore::new(alloc, repo, Cursor::new(contents.pack), filtered);
     let mut hosted = Hosted::new(alloc, store, offer, limits, setup.advertises);
     let mut given = Vec::new(alloc);
-    let ending = serve_chunks(alloc, &mut hosted, chunks, &mut given)?;
+    let ending = match serve_chunks(&mut hosted, chunks, &mut given) {
+        Ok(Some(outcome)) => ending_of(alloc, outcome)?,
+        Ok(None) => return Err(Trouble::Breaks("a served session has no outcome")),
+        Err(fault) => format!(in alloc; "{fault}\n")?,
+    };
     Ok(Run::new(alloc, given, ending, None))
 }
