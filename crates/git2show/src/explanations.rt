@@ -31,6 +31,9 @@ pub(crate) fn explain(
     words: Option<&ArgMatches<'_>>,
     failure: &Failure,
 ) -> io::Result<()> {
+    if let Cause::Call(call) = failure.cause {
+        return explain_call(rt, words, call);
+    }
     match (failure.fault, failure.cause) {
         (ProgramFault::Repo(number), _) => {
             explain_line(
@@ -56,7 +59,6 @@ pub(crate) fn explain(
         (ProgramFault::Check(CheckFault::Responses(fault)), _) => {
             show_around(rt, path_of(words, FileArgument::Responses), fault.offset)
         }
-        (_, Cause::Call(call)) => explain_call(rt, words, call),
         (_, Cause::Stray) => eprintln!(rt; "not what a client sent: no request begins there"),
         _ => Ok(()),
     }
