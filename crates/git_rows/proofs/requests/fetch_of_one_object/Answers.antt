@@ -1,7 +1,8 @@
 use Rattle.std.proofs.Common.{◌≡◌, [], ◌∷◌, true, false, codes, refl, ap, arith, inl, inr}
 use Rattle.git_pkt.specs.Packets.{flush}
 use Rattle.git_pkt.specs.declared.fault.Kind.TheVariants.{TooMuchKept}
-use Rattle.git_msg.specs.Arguments.{alone, of_flag}
+use Rattle.git_msg.specs.Arguments.{alone}
+use Rattle.git_msg.specs.declared.words.Word.TheVariants.{Flag as of_flag}
 use Rattle.git_msg.specs.Asked.{done_of}
 use Rattle.git_msg.specs.Requests.{FirstFault}
 use Rattle.git_msg.specs.WrittenRequest.{text_line}

@@ -9,6 +9,8 @@ use Rattle.git_host.proofs.PlainLines.{plain_holds, plain_sound}
 use Rattle.git_host.proofs.ReferencesMoves.{after_hidden, after_shown, entries_of, head_allowed, ordered_alike, shown_alike}
 use Rattle.git_host.proofs.ReferencesMoves.{stands_after, unsound_head, unsound_order}
 use Rattle.git_host.proofs.references_answer.ReferencesAnswer.plain.Goals as goal
+use Rattle.git_msg.specs.Asked.{flag_among}
+use Rattle.git_msg.specs.declared.flags.Flag.{Flag}
 
 pub returns-then-is_second_head : goal.returns-then-is_second_head
 returns-then-is_second_head g c =
@@ -104,9 +106,9 @@ returns g c =
               (head_allowed old.place old.format q t (last_name old.last) given name c.in_default-place.not-Whole
               (sym c.is_second_head.ensures ∙ c.if-is_second_head.false) h.stands) in
               let is_last : last_name c.keep.new.self ≡ Some name = search (rules, tests) in
-              let packet = reference_packet q.symrefs q.peel entry in (
+              let packet = reference_packet (flag_among q Flag.Symrefs) (flag_among q Flag.Peel) entry in (
                 packet,
-                plain_holds q.symrefs q.peel id name named,
+                plain_holds (flag_among q Flag.Symrefs) (flag_among q Flag.Peel) id name named,
                 record {
                   alike = alike;
                   stands = subst
