@@ -13,13 +13,13 @@ use Rattle.git_pkt.proofs.Chunks.{joined, left_of}
 use Rattle.git_pkt.proofs.Streams.{one_split}
 use Rattle.git_msg.specs.Admission.{nothing_barred}
 use Rattle.git_msg.specs.Machine.HeldRequest.{asked_of, kept_of}
-use Rattle.git_msg.specs.Machine.RequestReader.{Takes, fault_of as reader_fault, is_waiting, limit_in, offer_of as offer_in}
-use Rattle.git_msg.specs.Machine.StreamStages.{Brings, HasTaken, IsBrought, goes_on}
+use Rattle.git_msg.specs.Machine.RequestReader.{Brings, IsBrought, Takes, fault_of as reader_fault, limit_in, offer_of as offer_in}
+use Rattle.git_msg.specs.Machine.StreamStages.{HasTaken}
 use Rattle.git_msg.specs.Requests.{AreBegun}
 use Rattle.git_msg.specs.declared.offers.Offer.{Offer}
 use Rattle.git_msg.specs.declared.reader.RequestReader.{RequestReader}
-use Rattle.git_msg.specs.declared.streams.ReadGot.{ReadGot}
-use Rattle.git_msg.specs.declared.streams.ReadGot.TheVariants.{More, Request, Stop, Failed}
+use Rattle.git_msg.specs.declared.reader.ReadGot.{ReadGot}
+use Rattle.git_msg.specs.declared.reader.ReadGot.TheVariants.{More, Request, Stop, Failed}
 use Rattle.git_msg.proofs.Admission.{announced_by_none}
 use Rattle.git_msg.proofs.PacketFaults.{announced_of_packets}
 use Rattle.git_msg.proofs.StreamSteps.{rest_behind, stopped_by}
@@ -501,31 +501,23 @@ same_noted {A} got other next same = ap (λ (o : ReadGot A). noted_brought o nex
 -- ---- how a reader is left after a packet
 
 module _ {A : Type 0} where
-  taken_behind : (old new : RequestReader A) (g : Given) (got : ReadGot A) → Brings nothing_barred old g got new → goes_on got ≡ true → HasTaken old
-      → HasTaken new
-  taken_behind old new g More brings on (left, takes) = (left ++ g ∷ [], (brings.brings left takes).0)
-  taken_behind old new g (Request request) brings on (left, takes) = ([], (brings.brings left takes).0)
+  taken_behind : (old new : RequestReader A) (g : Given) (got : ReadGot A) → Brings nothing_barred old g got new
+      → takes_bytes (stage_brought got) ≡ true → HasTaken old → (reader_fault new ≡ None) × HasTaken new
+  taken_behind old new g More brings on (left, takes) = (brings.leaves, (left ++ g ∷ [], (brings.brings left takes).0))
+  taken_behind old new g (Request request) brings on (left, takes) = (brings.leaves, ([], (brings.brings left takes).0))
   taken_behind old new g Stop brings on (left, takes) = absurd (cc)
   taken_behind old new g (Failed fault) brings on (left, takes) = absurd (cc)
-
-  reads_behind : (got : ReadGot A) → goes_on got ≡ true → takes_bytes (stage_brought got) ≡ true
-  reads_behind More on = refl
-  reads_behind (Request request) on = refl
-  reads_behind Stop on = absurd (cc)
-  reads_behind (Failed fault) on = absurd (cc)
 
 module _ {A : Type 0} (old new : JudgedRequests A) (used : ℕ) (ready : IsJudging old.judge) (some : 0 < used)
     (sound : packet_fault new.packets ≡ None) (gathers : passes_of new.packets ≡ false) (same_offer : new.judge.offer ≡ old.judge.offer)
     (same_limit : new.judge.limits.args ≡ old.judge.limits.args) where
   -- it goes on
-  ready_with : takes_bytes new.judge.stage ≡ true → reader_fault new.judge.requests ≡ None → is_waiting new.judge.requests ≡ false
-      → HasTaken new.judge.requests → offer_in new.judge.requests ≡ offer_in old.judge.requests
+  ready_with : takes_bytes new.judge.stage ≡ true → reader_fault new.judge.requests ≡ None → HasTaken new.judge.requests → offer_in new.judge.requests ≡ offer_in old.judge.requests
       → limit_in new.judge.requests ≡ limit_in old.judge.requests → new.judge.kept ≤ old.judge.limits.args → IsReady new
-  ready_with wants open_ended waits taken offer limit kept = record {
+  ready_with wants open_ended taken offer limit kept = record {
     judging = record {
       wants = wants;
       open_ended = open_ended;
-      ready = waits;
       taken = taken;
       same_offer = same_offer ∙ ready.same_offer ∙ sym offer;
       same_limit = same_limit ∙ ready.same_limit ∙ sym limit;
@@ -539,17 +531,15 @@ module _ {A : Type 0} (old new : JudgedRequests A) (used : ℕ) (ready : IsJudgi
   -- with the reader inside as it was
   ready_still : new.judge.requests ≡ old.judge.requests → new.judge.kept ≤ old.judge.limits.args → takes_bytes new.judge.stage ≡ true → IsReady new
   ready_still same kept wants =
-      ready_with wants (rw same ready.open_ended) (rw same ready.ready)
-      (subst (λ (r : RequestReader A). HasTaken r) (sym same) ready.taken) (ap (λ (r : RequestReader A). offer_in r) same)
+      ready_with wants (rw same ready.open_ended) (subst (λ (r : RequestReader A). HasTaken r) (sym same) ready.taken) (ap (λ (r : RequestReader A). offer_in r) same)
       (ap (λ (r : RequestReader A). limit_in r) same) kept
 
   -- or with a new one
-  pub named_leaves : new.judge.stage ≡ Passing → reader_fault new.judge.requests ≡ None → is_waiting new.judge.requests ≡ false
-      → Takes [] new.judge.requests → offer_in new.judge.requests ≡ old.judge.offer → limit_in new.judge.requests ≡ old.judge.limits.args
+  pub named_leaves : new.judge.stage ≡ Passing → reader_fault new.judge.requests ≡ None → Takes [] new.judge.requests → offer_in new.judge.requests ≡ old.judge.offer → limit_in new.judge.requests ≡ old.judge.limits.args
       → new.judge.kept ≡ 0 → StepLeaves {A = A} Got.More used new
-  named_leaves is open_ended waits takes offer limit kept = (
+  named_leaves is open_ended takes offer limit kept = (
     some,
-    ready_with (ap takes_bytes is) open_ended waits ([], takes) (offer ∙ ready.same_offer) (limit ∙ ready.same_limit) (omega (arith, kept)),
+    ready_with (ap takes_bytes is) open_ended ([], takes) (offer ∙ ready.same_offer) (limit ∙ ready.same_limit) (omega (arith, kept)),
   )
 
   pub goes_leaves : new.judge.requests ≡ old.judge.requests → new.judge.kept ≤ old.judge.limits.args → takes_bytes new.judge.stage ≡ true
@@ -571,12 +561,12 @@ module _ {A : Type 0} (old new : JudgedRequests A) (used : ℕ) (ready : IsJudgi
     passing_leaves (payload bytes) others same kept is = goes_leaves same kept (ap takes_bytes is)
 
     module _ (g : Given) where
-      ready_behind : (got : ReadGot A) → goes_on got ≡ true → Brings nothing_barred old.judge.requests g got new.judge.requests
+      ready_behind : (got : ReadGot A) → takes_bytes (stage_brought got) ≡ true → Brings nothing_barred old.judge.requests g got new.judge.requests
           → new.judge.kept ≤ old.judge.limits.args
           → new.judge.stage ≡ stage_brought got → IsReady new
       ready_behind got on brings kept is =
-          ready_with (ap takes_bytes is ∙ reads_behind got on) (brings.sound on) (brings.ready on)
-          (taken_behind old.judge.requests new.judge.requests g got brings on ready.taken) brings.offer brings.limit kept
+          let (open_ended, taken) = taken_behind old.judge.requests new.judge.requests g got brings on ready.taken in
+          ready_with (ap takes_bytes is ∙ on) open_ended taken brings.offer brings.limit kept
 
       pub packet_leaves : (got : ReadGot A) (refused : Option Kind) (offset kept : ℕ) (others : OtherLines A)
           → Brings nothing_barred old.judge.requests g got new.judge.requests → (refused ≡ None → kept ≤ old.judge.limits.args)

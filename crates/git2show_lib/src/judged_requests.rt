@@ -9,7 +9,7 @@ ghost use Rattle.git2show_lib.specs.Machine.KeptLines.{noted_in};
 
 use crate::other_lines::OtherLines;
 use crate::others::{Place, counted, judged_packet, names_other};
-use git_msg::{AdmitsAll, Limits, Offer, ReadGot, Request, RequestReader, take_packet};
+use git_msg::{AdmitsAll, Limits, Offer, ReadGot, Request, RequestReader};
 use git_names::Steps;
 use git_pkt::{Fault, Got, Kind, Packet, PacketReader};
 use std::alloc::Allocator;
@@ -251,13 +251,9 @@ impl<A: Allocator + Copy> RequestJudge<A> {
             self.kept = kept;
             return JudgedGot::More;
         };
-        let taken = take_packet(
-            &mut self.requests,
-            &AdmitsAll,
-            judged,
-            offset,
-            &mut Steps::new(),
-        );
+        let taken = self
+            .requests
+            .take(&AdmitsAll, judged, offset, &mut Steps::new());
         let got = limited(taken, refused, offset);
         self.place = place_brought(&got, next);
         self.kept = kept_brought(&got, kept);

@@ -1,11 +1,9 @@
 //! Memory that runs out at each allocation in turn.
-ghost use Rattle.std.specs.Prelude.{◌≡◌, false};
-ghost use Rattle.git_msg.specs.Machine.RequestReader.{is_waiting};
 
 use crate::adding::{add_filter, add_prefix, add_want, bytes_kept, new_request};
 use crate::expecting::expect;
 use crate::servers::object;
-use git_msg::{Argument, Command, Flag, Limits, Offer, RequestReader, Taken};
+use git_msg::{AdmitsAll, Argument, Command, Flag, Limits, Offer, ReadGot, RequestReader};
 use git_names::{Format, Steps};
 use git_pkt::{Fault, Kind, Packet};
 use linked_list_allocator::LocalHeap;
@@ -163,29 +161,20 @@ fn each_growth_of_the_wants_is_refused_in_turn(rt: HostRuntime) -> Result<(), Al
 }
 
 /// A reader of the requests that are advertised.
-fn new_reader<A: Allocator + Copy>(alloc: A) -> RequestReader<A>
-    ensures { is_waiting result ≡ false }
-{
+fn new_reader<A: Allocator + Copy>(alloc: A) -> RequestReader<A> {
     RequestReader::new(alloc, offer(), Limits { args: 1000 })
 }
 
-/// Gives the reader a packet, and keeps its argument, if it is one.
+/// Gives the reader a packet. It keeps its argument, if it is one.
 fn receive_response<A: Allocator + Copy>(
     reader: &mut RequestReader<A>,
     packet: Packet<'_>,
     offset: u64,
-) -> Result<(), Fault>
-    requires { is_waiting reader.old ≡ false }
-    ensures { is_waiting reader.new ≡ false }
-{
-    let taken = match reader.take(packet, offset, &mut Steps::new()) {
-        Ok(taken) => taken,
-        Err(fault) => return Err(fault),
-    };
-    if let Taken::Argument(argument) = taken {
-        return reader.keep(argument, &mut Steps::new());
+) -> Result<(), Fault> {
+    match reader.take(&AdmitsAll, packet, offset, &mut Steps::new()) {
+        ReadGot::Failed(fault) => Err(fault),
+        _ => Ok(()),
     }
-    Ok(())
 }
 
 /// Expects that the reader takes the packet, and keeps its argument, if it is one.
@@ -194,10 +183,7 @@ fn expect_kept<A: Allocator + Copy>(
     reader: &mut RequestReader<A>,
     packet: Packet<'_>,
     offset: u64,
-)
-    requires { is_waiting reader.old ≡ false }
-    ensures { is_waiting reader.new ≡ false }
-{
+) {
     expect(rt, &receive_response(reader, packet, offset), &Ok(()));
 }
 

@@ -6,8 +6,8 @@ use Rattle.git_pkt.specs.declared.fault.Kind.TheVariants.{RemoteError}
 use Rattle.git_msg.specs.Memory.{FaultNeedsRefusal}
 use Rattle.git_msg.specs.Machine.RequestStreams.{Feeds, Leaves, fault_of as stream_fault, limit_of, wants_input}
 use Rattle.git_msg.specs.Machine.StreamStages.{fault_in as stage_fault}
-use Rattle.git_msg.specs.declared.streams.ReadGot.{ReadGot}
-use Rattle.git_msg.specs.declared.streams.ReadGot.TheVariants.{More, Request, Stop, Failed}
+use Rattle.git_msg.specs.declared.reader.ReadGot.{ReadGot}
+use Rattle.git_msg.specs.declared.reader.ReadGot.TheVariants.{More, Request, Stop, Failed}
 use Rattle.git_msg.specs.declared.streams.ReadRequest.{ReadRequest}
 use Rattle.git_msg.specs.declared.streams.RequestStream.{RequestStream}
 use Rattle.git_msg.proofs.StreamSteps.{reading}

@@ -25,8 +25,8 @@ use Rattle.git_msg.specs.Machine.HeldRequest.{asked_of, holding_of, kept_of, sto
 use Rattle.git_msg.specs.Machine.StreamStages.{fault_in, stage_is_between, takes_bytes}
 use Rattle.git_msg.specs.declared.limits.Limits.{Limits}
 use Rattle.git_msg.specs.Machine.RequestStreams.{Closes, EndsWith, Feeds as StreamFeeds, Leaves, asked_by}
-use Rattle.git_msg.specs.declared.streams.ReadGot.{ReadGot}
-use Rattle.git_msg.specs.declared.streams.ReadGot.TheVariants.{More, Request as RequestGot, Stop as StopGot, Failed as FailedGot}
+use Rattle.git_msg.specs.declared.reader.ReadGot.{ReadGot}
+use Rattle.git_msg.specs.declared.reader.ReadGot.TheVariants.{More, Request as RequestGot, Stop as StopGot, Failed as FailedGot}
 use Rattle.git_msg.specs.declared.streams.ReadRequest.{ReadRequest}
 use Rattle.git_msg.specs.Machine.RequestStreams.{AreAsked, HasRead, IsAtTheEnd, IsLeftIn, IsLent, IsOne, IsRefusedAs, IsUnlent, bytes_used}
 use Rattle.git_msg.specs.Machine.RequestStreams.{hold_of, is_within_packet, limit_of, offer_of, wants_input}

@@ -12,7 +12,7 @@ use Rattle.git_pkt.specs.Machine.PacketReader.{Reads, bytes_held, fault_of as pa
 use Rattle.git_pkt.specs.declared.reader.PacketReader.{PacketReader}
 use Rattle.git_pkt.proofs.LentHolds.{lent_reads}
 use Rattle.git_msg.specs.Asked.{Asked}
-use Rattle.git_msg.specs.Machine.RequestReader.{Takes, fault_of as reader_fault, is_waiting, kept_so_far, limit_in, offer_of as offer_in}
+use Rattle.git_msg.specs.Machine.RequestReader.{Takes, fault_of as reader_fault, kept_so_far, limit_in, offer_of as offer_in}
 use Rattle.git_msg.specs.Machine.StreamStages.{takes_bytes}
 use Rattle.git_msg.specs.Machine.RequestStreams.{HasRead, IsLeftIn, IsLent, IsOne, ReadsOnward, hold_of}
 use Rattle.git_msg.specs.Machine.RequestStreams.{is_within_packet, limit_of, offer_of}
@@ -179,7 +179,6 @@ module _ {A : Type 0} (old : RequestStream A) (hold : ArrayVec ℕ) (new : Reque
     sound = ap packet_fault lent.packets ∙ fault_lent old.packets hold (is_open_in old.packets.state) refl ∙ h.sound;
     takes = subst (λ (r : RequestReader A). Takes left r) (sym lent.requests) h.takes;
     open_ended = ap reader_fault lent.requests ∙ h.open_ended;
-    ready = ap is_waiting lent.requests ∙ h.ready;
   }
 
   lent_fits : length hold.items ≤ 65520 → bytes_held (with_hold old.packets hold) ≤ 65520

@@ -1,5 +1,5 @@
 -- Packets whose last one, an argument, is refused although it is well formed, and packets without such an argument.
-use Rattle.std.proofs.Common.{◌≡◌, ◌≢◌, ℕ, Bool, true, All, IfSome, Option, Some, None, option_to_list, List, [], ◌∷◌, ◌++◌}
+use Rattle.std.proofs.Common.{◌≡◌, ℕ, Bool, true, All, IfSome, Option, Some, None, option_to_list, List, [], ◌∷◌, ◌++◌}
 use Rattle.std.proofs.Common.{refl, sym, ap, ◌∙◌, subst, inl, inr}
 use Rattle.std.proofs.lemmas.List.Elements.{All-nil, All-cons, All-append, All-pop}
 use Rattle.git_pkt.specs.Packets.{Pkt, flush, payload, text_of}
@@ -11,8 +11,7 @@ use Rattle.git_msg.specs.declared.offers.Offer.{Offer}
 use Rattle.git_msg.specs.Admission.{nothing_barred, IsAdmitted, AreAdmitted, IsBarred, IsBarredAtLast, IsAnnouncedFor, IsUnbarred}
 use Rattle.git_msg.specs.Arguments.{Arg}
 use Rattle.git_msg.specs.Lines.{Line, argument_in, arguments_of, HasFault, HasFaultIn, IsArgumentText, IsLine, IsLineIn}
-use Rattle.git_msg.specs.Requests.{AreLines, FirstFault, IsPlainLine, IsAnnounced}
-use Rattle.git_msg.proofs.FaultLaws.{fault_at_last}
+use Rattle.git_msg.specs.Requests.{AreLines, IsAnnounced}
 use Rattle.git_msg.proofs.LineLaws.{argument_payload, fronts_same, one_argument_text, one_list_of_lines, payload_argument, refused_for_limit}
 use Rattle.git_msg.proofs.LineLists.{arguments_snoc, last_line}
 use Rattle.git_msg.proofs.WholeRequests.{last_same}
@@ -35,7 +34,7 @@ module _ (offer : Offer) (limit : ℕ) (barred : Arg → Option Kind) where
       (arg, there, subst (λ (a : Arg). barred a ≡ Some kind) same b.refuses)
 
   -- its only other error can be the limit
-  barred_for_limit : (before : List Line) (packet : Pkt) (kind other : Kind) → HasFault offer limit before packet kind
+  pub barred_for_limit : (before : List Line) (packet : Pkt) (kind other : Kind) → HasFault offer limit before packet kind
       → IsBarred offer barred before packet other → kind ≡ TooMuchKept
   barred_for_limit before packet kind other fault b =
       let behind = subst (λ (part : Bool). HasFaultIn part offer limit before packet kind) b.behind fault in
@@ -84,22 +83,6 @@ module _ (offer : Offer) (limit : ℕ) (barred : Arg → Option Kind) where
       let lasts = last_same b.front front b.last last (sym b.whole ∙ whole) in
       let both : payload b.is_barred.bytes ≡ flush = sym b.is_barred.data_packet ∙ ap (λ (g : Given). g.packet) lasts ∙ ends in
       cc
-
-  -- nor is a line that is not an argument
-  pub plain_unbarred : (packets : List Given) (g : Given) → IsPlainLine offer limit packets g.packet → IsUnbarred offer limit barred (packets ++ g ∷ [])
-  plain_unbarred packets g plain kind offset b =
-      let there = barred_after (packets ++ g ∷ []) packets g plain.lines kind offset refl plain.taken b in
-      let (arg, is, refuses) = barred_argument plain.lines g.packet plain.line kind plain.is_line there.is_barred in
-      let both : Some arg ≡ None = sym is ∙ plain.no_argument in
-      cc
-
-  -- nor is a packet with an error other than that of the limit
-  pub fault_unbarred : (packets : List Given) (kind : Kind) (offset : ℕ) → FirstFault offer limit packets kind offset → kind ≢ TooMuchKept
-      → IsUnbarred offer limit barred packets
-  fault_unbarred packets kind offset first other name place b =
-      let fault = fault_at_last offer limit b.front b.last b.lines kind offset b.taken
-      (subst (λ (gs : List Given). FirstFault offer limit gs kind offset) b.whole first) in
-      other (barred_for_limit b.lines b.last.packet kind name fault b.is_barred)
 
   -- one more argument, which is not barred
   last_admitted : (before : List Line) (packet : Pkt) (line : Line) → IsLine offer limit before packet line

@@ -1,10 +1,14 @@
 -- The bound of a request is unique.
 use Rattle.std.proofs.Common.{◌≡◌, ap, ◌∙◌}
+use Rattle.std.proofs.Props.{props}
 use Rattle.std.specs.Coded.{le_prop}
-use Rattle.git_msg.specs.Machine.HeldRequest.{IsBounded}
+use Rattle.git_msg.specs.Machine.HeldRequest.{IsBounded, format_of}
+use Rattle.git_msg.specs.declared.offers.Offer.{Offer}
 use Rattle.git_msg.specs.declared.requests.Request.{Request}
 
-pub one_bound : {A : Type 0} (q : Request A) (h k : IsBounded q) → h ≡ k
-one_bound q h k =
-    ap (λ x. let it : IsBounded q = record { covered = x; within = h.within } in it) (le_prop h.covered k.covered)
-    ∙ ap (λ x. let it : IsBounded q = record { covered = k.covered; within = x } in it) (le_prop h.within k.within)
+pub one_bound : {A : Type 0} (offer : Offer) (q : Request A) (h k : IsBounded offer q) → h ≡ k
+one_bound offer q h k =
+    let format_prop : IsProp (format_of q ≡ offer.format) = hlevel props in
+    ap (λ x. let it : IsBounded offer q = record { covered = x; within = h.within; of_format = h.of_format } in it) (le_prop h.covered k.covered)
+    ∙ ap (λ x. let it : IsBounded offer q = record { covered = k.covered; within = x; of_format = h.of_format } in it) (le_prop h.within k.within)
+    ∙ ap (λ x. let it : IsBounded offer q = record { covered = k.covered; within = k.within; of_format = x } in it) (format_prop h.of_format k.of_format)

@@ -37,7 +37,6 @@ pub mod ResponseLines
 pub mod ResponseFaults
 pub mod OfferedArguments
 pub mod Admission
-pub mod TakenArguments
 pub mod StreamSteps
 pub mod StreamEnds
 pub mod StreamReadings

@@ -21,20 +21,11 @@ use Rattle.git_msg.specs.Arguments.{words, command_with, most_text, IsDepth, IsT
 use Rattle.git_msg.specs.declared.words.Word.{Word}
 use Rattle.git_msg.specs.declared.words.Word.TheVariants.{Flag as of_flag, Want as want}
 use Rattle.git_msg.specs.Arguments.{Shape, flag_word, object_name, depth_number, time_number, prefix_text, kept_text, reference_name, Row, row}
-use Rattle.git_msg.specs.Arguments.{Arg, Value, no_value, id_value, number_value, text_value, refusal_of, HasValueOf, IsNoValue, IsNamed}
-use Rattle.git_msg.specs.Arguments.{HasArgumentOf, IsArgument, HasName, ReadsAs, IsNoArgument, IsUnoffered, IsArgumentFault, IsRowFault}
+use Rattle.git_msg.specs.Arguments.{Arg, Value, no_value, id_value, number_value, text_value, refusal_of, HasValueOf, IsNoValue}
+use Rattle.git_msg.specs.Arguments.{HasArgumentOf, IsArgument, ReadsAs, IsNoArgument, IsUnoffered, IsArgumentFault, IsRowFault}
 use Rattle.git_msg.specs.Texts.{Follows}
 use Rattle.git_msg.specs.Lines.{IsWordOf, key_by}
 use Rattle.git_msg.proofs.DigitValues.{one_number}
-
--- a value in a text that has to be a reference name is one
-value_has_name : (shape : Shape) (word : List ℕ) (format : Format) (line : List ℕ) (value : Value) → HasValueOf shape word format line value
-    → IsNamed shape value
-value_has_name reference_name word format line (text_value name) h = h.1
-value_has_name shape word format line value h = tt
-
-pub argument_has_name : (format : Format) (text : List ℕ) (arg : Arg) → HasArgumentOf format text arg → HasName arg
-argument_has_name format text arg h = value_has_name (row arg.word).shape (row arg.word).keyword format text arg.value h
 
 -- a text other than the word
 other_word : (text word : List ℕ) → text ≢ word → bytes_eq text word ≡ false

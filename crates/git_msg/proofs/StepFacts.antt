@@ -1,10 +1,11 @@
 -- The effect of single packets, from the contracts of the reader's parts.
-use Rattle.std.proofs.Common.{◌≡◌, ℕ, Bool, true, false, not, Option, Some, None, Ok, Err, option_to_list, List, [], ◌∷◌, ◌++◌, refl, ap, sym, rules}
-use Rattle.std.proofs.Common.{◌∙◌, subst, inl, inr}
+use Rattle.std.proofs.Common.{◌≡◌, ◌≢◌, ◌⊎◌, ℕ, ◌+◌, ◌≤◌, Bool, true, false, not, Option, Some, None, Ok, Err, option_to_list, List, [], ◌∷◌, ◌++◌, length}
+use Rattle.std.proofs.Common.{refl, ap, sym, ◌∙◌, subst, inl, inr, arith, rules}
 use Rattle.std.specs.Prelude.{is_some}
 use Rattle.std.proofs.lemmas.List.{append-nil}
-use Rattle.git_pkt.specs.Packets.{flush, delim, payload, text_of}
+use Rattle.git_pkt.specs.Packets.{Pkt, flush, delim, resp_end, payload, text_of}
 use Rattle.git_pkt.specs.declared.fault.Kind.{Kind}
+use Rattle.git_pkt.specs.declared.fault.Kind.TheVariants.{TooMuchKept, UnexpectedPacket}
 use Rattle.git_msg.specs.declared.offers.Offer.{Offer}
 use Rattle.git_msg.specs.declared.arguments.Command.{Command}
 use Rattle.git_msg.specs.declared.arguments.Command.TheVariants.{LsRefs}
@@ -13,33 +14,26 @@ use Rattle.git_msg.specs.declared.capability_key.Key.TheVariants.{CommandKey}
 use Rattle.git_msg.specs.declared.requests.Request.{Request}
 use Rattle.git_msg.specs.declared.reader.Part.{Part}
 use Rattle.git_msg.specs.declared.reader.Part.TheVariants.{Capabilities, Arguments}
+use Rattle.git_msg.specs.declared.reader.ReadGot.TheVariants.{More, Request as Whole}
 use Rattle.git_msg.specs.declared.reader.RequestReader.{RequestReader}
-use Rattle.git_msg.specs.declared.reader.Taken.TheVariants.{More, Request as TakenRequest}
+use Rattle.git_msg.specs.Admission.{IsAdmitted}
+use Rattle.git_msg.specs.Arguments.{Arg}
 use Rattle.git_msg.specs.Asked.{asked_by}
 use Rattle.git_msg.specs.Checks.{Refuses, Passes}
-use Rattle.git_msg.specs.Machine.HeldRequest.{IsBounded, IsEmpty, asked_of, command_of, limit_of}
-use Rattle.git_msg.proofs.LineLaws.{no_argument_of}
-use Rattle.git_msg.proofs.BoundedRequests.{one_bound}
+use Rattle.git_msg.specs.Kept.{IsUnkept}
 use Rattle.git_msg.specs.Lines.{Line, command, agent, server_option, object_format, delimiter, argument, is_none, commands_of, arguments_of}
-use Rattle.git_msg.specs.Lines.{has_format, argument_in, IsLineOf, key_checks, IsCapabilityLine}
+use Rattle.git_msg.specs.Lines.{has_delimiter, has_format, IsLine, IsLineOf, key_checks, IsArgumentText, IsCapabilityLine}
 use Rattle.git_msg.specs.Lines.{argument_checks, text_checks, capability_checks, part_checks, end_checks, IsArgumentRefused, HasFault}
-use Rattle.git_msg.specs.Machine.RequestReader.{InCapabilities, InArguments, is_nil, fault_in, waits_in, limit_in, kept_so_far}
-use Rattle.git_msg.specs.Machine.RequestReaderSteps.{InLines, IsSame, Advances, StepsOn, Notes, IsExpected, is_first, with_line, restarted}
+use Rattle.git_msg.specs.Machine.HeldRequest.{IsBounded, IsEmpty, Keeps, asked_of, command_of, holding_of, limit_of}
+use Rattle.git_msg.specs.Machine.JudgedLine.{IsText}
+use Rattle.git_msg.specs.Machine.RequestReader.{InCapabilities, InArguments, InLines, is_nil, fault_in, limit_in, kept_so_far}
+use Rattle.git_msg.specs.Machine.RequestReaderSteps.{Goes, IsExpected, IsFree, IsSame, LacksMemory, Notes, StepsOn, is_first, with_line}
+use Rattle.git_msg.proofs.Admission.{barred_for_limit, barred_text}
+use Rattle.git_msg.proofs.BoundedRequests.{one_bound}
+use Rattle.git_msg.proofs.KeptArguments.{one_more}
+use Rattle.git_msg.proofs.LineLaws.{no_argument_of}
+use Rattle.git_msg.proofs.LineLists.{commands_snoc, arguments_snoc, format_snoc, delimiter_snoc, kept_snoc, argument_is_line, capability_is_line}
 use Rattle.git_msg.proofs.PacketFaults.{not_for_limit_by_capability, not_for_limit_by_end, not_for_limit_by_text}
-use Rattle.git_msg.proofs.LineLists.{commands_snoc, arguments_snoc, format_snoc, delimiter_snoc, kept_snoc, capability_is_line}
-
--- readers whose fields are equal are equal
-pub same_reader : {A : Type 0} (r other : RequestReader A) → IsSame r other → r ≡ other
-same_reader {A} r other h =
-    ap (λ (x : A). record r { alloc = x }) h.alloc
-    ∙ ap (λ (x : Offer). record r { alloc = other.alloc; offer = x }) h.offer
-    ∙ ap (λ (x : Part). record r { alloc = other.alloc; offer = other.offer; part = x }) h.part
-    ∙ ap (λ (x : Bool). record r { alloc = other.alloc; offer = other.offer; part = other.part; begun = x }) h.begun
-    ∙ ap (λ (x : Option Command). record r { alloc = other.alloc; offer = other.offer; part = other.part; begun = other.begun; command = x }) h.command
-    ∙ ap (λ (x : Bool). record other { has_format = x; request = r.request; bounded = r.bounded }) h.has_format
-    ∙ subst (λ (q : Request A). (p : IsBounded q)
-    → record other { request = r.request; bounded = r.bounded } ≡ record other { request = q; bounded = p }) h.request
-    (λ p. ap (λ (x : IsBounded r.request). record other { request = r.request; bounded = x }) (one_bound r.request r.bounded p)) other.bounded
 
 -- no command was read, in both ways to state it
 pub first_by : (o : Option Command) (b : Bool) → is_some o ≡ not b → b ≡ is_none (option_to_list o)
@@ -61,18 +55,11 @@ no_delimiter : (key : Key) (value : Option (List ℕ)) → IsLineOf key value de
 no_delimiter CommandKey value h = h
 no_delimiter key value h = h
 
-no_argument_in : (key : Key) (value : Option (List ℕ)) (line : Line) → IsLineOf key value line → argument_in line ≡ None
-no_argument_in key value (argument arg long) h = absurd (no_argument_of key value arg long h)
-no_argument_in key value line h = refl
-
 -- a command line is the first
 first_command : (offer : Offer) (first : Bool) (key : Key) (value : Option (List ℕ)) (c : Command)
     → Passes (key_checks offer first key value) → IsLineOf key value (command c) → first ≡ true
 first_command offer first CommandKey value c h is = h.0
 first_command offer first key value c h is = absurd is
-
-stands_ready : (part : Part) → part ≡ Capabilities → (fault_in part ≡ None) × (waits_in part ≡ false)
-stands_ready part h = rw h (refl, refl)
 
 -- an argument's text that is refused
 text_refused : (c : Command) (offer : Offer) (limit kept : ℕ) (text : List ℕ) (kind : Kind)
@@ -105,37 +92,19 @@ module _ {A : Type 0} where
   in_arguments : (lines : List Line) (r : RequestReader A) → r.part ≡ Arguments → InLines r.part lines r → InArguments lines r
   in_arguments lines r part h = subst (λ (x : Part). InLines x lines r) part h
 
-  -- a line was noted
-  advance : (r : RequestReader A) (bytes : List ℕ) (line : Line) (lines : List Line)
-      → r.part ≡ Capabilities → IsCapabilityLine r.offer (is_first r) (text_of bytes) line
-      → InCapabilities lines r → Advances lines r (payload bytes) (with_line line r)
-  advance r bytes line lines part is h =
-      record {
-        line = line;
-        is_line = capability_is_line r.offer (limit_in r) lines bytes line h.before (rw (ap is_none h.command) is);
-        no_argument = no_argument_in is.key is.value line is.line_is;
-        in_lines = subst (λ (x : Part). InLines x (lines ++ line ∷ []) (with_line line r))
-            (sym ((with_line_keeps line r).0 ∙ part)) (noted_in (text_of bytes) line lines r is h);
-      }
-
-  noted_plain : (r : RequestReader A) (bytes : List ℕ) (offset : ℕ) (line : Line)
-      → r.part ≡ Capabilities → IsCapabilityLine r.offer (is_first r) (text_of bytes) line → StepsOn r (payload bytes) offset (Ok More) (with_line line r)
-  noted_plain r bytes offset line part is = search (rules, with_line_keeps, advance, in_capabilities, stands_ready)
-
-  pub noted : (r new : RequestReader A) (bytes : List ℕ) (offset : ℕ)
-      → r.part ≡ Capabilities → Notes r (text_of bytes) new → StepsOn r (payload bytes) offset (Ok More) new
-  noted r new bytes offset part h =
-      subst (λ (n : RequestReader A). StepsOn r (payload bytes) offset (Ok More) n) (sym (same_reader _ _ h.new_is))
-      (noted_plain r bytes offset h.line part h.is_line)
+  same_lines : (lines : List Line) (r other : RequestReader A) → IsSame r other → InCapabilities lines other → InCapabilities lines r
+  same_lines lines r other e h = record {
+    before = h.before;
+    begun = h.begun ∙ ap not (sym e.begun);
+    command = h.command ∙ ap option_to_list (sym e.command);
+    format = h.format ∙ sym e.has_format;
+    no_argument = h.no_argument;
+    nothing_kept = h.nothing_kept;
+  }
 
   capability_refused : (lines : List Line) (r : RequestReader A) (bytes : List ℕ) (kind : Kind) → InCapabilities lines r
       → Refuses (capability_checks r.offer (is_first r) (text_of bytes)) kind → HasFault r.offer (limit_in r) lines (payload bytes) kind
   capability_refused lines r bytes kind h refuses = rw (h.before, ap is_none h.command) refuses
-
-  pub refused : (r new : RequestReader A) (bytes : List ℕ) (offset : ℕ) (kind : Kind)
-      → r.part ≡ Capabilities → new ≡ r → Refuses (capability_checks r.offer (is_first r) (text_of bytes)) kind
-      → StepsOn r (payload bytes) offset (Err kind) new
-  refused r new bytes offset kind part same h = rw same (search (rules, in_capabilities, capability_refused, not_for_limit_by_capability))
 
   -- the checks at the end of the capability part, by the lines
   judged : (lines : List Line) (r : RequestReader A) (c : Command)
@@ -145,48 +114,159 @@ module _ {A : Type 0} where
   commands_expected : (lines : List Line) (r : RequestReader A) (c : Command) → InCapabilities lines r → IsExpected r c → commands_of lines ≡ c ∷ []
   commands_expected lines r c h expected = h.command ∙ ap option_to_list expected.there
 
-  -- the delimiter
-  pub delimited : (r : RequestReader A) (offset : ℕ) (c : Command) (q : Request A)
-      → (bounded : IsBounded q) → r.part ≡ Capabilities → IsExpected r c → IsEmpty c r.offer.format (limit_in r) q
-      → StepsOn r delim offset (Ok More) (record r { part = Arguments; request = q; bounded = bounded })
-  delimited r offset c q bounded part expected empty =
-      search (rules, in_capabilities, judged, delimiter_snoc, commands_snoc, append-nil, commands_expected, arguments_snoc, kept_snoc)
-
-  empty_lines : (next r : RequestReader A) → InCapabilities [] (restarted next r)
-  empty_lines next r = record { before = refl; begun = refl; command = refl; format = refl; no_argument = refl; nothing_kept = refl }
-
   -- a request without delimiter asks for nothing
   nothing_but : (lines : List Line) (r : RequestReader A) (c : Command) (q : Request A) → InCapabilities lines r → IsEmpty c r.offer.format (limit_in r) q
       → asked_of q ≡ asked_by c (arguments_of lines)
   nothing_but lines r c q h empty = empty.asked ∙ ap (λ args. asked_by c args) (sym h.no_argument)
-
-  -- the flush of a request without delimiter, refused for what the request asks for
-  pub flush_refused : (r : RequestReader A) (offset : ℕ) (c : Command) (q : Request A) (kind : Kind) → r.part ≡ Capabilities → r.begun ≡ true → IsExpected r c
-      → IsEmpty c r.offer.format (limit_in r) q → Refuses (end_checks (asked_of q)) kind → StepsOn r flush offset (Err kind) r
-  flush_refused r offset c q kind part begun expected empty refuses =
-      search (rules, in_capabilities, commands_expected, judged, nothing_but, not_for_limit_by_end)
-
-  -- the flush of a request without delimiter
-  pub flushed : (r new : RequestReader A) (offset : ℕ) (c : Command) (q : Request A) → r.part ≡ Capabilities → IsExpected r c
-      → IsEmpty c r.offer.format (limit_in r) q → Passes (end_checks (asked_of q)) → IsEmpty LsRefs r.offer.format (limit_of q) new.request
-      → new ≡ restarted new r → StepsOn r flush offset (Ok (TakenRequest q)) new
-  flushed r new offset c q part expected empty passes next same = search (rules, in_capabilities, commands_expected, judged, nothing_but, empty_lines)
-
-  -- the flush after the arguments
-  pub completed : (r new : RequestReader A) (offset : ℕ) → r.part ≡ Arguments → Passes (end_checks (asked_of r.request))
-      → IsEmpty LsRefs r.offer.format (limit_in r) new.request → new ≡ restarted new r → StepsOn r flush offset (Ok (TakenRequest r.request)) new
-  completed r new offset part passes next same = search (rules, in_arguments, empty_lines)
-
-  -- the flush after the arguments, refused for what the request asks for
-  pub end_refused : (r : RequestReader A) (offset : ℕ) (kind : Kind) → r.part ≡ Arguments → Refuses (end_checks (asked_of r.request)) kind
-      → StepsOn r flush offset (Err kind) r
-  end_refused r offset kind part refuses = search (rules, in_arguments, not_for_limit_by_end)
 
   -- the text of an argument that is refused
   argument_refused : (lines : List Line) (r : RequestReader A) (text : List ℕ) (kind : Kind) → InArguments lines r
       → Refuses (text_checks (command_of r.request) r.offer text) kind → IsArgumentRefused r.offer (limit_in r) lines text kind
   argument_refused lines r text kind h refuses = search (rules, text_refused)
 
-  pub unread : (r : RequestReader A) (bytes : List ℕ) (offset : ℕ) (kind : Kind)
-      → r.part ≡ Arguments → Refuses (text_checks (command_of r.request) r.offer (text_of bytes)) kind → StepsOn r (payload bytes) offset (Err kind) r
-  unread r bytes offset kind part refuses = search (rules, in_arguments, argument_refused, not_for_limit_by_text)
+  -- the text of an argument
+  argument_text : (lines : List Line) (r : RequestReader A) (text : List ℕ) (arg : Arg) → InArguments lines r
+      → IsText (command_of r.request) r.offer text arg → IsArgumentText r.offer lines text arg
+  argument_text lines r text arg h is = record { no_error = is.no_error; of = command_of r.request; asked = h.command; reads = is.reads }
+
+  -- the line of an argument within the limit
+  argument_line : (lines : List Line) (r : RequestReader A) (bytes : List ℕ) (arg : Arg) → InArguments lines r
+      → IsText (command_of r.request) r.offer (text_of bytes) arg → kept_so_far r + length (text_of bytes) ≤ limit_in r
+      → IsLine r.offer (limit_in r) lines (payload bytes) (argument arg (length (text_of bytes)))
+  argument_line lines r bytes arg h is fits = search (rules, argument_is_line, argument_text)
+
+  module _ (barred : Arg → Option Kind) where
+    -- no packet of the capability part is barred
+    free_before : (lines : List Line) (r : RequestReader A) (p : Pkt) → has_delimiter lines ≡ false → IsFree barred lines r p
+    free_before lines r p before kind b = let behind = b.behind in cc
+
+    -- nor one that is refused by itself
+    by_itself : (lines : List Line) (r : RequestReader A) (p : Pkt) (kind : Kind) → HasFault r.offer (limit_in r) lines p kind → kind ≢ TooMuchKept
+        → Goes barred lines r p (Err kind) r
+    by_itself lines r p kind fault other =
+        inr ((λ name b. other (barred_for_limit r.offer (limit_in r) barred lines p kind name fault b)), inl fault)
+
+    -- nor an argument that is admitted
+    free_argument : (lines : List Line) (r : RequestReader A) (bytes : List ℕ) (arg : Arg) → IsArgumentText r.offer lines (text_of bytes) arg
+        → IsAdmitted barred arg → IsFree barred lines r (payload bytes)
+    free_argument lines r bytes arg is admitted kind b =
+        let refuses = barred_text r.offer (limit_in r) barred lines (payload bytes) bytes arg kind refl is b in cc
+
+    -- a line was noted
+    pub noted : (r new : RequestReader A) (bytes : List ℕ) → r.part ≡ Capabilities → Notes r (text_of bytes) new
+        → StepsOn barred r (payload bytes) (Ok More) new
+    noted r new bytes part h =
+        let (keeps_part, keeps_offer, keeps_kept, keeps_limit) = with_line_keeps h.line r in
+        let now : new.part ≡ Capabilities = h.new_is.part ∙ keeps_part ∙ part in
+        record {
+          goes = λ lines it.
+              let there = in_capabilities lines r part it in
+              record {
+                line = h.line;
+                is_line = capability_is_line r.offer (limit_in r) lines bytes h.line there.before (rw (ap is_none there.command) h.is_line);
+                free = free_before lines r (payload bytes) there.before;
+                in_lines = subst (λ (x : Part). InLines x (lines ++ h.line ∷ []) new) (sym now)
+                    (same_lines _ new _ h.new_is (noted_in (text_of bytes) h.line lines r h.is_line there));
+              };
+          leaves = (ap fault_in now, new.bounded.within, tt);
+          offer = h.new_is.offer ∙ keeps_offer;
+          limit = ap limit_of h.new_is.request ∙ keeps_limit;
+        }
+
+    pub refused : (r new : RequestReader A) (bytes : List ℕ) (kind : Kind)
+        → r.part ≡ Capabilities → new ≡ r → Refuses (capability_checks r.offer (is_first r) (text_of bytes)) kind
+        → StepsOn barred r (payload bytes) (Err kind) new
+    refused r new bytes kind part same h =
+        rw same (search (rules, in_capabilities, capability_refused, by_itself, not_for_limit_by_capability))
+
+    -- the delimiter
+    pub delimited : (r : RequestReader A) (c : Command) (q : Request A)
+        → (bounded : IsBounded r.offer q) → r.part ≡ Capabilities → IsExpected r c → IsEmpty c r.offer.format (limit_in r) q
+        → StepsOn barred r delim (Ok More) (record r { part = Arguments; request = q; bounded = bounded })
+    delimited r c q bounded part expected empty =
+        search (rules, in_capabilities, judged, delimiter_snoc, commands_snoc, append-nil, commands_expected, arguments_snoc, kept_snoc, free_before)
+
+    -- the flush of a request without delimiter, refused for what the request asks for
+    pub flush_refused : (r : RequestReader A) (c : Command) (q : Request A) (kind : Kind) → r.part ≡ Capabilities → r.begun ≡ true → IsExpected r c
+        → IsEmpty c r.offer.format (limit_in r) q → Refuses (end_checks (asked_of q)) kind → StepsOn barred r flush (Err kind) r
+    flush_refused r c q kind part begun expected empty refuses =
+        search (rules, in_capabilities, commands_expected, judged, nothing_but, by_itself, not_for_limit_by_end)
+
+    -- the flush of a request without delimiter
+    pub flushed : (r new : RequestReader A) (c : Command) (q : Request A) → r.part ≡ Capabilities → IsExpected r c
+        → IsEmpty c r.offer.format (limit_in r) q → Passes (end_checks (asked_of q)) → IsEmpty LsRefs r.offer.format (limit_of q) new.request
+        → InCapabilities [] new → new.part ≡ Capabilities → new.offer ≡ r.offer → StepsOn barred r flush (Ok (Whole q)) new
+    flushed r new c q part expected empty passes next fresh now offer = search (rules, in_capabilities, commands_expected, judged, nothing_but)
+
+    -- the flush after the arguments
+    pub completed : (r new : RequestReader A) → r.part ≡ Arguments → Passes (end_checks (asked_of r.request))
+        → IsEmpty LsRefs r.offer.format (limit_in r) new.request → InCapabilities [] new → new.part ≡ Capabilities → new.offer ≡ r.offer
+        → StepsOn barred r flush (Ok (Whole r.request)) new
+    completed r new part passes next fresh now offer = search (rules, in_arguments)
+
+    -- the flush after the arguments, refused for what the request asks for
+    pub end_refused : (r : RequestReader A) (kind : Kind) → r.part ≡ Arguments → Refuses (end_checks (asked_of r.request)) kind
+        → StepsOn barred r flush (Err kind) r
+    end_refused r kind part refuses = search (rules, in_arguments, by_itself, not_for_limit_by_end)
+
+    -- another packet after the delimiter
+    pub strange : (r : RequestReader A) (p : Pkt) → r.part ≡ Arguments → (p ≡ delim) ⊎ (p ≡ resp_end) → StepsOn barred r p (Err UnexpectedPacket) r
+    strange r p part is = search (rules, in_arguments, by_itself)
+
+    pub unread : (r : RequestReader A) (bytes : List ℕ) (kind : Kind)
+        → r.part ≡ Arguments → Refuses (text_checks (command_of r.request) r.offer (text_of bytes)) kind → StepsOn barred r (payload bytes) (Err kind) r
+    unread r bytes kind part refuses = record {
+      goes = λ lines it.
+          let there = in_arguments lines r part it in
+          by_itself lines r (payload bytes) kind (rw there.behind (argument_refused lines r (text_of bytes) kind there refuses))
+          (not_for_limit_by_text (command_of r.request) r.offer (text_of bytes) kind refuses);
+      leaves = refl;
+      offer = refl;
+      limit = refl;
+    }
+
+    module _ (r : RequestReader A) (bytes : List ℕ) (arg : Arg) (part : r.part ≡ Arguments) (is : IsText (command_of r.request) r.offer (text_of bytes) arg)
+        (admitted : IsAdmitted barred arg) (q : Request A) (bounded : IsBounded r.offer q) where
+      -- an argument that is kept
+      pub kept : kept_so_far r + length (text_of bytes) ≤ limit_in r → Keeps r.request arg (length (text_of bytes)) q
+          → StepsOn barred r (payload bytes) (Ok More) (record r { request = q; bounded = bounded })
+      kept fits keeps = record {
+        goes = λ lines it.
+            let there = in_arguments lines r part it in
+            record {
+              line = argument arg (length (text_of bytes));
+              is_line = argument_line lines r bytes arg there is fits;
+              free = free_argument lines r bytes arg (argument_text lines r (text_of bytes) arg there is) admitted;
+              in_lines = subst
+                  (λ (x : Part). InLines x (lines ++ argument arg (length (text_of bytes)) ∷ []) (record r { request = q; bounded = bounded })) (sym part)
+                  (one_more lines arg (length (text_of bytes)) r q bounded there keeps);
+            };
+        leaves = (ap fault_in part, bounded.within, tt);
+        offer = refl;
+        limit = keeps.limit;
+      }
+
+      -- one that is not, because of the limit or of memory
+      pub unkept : (kind : Kind) → IsUnkept (holding_of r.request) arg (length (text_of bytes)) kind → q ≡ r.request
+          → StepsOn barred r (payload bytes) (Err kind) (record r { request = q; bounded = bounded })
+      unkept kind why same = record {
+        goes = λ lines it.
+            let there = in_arguments lines r part it in
+            inr (free_argument lines r bytes arg (argument_text lines r (text_of bytes) arg there is) admitted, by lines there why);
+        leaves = subst (λ (x : Request A). (h : IsBounded r.offer x) → record r { request = x; bounded = h } ≡ r) (sym same)
+            (λ h. ap (λ (b : IsBounded r.offer r.request). record r { bounded = b }) (one_bound r.offer r.request h r.bounded)) bounded;
+        offer = refl;
+        limit = ap limit_of same;
+      }
+        where
+          by : (lines : List Line) → InArguments lines r → IsUnkept (holding_of r.request) arg (length (text_of bytes)) kind
+              → HasFault r.offer (limit_in r) lines (payload bytes) kind ⊎ LacksMemory lines r (payload bytes) kind
+          by lines there (inl (over, name)) =
+              let it : IsArgumentRefused r.offer (limit_in r) lines (text_of bytes) kind = record {
+                of = command_of r.request;
+                asked = there.command;
+                refuses = inr (is.no_error, inr ((arg, is.reads), inl (omega (arith, over, there.kept), name)));
+              } in
+              inl (rw there.behind it)
+          by lines there (inr (fits, takes, name)) =
+              inr (record { arg = arg; long = _; is_line = argument_line lines r bytes arg there is fits; takes_memory = takes; name = name })

@@ -1,5 +1,5 @@
 -- A reader of requests from bytes, at the end of its input.
-use Rattle.std.proofs.Common.{[], arith, ◌≡◌, ◌≢◌, ◌⊎◌, ℕ, ◌+◌, ◌≤◌, true, false, List, ◌++◌, length, None, refl, sym, ap, ◌∙◌, subst, append-nil, rules}
+use Rattle.std.proofs.Common.{[], arith, ◌≡◌, ◌≢◌, ◌⊎◌, ℕ, ◌+◌, true, false, List, ◌++◌, length, None, refl, sym, ap, ◌∙◌, subst, append-nil, rules}
 use Rattle.std.proofs.Props.{props}
 use Rattle.git_pkt.specs.Splits.{Given}
 use Rattle.git_pkt.specs.Machine.PacketReader.{ReadsOn, fault_of as packet_fault, is_open, open_length, passes_of, position_of}
@@ -9,7 +9,7 @@ use Rattle.git_pkt.specs.declared.reader.PacketReader.{PacketReader}
 use Rattle.git_pkt.proofs.KnownRest.{rest_length, some_inside, sound_rest}
 use Rattle.git_msg.specs.declared.offers.Offer.{Offer}
 use Rattle.git_msg.specs.Asked.{Asked}
-use Rattle.git_msg.specs.Machine.RequestReader.{fault_of as reader_fault, is_waiting, kept_so_far, limit_in}
+use Rattle.git_msg.specs.Machine.RequestReader.{fault_of as reader_fault}
 use Rattle.git_msg.specs.Machine.StreamStages.{HasTaken, takes_bytes}
 use Rattle.git_msg.specs.Machine.RequestStreams.{AreAsked, HasRead, IsLeftIn, limit_of, offer_of, wants_input}
 use Rattle.git_msg.specs.declared.streams.RequestStream.{RequestStream}
@@ -19,8 +19,8 @@ use Rattle.git_msg.proofs.StreamSteps.{cut_read, rest_behind}
 use Rattle.std.proofs.lemmas.Grind.{common_steps}
 
 module _ {A : Type 0} (s : RequestStream A)
-    (open_ended : takes_bytes s.stage ≡ true → reader_fault s.requests ≡ None) (ready : takes_bytes s.stage ≡ true → is_waiting s.requests ≡ false)
-    (taken : takes_bytes s.stage ≡ true → ∥ HasTaken s.requests ∥₁) (within : kept_so_far s.requests ≤ limit_in s.requests) where
+    (open_ended : takes_bytes s.stage ≡ true → reader_fault s.requests ≡ None)
+    (taken : takes_bytes s.stage ≡ true → ∥ HasTaken s.requests ∥₁) where
   -- the reader with another packet reader
   abbrev pub with_packets : (p : PacketReader) → (takes_bytes s.stage ≡ true → packet_fault p ≡ None) → passes_of p ≡ false → RequestStream A
   with_packets p sound gathers = record {
@@ -30,9 +30,7 @@ module _ {A : Type 0} (s : RequestStream A)
     sound = sound;
     gathers = gathers;
     open_ended = open_ended;
-    ready = ready;
     taken = taken;
-    within = within;
   }
 
   same_facts : (sound : takes_bytes s.stage ≡ true → packet_fault s.packets ≡ None) (gathers : passes_of s.packets ≡ false)
@@ -41,18 +39,13 @@ module _ {A : Type 0} (s : RequestStream A)
       let sound_prop : IsProp (takes_bytes s.stage ≡ true → packet_fault s.packets ≡ None) = hlevel props in
       let gathers_prop : IsProp (passes_of s.packets ≡ false) = hlevel props in
       let open_prop : IsProp (takes_bytes s.stage ≡ true → reader_fault s.requests ≡ None) = hlevel props in
-      let ready_prop : IsProp (takes_bytes s.stage ≡ true → is_waiting s.requests ≡ false) = hlevel props in
       let taken_prop : IsProp (takes_bytes s.stage ≡ true → ∥ HasTaken s.requests ∥₁) = hlevel props in
-      let within_prop : IsProp (kept_so_far s.requests ≤ limit_in s.requests) = hlevel props in
       ap (λ (x : takes_bytes s.stage ≡ true → packet_fault s.packets ≡ None). with_packets s.packets x gathers) (sound_prop sound s.sound)
       ∙ ap (λ (x : passes_of s.packets ≡ false).
-      record s { gathers = x; open_ended = open_ended; ready = ready; taken = taken; within = within }) (gathers_prop gathers s.gathers)
+      record s { gathers = x; open_ended = open_ended; taken = taken }) (gathers_prop gathers s.gathers)
       ∙ ap (λ (x : takes_bytes s.stage ≡ true → reader_fault s.requests ≡ None).
-      record s { open_ended = x; ready = ready; taken = taken; within = within }) (open_prop open_ended s.open_ended)
-      ∙ ap (λ (x : takes_bytes s.stage ≡ true → is_waiting s.requests ≡ false). record s { ready = x; taken = taken; within = within })
-      (ready_prop ready s.ready)
-      ∙ ap (λ (x : takes_bytes s.stage ≡ true → ∥ HasTaken s.requests ∥₁). record s { taken = x; within = within }) (taken_prop taken s.taken)
-      ∙ ap (λ (x : kept_so_far s.requests ≤ limit_in s.requests). record s { within = x }) (within_prop within s.within)
+      record s { open_ended = x; taken = taken }) (open_prop open_ended s.open_ended)
+      ∙ ap (λ (x : takes_bytes s.stage ≡ true → ∥ HasTaken s.requests ∥₁). record s { taken = x }) (taken_prop taken s.taken)
 
   -- it is the same if the packet reader is the same
   pub same_reader : (p : PacketReader) (sound : takes_bytes s.stage ≡ true → packet_fault p ≡ None) (gathers : passes_of p ≡ false)

@@ -19,17 +19,18 @@ use Rattle.git_pkt.proofs.Streams.{one_split}
 use Rattle.git_msg.specs.declared.offers.Offer.{Offer}
 use Rattle.git_msg.specs.Admission.{nothing_barred}
 use Rattle.git_msg.specs.Asked.{Asked}
+use Rattle.git_msg.specs.Machine.HeldRequest.{asked_of, kept_of}
 use Rattle.git_msg.specs.Memory.{FaultNeedsRefusal}
 use Rattle.git_msg.specs.Requests.{AreBegun, IsAnnounced}
-use Rattle.git_msg.specs.Machine.RequestReader.{Takes, offer_of as offer_in, limit_in, kept_so_far, fault_of as reader_fault, is_waiting}
+use Rattle.git_msg.specs.Machine.RequestReader.{Brings, GotNeedsRefusal, IsBrought, Takes, offer_of as offer_in, limit_in}
+use Rattle.git_msg.specs.Machine.RequestReader.{fault_of as reader_fault}
 use Rattle.git_msg.specs.WholeRequests.{AreRequests}
-use Rattle.git_msg.specs.Machine.StreamStages.{Brings, GotNeedsRefusal, HasTaken, IsBrought, IsWithin}
-use Rattle.git_msg.specs.Machine.StreamStages.{fault_in, goes_on, stage_brought, takes_bytes, stage_is_between}
+use Rattle.git_msg.specs.Machine.StreamStages.{HasTaken, fault_in, stage_brought, takes_bytes, stage_is_between}
 use Rattle.git_msg.specs.Machine.RequestStreams.{EndsWith, HasRead, IsLeftIn, IsOne, Leaves, asked_by, limit_of, offer_of, wants_input}
 use Rattle.git_msg.specs.Machine.RequestStreamSteps.{StepLeaves, Steps}
 use Rattle.git_msg.specs.declared.reader.RequestReader.{RequestReader}
-use Rattle.git_msg.specs.declared.streams.ReadGot.{ReadGot}
-use Rattle.git_msg.specs.declared.streams.ReadGot.TheVariants.{More, Request, Stop, Failed}
+use Rattle.git_msg.specs.declared.reader.ReadGot.{ReadGot}
+use Rattle.git_msg.specs.declared.reader.ReadGot.TheVariants.{More, Request, Stop, Failed}
 use Rattle.git_msg.specs.declared.streams.ReadRequest.{ReadRequest}
 use Rattle.git_msg.specs.declared.streams.RequestStream.{RequestStream}
 use Rattle.git_msg.specs.declared.streams.Stage.{Stage}
@@ -88,13 +89,6 @@ some_left (x ∷ left) g e = cc
 -- ---- the result of a packet
 
 module _ {A : Type 0} where
-  -- if the reader of bytes reads on after this result, so does the reader of requests
-  brought_goes_on : (got : ReadGot A) → takes_bytes (stage_brought got) ≡ true → goes_on got ≡ true
-  brought_goes_on More on = refl
-  brought_goes_on (Request request) on = refl
-  brought_goes_on Stop on = absurd (cc)
-  brought_goes_on (Failed fault) on = absurd (cc)
-
   -- the error of the stage comes with a refusal of memory if the error of the result does
   pub needed_behind : (refuses : ℕ → Type 0) (most : ℕ) (got : ReadGot A) (stage : Stage) → stage ≡ stage_brought got → GotNeedsRefusal refuses most got
       → FaultNeedsRefusal refuses most (fault_in stage)
@@ -103,34 +97,25 @@ module _ {A : Type 0} where
   needed_behind refuses most Stop stage is h = subst (λ (s : Stage). FaultNeedsRefusal refuses most (fault_in s)) (sym is) tt
   needed_behind refuses most (Failed fault) stage is h = subst (λ (s : Stage). FaultNeedsRefusal refuses most (fault_in s)) (sym is) h
 
-  taken_behind : (old new : RequestReader A) (g : Given) (got : ReadGot A) → Brings nothing_barred old g got new → goes_on got ≡ true → HasTaken old
-      → HasTaken new
-  taken_behind old new g More brings on (left, takes) = (left ++ g ∷ [], (brings.brings left takes).0)
-  taken_behind old new g (Request request) brings on (left, takes) = ([], (brings.brings left takes).0)
-  taken_behind old new g Stop brings on (left, takes) = absurd (cc)
-  taken_behind old new g (Failed fault) brings on (left, takes) = absurd (cc)
-
-  within_limit : (got : ReadGot A) (new : RequestReader A) → IsWithin got new → kept_so_far new ≤ limit_in new
-  within_limit (Request request) new h = omega (arith, h.2)
-  within_limit got new h = h
+  -- if the reader of bytes reads on after this result, so does the reader of requests
+  goes_on_behind : (old new : RequestReader A) (g : Given) (got : ReadGot A) → Brings nothing_barred old g got new
+      → takes_bytes (stage_brought got) ≡ true → (reader_fault new ≡ None) × (HasTaken old → HasTaken new)
+  goes_on_behind old new g More brings on = (brings.leaves, λ (left, takes). (left ++ g ∷ [], (brings.brings left takes).0))
+  goes_on_behind old new g (Request request) brings on = (brings.leaves, λ (left, takes). ([], (brings.brings left takes).0))
+  goes_on_behind old new g Stop brings on = absurd (cc)
+  goes_on_behind old new g (Failed fault) brings on = absurd (cc)
 
   module _ (old : RequestStream A) (new : RequestReader A) (g : Given) (got : ReadGot A) (stage : Stage)
       (wants : wants_input old ≡ true) (brings : Brings nothing_barred old.requests g got new) (stage_is : stage ≡ stage_brought got) where
-    goes_in : takes_bytes stage ≡ true → goes_on got ≡ true
-    goes_in on = brought_goes_on got (sym (ap takes_bytes stage_is) ∙ on)
+    goes_in : takes_bytes stage ≡ true → (reader_fault new ≡ None) × (HasTaken old.requests → HasTaken new)
+    goes_in on = goes_on_behind old.requests new g got brings (sym (ap takes_bytes stage_is) ∙ on)
 
     -- the state of the inner readers after a packet
     pub sound_behind : takes_bytes stage ≡ true → reader_fault new ≡ None
-    sound_behind on = brings.sound (goes_in on)
-
-    pub ready_behind : takes_bytes stage ≡ true → is_waiting new ≡ false
-    ready_behind on = brings.ready (goes_in on)
+    sound_behind on = (goes_in on).0
 
     pub some_taken_behind : takes_bytes stage ≡ true → ∥ HasTaken new ∥₁
-    some_taken_behind on = ∥∥₁_elim (old.taken wants) ∥∥₁_prop (λ (h : HasTaken old.requests). ∣ taken_behind old.requests new g got brings (goes_in on) h ∣₁)
-
-    pub within_behind : kept_so_far new ≤ limit_in new
-    within_behind = within_limit got new (brings.within old.within)
+    some_taken_behind on = ∥∥₁_elim (old.taken wants) ∥∥₁_prop (λ (h : HasTaken old.requests). ∣ (goes_in on).1 h ∣₁)
 
     -- an error of a packet is never one that the bytes show
     pub packet_news : (fault : Fault) (used : ℕ) (chunk : List ℕ) → got ≡ Failed fault → ShownByFeed fault used chunk
@@ -157,8 +142,8 @@ module _ {A : Type 0} (old new : RequestStream A) (g : Given) (used : ℕ) (chun
     ap stage_is_between is,
     shut,
     ∥∥₁_elim (old.taken wants) (hlevel props) (λ (h : HasTaken old.requests). let (left, takes) = h in (brings.brings left takes).2),
-    (brings.within old.within).1,
-    (brings.within old.within).0,
+    brings.within.1,
+    brings.within.0,
   )
   packet_leaves Stop brings is = (some, ap takes_bytes is, ap fault_in is)
   packet_leaves (Failed fault) brings is = ap fault_in is
@@ -194,9 +179,8 @@ module _ {A : Type 0} (old new : RequestStream A) (u : List ℕ) (wants : wants_
       sound = new.sound on;
       takes = takes (sym (ap takes_bytes is) ∙ on);
       open_ended = new.open_ended on;
-      ready = new.ready on;
     };
-    within = new.within;
+    within = new.requests.bounded.within;
   }
 
   -- no further packet
@@ -254,7 +238,11 @@ module _ {A : Type 0} (old new : RequestStream A) (u : List ℕ) (wants : wants_
       by : (rest : List ℕ) → Reads new.packets 0 (used ++ u) (h.packets ++ g ∷ []) rest → rest ≡ [] → (got : ReadGot A)
           → Brings nothing_barred old.requests g got new.requests → new.stage ≡ stage_brought got → HasRead (used ++ u) (asked ++ asked_by got) new
       by rest stream none More brings is = search (rules, takes, has_read, none_more, some_left)
-      by rest stream none (Request request) brings is = search (rules, takes, has_read, one_more_request, with_packet)
+      by rest stream none (Request request) brings is =
+          let (now, asks, format) = brings.brings h.left takes in
+          has_read (h.packets ++ g ∷ []) [] rest (asked ++ asked_by (Request request)) Between is stream
+          (one_more_request (IsOne (offer_of new) (limit_of new)) (h.packets ++ g ∷ []) asked (h.left ++ g ∷ []) (asked_of request) with_packet
+          (kept_of request, asks)) refl (λ on. now)
       by rest stream none Stop brings is = search (rules, has_read, none_more, takes)
       by rest stream none (Failed fault) brings is =
           let announced = announced_by_none (offer_of new) (limit_of new) (h.left ++ g ∷ []) fault (brings.brings h.left takes) in

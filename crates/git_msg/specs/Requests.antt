@@ -1,6 +1,6 @@
 -- Whole requests, and the first fault of a list of packets.
-use Rattle.std.specs.Prelude.{◌≡◌, ◌⊎◌, ℕ, None, List, [], ◌∷◌, ◌++◌}
-use Rattle.git_pkt.specs.Packets.{Pkt, flush}
+use Rattle.std.specs.Prelude.{◌≡◌, ◌⊎◌, ℕ, List, [], ◌∷◌, ◌++◌}
+use Rattle.git_pkt.specs.Packets.{flush}
 use Rattle.git_pkt.specs.Splits.{Given}
 use Rattle.git_pkt.specs.declared.fault.Fault.{Fault}
 use Rattle.git_pkt.specs.declared.fault.Kind.{Kind}
@@ -10,7 +10,7 @@ use Rattle.git_msg.specs.declared.arguments.Command.{Command}
 use Rattle.git_msg.specs.Arguments.{Arg, TakesMemory}
 use Rattle.git_msg.specs.Asked.{Asked, asked_by}
 use Rattle.git_msg.specs.Checks.{Passes}
-use Rattle.git_msg.specs.Lines.{Line, argument, argument_in, commands_of, arguments_of, kept_in, flush_checks, IsLine, HasFault}
+use Rattle.git_msg.specs.Lines.{Line, argument, commands_of, arguments_of, kept_in, flush_checks, IsLine, HasFault}
 
 -- the packets are these lines, each after those before it
 abbrev pub AreLines : Offer → ℕ → List Line → List Given → List Line → Type 0
@@ -22,14 +22,6 @@ AreLines offer limit before _ _ = ⊥
 -- the packets are lines that begin a request
 abbrev pub AreBegun : Offer → ℕ → List Given → Type 0
 AreBegun offer limit packets = (lines : List Line) × AreLines offer limit [] packets lines
-
--- after these packets, the packet is a line of the request, but no argument
-pub record IsPlainLine (offer : Offer) (limit : ℕ) (packets : List Given) (packet : Pkt) : Type 0 where
-  pub lines : List Line
-  pub line : Line
-  pub taken : AreLines offer limit [] packets lines
-  pub is_line : IsLine offer limit lines packet line
-  pub no_argument : argument_in line ≡ None
 
 -- the packets are one whole request, which asks for this and has so many bytes of argument texts
 pub record Asks (offer : Offer) (limit : ℕ) (packets : List Given) (asked : Asked) (kept : ℕ) : Type 0 where

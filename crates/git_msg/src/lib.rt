@@ -44,7 +44,7 @@ pub use crate::memory::Memory;
 pub use crate::numbers::read_number;
 pub use crate::object_info::ObjectInfo;
 pub use crate::offers::{Caps, Offer};
-pub use crate::reader::{RequestReader, Taken};
+pub use crate::reader::{ReadGot, RequestReader};
 pub use crate::reference_lines::{locate_reference, read_reference};
 pub use crate::reference_places::ReferencePlaces;
 pub use crate::references::{Reference, put_reference};
@@ -53,7 +53,7 @@ pub use crate::response_lines::{
     Boundary, Info, WantedRef, put_ack, put_boundary, put_info, put_wanted, read_ack,
     read_boundary, read_info, read_wanted,
 };
-pub use crate::streams::{ReadGot, ReadRequest, RequestStream, take_packet};
+pub use crate::streams::{ReadRequest, RequestStream};
 pub use crate::texts::{after, error_message, is_error, is_word, split_at_first};
 pub use crate::writer::RequestWriter;
 pub use crate::writing::put_line;

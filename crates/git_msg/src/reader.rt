@@ -1,36 +1,35 @@
 //! Requests, read packet by packet.
 ghost use Rattle.git_msg.specs.Machine.HeldRequest.{IsBounded};
 
-use crate::arguments::{Argument, Command, put_together};
+use crate::admits::Admits;
+use crate::arguments::Command;
 use crate::judge::{Noted, judge_capability, read_text};
 use crate::limits::Limits;
 use crate::memory::Memory;
 use crate::offers::Offer;
-use crate::requests::{Request, written_length};
+use crate::requests::Request;
 use git_names::{Format, Steps};
 use git_pkt::{Fault, Kind, Packet, text};
 use std::alloc::Allocator;
 use std::mem;
 
-/// The result of taking a packet.
+/// The result of reading on.
 #[derive(Drop)]
-pub enum Taken<'p, A: Allocator + Copy> {
-    /// The request goes on.
+pub enum ReadGot<A: Allocator + Copy> {
+    /// Nothing whole yet: the request goes on. A reader of bytes has used the whole chunk, or it reads no more.
     More,
-    /// An argument, which is part of the request once [`RequestReader::keep`] has kept it.
-    Argument(Argument<'p>),
-    /// The whole request: this was its flush.
+    /// A whole request.
     Request(Request<A>),
-    /// A flush with nothing before it: the other end ends the session.
+    /// A flush with nothing before it: the other end ends the session. Nothing after it is read.
     Stop,
+    /// The first fault; the reader stays at it.
+    Failed(Fault),
 }
 
 #[derive(Clone, Copy, Debug)]
 enum Part {
     Capabilities,
     Arguments,
-    // An argument came, in the packet at this offset, with a text of so many bytes.
-    Waiting(u64, usize),
     Failed(Fault),
 }
 
@@ -46,26 +45,25 @@ pub struct RequestReader<A: Allocator + Copy> {
     has_format: bool,
     // The request as it is kept so far, with its limit.
     request: Request<A>,
-    ghost bounded: { IsBounded request },
+    ghost bounded: { IsBounded offer request },
 }
 
 impl<A: Allocator + Copy> RequestReader<A> {
-    ghost use Rattle.std.specs.Prelude.{◌≡◌, ◌≢◌, ◌+◌, ◌*◌, [], true, false, OnOk, OnErr, IfErr, MatchResult, length};
+    ghost use Rattle.std.specs.Prelude.{◌≡◌, ◌≢◌, ◌+◌, ◌*◌, [], Option, OnOk, OnErr, IfErr, MatchResult, length};
     ghost use Rattle.git_names.specs.Steps.{TakesAtMost};
     ghost use Rattle.git_pkt.specs.Packets.{body_of, seen};
+    ghost use Rattle.git_msg.specs.Arguments.{Arg};
     ghost use Rattle.git_msg.specs.Checks.{Refuses};
     ghost use Rattle.git_msg.specs.Machine.HeldRequest.{IsEmpty};
     ghost use Rattle.git_msg.specs.Lines.{capability_checks};
-    ghost use Rattle.git_msg.specs.Machine.RequestReader.{Takes, TakesOn, GivesKeepable};
-    ghost use Rattle.git_msg.specs.Machine.RequestReader.{offer_of, limit_in, kept_so_far, fault_of, is_waiting};
-    ghost use Rattle.git_msg.specs.Machine.RequestReaderSteps.{Notes, IsExpected, IsUndue, StepsOn, is_first, restarted};
+    ghost use Rattle.git_msg.specs.Machine.RequestReader.{InCapabilities, Takes, offer_of, limit_in, kept_so_far, fault_of};
+    ghost use Rattle.git_msg.specs.Machine.RequestReaderSteps.{Notes, IsExpected, IsUndue, StepsOn, is_first};
 
     /// A reader at the beginning of a request. It takes memory from `alloc` when an argument with a text or an object
     /// name is kept.
     pub fn new(alloc: A, offer: Offer, limits: Limits) -> RequestReader<A>
         ensures takes { Takes [] result }
         ensures open { fault_of result ≡ None }
-        ensures ready { is_waiting result ≡ false }
         ensures offer { offer_of result ≡ offer }
         ensures limit { limit_in result ≡ limits.args }
         ensures kept { kept_so_far result ≡ 0 }
@@ -81,108 +79,33 @@ impl<A: Allocator + Copy> RequestReader<A> {
         }
     }
 
-    /// Takes the next packet, which is at `offset`. No argument may wait for [`RequestReader::keep`]. A packet that is
-    /// refused ends the reading: from then on each call returns that fault.
-    pub fn take<'p>(
-        &mut self,
-        packet: Packet<'p>,
-        offset: u64,
-        steps: &mut Steps,
-    ) -> Result<Taken<'p, A>, Fault>
-        requires { is_waiting self.old ≡ false }
-        ensures takes { TakesOn self.old (record { packet = seen packet.entry; offset = offset }) result self.new }
-        ensures keepable { GivesKeepable (length (body_of (seen packet.entry))) result self.new }
-        ensures cost { TakesAtMost (48 * (length (body_of (seen packet.entry)) + 1)) steps.old steps.new }
-
-        // It never reports a lack of memory.
-        ensures own { fault_of self.old ≡ None → IfErr result (λ fault. fault.kind ≢ Kind.OutOfMemory) }
-    {
-        let step = match self.part {
-            Part::Failed(fault) => return Err(fault),
-            Part::Capabilities => self.take_capability(packet, offset, steps),
-            Part::Arguments => self.take_argument(packet, offset, steps),
-            Part::Waiting(_, _) => unreachable!(),
-        };
-        match step {
-            Ok(taken) => Ok(taken),
-            Err(kind) => Err(self.refuse(kind, offset)),
-        }
-    }
-
-    fn refuse(&mut self, kind: Kind, offset: u64) -> Fault
-        ensures fault { result ≡ record { kind = kind; offset = offset } }
-        ensures ends { self.new ≡ record self.old { part = Part.Failed result } }
-    {
-        let fault = Fault { kind, offset };
-        self.part = Part::Failed(fault);
-        fault
-    }
-
-    fn take_capability<'p>(
-        &mut self,
-        packet: Packet<'p>,
-        offset: u64,
-        steps: &mut Steps,
-    ) -> Result<Taken<'p, A>, Kind>
+    fn take_capability(&mut self, packet: Packet<'_>, steps: &mut Steps) -> Result<ReadGot<A>, Kind>
         requires { self.old.part ≡ Part.Capabilities }
-        ensures goes_on { StepsOn self.old (seen packet.entry) offset result self.new }
-        ensures keepable { GivesKeepable (length (body_of (seen packet.entry))) result self.new }
-        ensures cost { TakesAtMost (48 * (length (body_of (seen packet.entry)) + 1)) steps.old steps.new }
+        ensures goes_on { (barred : Arg → Option Kind) → StepsOn barred self.old (seen packet.entry) result self.new }
+        ensures cost { TakesAtMost (42 * (length (body_of (seen packet.entry)) + 1)) steps.old steps.new }
         ensures own { IfErr result (λ kind. kind ≢ Kind.OutOfMemory) }
     {
         match packet {
             Packet::Payload(payload) => {
                 self.note(text(payload), steps)?;
-                Ok(Taken::More)
+                Ok(ReadGot::More)
             }
             Packet::Delim => {
                 let command = self.command_expected()?;
                 self.request = self.empty_request(command);
                 self.part = Part::Arguments;
-                Ok(Taken::More)
+                Ok(ReadGot::More)
             }
             Packet::Flush => {
                 if !self.begun {
-                    return Ok(Taken::Stop);
+                    return Ok(ReadGot::Stop);
                 }
                 let command = self.command_expected()?;
                 let request = self.empty_request(command);
                 request.check_end()?;
                 self.request = request;
-                Ok(Taken::Request(self.restart()))
+                Ok(ReadGot::Request(self.restart()))
             }
-            Packet::RespEnd => Err(Kind::UnexpectedPacket),
-        }
-    }
-
-    fn take_argument<'p>(
-        &mut self,
-        packet: Packet<'p>,
-        offset: u64,
-        steps: &mut Steps,
-    ) -> Result<Taken<'p, A>, Kind>
-        requires { self.old.part ≡ Part.Arguments }
-        ensures goes_on { StepsOn self.old (seen packet.entry) offset result self.new }
-        ensures keepable { GivesKeepable (length (body_of (seen packet.entry))) result self.new }
-        ensures cost { TakesAtMost (48 * (length (body_of (seen packet.entry)) + 1)) steps.old steps.new }
-        ensures own { IfErr result (λ kind. kind ≢ Kind.OutOfMemory) }
-    {
-        match packet {
-            Packet::Payload(payload) => {
-                let text = text(payload);
-                match read_text(self.request.command(), &self.offer, text, steps) {
-                    Ok(argument) => {
-                        self.part = Part::Waiting(offset, text.len());
-                        Ok(Taken::Argument(argument))
-                    }
-                    Err(kind) => Err(kind),
-                }
-            }
-            Packet::Flush => {
-                self.request.check_end()?;
-                Ok(Taken::Request(self.restart()))
-            }
-            Packet::Delim => Err(Kind::UnexpectedPacket),
             Packet::RespEnd => Err(Kind::UnexpectedPacket),
         }
     }
@@ -237,7 +160,9 @@ impl<A: Allocator + Copy> RequestReader<A> {
     fn restart(&mut self) -> Request<A>
         ensures given { result ≡ self.old.request }
         ensures next { IsEmpty Command.LsRefs self.old.offer.format (limit_in self.old) self.new.request }
-        ensures new { self.new ≡ restarted self.new self.old }
+        ensures fresh { InCapabilities [] self.new }
+        ensures part { self.new.part ≡ Part.Capabilities }
+        ensures offer { self.new.offer ≡ self.old.offer }
     {
         self.part = Part::Capabilities;
         self.begun = false;
@@ -249,47 +174,76 @@ impl<A: Allocator + Copy> RequestReader<A> {
 }
 
 impl<A: Memory + Copy> RequestReader<A> {
-    ghost use Rattle.std.specs.Prelude.{◌≡◌, ◌+◌, ◌*◌, true, IfErr};
+    ghost use Rattle.std.specs.Prelude.{◌≡◌, ◌+◌, ◌*◌, None, IfErr, length};
     ghost use Rattle.git_names.specs.Steps.{TakesAtMost};
-    ghost use Rattle.git_msg.specs.Arguments.{HasName, shown};
-    ghost use Rattle.git_msg.specs.Machine.RequestReader.{KeepsOn, counted_as, is_waiting, limit_in};
+    ghost use Rattle.git_pkt.specs.Packets.{body_of, seen};
+    ghost use Rattle.git_msg.specs.Machine.RequestReader.{Brings, GotNeedsRefusal, IsCovered, fault_of, limit_in};
+    ghost use Rattle.git_msg.specs.Machine.RequestReaderSteps.{StepsOn};
     ghost use Rattle.git_msg.specs.Memory.{NeedsRefusal};
 
-    /// Makes the argument that [`RequestReader::take`] returned last a part of the request, which then counts the bytes that
-    /// the argument's text had on the wire. The fault names its packet: `TooMuchKept` if so many more bytes would exceed the
-    /// limit, or else `OutOfMemory` if there is no memory for its value.
-    pub fn keep(&mut self, argument: Argument<'_>, steps: &mut Steps) -> Result<(), Fault>
-        requires waits { is_waiting self.old ≡ true }
-        requires named { HasName (shown argument) }
-        ensures keeps { KeepsOn self.old (shown argument.entry) result self.new }
-        ensures cost { TakesAtMost (4 * (counted_as (shown argument.entry) self.old + 1)) steps.old steps.new }
-        ensures memory { IfErr result (λ fault. NeedsRefusal A.refuses (limit_in self.old) fault.kind) }
+    /// Takes the next packet, which is at `offset`, and keeps its argument, if it is one and nothing refuses it. The request then
+    /// counts the bytes that the argument's text had on the wire. An argument is refused in this order: for its text; by
+    /// `admits`; as `TooMuchKept`, if so many more bytes would exceed the limit; and as `OutOfMemory`, if there is no memory for
+    /// its value. What is refused is not kept, and ends the reading: from then on each call returns that fault.
+    pub fn take<B: Admits>(
+        &mut self,
+        admits: &B,
+        packet: Packet<'_>,
+        offset: u64,
+        steps: &mut Steps,
+    ) -> ReadGot<A>
+        ensures brings { Brings (B.refused_as admits.now) self.old (record { packet = seen packet.entry; offset = offset }) result self.new }
+        ensures cost { TakesAtMost (42 * (length (body_of (seen packet.entry)) + 1)) steps.old steps.new }
+        ensures covered { IsCovered result }
+        ensures memory { fault_of self.old ≡ None → GotNeedsRefusal A.refuses (limit_in self.old) result }
     {
-        let argument = put_together!(argument);
-        self.settle(&argument, steps)
+        let step = match self.part {
+            Part::Failed(fault) => return ReadGot::Failed(fault),
+            Part::Capabilities => self.take_capability(packet, steps),
+            Part::Arguments => self.take_argument(admits, packet, steps),
+        };
+        match step {
+            Ok(got) => got,
+            Err(kind) => {
+                let fault = Fault { kind, offset };
+                self.part = Part::Failed(fault);
+                ReadGot::Failed(fault)
+            }
+        }
     }
 
-    fn settle(&mut self, argument: &Argument<'_>, steps: &mut Steps) -> Result<(), Fault>
-        requires waits { is_waiting self.old ≡ true }
-        requires named { HasName (shown argument.now) }
-        ensures keeps { KeepsOn self.old (shown argument.now) result self.new }
-        ensures cost { TakesAtMost (4 * (counted_as (shown argument.now) self.old + 1)) steps.old steps.new }
-        ensures memory { IfErr result (λ fault. NeedsRefusal A.refuses (limit_in self.old) fault.kind) }
+    fn take_argument<B: Admits>(
+        &mut self,
+        admits: &B,
+        packet: Packet<'_>,
+        steps: &mut Steps,
+    ) -> Result<ReadGot<A>, Kind>
+        requires { self.old.part ≡ Part.Arguments }
+        ensures goes_on { StepsOn (B.refused_as admits.now) self.old (seen packet.entry) result self.new }
+        ensures cost { TakesAtMost (42 * (length (body_of (seen packet.entry)) + 1)) steps.old steps.new }
+        ensures memory { IfErr result (NeedsRefusal A.refuses (limit_in self.old)) }
     {
-        let Part::Waiting(offset, length) = self.part else {
-            unreachable!()
-        };
-        // Nothing here shows that the argument is the one that waits, and a request counts no text as shorter than it is
-        // written. For the argument that waits, this is the length of its text as it came, which is never less.
-        let length = length.max(written_length(argument));
-        // The pushed value, with its end, has fewer bytes than the text, and so has a number when it is written.
-        steps.tick(length);
-        match self.request.keep(argument, length) {
-            Ok(()) => {
-                self.part = Part::Arguments;
-                Ok(())
+        match packet {
+            Packet::Payload(payload) => {
+                let text = text(payload);
+                let argument = match read_text(self.request.command(), &self.offer, text, steps) {
+                    Ok(argument) => argument,
+                    Err(kind) => return Err(kind),
+                };
+                // One call of `refusal_of`; the pushed value, with its end, has fewer bytes than the text.
+                steps.tick(text.len() + 1);
+                if let Some(kind) = admits.refusal_of(&argument) {
+                    return Err(kind);
+                }
+                self.request.push(&argument, text.len())?;
+                Ok(ReadGot::More)
             }
-            Err(kind) => Err(self.refuse(kind, offset)),
+            Packet::Flush => {
+                self.request.check_end()?;
+                Ok(ReadGot::Request(self.restart()))
+            }
+            Packet::Delim => Err(Kind::UnexpectedPacket),
+            Packet::RespEnd => Err(Kind::UnexpectedPacket),
         }
     }
 }

@@ -343,7 +343,9 @@ impl<A: Allocator + Copy> Request<A> {
 
 impl<A: Memory + Copy> Request<A> {
     ghost use Rattle.git_msg.specs.Checks.{Passes};
-    ghost use Rattle.git_msg.specs.Machine.HeldRequest.{IsRefused, Keeps, add_checks, keep_checks, limit_of};
+    ghost use Rattle.git_msg.specs.Arguments.{IsValue};
+    ghost use Rattle.git_msg.specs.Kept.{IsUnkept};
+    ghost use Rattle.git_msg.specs.Machine.HeldRequest.{IsRefused, Keeps, add_checks, command_of, format_of, holding_of, kept_of, limit_of};
     ghost use Rattle.git_msg.specs.Memory.{NeedsRefusal};
 
     /// Adds an argument after the others. It is refused in this order: `UnknownArgument` for an argument of another command;
@@ -373,21 +375,20 @@ impl<A: Memory + Copy> Request<A> {
         ensures memory { IfErr result (NeedsRefusal A.refuses (limit_of self.old)) }
     {
         self.check_name(argument)?;
-        let length = written_length(argument);
-        self.keep(argument, length)
+        check_value(self.command(), self.format(), argument)?;
+        self.push(argument, written_length(argument))
     }
 
-    /// Keeps an argument whose line has a text of so many bytes.
-    pub(crate) fn keep(&mut self, argument: &Argument<'_>, text_length: usize) -> Result<(), Kind>
-        requires named { HasName (shown argument.now) }
+    /// Puts an argument after the others, which was judged and whose line has a text of so many bytes.
+    pub(crate) fn push(&mut self, argument: &Argument<'_>, text_length: usize) -> Result<(), Kind>
+        requires value { IsValue (command_of self.old) (format_of self.old) (shown argument.now) }
         requires counted { length (written_text (shown argument.now)) ≤ text_length }
         ensures kept { OnOk result (Keeps self.old (shown argument.now) text_length self.new) }
-        ensures passes { OnOk result (Passes (keep_checks self.old (shown argument.now) text_length)) }
+        ensures fits { OnOk result (kept_of self.old + text_length ≤ limit_of self.old) }
         ensures unchanged { OnErr result (self.new ≡ self.old) }
-        ensures refused { IfErr result (IsRefused (keep_checks self.old (shown argument.now) text_length) (shown argument.now)) }
+        ensures refused { IfErr result (IsUnkept (holding_of self.old) (shown argument.now) text_length) }
         ensures memory { IfErr result (NeedsRefusal A.refuses (limit_of self.old)) }
     {
-        check_value(self.command(), self.format(), argument)?;
         match self {
             Request::LsRefs(request) => request.keep(argument, text_length),
             Request::Fetch(request) => request.keep(argument, text_length),
@@ -396,8 +397,8 @@ impl<A: Memory + Copy> Request<A> {
     }
 }
 
-/// The length of the argument's text when it is written.
-pub(crate) fn written_length(argument: &Argument<'_>) -> usize
+// The length of the argument's text when it is written.
+fn written_length(argument: &Argument<'_>) -> usize
     ensures { result ≡ length (written_text (shown argument.now)) }
 {
     match argument {

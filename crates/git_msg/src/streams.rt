@@ -1,21 +1,18 @@
 //! Requests, read from bytes that come in chunks.
 
 ghost use Rattle.std.specs.Prelude.{◌≡◌, ◌<◌, ◌≤◌, ◌+◌, ◌*◌, [], None, true, false, length};
-ghost use Rattle.git_names.specs.Steps.{TakesAtMost};
 ghost use Rattle.git_pkt.specs.Machine.Credit.{Pays};
-ghost use Rattle.git_pkt.specs.Packets.{body_of, seen};
 ghost use Rattle.git_pkt.specs.Machine.PacketReader.{passes_of, fault_of as packet_fault};
-ghost use Rattle.git_msg.specs.Machine.RequestReader.{fault_of as reader_fault, is_waiting, kept_so_far, limit_in};
-ghost use Rattle.git_msg.specs.Machine.StreamStages.{Brings, GotNeedsRefusal, HasTaken, IsCovered, stage_brought, takes_bytes};
+ghost use Rattle.git_msg.specs.Machine.RequestReader.{fault_of as reader_fault, kept_so_far, limit_in};
+ghost use Rattle.git_msg.specs.Machine.StreamStages.{HasTaken, stage_brought, takes_bytes};
 
-use crate::admits::{Admits, AdmitsAll};
+use crate::admits::AdmitsAll;
 use crate::limits::Limits;
 use crate::memory::Memory;
 use crate::offers::Offer;
-use crate::reader::{RequestReader, Taken};
-use crate::requests::Request;
+use crate::reader::{ReadGot, RequestReader};
 use git_names::Steps;
-use git_pkt::{Fault, Got, Hold, Kind, Packet, PacketReader};
+use git_pkt::{Fault, Got, Hold, Kind, PacketReader};
 use std::alloc::Allocator;
 
 /// How far a reader of requests has come.
@@ -39,19 +36,6 @@ pub struct ReadRequest<A: Allocator + Copy> {
     pub got: ReadGot<A>,
 }
 
-/// The result of reading the bytes used.
-#[derive(Drop)]
-pub enum ReadGot<A: Allocator + Copy> {
-    /// Nothing whole yet: the whole chunk was used, or the reader reads no more.
-    More,
-    /// A whole request.
-    Request(Request<A>),
-    /// A flush with nothing before it: the other end ends the session. Nothing after it is read.
-    Stop,
-    /// The first fault of the bytes; the reader stays at it.
-    Failed(Fault),
-}
-
 /// Reads requests, as in gitprotocol-v2(5), from chunks of any size, against what was advertised. It keeps each argument as
 /// it comes, within the limit.
 #[derive(Drop)]
@@ -61,10 +45,8 @@ pub struct RequestStream<A: Allocator + Copy> {
     stage: Stage,
     ghost sound: { takes_bytes stage ≡ true → packet_fault packets ≡ None },
     ghost open_ended: { takes_bytes stage ≡ true → reader_fault requests ≡ None },
-    ghost ready: { takes_bytes stage ≡ true → is_waiting requests ≡ false },
     ghost gathers: { passes_of packets ≡ false },
     ghost taken: { takes_bytes stage ≡ true → ∥ HasTaken requests ∥₁ },
-    ghost within: { kept_so_far requests ≤ limit_in requests },
 }
 
 impl<A: Allocator + Copy> RequestStream<A> {
@@ -218,51 +200,11 @@ impl<A: Memory + Copy> RequestStream<A> {
                 }
             }
             Got::Packet(packet, offset) => {
-                let got = take_packet(&mut self.requests, &AdmitsAll, packet, offset, steps);
+                let got = self.requests.take(&AdmitsAll, packet, offset, steps);
                 self.stage = stage_after(&got);
                 ReadRequest { used, got }
             }
         }
-    }
-}
-
-/// Takes a packet of a request, and keeps its argument, if it is one and nothing refuses it. An error has the packet's offset, also if its
-/// argument is refused. After an error the reader takes no more packets.
-pub fn take_packet<A: Memory + Copy, B: Admits>(
-    requests: &mut RequestReader<A>,
-    admits: &B,
-    packet: Packet<'_>,
-    offset: u64,
-    steps: &mut Steps,
-) -> ReadGot<A>
-    requires sound { reader_fault requests.old ≡ None }
-    requires ready { is_waiting requests.old ≡ false }
-    ensures brings { Brings (B.refused_as admits.now) requests.old (record { packet = seen packet.entry; offset = offset }) result requests.new }
-    ensures cost { TakesAtMost (53 * (length (body_of (seen packet.entry)) + 1)) steps.old steps.new }
-    ensures covered { IsCovered result }
-    ensures memory { GotNeedsRefusal A.refuses (limit_in requests.old) result }
-{
-    match requests.take(packet, offset, steps) {
-        Ok(taken) => match taken {
-            Taken::More => return ReadGot::More,
-            Taken::Argument(argument) => {
-                // One call of `refusal_of`.
-                steps.tick(1);
-                if let Some(kind) = admits.refusal_of(&argument) {
-                    return ReadGot::Failed(Fault { kind, offset });
-                }
-                match requests.keep(argument, steps) {
-                    Ok(()) => return ReadGot::More,
-                    Err(fault) => return ReadGot::Failed(fault),
-                }
-            }
-            Taken::Request(request) => {
-                let _ = request.kept();
-                return ReadGot::Request(request);
-            }
-            Taken::Stop => return ReadGot::Stop,
-        },
-        Err(fault) => return ReadGot::Failed(fault),
     }
 }
 

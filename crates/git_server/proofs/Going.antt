@@ -15,7 +15,7 @@ use Rattle.git_msg.specs.Requests.{Asks}
 use Rattle.git_msg.specs.WholeRequests.{AreRequests}
 use Rattle.git_msg.proofs.PacketFaults.{NotOfPackets}
 use Rattle.git_msg.proofs.WholeRequests.{one_more_request, requests_more}
-use Rattle.git_msg.specs.Machine.RequestReader.{Takes, offer_of, limit_in, kept_so_far}
+use Rattle.git_msg.specs.Machine.RequestReader.{Brings, IsBrought, IsCovered, IsWithin, Takes, offer_of, limit_in, kept_so_far}
 use Rattle.git_msg.specs.declared.offers.Offer.{Offer}
 use Rattle.git_msg.specs.declared.reader.RequestReader.{RequestReader}
 use Rattle.git_msg.specs.declared.requests.Request.{Request}
@@ -30,15 +30,14 @@ use Rattle.git_server.specs.Machine.AdvertisementLines.{advertisement_from}
 use Rattle.git_server.specs.Sessions.{Begins, IsTail, IsTailBy, Setting, IsRequest, IsSent, IsAnswering, IsEnding, IsRefused, EndsBy}
 use Rattle.git_server.specs.Machine.Phases.{FlushIsAt, LeftIn, MayBreak, AreUnsent, kept_in, outcome_in, reads_in, phase_after, refused_by, stored_in}
 use Rattle.git_server.specs.Machine.AnsweredRequest.{IsAnswerFrom, answer_to, kept_with, stored_with, references_from, sizes_from}
-use Rattle.git_msg.specs.Machine.StreamStages.{Brings, IsBrought, IsCovered, IsWithin}
 use Rattle.git_server.specs.Machine.Server.{IsPackLost, Running, Serves, StandsBy, outcome_of, wants_input}
 use Rattle.git_server.specs.Machine.ServerCalls.{Goes, ReadsFor, StopsInTime}
 -- nothing was used or given, and one call after another
 pub use Rattle.git_server.specs.Machine.Moved.{goes_join, goes_nowhere}
 use Rattle.git_server.specs.declared.outcome.Outcome.{Outcome}
 use Rattle.git_server.specs.declared.outcome.Outcome.TheVariants.{Flush, Refused}
-use Rattle.git_msg.specs.declared.streams.ReadGot.{ReadGot}
-use Rattle.git_msg.specs.declared.streams.ReadGot.TheVariants.{More, Request as Whole, Stop, Failed as RefusedPacket}
+use Rattle.git_msg.specs.declared.reader.ReadGot.{ReadGot}
+use Rattle.git_msg.specs.declared.reader.ReadGot.TheVariants.{More, Request as Whole, Stop, Failed as RefusedPacket}
 use Rattle.git_server.specs.declared.server.Phase.{Phase}
 use Rattle.git_server.specs.declared.server.Phase.TheVariants.{Advertising, Between, Within, Answering, Refusing, Ended}
 use Rattle.git_server.specs.declared.server.Server.{Server}
@@ -378,7 +377,6 @@ module _ {R A : Type 0} (state : R → RepoState) (old new : Server R A) (u : Li
       let offer = brings.offer ∙ r.reads_for in
       let limit = brings.limit ∙ r.limit in
       let open_ended = no_outcome old.phase wants in
-      let kept : kept_so_far old.requests ≤ limit_in old.requests = omega (arith, r.within, r.limit, none_kept old.phase wants) in
       let brings_here = subst (λ (p : Repository). Brings (barred p) old.requests g brought new.requests) r.repo brings in
       record {
         offer = reads.offer ∙ r.offer;
@@ -388,7 +386,7 @@ module _ {R A : Type 0} (state : R → RepoState) (old new : Server R A) (u : Li
         failures = failures_end (outcome_of old) (outcome_of new) s.failures _ _ open_ended (ap (λ (x : RepoState). x.failures) reads.repo)
             (λ (fault, is, name). not_announced PackSource tt pack_source_other g.offset (h.left ++ g ∷ []) brought new.requests (state old.repo).answers
             (brings.brings h.left h.takes) fault (sym (ap outcome_in phase_is) ∙ is) name) r.failures;
-        within = omega (arith, kept_behind g.offset brought new.requests (brings.within kept), limit, ap kept_in phase_is);
+        within = omega (arith, kept_behind g.offset brought new.requests brings.within, limit, ap kept_in phase_is);
         covered = omega (arith, covered_after g.offset brought covered, ap stored_in phase_is, ap kept_in phase_is);
         fits = stream.fits;
         stands = subst (λ (o : Option Outcome). StandsBy o s (so_far ++ u) over (before ++ []) new) (sym (ap outcome_in phase_is))

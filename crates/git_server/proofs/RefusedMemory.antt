@@ -7,8 +7,7 @@ use Rattle.git_pkt.specs.declared.fault.Fault.{Fault}
 use Rattle.git_pkt.specs.declared.fault.Kind.{Kind}
 use Rattle.git_pkt.specs.declared.fault.Kind.TheVariants.{OutOfMemory, PackSource, Truncated}
 use Rattle.git_msg.specs.Asked.{Asked}
-use Rattle.git_msg.specs.Machine.RequestReader.{limit_in}
-use Rattle.git_msg.specs.Machine.StreamStages.{GotNeedsRefusal}
+use Rattle.git_msg.specs.Machine.RequestReader.{GotNeedsRefusal, limit_in}
 use Rattle.git_msg.specs.Memory.{FaultNeedsRefusal, NeedsRefusal}
 use Rattle.git_msg.specs.WholeRequests.{AreRequests}
 use Rattle.git_server.specs.Repository.{RepoState}
@@ -20,8 +19,8 @@ use Rattle.git_server.specs.declared.outcome.Outcome.{Outcome}
 use Rattle.git_server.specs.declared.outcome.Outcome.TheVariants.{Closed, Flush, Refused}
 use Rattle.git_server.specs.declared.server.Phase.{Phase}
 use Rattle.git_server.specs.declared.server.Server.{Server}
-use Rattle.git_msg.specs.declared.streams.ReadGot.{ReadGot}
-use Rattle.git_msg.specs.declared.streams.ReadGot.TheVariants.{Failed, More, Request, Stop}
+use Rattle.git_msg.specs.declared.reader.ReadGot.{ReadGot}
+use Rattle.git_msg.specs.declared.reader.ReadGot.TheVariants.{Failed, More, Request, Stop}
 use Rattle.git_msg.proofs.StreamSteps.{stopped_by}
 use Rattle.git_pkt.specs.Machine.PacketReader.{ReadsOn, fault_of}
 use Rattle.git_pkt.specs.declared.reader.PacketReader.{PacketReader}

@@ -20,7 +20,7 @@
 
 ghost use Rattle.std.specs.Prelude.{◌≡◌, true, false, None};
 ghost use Rattle.git_pkt.specs.Machine.PacketReader.{is_open, passes_of};
-ghost use Rattle.git_msg.specs.Machine.RequestReader.{fault_of, is_waiting};
+ghost use Rattle.git_msg.specs.Machine.RequestReader.{fault_of};
 ghost use Rattle.git_server.specs.Machine.Phases.{advertising_phase, lost_pack, outcome_in, has_unsent_in, phase_after, refusal_in, refused_by, turn_in};
 
 use crate::admission::Admission;
@@ -30,7 +30,7 @@ use crate::late_repo::LateRepo;
 use crate::outcome::Outcome;
 use crate::refusal::write_error;
 use crate::repo::Repo;
-use git_msg::{Limits, Memory, Offer, ReadGot, RequestReader, take_packet};
+use git_msg::{Limits, Memory, Offer, ReadGot, RequestReader};
 use git_names::Steps;
 use git_pkt::{Fault, Got, Kind, PacketReader, front_packet};
 use std::alloc::Allocator;
@@ -61,7 +61,6 @@ pub struct Server<R, A: Allocator + Copy> {
     repo: R,
     phase: Phase<A>,
     ghost sound: { outcome_in phase ≡ None → fault_of requests ≡ None },
-    ghost ready: { outcome_in phase ≡ None → is_waiting requests ≡ false },
     ghost between: { has_unsent_in phase ≡ true → is_open reader ≡ false },
     ghost gathers: { passes_of reader ≡ false },
 }
@@ -325,7 +324,7 @@ impl<R: Repo, A: Memory + Copy> Server<R, A> {
             Got::More => used,
             Got::Packet(packet, offset) => {
                 let admission = Admission { repo: &self.repo };
-                let brought = take_packet(&mut self.requests, &admission, packet, offset, steps);
+                let brought = self.requests.take(&admission, packet, offset, steps);
                 self.phase = following(brought, offset);
                 used
             }

@@ -8,8 +8,8 @@ use Rattle.git_msg.specs.Machine.HeldRequest.{IsEmpty}
 use Rattle.git_msg.specs.Machine.RequestStreams.{Closes, Feeds, HasRead, limit_of, offer_of, wants_input}
 use Rattle.git_msg.specs.declared.arguments.Command.TheVariants as Command
 use Rattle.git_msg.specs.declared.requests.Request.{Request}
-use Rattle.git_msg.specs.declared.streams.ReadGot.{ReadGot}
-use Rattle.git_msg.specs.declared.streams.ReadGot.TheVariants.{More, Request as RequestGot, Stop, Failed}
+use Rattle.git_msg.specs.declared.reader.ReadGot.{ReadGot}
+use Rattle.git_msg.specs.declared.reader.ReadGot.TheVariants.{More, Request as RequestGot, Stop, Failed}
 use Rattle.git_msg.specs.declared.streams.ReadRequest.{ReadRequest}
 use Rattle.git_msg.specs.declared.streams.RequestStream.{RequestStream}
 use Rattle.gitwire.specs.Offers.{offer_meant}

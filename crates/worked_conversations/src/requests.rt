@@ -2,52 +2,23 @@
 
 ghost use Rattle.std.specs.Prelude.{◌≡◌, false};
 ghost use Rattle.git_pkt.specs.Machine.PacketReader.{passes_of};
-ghost use Rattle.git_msg.specs.Machine.RequestReader.{is_waiting};
 
 use crate::escapes::escaped;
 use crate::runs::Run;
 use crate::setup::{MANY, limits};
 use crate::texts::append;
 use crate::trouble::Trouble;
-use git_msg::{Offer, Request, RequestReader, Taken};
+use git_msg::{AdmitsAll, Offer, ReadGot, Request, RequestReader};
 use git_names::{Oid, Steps};
 use git_pkt::{Fault, Got, Packet, PacketReader, text};
 use hex::ToHex;
 use std::alloc::{AllocError, Global};
 
-/// The result of a packet.
-#[derive(Drop)]
-enum Brought {
-    More,
-    Kept,
-    Request(Request<Global>),
-    Stop,
-}
-
-/// A request reader that has kept each argument.
+/// A request reader, and whether the delimiter of its request has come.
 #[derive(Drop)]
 struct Keeper {
     reader: RequestReader<Global>,
-    ghost keeps: { is_waiting reader ≡ false },
-}
-
-impl Keeper {
-    // Gives the reader a packet, and keeps its argument, if it is one.
-    fn receive_response(&mut self, packet: Packet<'_>, offset: u64) -> Result<Brought, Fault> {
-        let taken = match self.reader.take(packet, offset, &mut Steps::new()) {
-            Ok(taken) => taken,
-            Err(fault) => return Err(fault),
-        };
-        match taken {
-            Taken::More => return Ok(Brought::More),
-            Taken::Argument(argument) => match self.reader.keep(argument, &mut Steps::new()) {
-                Ok(()) => return Ok(Brought::Kept),
-                Err(fault) => return Err(fault),
-            },
-            Taken::Request(request) => return Ok(Brought::Request(request)),
-            Taken::Stop => return Ok(Brought::Stop),
-        }
-    }
+    in_arguments: bool,
 }
 
 // Appends the words whose flags are set, a line each.
@@ -179,32 +150,34 @@ fn append_request(
     append_objects(alloc, lines, "oid", request.oids())
 }
 
-// Appends the line of a packet's result. Returns whether it was the last packet.
-fn append_received(
+// Appends the line of a packet that was taken, if it is an argument.
+fn append_kept(
     alloc: Global,
     lines: &mut Vec<u8>,
-    arrived: &Brought,
+    keeper: &mut Keeper,
     packet: Packet<'_>,
-) -> Result<bool, AllocError> {
-    match arrived {
-        Brought::More => {}
-        Brought::Kept => {
-            if let Packet::Payload(payload) = packet {
-                append_text(alloc, lines, "kept", text(payload))?;
-            }
+) -> Result<(), AllocError> {
+    match packet {
+        Packet::Payload(payload) if keeper.in_arguments => {
+            append_text(alloc, lines, "kept", text(payload))
         }
-        Brought::Request(request) => append_request(alloc, lines, request)?,
-        Brought::Stop => return Ok(true),
+        Packet::Delim => {
+            keeper.in_arguments = true;
+            Ok(())
+        }
+        _ => Ok(()),
     }
-    Ok(false)
 }
 
 // How a reader ended with an error, which it keeps reporting.
 fn refused(alloc: Global, keeper: &mut Keeper, fault: Fault) -> Result<String, Trouble> {
-    if keeper.receive_response(Packet::Flush, 7).err() != Some(fault) {
-        return Err(Trouble::Breaks("a reader goes on after its fault"));
+    let again = keeper
+        .reader
+        .take(&AdmitsAll, Packet::Flush, 7, &mut Steps::new());
+    match again {
+        ReadGot::Failed(same) if same == fault => Ok(format!(in alloc; "refused {fault}\n")?),
+        _ => Err(Trouble::Breaks("a reader goes on after its fault")),
     }
-    Ok(format!(in alloc; "refused {fault}\n")?)
 }
 
 // Gives the reader a packet, and appends the line of its result. Returns how the reader ended, if it did.
@@ -215,13 +188,19 @@ fn receive_response(
     offset: u64,
     lines: &mut Vec<u8>,
 ) -> Result<Option<String>, Trouble> {
-    match keeper.receive_response(packet, offset) {
-        Ok(arrived) => match append_received(alloc, lines, &arrived, packet)? {
-            true => Ok(Some(String::from_str(alloc, "stop\n")?)),
-            false => Ok(None),
-        },
-        Err(fault) => Ok(Some(refused(alloc, keeper, fault)?)),
+    let got = keeper
+        .reader
+        .take(&AdmitsAll, packet, offset, &mut Steps::new());
+    match got {
+        ReadGot::More => append_kept(alloc, lines, keeper, packet)?,
+        ReadGot::Request(request) => {
+            keeper.in_arguments = false;
+            append_request(alloc, lines, &request)?;
+        }
+        ReadGot::Stop => return Ok(Some(String::from_str(alloc, "stop\n")?)),
+        ReadGot::Failed(fault) => return Ok(Some(refused(alloc, keeper, fault)?)),
     }
+    Ok(None)
 }
 
 /// How far a chunk was used.
@@ -286,6 +265,7 @@ pub fn arrived(alloc: Global, offer: Offer, limit: u32, chunks: &[&[u8]]) -> Res
     let mut packets = PacketReader::new();
     let mut keeper = Keeper {
         reader: RequestReader::new(alloc, offer, limits(limit)),
+        in_arguments: false,
     };
     let mut lines = Vec::new(alloc);
     let mut ending = None;

@@ -8,13 +8,13 @@ use Rattle.git_pkt.specs.declared.reader.PacketReader.{PacketReader}
 use Rattle.git_pkt.specs.declared.fault.Kind.{Kind}
 use Rattle.git_pkt.specs.declared.fault.Kind.TheVariants.{OutOfMemory, Truncated}
 use Rattle.git_msg.specs.Machine.HeldRequest.{asked_of, format_of}
-use Rattle.git_msg.specs.Machine.RequestReader.{Takes, fault_of as reader_fault, is_waiting, limit_in, offer_of as offer_in}
+use Rattle.git_msg.specs.Machine.RequestReader.{Takes, fault_of as reader_fault, limit_in, offer_of as offer_in}
 use Rattle.git_msg.specs.Machine.RequestStreams.{IsLeftIn, IsOne, IsRefusedAs}
 use Rattle.git_msg.specs.Machine.StreamStages.{HasTaken}
 use Rattle.git_msg.specs.Requests.{AreBegun}
 use Rattle.git_msg.specs.declared.offers.Offer.{Offer}
-use Rattle.git_msg.specs.declared.streams.ReadGot.{ReadGot}
-use Rattle.git_msg.specs.declared.streams.ReadGot.TheVariants as OfReader
+use Rattle.git_msg.specs.declared.reader.ReadGot.{ReadGot}
+use Rattle.git_msg.specs.declared.reader.ReadGot.TheVariants as OfReader
 use Rattle.git_msg.specs.declared.streams.Stage.TheVariants as OfRequests
 use Rattle.git2show_lib.specs.Others.{Advertised, BeginWithOther, BreakOff, IsOtherBegun, IsOtherRequest, NoneNames, counted_of, first_place}
 use Rattle.git2show_lib.specs.Others.{judged_of, place_after}
@@ -227,7 +227,6 @@ module _ {A : Type 0} where
   pub record IsJudging (j : RequestJudge A) : Type 0 where
     pub wants : takes_bytes j.stage ≡ true
     pub open_ended : reader_fault j.requests ≡ None
-    pub ready : is_waiting j.requests ≡ false
     pub taken : HasTaken j.requests
     pub same_offer : j.offer ≡ offer_in j.requests
     pub same_limit : j.limits.args ≡ limit_in j.requests

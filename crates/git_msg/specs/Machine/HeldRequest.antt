@@ -4,6 +4,7 @@ use Rattle.git_names.specs.declared.object_format.Format.{Format}
 use Rattle.git_pkt.specs.declared.fault.Kind.{Kind}
 use Rattle.git_pkt.specs.declared.fault.Kind.TheVariants.{TooMuchKept, OutOfMemory}
 use Rattle.git_msg.specs.declared.arguments.Command.{Command}
+use Rattle.git_msg.specs.declared.offers.Offer.{Offer}
 use Rattle.git_msg.specs.declared.requests.Request.{Request}
 use Rattle.git_msg.specs.declared.requests.Request.TheVariants.{LsRefs as OfLsRefs, Fetch as OfFetch, ObjectInfo as OfObjectInfo}
 use Rattle.git_msg.specs.Arguments.{Arg, IsValue, IsValueFault, written_text, TakesMemory}
@@ -42,10 +43,12 @@ module _ {A : Type 0} where
   abbrev pub limit_of : Request A → ℕ
   limit_of q = (holding_of q).limit
 
-  -- the bytes stored of its values are at most those counted of its lines, and those are within its limit
-  pub record IsBounded (q : Request A) : Type 0 where
+  -- the bytes stored of its values are at most those counted of its lines, those are within its limit, and its object names
+  -- are of the offer's format
+  pub record IsBounded (offer : Offer) (q : Request A) : Type 0 where
     pub covered : stored_of q ≤ kept_of q
     pub within : kept_of q ≤ limit_of q
+    pub of_format : format_of q ≡ offer.format
 
   -- a request without arguments
   abbrev pub IsEmpty : Command → Format → ℕ → Request A → Type 0
@@ -60,15 +63,11 @@ module _ {A : Type 0} where
   AddsAll old [] new = new ≡ old
   AddsAll old (arg ∷ args) new = (next : Request A) × Keeps old arg (length (written_text arg)) next × AddsAll next args new
 
--- the checks of an argument whose text has so many bytes
-abbrev pub keep_checks : {A : Type 0} → Request A → Arg → ℕ → List Check
-keep_checks request arg long =
-    record { refuses = IsValueFault (command_of request) (format_of request) arg; passes = IsValue (command_of request) (format_of request) arg }
-    ∷ check (kept_of request + long ≤ limit_of request) (limit_of request < kept_of request + long) TooMuchKept ∷ []
-
 -- the checks of an argument that a program adds, with the length of its line as it is written
 abbrev pub add_checks : {A : Type 0} → Request A → Arg → List Check
-add_checks request arg = keep_checks request arg (length (written_text arg))
+add_checks request arg =
+    record { refuses = IsValueFault (command_of request) (format_of request) arg; passes = IsValue (command_of request) (format_of request) arg }
+    ∷ check (kept_of request + length (written_text arg) ≤ limit_of request) (limit_of request < kept_of request + length (written_text arg)) TooMuchKept ∷ []
 
 -- memory ran out; this is reported if nothing refuses the argument
 pub record RanOut (checks : List Check) (arg : Arg) (kind : Kind) : Type 0 where

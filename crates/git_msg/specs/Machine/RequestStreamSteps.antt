@@ -4,8 +4,8 @@ use Rattle.git_msg.specs.Asked.{Asked}
 use Rattle.git_msg.specs.Machine.RequestStreams.{EndsWith, HasRead, Leaves, IsNews, asked_by, offer_of, limit_of, wants_input}
 use Rattle.git_msg.specs.declared.streams.RequestStream.{RequestStream}
 use Rattle.git_msg.specs.declared.streams.ReadRequest.{ReadRequest}
-use Rattle.git_msg.specs.declared.streams.ReadGot.{ReadGot}
-use Rattle.git_msg.specs.declared.streams.ReadGot.TheVariants.{More}
+use Rattle.git_msg.specs.declared.reader.ReadGot.{ReadGot}
+use Rattle.git_msg.specs.declared.reader.ReadGot.TheVariants.{More}
 
 module _ {A : Type 0} where
   -- the state of the reader after a step; if the request goes on, some bytes were used

@@ -16,13 +16,13 @@ use Rattle.git_msg.specs.Machine.HeldRequest.{asked_of, format_of, kept_of, limi
 use Rattle.git_msg.specs.Requests.{AreBegun, Asks, IsAnnounced, IsStop}
 use Rattle.git_msg.specs.WholeRequests.{AreRequests}
 use Rattle.git_msg.specs.Machine.StreamStages.{fault_in, takes_bytes, stage_is_between}
-use Rattle.git_msg.specs.Machine.RequestReader.{Takes, offer_of as offer_in, limit_in, kept_so_far, stored_so_far, fault_of as reader_fault, is_waiting}
+use Rattle.git_msg.specs.Machine.RequestReader.{Takes, offer_of as offer_in, limit_in, kept_so_far, stored_so_far, fault_of as reader_fault}
 use Rattle.git_msg.specs.declared.streams.Stage.{Stage}
 use Rattle.git_msg.specs.declared.streams.Stage.TheVariants.{Between, Within, Stopped, Failed}
 use Rattle.git_msg.specs.declared.streams.RequestStream.{RequestStream}
 use Rattle.git_msg.specs.declared.streams.ReadRequest.{ReadRequest}
-use Rattle.git_msg.specs.declared.streams.ReadGot.{ReadGot}
-use Rattle.git_msg.specs.declared.streams.ReadGot.TheVariants.{More, Request as RequestGot, Stop as StopGot, Failed as FailedGot}
+use Rattle.git_msg.specs.declared.reader.ReadGot.{ReadGot}
+use Rattle.git_msg.specs.declared.reader.ReadGot.TheVariants.{More, Request as RequestGot, Stop as StopGot, Failed as FailedGot}
 
 -- the packets are one whole request, which asks for this
 abbrev pub IsOne : Offer → ℕ → List Given → Asked → Type 0
@@ -91,10 +91,8 @@ module _ {A : Type 0} where
         stage = stage;
         sound = sound;
         open_ended = open_ended;
-        ready = ready;
         gathers = gathers;
         taken = taken;
-        within = within;
       } = s in
       held_in_packet packets + stored_so_far requests
 
@@ -127,7 +125,6 @@ module _ {A : Type 0} where
     pub sound : packet_fault s.packets ≡ None
     pub takes : Takes left s.requests
     pub open_ended : reader_fault s.requests ≡ None
-    pub ready : is_waiting s.requests ≡ false
 
   -- the reader has used these bytes, and handed out requests that ask for these
   pub record HasRead (used : List ℕ) (asked : List Asked) (s : RequestStream A) : Type 0 where

@@ -6,8 +6,8 @@ use Rattle.git_pkt.specs.declared.fault.Fault.{Fault}
 use Rattle.git_pkt.specs.declared.fault.Kind.{Kind}
 use Rattle.git_pkt.specs.declared.fault.Kind.TheVariants.{PackSource, RemoteError}
 use Rattle.git_msg.specs.declared.offers.Offer.{Offer}
-use Rattle.git_msg.specs.declared.streams.ReadGot.{ReadGot}
-use Rattle.git_msg.specs.declared.streams.ReadGot.TheVariants.{More, Request as Whole, Stop, Failed as RefusedPacket}
+use Rattle.git_msg.specs.declared.reader.ReadGot.{ReadGot}
+use Rattle.git_msg.specs.declared.reader.ReadGot.TheVariants.{More, Request as Whole, Stop, Failed as RefusedPacket}
 use Rattle.git_server.specs.Repository.{Repository}
 use Rattle.git_server.specs.Answers.{error_packet}
 use Rattle.git_server.specs.Packs.{whole, broken}

@@ -68,7 +68,6 @@ module _ {R A : Type 0} where
         repo = repo;
         phase = phase;
         sound = sound;
-        ready = ready;
         between = between;
         gathers = gathers;
       } = server in

@@ -90,13 +90,13 @@ returns g c =
     let judged : judged_packet old.advertised.items old.place given.packet ≡ Some (seen c.in-Some.judged) =
     ap (λ (l : List ℕ). judged_packet l old.place given.packet) (sym c.deref-3.ensures.value) ∙ c.in-Some.ensures in
     let own : Given = record { packet = seen c.in-Some.judged; offset = c.args.offset } in
-    let taken = c.take_packet-taken.result in
-    let brings = c.take_packet-taken.ensures.brings in
+    let taken = c.take-taken.result in
+    let brings = c.take-taken.ensures.brings in
     let refused = c.keep_within-refused.result in
     let others = c.keep_within-refused.new.self in
     let by = same_advertised old.advertised.items _ _ brings.offer in
     let limit = ready.same_limit ∙ sym brings.limit in
-    let limit_now = limit_in c.take_packet-taken.new.requests in
+    let limit_now = limit_in c.take-taken.new.self in
     let before_now : old.kept ≤ limit_now = omega (arith, ready.within, limit) in
     let so = c.limited-got.ensures in
     let stage = c.stage_after-self.ensures ∙ ap stage_brought so in
@@ -113,7 +113,7 @@ returns g c =
           packet_leaves (record { packets = before; judge = old }) _ used ready some ends.sound ends.gathers refl refl ends.shut own taken refused
           c.args.offset c.saturating_add-kept.result others brings (λ fine. (rw fine at keeps).0) stage kept;
       news = λ fault is.
-          packet_news (record { packets = before; judge = old }) c.take_packet-taken.new.requests own taken refused old.advertised.items old.place
+          packet_news (record { packets = before; judge = old }) c.take-taken.new.self own taken refused old.advertised.items old.place
           given.packet all limit_old (noted_in old.others) (noted_in others) c.args.offset others kept_within ready brings fault used chunk is;
       by = by;
       limit = brings.limit;

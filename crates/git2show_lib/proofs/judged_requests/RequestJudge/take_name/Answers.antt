@@ -40,7 +40,7 @@ returns g c =
           named_read (record { packets = before; judge = old }) _ (take used chunk) judging.wants by limit read asked h c.requires.lines given
           ends.reads c.requires.names within refl c.first-self.ensures refl noted fresh.takes;
       leaves =
-          named_leaves (record { packets = before; judge = old }) _ used judging some ends.sound ends.gathers refl refl refl fresh.open fresh.ready
+          named_leaves (record { packets = before; judge = old }) _ used judging some ends.sound ends.gathers refl refl refl fresh.open
           fresh.takes fresh.offer fresh.limit refl;
       news = λ fault is. absurd (cc);
       by = by;

@@ -18,4 +18,4 @@ returns-in_err-command-clause-err g c =
 pub returns-in_err-command-clause-unchanged : goal.returns-in_err-command-clause-unchanged
 returns-in_err-command-clause-unchanged g c =
     let p = err_from_is_err_and c.from_residual.result c.from_residual.ensures.1 in
-    rw p.1 (ap (λ (h : IsBounded c.args.self.now.request). record c.args.self.now { bounded = h }) (one_bound _ _ _))
+    rw p.1 (ap (λ (h : IsBounded c.args.self.now.offer c.args.self.now.request). record c.args.self.now { bounded = h }) (one_bound _ _ _ _))

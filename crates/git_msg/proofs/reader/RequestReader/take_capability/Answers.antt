@@ -5,25 +5,23 @@ use Rattle.git_msg.proofs.StepFacts.{noted, refused, delimited, flushed, flush_r
 use Rattle.git_msg.proofs.reader.RequestReader.take_capability.Goals as goal
 
 pub returns-in_err-note-in-Payload-clause-goes_on : goal.returns-in_err-note-in-Payload-clause-goes_on
-returns-in_err-note-in-Payload-clause-goes_on g c =
+returns-in_err-note-in-Payload-clause-goes_on g c barred =
     let p = err_from_is_err_and c.from_residual.result c.from_residual.ensures.1 in
     let h = c.in_err-note-in-Payload.ensures.err in
     rw (p.1, p.2, c.in-Payload.is)
-    (refused c.args.self.now c.note.new.self c.in-Payload.payload.now c.args.offset
-    c.in_err-note-in-Payload.field-0.0 c.requires c.in_err-note-in-Payload.ensures.unchanged
-    (rw c.text.ensures at h))
+    (refused barred c.args.self.now c.note.new.self c.in-Payload.payload.now c.in_err-note-in-Payload.field-0.0 c.requires
+    c.in_err-note-in-Payload.ensures.unchanged (rw c.text.ensures at h))
 
 pub returns-in_ok-note-in-Payload-clause-goes_on : goal.returns-in_ok-note-in-Payload-clause-goes_on
-returns-in_ok-note-in-Payload-clause-goes_on g c =
+returns-in_ok-note-in-Payload-clause-goes_on g c barred =
     let h = c.in_ok-note-in-Payload.ensures.ok in
-    rw c.in-Payload.is
-    (noted c.args.self.now c.note.new.self c.in-Payload.payload.now c.args.offset c.requires (rw c.text.ensures at h))
+    rw c.in-Payload.is (noted barred c.args.self.now c.note.new.self c.in-Payload.payload.now c.requires (rw c.text.ensures at h))
 
 pub returns-in_ok-command-in-Delim-clause-goes_on : goal.returns-in_ok-command-in-Delim-clause-goes_on
-returns-in_ok-command-in-Delim-clause-goes_on g c =
+returns-in_ok-command-in-Delim-clause-goes_on g c barred =
     rw c.in-Delim.is
-    (delimited c.args.self.now c.args.offset c.in_ok-command-in-Delim.command
-    c.empty_request.result _ c.requires c.in_ok-command-in-Delim.ensures.command c.empty_request.ensures)
+    (delimited barred c.args.self.now c.in_ok-command-in-Delim.command c.empty_request.result _ c.requires c.in_ok-command-in-Delim.ensures.command
+    c.empty_request.ensures)
 
 pub returns-in_ok-check_end-in-Flush-clause-goes_on : goal.returns-in_ok-check_end-in-Flush-clause-goes_on
 returns-in_ok-check_end-in-Flush-clause-goes_on g c = search (rules, flushed)

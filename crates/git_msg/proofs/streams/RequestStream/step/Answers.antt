@@ -6,26 +6,24 @@ use Rattle.git_pkt.specs.declared.fault.Fault.{Fault}
 use Rattle.git_msg.specs.Machine.RequestStreams.{limit_of}
 use Rattle.git_msg.specs.Machine.StreamStages.{fault_in}
 use Rattle.git_msg.specs.Memory.{FaultNeedsRefusal}
-use Rattle.git_msg.proofs.StreamSteps.{open_read, feeds_with, packet_counts, packet_leaves, packet_news, packet_read, ready_behind, refused_read}
+use Rattle.git_msg.proofs.StreamSteps.{open_read, feeds_with, packet_counts, packet_leaves, packet_news, packet_read, refused_read}
 use Rattle.git_msg.proofs.ReaderRuns.{fault_of_bytes}
-use Rattle.git_msg.proofs.StreamSteps.{needed_behind, reading, some_taken_behind, sound_behind, within_behind}
+use Rattle.git_msg.proofs.StreamSteps.{needed_behind, reading, some_taken_behind, sound_behind}
 use Rattle.git_msg.proofs.streams.RequestStream.step.Goals as goal
 
 pub invariant_of-self-in-Packet : goal.invariant_of-self-in-Packet
 invariant_of-self-in-Packet g c =
     let old = c.args.self.now in
-    let new = c.take_packet-got.new.requests in
+    let new = c.take-got.new.self in
     let given : Given = record { packet = seen c.in-Packet.packet; offset = c.in-Packet.offset } in
-    let got = c.take_packet-got.result in
+    let got = c.take-got.result in
     let stage = c.stage_after-self.result in
     let feeds = feeds_with old.packets c.feed-fed.follows.lender-at-none c.args.chunk.now c.feed-fed.result _ c.in-Packet.is c.feed-fed.follows.holds-at-none in
     record {
       sound = λ on. feeds.announces.1;
-      open_ended = sound_behind old new given got stage c.requires.waits c.take_packet-got.ensures.brings c.stage_after-self.ensures;
-      ready = ready_behind old new given got stage c.requires.waits c.take_packet-got.ensures.brings c.stage_after-self.ensures;
+      open_ended = sound_behind old new given got stage c.requires.waits c.take-got.ensures.brings c.stage_after-self.ensures;
       gathers = c.feed-fed.follows.holds-at-none.gathers;
-      taken = some_taken_behind old new given got stage c.requires.waits c.take_packet-got.ensures.brings c.stage_after-self.ensures;
-      within = within_behind old new given got stage c.requires.waits c.take_packet-got.ensures.brings c.stage_after-self.ensures;
+      taken = some_taken_behind old new given got stage c.requires.waits c.take-got.ensures.brings c.stage_after-self.ensures;
     }
 
 pub returns-in-Packet-clause-steps : goal.returns-in-Packet-clause-steps
@@ -34,8 +32,8 @@ returns-in-Packet-clause-steps g c =
     let chunk = c.args.chunk.now in
     let fed = c.feed-fed.result in
     let given : Given = record { packet = seen c.in-Packet.packet; offset = c.in-Packet.offset } in
-    let got = c.take_packet-got.result in
-    let brings = c.take_packet-got.ensures.brings in
+    let got = c.take-got.result in
+    let brings = c.take-got.ensures.brings in
     let feeds = feeds_with old.packets c.feed-fed.follows.lender-at-none chunk fed _ c.in-Packet.is c.feed-fed.follows.holds-at-none in
     record {
       reads = λ used asked h.
@@ -46,7 +44,7 @@ returns-in-Packet-clause-steps g c =
           feeds.announces.1 feeds.announces.2 feeds.reads;
       leaves = packet_leaves old _ given fed.used chunk c.requires.waits feeds.announces.0 feeds.announces.2 got brings c.stage_after-self.ensures;
       news = λ fault none is.
-          packet_news old c.take_packet-got.new.requests given got c.stage_after-self.result c.requires.waits brings c.stage_after-self.ensures
+          packet_news old c.take-got.new.self given got c.stage_after-self.result c.requires.waits brings c.stage_after-self.ensures
           fault fed.used chunk is;
       offer = brings.offer;
       limit = brings.limit;
@@ -79,8 +77,8 @@ returns-in-More-clause-memory g c =
 
 pub returns-in-Packet-clause-memory : goal.returns-in-Packet-clause-memory
 returns-in-Packet-clause-memory g c =
-    needed_behind g.A.Memory.refuses (limit_of c.args.self.now) c.take_packet-got.result c.stage_after-self.result c.stage_after-self.ensures
-    c.take_packet-got.ensures.memory
+    needed_behind g.A.Memory.refuses (limit_of c.args.self.now) c.take-got.result c.stage_after-self.result c.stage_after-self.ensures
+    (c.take-got.ensures.memory (c.args.self.now.open_ended c.requires.waits))
 
 pub returns-in-Failed-clause-memory : goal.returns-in-Failed-clause-memory
 returns-in-Failed-clause-memory g c =
