@@ -15,7 +15,7 @@ use Rattle.git_pkt.specs.declared.band.Band.{Band}
 use Rattle.git_pkt.specs.declared.band.Band.TheVariants.{Pack as OnPack, Progress as OnProgress}
 use Rattle.git_msg.specs.declared.Boundary.{Boundary}
 use Rattle.git_msg.specs.declared.Boundary.TheVariants.{Shallow as ShallowAt, Unshallow as UnshallowAt}
-use Rattle.git_msg.specs.Asked.{fetch, is_empty, no_progress_of, only_negotiates, haves_in, want_refs_in}
+use Rattle.git_msg.specs.Asked.{fetch, is_empty, only_negotiates, haves_in, want_refs_in, flag_among}
 use Rattle.git_msg.specs.ResponseLines.{wanted_of, wanted_text}
 use Rattle.git_msg.specs.WrittenRequest.{text_line}
 use Rattle.git_server.specs.Packs.{Manner, whole, packfile_header}
@@ -36,6 +36,7 @@ use Rattle.git_host.specs.declared.fetch_answer.Place.TheVariants.{Header, Have,
 use Rattle.git_host.specs.declared.fetch_answer.Place.TheVariants.{PackHeader, Pack, Whole as AtEnd, Broken as AtLoss}
 use Rattle.git_host.proofs.Picked.{empty_is, length_more, lines_more, map_more, not_empty_more, pack_more, picked_false, picked_true, progress_more}
 use Rattle.git_msg.specs.Arguments.{Arg}
+use Rattle.git_msg.specs.declared.flags.Flag.{Flag}
 
 none_reported : (wanted : List ObjectName) → NothingAfter (no_facts wanted)
 none_reported wanted = record { boundary = refl; pack = refl; progress = refl }
@@ -471,7 +472,7 @@ line_sound format q t line is h = record { boundary = All-push (IsSoundLine form
 no_quiet : true ≡ false → ⊥
 no_quiet e = cc
 
-pub progress_sound : (format : Format) (q : List Arg) (t : FetchFacts) (part : List ℕ) → no_progress_of (fetch q) ≡ false → AreSoundFacts format q t
+pub progress_sound : (format : Format) (q : List Arg) (t : FetchFacts) (part : List ℕ) → flag_among q Flag.NoProgress ≡ false → AreSoundFacts format q t
     → AreSoundFacts format q (with_progress part t)
 progress_sound format q t part wanted h = record { boundary = h.boundary; quiet = λ none. absurd (no_quiet (sym none ∙ wanted)) }
 

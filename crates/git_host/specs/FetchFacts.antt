@@ -10,7 +10,7 @@ use Rattle.git_pkt.specs.declared.band.Band.{Band}
 use Rattle.git_pkt.specs.declared.band.Band.TheVariants.{Pack, Progress}
 use Rattle.git_msg.specs.declared.Boundary.{Boundary}
 use Rattle.git_msg.specs.declared.Boundary.TheVariants.{Shallow, Unshallow}
-use Rattle.git_msg.specs.Asked.{fetch, no_progress_of, only_negotiates, haves_in, shallows_in, want_refs_in}
+use Rattle.git_msg.specs.Asked.{fetch, only_negotiates, haves_in, shallows_in, want_refs_in, flag_among}
 use Rattle.git_msg.specs.ResponseLines.{wanted_of, wanted_text}
 use Rattle.git_msg.specs.WrittenRequest.{text_line}
 use Rattle.git_server.specs.Packs.{Manner, whole, broken, pack_source_packet, packfile_header}
@@ -18,6 +18,7 @@ use Rattle.git_server.specs.FetchAnswers.{IsFlushed, nak_or_acks, negotiates, re
 use Rattle.git_server.specs.Objects.{object_cmp, object_of}
 use Rattle.git_server.specs.Repository.{IsUnshallowOf}
 use Rattle.git_msg.specs.Arguments.{Arg}
+use Rattle.git_msg.specs.declared.flags.Flag.{Flag}
 
 -- what a store reported for one fetch: whether it has each object that the client has, by place; whether it is ready to send a pack; the
 -- shallow boundary, and whether that is all of it; the object of each wanted reference, by place; the bytes of the pack, and those of the
@@ -49,7 +50,7 @@ may_have shallows (Unshallow id) = list_any (λ shallow. is_eq (object_cmp shall
 -- a sound repository of the format may answer so, and where the request wants no progress there is none
 pub record AreSoundFacts (format : Format) (q : List Arg) (t : FetchFacts) : Type 0 where
   pub boundary : All (IsSoundLine format q) t.boundary
-  pub quiet : no_progress_of (fetch q) ≡ true → t.progress ≡ []
+  pub quiet : flag_among q Flag.NoProgress ≡ true → t.progress ≡ []
 
 -- the items that were reported as there, by place
 abbrev pub picked : {X : Type 0} → List Bool → List X → List X

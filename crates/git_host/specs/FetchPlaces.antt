@@ -3,7 +3,7 @@ use Rattle.std.specs.Prelude.{◌≡◌, ◌≢◌, ℕ, ◌<◌, ◌≤◌, Boo
 use Rattle.git_names.specs.declared.object_format.Format.{Format}
 use Rattle.git_pkt.specs.Packets.{Pkt, body_of, longest_payload, spelling_of}
 use Rattle.git_msg.specs.declared.Boundary.{Boundary}
-use Rattle.git_msg.specs.Asked.{fetch, is_empty, no_progress_of, only_negotiates, haves_in, shallows_in, want_refs_in}
+use Rattle.git_msg.specs.Asked.{fetch, is_empty, only_negotiates, haves_in, shallows_in, want_refs_in, flag_among}
 use Rattle.git_msg.specs.Kept.{Kept}
 use Rattle.git_msg.specs.WrittenRequest.{text_line}
 use Rattle.git_server.specs.Packs.{whole, broken, packfile_header}
@@ -25,6 +25,7 @@ use Rattle.git_host.specs.declared.fetch_answer.BoundaryEnd.{BoundaryEnd}
 use Rattle.git_host.specs.declared.fetch_answer.BoundaryEnd.TheVariants.{NotAsked, Absent, Packet as DelimGiven}
 use Rattle.git_host.specs.declared.fetch_answer.FetchAnswer.{FetchAnswer}
 use Rattle.git_msg.specs.Arguments.{Arg}
+use Rattle.git_msg.specs.declared.flags.Flag.{Flag}
 
 -- nothing was reported of the pack
 pub record NoPack (t : FetchFacts) : Type 0 where
@@ -335,7 +336,7 @@ module _ {A : Type 0} where
 
   -- the request wants no progress
   abbrev pub WantsNoProgress : FetchAnswer A → Type 0
-  WantsNoProgress answer = no_progress_of (fetch (asked_of answer)) ≡ true
+  WantsNoProgress answer = flag_among (asked_of answer) Flag.NoProgress ≡ true
 
   -- what bytes of the progress do
   abbrev pub ReportsProgress : List ℕ → ProgressReported → FetchAnswer A → List ℕ → FetchAnswer A → Type 0

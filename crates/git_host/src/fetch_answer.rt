@@ -15,11 +15,12 @@ ghost use Rattle.git_server.specs.FetchAnswers.{ack_packet};
 ghost use Rattle.git_host.specs.FetchPlaces.{Holds};
 ghost use Rattle.git_pkt.specs.Bands.{band_packet};
 ghost use Rattle.git_pkt.specs.Packets.{longest_payload, spelling_of};
-ghost use Rattle.git_msg.specs.Asked.{fetch, is_empty, no_progress_of, only_negotiates, haves_in, want_refs_in};
+ghost use Rattle.git_msg.specs.Asked.{fetch, is_empty, only_negotiates, haves_in, want_refs_in, flag_among};
 ghost use Rattle.git_server.specs.FetchAnswers.{negotiates};
 ghost use Rattle.git_server.specs.Objects.{object_of};
 ghost use Rattle.git_host.specs.FetchFacts.{may_have};
 ghost use Rattle.git_host.specs.FetchPlaces.{after_boundary, after_haves, place_by};
+ghost use Rattle.git_msg.specs.declared.flags.Flag.{Flag};
 
 use git_msg::{Boundary, Fetch, WantedRef, put_ack, put_boundary, put_line, put_wanted};
 use git_names::{Format, Oid};
@@ -415,7 +416,7 @@ fn commit_of(line: &Boundary) -> Oid
 
 // Whether progress is dropped, since the request wants none.
 fn drops_progress<A: Allocator + Copy>(request: &Fetch<A>) -> bool
-    ensures { result ≡ no_progress_of (fetch request.now.asked) }
+    ensures { result ≡ flag_among request.now.asked Flag.NoProgress }
 {
     request.no_progress()
 }

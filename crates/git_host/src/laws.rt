@@ -5,7 +5,7 @@ ghost use Rattle.git_names.specs.declared.object_format.Format.{Format};
 ghost use Rattle.git_pkt.specs.Packets.{Pkt};
 ghost use Rattle.git_pkt.specs.Bands.{AreBands};
 ghost use Rattle.git_pkt.specs.declared.band.Band.TheVariants as Band;
-ghost use Rattle.git_msg.specs.Asked.{Asked, fetch, ls_refs, no_progress_of, object_info, oids_in};
+ghost use Rattle.git_msg.specs.Asked.{Asked, fetch, ls_refs, object_info, oids_in, flag_among};
 ghost use Rattle.git_server.specs.Packs.{Manner, whole};
 ghost use Rattle.git_server.specs.Repository.{Repository};
 ghost use Rattle.git_server.specs.Answers.{IsAnswerAs};
@@ -34,6 +34,7 @@ ghost use Rattle.git_host.specs.declared.report.HostStep.{HostStep};
 ghost use Rattle.git_host.specs.declared.report.ReferenceFault.{ReferenceFault};
 ghost use Rattle.git_host.specs.declared.report.Report.{Report};
 ghost use Rattle.git_msg.specs.Arguments.{Arg};
+ghost use Rattle.git_msg.specs.declared.flags.Flag.{Flag};
 
 use crate::host_server::HostServer;
 use crate::repo_store::RepoStore;
@@ -62,7 +63,7 @@ pub fn sizes_answer_is_a_repositorys()
 /// If a request wants no progress, what is sent after the header of the pack has bytes of the pack alone, on its band.
 pub fn no_progress_is_given()
     ensures { (manner : Manner) (format : Format) (q : List Arg) (t : FetchFacts) (packets : List Pkt) → IsSoundFetchAnswer manner format q t packets
-        → no_progress_of (fetch q) ≡ true → (pack : HasPack manner q t packets) → AreBands Band.Pack t.pack pack.parts }
+        → flag_among q Flag.NoProgress ≡ true → (pack : HasPack manner q t packets) → AreBands Band.Pack t.pack pack.parts }
 {}
 
 /// However the input is cut, after any calls of a host's server that was new before them it holds at most 65,520 buffered bytes, twice its limit

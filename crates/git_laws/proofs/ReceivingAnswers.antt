@@ -22,7 +22,7 @@ use Rattle.git_pkt.proofs.Texts.{text_of-line_end}
 use Rattle.git_msg.specs.declared.Boundary.{Boundary}
 use Rattle.git_msg.specs.declared.Boundary.TheVariants.{Shallow, Unshallow}
 use Rattle.git_msg.specs.Arguments.{IsNameIn}
-use Rattle.git_msg.specs.Asked.{Asked, fetch, is_empty, ls_refs, object_info, wait_for_done_of, done_in, flag_among, haves_in, oids_in, ref_prefixes_in, want_refs_in}
+use Rattle.git_msg.specs.Asked.{Asked, fetch, is_empty, ls_refs, object_info, done_in, flag_among, haves_in, oids_in, ref_prefixes_in, want_refs_in}
 use Rattle.git_msg.specs.declared.response_lines.Info.{Info}
 use Rattle.git_msg.specs.References.{IsWritable, reference_of, reference_text}
 use Rattle.git_msg.specs.ResponseLines.{IsSize, Wanted, ack_text, boundary_text, info_text, object_of, wanted_of, wanted_text}
@@ -424,7 +424,7 @@ module _ (t : Terms) (asked : List Asked) (repo : Repository) (sound : IsSound r
       → AnswerGives t asked before (packets ++ end_packets t.ending) (announced_by repo q ++ ended ∷ [])
   answer_gives (ls_refs q) before packets is asks answer = listing_gives q before packets is answer
   answer_gives (fetch q) before packets is asks answer =
-      let ends = not_done (not (is_empty (haves_in q)) || wait_for_done_of (fetch q)) (done_in q) in
+      let ends = not_done (not (is_empty (haves_in q)) || flag_among q Flag.WaitForDone) (done_in q) in
       fetch_gives (negotiates q) q (allowed_after (done_in q) []) before packets ends refl refl is asks answer
   answer_gives (object_info q) before packets is asks answer = sizes_give q before packets is asks answer
 

@@ -182,40 +182,6 @@ done_in args = flag_among args Flag.Done
 abbrev pub has_flag : Flag → Asked → Bool
 has_flag flag asked = flag_among (arguments_in asked) flag
 
--- the flags by their names
-abbrev pub symrefs_of : Asked → Bool
-symrefs_of = has_flag Flag.Symrefs
-
-abbrev pub peel_of : Asked → Bool
-peel_of = has_flag Flag.Peel
-
-abbrev pub unborn_of : Asked → Bool
-unborn_of = has_flag Flag.Unborn
-
-abbrev pub done_of : Asked → Bool
-done_of = has_flag Flag.Done
-
-abbrev pub thin_pack_of : Asked → Bool
-thin_pack_of = has_flag Flag.ThinPack
-
-abbrev pub no_progress_of : Asked → Bool
-no_progress_of = has_flag Flag.NoProgress
-
-abbrev pub include_tag_of : Asked → Bool
-include_tag_of = has_flag Flag.IncludeTag
-
-abbrev pub ofs_delta_of : Asked → Bool
-ofs_delta_of = has_flag Flag.OfsDelta
-
-abbrev pub wait_for_done_of : Asked → Bool
-wait_for_done_of = has_flag Flag.WaitForDone
-
-abbrev pub deepen_relative_of : Asked → Bool
-deepen_relative_of = has_flag Flag.DeepenRelative
-
-abbrev pub size_of : Asked → Bool
-size_of = has_flag Flag.Size
-
 -- the values of a request by their names
 abbrev pub ref_prefixes_of : Asked → List (List ℕ)
 ref_prefixes_of asked = ref_prefixes_in (arguments_in asked)

@@ -5,6 +5,7 @@ ghost use Rattle.git_names.specs.ObjectName.{hex_of};
 ghost use Rattle.git_names.specs.RefName.{IsRefName};
 ghost use Rattle.git_pkt.specs.Packets.{longest_payload};
 ghost use Rattle.git_msg.specs.Arguments.{HasName, most_text, shown, written_text};
+ghost use Rattle.git_msg.specs.declared.flags.Flag.{Flag};
 
 use crate::arguments::{Argument, Command, check_value, is_offered, is_ref_name, put_together};
 use crate::fetch::Fetch;
@@ -34,10 +35,10 @@ pub enum Request<A: Allocator + Copy> {
 
 impl<A: Allocator + Copy> Request<A> {
     ghost use Rattle.git_msg.specs.Arguments.{IsValueFault};
-    ghost use Rattle.git_msg.specs.Asked.{arguments_in, has_flag, symrefs_of, peel_of, unborn_of, ref_prefixes_of, wants_of, haves_of, done_of, thin_pack_of};
-    ghost use Rattle.git_msg.specs.Asked.{no_progress_of, include_tag_of, ofs_delta_of, written_bytes, HasValues};
-    ghost use Rattle.git_msg.specs.Asked.{AreOffered, shallows_of, deepen_of, deepen_relative_of, deepen_since_of, deepen_nots_of, want_refs_of};
-    ghost use Rattle.git_msg.specs.Asked.{size_of, oids_of, wait_for_done_of, filters_of};
+    ghost use Rattle.git_msg.specs.Asked.{arguments_in, has_flag, ref_prefixes_of, wants_of, haves_of};
+    ghost use Rattle.git_msg.specs.Asked.{written_bytes, HasValues};
+    ghost use Rattle.git_msg.specs.Asked.{AreOffered, shallows_of, deepen_of, deepen_since_of, deepen_nots_of, want_refs_of};
+    ghost use Rattle.git_msg.specs.Asked.{oids_of, filters_of};
     ghost use Rattle.git_msg.specs.Checks.{Passes, Refuses};
     ghost use Rattle.git_msg.specs.Lines.{end_checks};
     ghost use Rattle.git_msg.specs.Kept.{AreOf};
@@ -162,21 +163,21 @@ impl<A: Allocator + Copy> Request<A> {
 
     /// The flag `symrefs` of `ls-refs`.
     pub fn symrefs(&self) -> bool
-        ensures { result ≡ symrefs_of (asked_of self.now) }
+        ensures { result ≡ has_flag Flag.Symrefs (asked_of self.now) }
     {
         self.has(Flag::Symrefs)
     }
 
     /// The flag `peel` of `ls-refs`.
     pub fn peel(&self) -> bool
-        ensures { result ≡ peel_of (asked_of self.now) }
+        ensures { result ≡ has_flag Flag.Peel (asked_of self.now) }
     {
         self.has(Flag::Peel)
     }
 
     /// The flag `unborn` of `ls-refs`.
     pub fn unborn(&self) -> bool
-        ensures { result ≡ unborn_of (asked_of self.now) }
+        ensures { result ≡ has_flag Flag.Unborn (asked_of self.now) }
     {
         self.has(Flag::Unborn)
     }
@@ -206,42 +207,42 @@ impl<A: Allocator + Copy> Request<A> {
 
     /// The flag `done` of `fetch`.
     pub fn done(&self) -> bool
-        ensures { result ≡ done_of (asked_of self.now) }
+        ensures { result ≡ has_flag Flag.Done (asked_of self.now) }
     {
         self.has(Flag::Done)
     }
 
     /// The flag `thin-pack` of `fetch`.
     pub fn thin_pack(&self) -> bool
-        ensures { result ≡ thin_pack_of (asked_of self.now) }
+        ensures { result ≡ has_flag Flag.ThinPack (asked_of self.now) }
     {
         self.has(Flag::ThinPack)
     }
 
     /// The flag `no-progress` of `fetch`.
     pub fn no_progress(&self) -> bool
-        ensures { result ≡ no_progress_of (asked_of self.now) }
+        ensures { result ≡ has_flag Flag.NoProgress (asked_of self.now) }
     {
         self.has(Flag::NoProgress)
     }
 
     /// The flag `include-tag` of `fetch`.
     pub fn include_tag(&self) -> bool
-        ensures { result ≡ include_tag_of (asked_of self.now) }
+        ensures { result ≡ has_flag Flag.IncludeTag (asked_of self.now) }
     {
         self.has(Flag::IncludeTag)
     }
 
     /// The flag `ofs-delta` of `fetch`.
     pub fn ofs_delta(&self) -> bool
-        ensures { result ≡ ofs_delta_of (asked_of self.now) }
+        ensures { result ≡ has_flag Flag.OfsDelta (asked_of self.now) }
     {
         self.has(Flag::OfsDelta)
     }
 
     /// The flag `wait-for-done` of `fetch`.
     pub fn wait_for_done(&self) -> bool
-        ensures { result ≡ wait_for_done_of (asked_of self.now) }
+        ensures { result ≡ has_flag Flag.WaitForDone (asked_of self.now) }
     {
         self.has(Flag::WaitForDone)
     }
@@ -269,7 +270,7 @@ impl<A: Allocator + Copy> Request<A> {
 
     /// The flag `deepen-relative` of `fetch`.
     pub fn deepen_relative(&self) -> bool
-        ensures { result ≡ deepen_relative_of (asked_of self.now) }
+        ensures { result ≡ has_flag Flag.DeepenRelative (asked_of self.now) }
     {
         self.has(Flag::DeepenRelative)
     }
@@ -299,7 +300,7 @@ impl<A: Allocator + Copy> Request<A> {
 
     /// The flag `size` of `object-info`.
     pub fn size(&self) -> bool
-        ensures { result ≡ size_of (asked_of self.now) }
+        ensures { result ≡ has_flag Flag.Size (asked_of self.now) }
     {
         self.has(Flag::Size)
     }

@@ -5,16 +5,17 @@ use Rattle.std.specs.Option.{option_map}
 use Rattle.git_names.specs.ObjectName.{ObjectName}
 use Rattle.git_pkt.specs.Packets.{Pkt, flush, delim}
 use Rattle.git_msg.specs.declared.Boundary.{Boundary}
-use Rattle.git_msg.specs.Asked.{fetch, is_empty, only_negotiates, wait_for_done_of, done_in, haves_in, want_refs_in}
+use Rattle.git_msg.specs.Asked.{fetch, is_empty, only_negotiates, done_in, haves_in, want_refs_in, flag_among}
 use Rattle.git_msg.specs.ResponseLines.{ack_text, boundary_text, wanted_of, wanted_text}
 use Rattle.git_msg.specs.WrittenRequest.{text_line}
 use Rattle.git_server.specs.Repository.{Repository, found_ref}
 use Rattle.git_server.specs.Packs.{Manner, whole, broken, IsPackfile}
 use Rattle.git_msg.specs.Arguments.{Arg}
+use Rattle.git_msg.specs.declared.flags.Flag.{Flag}
 
 -- whether the request negotiates: it has `have` lines or `wait-for-done`, and not `done`
 abbrev pub negotiates : List Arg → Bool
-negotiates q = (not (is_empty (haves_in q)) || wait_for_done_of (fetch q)) && not (done_in q)
+negotiates q = (not (is_empty (haves_in q)) || flag_among q Flag.WaitForDone) && not (done_in q)
 
 -- whether the pack follows if the request negotiates: the request does more than negotiate, and the repository is ready for it
 abbrev pub is_ready_for : Repository → List Arg → Bool
