@@ -4,7 +4,7 @@ use Rattle.std.proofs.Common.{◌++◌, length, codes, inl, inr, ◌⊎◌, refl
 use Rattle.git_names.specs.declared.object_format.Format.{Format}
 use Rattle.git_pkt.specs.Packets.{Pkt, flush, flushes}
 use Rattle.git_pkt.specs.Splits.{Given}
-use Rattle.git_msg.specs.Asked.{Asked, ls_refs, fetch, object_info, flag_among, ref_prefixes_in}
+use Rattle.git_msg.specs.Asked.{Asked, ls_refs, fetch, object_info, ref_prefixes_in, peel_in, symrefs_in}
 use Rattle.git_msg.specs.WrittenRequest.{text_line, agent_line, format_line, lines_written}
 use Rattle.git_msg.specs.declared.offers.Caps.{Caps}
 use Rattle.git_msg.specs.declared.offers.Offer.{Offer}
@@ -21,7 +21,6 @@ use Rattle.git_server.proofs.OneSession.{line_is_unsent}
 use Rattle.git_laws.proofs.RequestsReceived.{lines_clear, lines_end, lines_of}
 use Rattle.git_server.specs.declared.advertisement.AdvertisementLine.TheVariants.{Version}
 use Rattle.git_msg.specs.Arguments.{Arg}
-use Rattle.git_msg.specs.declared.flags.Flag.{Flag}
 
 -- ---- lists whose last packet is a flush
 
@@ -117,7 +116,7 @@ fetch_last repo q false packets h = boundary_last repo q packets h
 answer_last : (repo : Repository) (q : Asked) (packets : List Pkt) → IsAnswer repo q packets → LastFlush packets
 answer_last repo (ls_refs q) packets h =
     let unborn = unborn_packets q repo.unborn_head in
-    let shown = map (reference_packet (flag_among q Flag.Symrefs) (flag_among q Flag.Peel)) (shown_refs (ref_prefixes_in q) repo.refs) in
+    let shown = map (reference_packet (symrefs_in q) (peel_in q)) (shown_refs (ref_prefixes_in q) repo.refs) in
     record { front = unborn ++ shown; is = h ∙ sym (append_assoc unborn shown (flush ∷ [])) }
 answer_last repo (object_info q) packets h = record { front = _ ∷ _; is = h }
 answer_last repo (fetch q) packets h = fetch_last repo q (negotiates q) packets h

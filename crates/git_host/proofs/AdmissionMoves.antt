@@ -69,7 +69,8 @@ pub after_there : (step : AdmissionStep) (at : ℕ) (format : Format) (q : List 
     → StandsAtStep step format q (with_want has a) ids
 after_there step at format q a ids has more is h =
     subst (λ (s : AdmissionStep). StandsAtStep s format q (with_want has a) ids) (sym (more h.within))
-    (subst (λ (b : Bool). StandsAtStep (want_step (at + 1) (wants_in q) (want_refs_in q)) format q (with_want b a) ids) (sym is) (after_one at format q a ids h))
+    (subst (λ (b : Bool). StandsAtStep (want_step (at + 1) (wants_in q) (want_refs_in q)) format q (with_want b a) ids) (sym is)
+    (after_one at format q a ids h))
 
 pub after_want : (at : ℕ) (q : List Arg) (a : AdmissionFacts) (ids : List ObjectName) (has : Bool) → has ≡ false → AtWant at q a ids
     → (length ids ≤ length (want_refs_in q)) × IsNotOurs q (with_want has a)

@@ -98,7 +98,8 @@ from_refs false q t all given h = from_wanted_header q t all given h
 
 module _ (q : List Arg) (t : FetchFacts) (all : length t.wanted ≡ length (want_refs_in q)) where
   from_shallow : (any : Bool) (given : List Pkt) → AtShallow any q t given → Completes q t given
-  from_shallow true given h = by_packet q t given _ (by_end q t _ (from_refs (is_empty (want_refs_in q)) q (with_boundary_end t) all _ (after_lines q t given h)))
+  from_shallow true given h = by_packet q t given _ (by_end q t _ (from_refs (is_empty (want_refs_in q)) q (with_boundary_end t) all _
+      (after_lines q t given h)))
   from_shallow false given h = by_end q t given (from_refs (is_empty (want_refs_in q)) q (with_boundary_end t) all given (after_no_line q t given h))
 
   from_ready : (given : List Pkt) → AtReady q t given → Completes q t given

@@ -10,7 +10,7 @@ use Rattle.std.proofs.lemmas.Slice.Eq.{bytes_eq-Decides}
 use Rattle.git_names.specs.RefName.{IsRefName}
 use Rattle.git_names.specs.declared.object_format.Format.{Format}
 use Rattle.git_pkt.specs.Packets.{Pkt, flush}
-use Rattle.git_msg.specs.Asked.{flag_among, ref_prefixes_in}
+use Rattle.git_msg.specs.Asked.{ref_prefixes_in, peel_in, symrefs_in}
 use Rattle.git_msg.specs.Kept.{Kept}
 use Rattle.git_msg.specs.Prefixes.{OrdersPrefixes, is_shown}
 use Rattle.git_server.specs.Answers.{asks_for_unborn, reference_packet, shown_refs, unborn_packet, unborn_packets}
@@ -23,7 +23,6 @@ use Rattle.git_host.specs.declared.references_answer.ReferencesPlace.TheVariants
 use Rattle.git_host.proofs.Picked.{length_more, map_more}
 use Rattle.git_server.proofs.Rising.{last_is, last_rises, rising_more}
 use Rattle.git_msg.specs.Arguments.{Arg}
-use Rattle.git_msg.specs.declared.flags.Flag.{Flag}
 
 filter_by : {X : Type 0} (y : X) (all kept last : List X) → all ≡ kept ++ last → (b : Bool)
     → (if b then y ∷ all else all) ≡ (if b then y ∷ kept else kept) ++ last
@@ -48,12 +47,14 @@ ordered_alike q old new h orders = record {
 pub same_alike : (q : List Arg) → IsAlike q q
 same_alike q = record { symrefs = refl; peel = refl; unborn = refl; alike = λ name. refl }
 
-pub shown_alike : (q kept : List Arg) (name : List ℕ) (b : Bool) → IsAlike q kept → is_shown (ref_prefixes_in kept) name ≡ b → is_shown (ref_prefixes_in q) name ≡ b
+pub shown_alike : (q kept : List Arg) (name : List ℕ) (b : Bool) → IsAlike q kept → is_shown (ref_prefixes_in kept) name ≡ b
+    → is_shown (ref_prefixes_in q) name ≡ b
 shown_alike q kept name b h is = h.alike name ∙ is
 
 pub packet_alike : (q kept : List Arg) (entry : Entry) → IsAlike q kept
-    → reference_packet (flag_among kept Flag.Symrefs) (flag_among kept Flag.Peel) entry ≡ reference_packet (flag_among q Flag.Symrefs) (flag_among q Flag.Peel) entry
-packet_alike q kept entry h = ap (λ (b : Bool). reference_packet b (flag_among kept Flag.Peel) entry) h.symrefs ∙ ap (λ (b : Bool). reference_packet (flag_among q Flag.Symrefs) b entry) h.peel
+    → reference_packet (symrefs_in kept) (peel_in kept) entry ≡ reference_packet (symrefs_in q) (peel_in q) entry
+packet_alike q kept entry h = ap (λ (b : Bool). reference_packet b (peel_in kept) entry) h.symrefs
+    ∙ ap (λ (b : Bool). reference_packet (symrefs_in q) b entry) h.peel
 
 pub asks_alike : (q kept : List Arg) (b : Bool) → IsAlike q kept → asks_for_unborn kept ≡ b → asks_for_unborn q ≡ b
 asks_alike q kept b h is = rw (h.symrefs, h.unborn, ← h.alike (codes "HEAD")) at is
@@ -109,25 +110,26 @@ sound_to_the_end format t h = record { rising = h.rising; named = h.named; of_fo
 
 module _ (format : Format) (q : List Arg) (t : ReferencesFacts) (last : Option (List ℕ)) (given : List Pkt) (at : AtEntries format q t last given) where
   refs_on : (entry : Entry) (b : Bool) → is_shown (ref_prefixes_in q) entry.name ≡ b
-      → packets_so_far q (with_ref entry t) ≡ packets_so_far q t ++ (if b then reference_packet (flag_among q Flag.Symrefs) (flag_among q Flag.Peel) entry ∷ [] else [])
+      → packets_so_far q (with_ref entry t) ≡ packets_so_far q t ++ (if b then reference_packet (symrefs_in q) (peel_in q) entry ∷ [] else [])
   refs_on entry true e =
-      ap (λ (refs : List Entry). unborn_packets q t.unborn ++ map (reference_packet (flag_among q Flag.Symrefs) (flag_among q Flag.Peel)) refs)
+      ap (λ (refs : List Entry). unborn_packets q t.unborn ++ map (reference_packet (symrefs_in q) (peel_in q)) refs)
       (filter_more (λ (r : Entry). is_shown (ref_prefixes_in q) r.name) t.refs entry true e)
-      ∙ ap (λ (l : List Pkt). unborn_packets q t.unborn ++ l) (map_more (reference_packet (flag_among q Flag.Symrefs) (flag_among q Flag.Peel)) (shown_refs (ref_prefixes_in q) t.refs) entry)
-      ∙ sym (append_assoc (unborn_packets q t.unborn) (map (reference_packet (flag_among q Flag.Symrefs) (flag_among q Flag.Peel)) (shown_refs (ref_prefixes_in q) t.refs))
-      (reference_packet (flag_among q Flag.Symrefs) (flag_among q Flag.Peel) entry ∷ []))
+      ∙ ap (λ (l : List Pkt). unborn_packets q t.unborn ++ l) (map_more (reference_packet (symrefs_in q) (peel_in q)) (shown_refs
+          (ref_prefixes_in q) t.refs) entry)
+      ∙ sym (append_assoc (unborn_packets q t.unborn) (map (reference_packet (symrefs_in q) (peel_in q)) (shown_refs (ref_prefixes_in q) t.refs))
+      (reference_packet (symrefs_in q) (peel_in q) entry ∷ []))
   refs_on entry false e =
-      ap (λ (refs : List Entry). unborn_packets q t.unborn ++ map (reference_packet (flag_among q Flag.Symrefs) (flag_among q Flag.Peel)) refs)
+      ap (λ (refs : List Entry). unborn_packets q t.unborn ++ map (reference_packet (symrefs_in q) (peel_in q)) refs)
       (filter_more (λ (r : Entry). is_shown (ref_prefixes_in q) r.name) t.refs entry false e ∙ append-nil (shown_refs (ref_prefixes_in q) t.refs))
       ∙ sym (append-nil (packets_so_far q t))
 
   -- a reference that is shown
   pub after_shown : (entry : Entry) → AreSoundReferences format (with_ref entry t) → is_shown (ref_prefixes_in q) entry.name ≡ true
-      → AtEntries format q (with_ref entry t) (Some entry.name) (given ++ reference_packet (flag_among q Flag.Symrefs) (flag_among q Flag.Peel) entry ∷ [])
+      → AtEntries format q (with_ref entry t) (Some entry.name) (given ++ reference_packet (symrefs_in q) (peel_in q) entry ∷ [])
   after_shown entry sound e = record {
     sound = sound;
     last_is = (t.refs, entry, refl, refl);
-    given_is = ap (λ (l : List Pkt). l ++ reference_packet (flag_among q Flag.Symrefs) (flag_among q Flag.Peel) entry ∷ []) at.given_is ∙ sym (refs_on entry true e);
+    given_is = ap (λ (l : List Pkt). l ++ reference_packet (symrefs_in q) (peel_in q) entry ∷ []) at.given_is ∙ sym (refs_on entry true e);
   }
 
   -- a reference that is hidden
@@ -144,7 +146,7 @@ module _ (format : Format) (q : List Arg) (t : ReferencesFacts) (last : Option (
     sound = sound_to_the_end format t at.sound;
     ended = refl;
     packets_are = ap (λ (l : List Pkt). l ++ flush ∷ []) at.given_is
-        ∙ append_assoc (unborn_packets q t.unborn) (map (reference_packet (flag_among q Flag.Symrefs) (flag_among q Flag.Peel)) (shown_refs (ref_prefixes_in q) t.refs)) (flush ∷ []);
+        ∙ append_assoc (unborn_packets q t.unborn) (map (reference_packet (symrefs_in q) (peel_in q)) (shown_refs (ref_prefixes_in q) t.refs)) (flush ∷ []);
   }
 
 nothing_sound : (format : Format) → AreSoundReferences format no_references
@@ -221,7 +223,7 @@ module _ (format : Format) (q : List Arg) (t : ReferencesFacts) (last : Option (
   head_on : (b : Bool) → asks_for_unborn q ≡ b
       → packets_so_far q (with_unborn target t) ≡ (if b then unborn_packet target ∷ [] else [])
   head_on b e =
-      ap (λ (refs : List Entry). unborn_packets q (Some target) ++ map (reference_packet (flag_among q Flag.Symrefs) (flag_among q Flag.Peel)) (shown_refs (ref_prefixes_in q) refs))
+      ap (λ (refs : List Entry). unborn_packets q (Some target) ++ map (reference_packet (symrefs_in q) (peel_in q)) (shown_refs (ref_prefixes_in q) refs))
       (ap (λ (f : ReferencesFacts). f.refs) at.nothing)
       ∙ append-nil (unborn_packets q (Some target)) ∙ ap (λ (c : Bool). if c then unborn_packet target ∷ [] else []) e
 

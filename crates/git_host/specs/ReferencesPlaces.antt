@@ -6,7 +6,7 @@ use Rattle.git_names.specs.declared.object_format.Format.{Format}
 use Rattle.git_names.specs.ObjectName.{ObjectName, hex_of}
 use Rattle.git_names.specs.RefName.{IsRefName}
 use Rattle.git_pkt.specs.Packets.{Pkt, spelling_of}
-use Rattle.git_msg.specs.Asked.{flag_among, ref_prefixes_in}
+use Rattle.git_msg.specs.Asked.{ref_prefixes_in, peel_in, symrefs_in, unborn_in}
 use Rattle.git_msg.specs.Kept.{Kept}
 use Rattle.git_msg.specs.Prefixes.{ShowAlike}
 use Rattle.git_msg.specs.WrittenRequest.{text_line}
@@ -23,7 +23,6 @@ use Rattle.git_host.specs.declared.references_answer.ReferencesAnswer.{Reference
 use Rattle.git_host.specs.declared.report.ReferenceFault.{ReferenceFault}
 use Rattle.git_host.specs.declared.report.ReferenceFault.TheVariants.{BadObjectName, BadRefName, OutOfMemory}
 use Rattle.git_msg.specs.Arguments.{Arg}
-use Rattle.git_msg.specs.declared.flags.Flag.{Flag}
 
 -- what a store reported for one request for references: what an unborn `HEAD` points to, its references, and whether those are all of them
 pub record ReferencesFacts : Type 0 where
@@ -54,14 +53,14 @@ IsLast refs (Some name) = (front : List Entry) × (entry : Entry) × (refs ≡ f
 
 -- the request that is answered is this one, but for the order of its prefixes
 pub record IsAlike (q kept : List Arg) : Type 0 where
-  pub symrefs : (flag_among kept Flag.Symrefs) ≡ (flag_among q Flag.Symrefs)
-  pub peel : (flag_among kept Flag.Peel) ≡ (flag_among q Flag.Peel)
-  pub unborn : (flag_among kept Flag.Unborn) ≡ (flag_among q Flag.Unborn)
+  pub symrefs : (symrefs_in kept) ≡ (symrefs_in q)
+  pub peel : (peel_in kept) ≡ (peel_in q)
+  pub unborn : (unborn_in kept) ≡ (unborn_in q)
   pub alike : ShowAlike (ref_prefixes_in q) (ref_prefixes_in kept)
 
 -- the packets that what was reported so far calls for
 abbrev pub packets_so_far : List Arg → ReferencesFacts → List Pkt
-packets_so_far q t = unborn_packets q t.unborn ++ map (reference_packet (flag_among q Flag.Symrefs) (flag_among q Flag.Peel)) (shown_refs (ref_prefixes_in q) t.refs)
+packets_so_far q t = unborn_packets q t.unborn ++ map (reference_packet (symrefs_in q) (peel_in q)) (shown_refs (ref_prefixes_in q) t.refs)
 
 -- references were reported, perhaps none so far
 pub record AtEntries (format : Format) (q : List Arg) (t : ReferencesFacts) (last : Option (List ℕ)) (given : List Pkt) : Type 0 where

@@ -10,7 +10,6 @@ ghost use Rattle.git_server.specs.Answers.{reference_packet, unborn_packet};
 ghost use Rattle.git_server.specs.Repository.{HasOneFormat};
 ghost use Rattle.git_host.specs.ReferencesPlaces.{after_entry, comes_after, plain_line};
 ghost use Rattle.git_host.specs.FetchPlaces.{Holds};
-ghost use Rattle.git_msg.specs.declared.flags.Flag.{Flag};
 
 use crate::last_name::LastName;
 use crate::next_name::{NextName, judge_name};
@@ -60,7 +59,7 @@ pub struct ReferencesAnswer<A: Allocator + Copy> {
 }
 
 impl<A: Allocator + Copy> ReferencesAnswer<A> {
-    ghost use Rattle.git_msg.specs.Asked.{ls_refs, flag_among, ref_prefixes_in};
+    ghost use Rattle.git_msg.specs.Asked.{ls_refs, ref_prefixes_in, peel_in, symrefs_in};
     ghost use Rattle.git_host.specs.HostLookups.{references_asked};
     ghost use Rattle.git_host.specs.ReferencesPlaces.{Ends, KeepsAs, Reports, ReportsUnborn, Starts, format_of, last_reported, refuses_head};
 
@@ -251,7 +250,7 @@ fn put_unborn(hold: &mut Hold, target: &[u8])
 #[tactic(auto, using(crate::proofs::FetchMoves::line_held))]
 fn put_entry<A: Allocator + Copy>(hold: &mut Hold, entry: &RefEntry, listing: &Listing<A>)
     requires { HasOneFormat entry.now }
-    ensures { Holds hold.new.items (reference_packet (flag_among listing.now.asked Flag.Symrefs) (flag_among listing.now.asked Flag.Peel) entry.now) }
+    ensures { Holds hold.new.items (reference_packet (symrefs_in listing.now.asked) (peel_in listing.now.asked) entry.now) }
 {
     put_reference(hold, entry_line(entry, listing));
 }

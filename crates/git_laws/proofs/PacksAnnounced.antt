@@ -6,7 +6,7 @@ use Rattle.std.proofs.lemmas.List.{append-nil}
 use Rattle.git_names.specs.ObjectName.{ObjectName}
 use Rattle.git_msg.specs.declared.Boundary.{Boundary}
 use Rattle.git_msg.specs.declared.Boundary.TheVariants.{Shallow, Unshallow}
-use Rattle.git_msg.specs.Asked.{Asked, fetch, ls_refs, object_info, flag_among, haves_in, oids_in, ref_prefixes_in, want_refs_in}
+use Rattle.git_msg.specs.Asked.{Asked, fetch, ls_refs, object_info, haves_in, oids_in, ref_prefixes_in, want_refs_in, peel_in, symrefs_in}
 use Rattle.git_msg.specs.References.{reference_of}
 use Rattle.git_client.specs.Events.{EventValue, ack, ended, info, pack, pack_bytes, reference, wanted_ref}
 use Rattle.git_client.proofs.Packs.{pack_bytes-append}
@@ -17,7 +17,6 @@ use Rattle.git_laws.specs.AnnouncedAnswers.{answered_pack, found_refs, announced
 use Rattle.git_laws.specs.AnnouncedAnswers.{announced_fetch, announced_pack, announced_ready}
 use Rattle.git_laws.specs.AnnouncedAnswers.{announced_unborn}
 use Rattle.git_msg.specs.Arguments.{Arg}
-use Rattle.git_msg.specs.declared.flags.Flag.{Flag}
 
 -- events that have no byte of the pack
 no_pack : {X : Type 0} (event : X → EventValue) → ((x : X) (later : List EventValue) → pack_bytes (event x ∷ later) ≡ pack_bytes later) → (xs : List X)
@@ -72,9 +71,9 @@ module _ (repo : Repository) where
   -- the pack of one answer
   one_pack : (q : Asked) → pack_bytes (announced_by repo q) ≡ answered_pack repo q
   one_pack (ls_refs q) =
-      let shown = map (λ (entry : Entry). reference (shown_line (flag_among q Flag.Symrefs) (flag_among q Flag.Peel) entry)) (shown_refs (ref_prefixes_in q) repo.refs) in
+      let shown = map (λ (entry : Entry). reference (shown_line (symrefs_in q) (peel_in q) entry)) (shown_refs (ref_prefixes_in q) repo.refs) in
       after_none (announced_unborn q repo.unborn_head) shown [] (no_unborn_pack q repo.unborn_head)
-      (no_pack (λ entry. reference (shown_line (flag_among q Flag.Symrefs) (flag_among q Flag.Peel) entry)) (λ x later. refl) (shown_refs (ref_prefixes_in q) repo.refs))
+      (no_pack (λ entry. reference (shown_line (symrefs_in q) (peel_in q) entry)) (λ x later. refl) (shown_refs (ref_prefixes_in q) repo.refs))
   one_pack (fetch q) = fetch_packs (negotiates q) q
   one_pack (object_info q) = no_pack (λ id. info (record { id = id; size = repo.object_size id })) (λ x later. refl) (oids_in q)
 

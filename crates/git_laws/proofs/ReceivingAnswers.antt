@@ -22,7 +22,8 @@ use Rattle.git_pkt.proofs.Texts.{text_of-line_end}
 use Rattle.git_msg.specs.declared.Boundary.{Boundary}
 use Rattle.git_msg.specs.declared.Boundary.TheVariants.{Shallow, Unshallow}
 use Rattle.git_msg.specs.Arguments.{IsNameIn}
-use Rattle.git_msg.specs.Asked.{Asked, fetch, is_empty, ls_refs, object_info, done_in, flag_among, haves_in, oids_in, ref_prefixes_in, want_refs_in}
+use Rattle.git_msg.specs.Asked.{Asked, fetch, is_empty, ls_refs, object_info, done_in, flag_among, haves_in, oids_in, peel_in}
+use Rattle.git_msg.specs.Asked.{ref_prefixes_in, symrefs_in, want_refs_in}
 use Rattle.git_msg.specs.declared.response_lines.Info.{Info}
 use Rattle.git_msg.specs.References.{IsWritable, reference_of, reference_text}
 use Rattle.git_msg.specs.ResponseLines.{IsSize, Wanted, ack_text, boundary_text, info_text, object_of, wanted_of, wanted_text}
@@ -240,7 +241,8 @@ module _ (t : Terms) (asked : List Asked) (repo : Repository) (sound : IsSound r
   abbrev LaterGives : List Arg → List Pkt → Type 0
   LaterGives q others =
       (allowed : Allowed) (before : List Pkt) → allowed.wanted_refs ≡ true → IsExpected t asked before (Header allowed)
-      → AnswerGives t asked before (others ++ end_packets t.ending) (map wanted_ref (found_refs repo (want_refs_in q)) ++ (map pack (repo.pack q) ++ ended ∷ []))
+      → AnswerGives t asked before (others ++ end_packets t.ending)
+      (map wanted_ref (found_refs repo (want_refs_in q)) ++ (map pack (repo.pack q) ++ ended ∷ []))
 
   later_gives : (q : List Arg) (packets : List Pkt) → EndsWithRefs whole repo q packets → LaterGives q packets
   later_gives q packets h allowed before may is =
@@ -385,19 +387,21 @@ module _ (t : Terms) (asked : List Asked) (repo : Repository) (sound : IsSound r
   listing_gives : (q : List Arg) (before packets : List Pkt) → IsExpected t asked before References → packets ≡ ls_refs_answer q repo
       → AnswerGives t asked before (packets ++ end_packets t.ending) (announced_refs repo q ++ ended ∷ [])
   listing_gives q before packets is answer =
-      let line = λ (entry : Entry). reference_text (shown_line (flag_among q Flag.Symrefs) (flag_among q Flag.Peel) entry) in
-      let event = λ (entry : Entry). reference (shown_line (flag_among q Flag.Symrefs) (flag_among q Flag.Peel) entry) in
+      let line = λ (entry : Entry). reference_text (shown_line (symrefs_in q) (peel_in q) entry) in
+      let event = λ (entry : Entry). reference (shown_line (symrefs_in q) (peel_in q) entry) in
       let shown = shown_refs (ref_prefixes_in q) repo.refs in
-      let lines = map (reference_packet (flag_among q Flag.Symrefs) (flag_among q Flag.Peel)) shown in
+      let lines = map (reference_packet (symrefs_in q) (peel_in q)) shown in
       let last = end_packets t.ending in
       let head = unborn_packets q repo.unborn_head in
       let all : All (λ entry. GivesLine references t.format (line entry) (event entry ∷ [])) repo.refs =
-      λ k d within. reference_line t.format (flag_among q Flag.Symrefs) (flag_among q Flag.Peel) _ (sound.named k d within) (rw same at (sound.of_format k d within)) (written.refs k d within) in
+      λ k d within. reference_line t.format (symrefs_in q) (peel_in q) _ (sound.named k d within)
+      (rw same at (sound.of_format k d within)) (written.refs k d within) in
       let parts : packets ++ last ≡ head ++ (lines ++ (flush ∷ last)) = rw answer (simp append_assoc) in
       rw (parts, append_assoc (announced_unborn q repo.unborn_head) (map event shown) (ended ∷ []))
       (unborn_gives q repo.unborn_head before (lines ++ (flush ∷ last)) (map event shown ++ ended ∷ []) sound.unborn is
       (λ behind is. lines_give t asked line event References tt shown behind (flush ∷ last) (ended ∷ []) is
-      (λ caps. All-filter (λ entry. is_shown (ref_prefixes_in q) entry.name) (λ entry. GivesLine references t.format (line entry) (event entry ∷ [])) repo.refs all)
+      (λ caps. All-filter (λ entry. is_shown (ref_prefixes_in q) entry.name)
+      (λ entry. GivesLine references t.format (line entry) (event entry ∷ [])) repo.refs all)
       (λ after is. end_gives t.format t.ending asked after References tt is)))
 
   -- ---- sizes

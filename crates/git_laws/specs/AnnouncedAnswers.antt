@@ -12,7 +12,7 @@ use Rattle.git_msg.specs.declared.offers.Offer.{Offer}
 use Rattle.git_msg.specs.declared.Boundary.{Boundary}
 use Rattle.git_msg.specs.declared.Boundary.TheVariants.{Shallow, Unshallow}
 use Rattle.git_msg.specs.Arguments.{IsNameIn}
-use Rattle.git_msg.specs.Asked.{Asked, ls_refs, fetch, object_info, flag_among, haves_in, oids_in, ref_prefixes_in, want_refs_in}
+use Rattle.git_msg.specs.Asked.{Asked, ls_refs, fetch, object_info, haves_in, oids_in, ref_prefixes_in, want_refs_in, peel_in, symrefs_in}
 use Rattle.git_msg.specs.Features.{features_value, fetch_features, ls_refs_features}
 use Rattle.git_msg.specs.References.{reference_of}
 use Rattle.git_msg.specs.ResponseLines.{IsSize, Wanted, object_of, wanted_of}
@@ -23,7 +23,6 @@ use Rattle.git_server.specs.Answers.{asks_for_unborn, shown_line, shown_refs}
 use Rattle.git_server.specs.FetchAnswers.{common, is_ready_for, negotiates}
 use Rattle.git_server.specs.Repository.{Entry, Repository, found_ref}
 use Rattle.git_msg.specs.Arguments.{Arg}
-use Rattle.git_msg.specs.declared.flags.Flag.{Flag}
 
 -- `HEAD` if it is unborn, with the name that it points to, if the request asks for it
 abbrev pub announced_unborn : List Arg → Option (List ℕ) → List EventValue
@@ -33,7 +32,7 @@ announced_unborn q (Some target) = if asks_for_unborn q then reference (referenc
 -- and then the references that are shown
 abbrev pub announced_refs : Repository → List Arg → List EventValue
 announced_refs repo q =
-    announced_unborn q repo.unborn_head ++ map (λ entry. reference (shown_line (flag_among q Flag.Symrefs) (flag_among q Flag.Peel) entry)) (shown_refs (ref_prefixes_in q) repo.refs)
+    announced_unborn q repo.unborn_head ++ map (λ entry. reference (shown_line (symrefs_in q) (peel_in q) entry)) (shown_refs (ref_prefixes_in q) repo.refs)
 
 -- the objects that both sides have, or that there is none
 abbrev pub announced_common : List ObjectName → List EventValue

@@ -1,5 +1,6 @@
 -- The lists that are stored of a request are its arguments in their order, and looking up in these finds what is stored.
-use Rattle.std.proofs.Common.{◌≡◌, ◌+◌, ◌==◌, ◌||◌, ℕ, Bool, true, false, Option, Some, None, List, [], ◌∷◌, ◌++◌, map, refl, sym, ap, ◌∙◌, subst, get_or, if◌then◌else◌}
+use Rattle.std.proofs.Common.{◌≡◌, ◌+◌, ◌==◌, ◌||◌, ℕ, Bool, true, false, Option, Some, None, List, [], ◌∷◌, ◌++◌, map, refl, sym}
+use Rattle.std.proofs.Common.{ap, ◌∙◌, get_or, if◌then◌else◌}
 use Rattle.std.specs.Prelude.{All, Vec, IfSome, slice_get}
 use Rattle.std.specs.List.{filter_map, flat_map, cons_option, list_any}
 use Rattle.std.proofs.lemmas.List.{map-append}
@@ -16,7 +17,8 @@ use Rattle.git_msg.specs.declared.words.Word.TheVariants.{Shallow as shallow, De
 use Rattle.git_msg.specs.declared.words.Word.TheVariants.{WantRef as want_ref, ObjectId as object_id}
 use Rattle.git_msg.specs.Arguments.{Arg, Value, id_value, number_value, text_value, alone, row, with_id, with_number, with_text, words}
 use Rattle.git_msg.specs.Arguments.{Shape, flag_word, object_name, depth_number, time_number, prefix_text, kept_text, reference_name}
-use Rattle.git_msg.specs.Asked.{is_word, is_of, of_word, last_counts, all_or_last, AreInOrder, flag_among, id_of, ids, number, number_of, text_of, texts, where_asked, where_given, with_one}
+use Rattle.git_msg.specs.Asked.{is_word, is_of, of_word, last_counts, all_or_last, AreInOrder, flag_among}
+use Rattle.git_msg.specs.Asked.{id_of, ids, number, number_of, text_of, texts, where_asked, where_given, with_one}
 use Rattle.git_msg.specs.Flags.{is_held, place_of}
 use Rattle.git_msg.specs.Machine.ArgumentLists.{held, held_at, ids_at, number_at, texts_at, with_values}
 use Rattle.git_msg.specs.Machine.HeldTexts.{texts_of}
@@ -200,7 +202,8 @@ module _ {A : Type 0} (q : ArgumentLists A) where
   adds_flag new flag is ref_prefix = rw (no_flag ref_prefix flag tt) refl
   adds_flag new flag is word = rw (no_flag word flag tt) refl
 
-  pub adds_prefix : (new : Texts A) (text : List ℕ) → texts_of new ≡ texts_of q.ref_prefixes ++ text ∷ [] → Adds (with_text ref_prefix text) (record q { ref_prefixes = new })
+  pub adds_prefix : (new : Texts A) (text : List ℕ) → texts_of new ≡ texts_of q.ref_prefixes ++ text ∷ []
+      → Adds (with_text ref_prefix text) (record q { ref_prefixes = new })
   adds_prefix new text is (of_flag Flag.Size) = refl
   adds_prefix new text is ref_prefix = rw is (map-append (with_text ref_prefix) (texts_of q.ref_prefixes) (text ∷ []))
   adds_prefix new text is word = refl
@@ -215,12 +218,14 @@ module _ {A : Type 0} (q : ArgumentLists A) where
   adds_have new id is have = rw is (map-append (with_id have) q.haves.items (id ∷ []))
   adds_have new id is word = refl
 
-  pub adds_filter : (new : Texts A) (text : List ℕ) → texts_of new ≡ texts_of q.filters ++ text ∷ [] → Adds (with_text filter_spec text) (record q { filters = new })
+  pub adds_filter : (new : Texts A) (text : List ℕ) → texts_of new ≡ texts_of q.filters ++ text ∷ []
+      → Adds (with_text filter_spec text) (record q { filters = new })
   adds_filter new text is (of_flag Flag.Size) = refl
   adds_filter new text is filter_spec = rw is (map-append (with_text filter_spec) (texts_of q.filters) (text ∷ []))
   adds_filter new text is word = refl
 
-  pub adds_shallow : (new : Vec ObjectName A) (id : ObjectName) → new.items ≡ q.shallows.items ++ id ∷ [] → Adds (with_id shallow id) (record q { shallows = new })
+  pub adds_shallow : (new : Vec ObjectName A) (id : ObjectName) → new.items ≡ q.shallows.items ++ id ∷ []
+      → Adds (with_id shallow id) (record q { shallows = new })
   adds_shallow new id is (of_flag Flag.Size) = refl
   adds_shallow new id is shallow = rw is (map-append (with_id shallow) q.shallows.items (id ∷ []))
   adds_shallow new id is word = refl
@@ -233,12 +238,14 @@ module _ {A : Type 0} (q : ArgumentLists A) where
   adds_time number (of_flag Flag.Size) = refl
   adds_time number word = refl
 
-  pub adds_revision : (new : Texts A) (text : List ℕ) → texts_of new ≡ texts_of q.deepen_nots ++ text ∷ [] → Adds (with_text deepen_not text) (record q { deepen_nots = new })
+  pub adds_revision : (new : Texts A) (text : List ℕ) → texts_of new ≡ texts_of q.deepen_nots ++ text ∷ []
+      → Adds (with_text deepen_not text) (record q { deepen_nots = new })
   adds_revision new text is (of_flag Flag.Size) = refl
   adds_revision new text is deepen_not = rw is (map-append (with_text deepen_not) (texts_of q.deepen_nots) (text ∷ []))
   adds_revision new text is word = refl
 
-  pub adds_name : (new : Texts A) (text : List ℕ) → texts_of new ≡ texts_of q.want_refs ++ text ∷ [] → Adds (with_text want_ref text) (record q { want_refs = new })
+  pub adds_name : (new : Texts A) (text : List ℕ) → texts_of new ≡ texts_of q.want_refs ++ text ∷ []
+      → Adds (with_text want_ref text) (record q { want_refs = new })
   adds_name new text is (of_flag Flag.Size) = refl
   adds_name new text is want_ref = rw is (map-append (with_text want_ref) (texts_of q.want_refs) (text ∷ []))
   adds_name new text is word = refl

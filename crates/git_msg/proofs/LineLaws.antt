@@ -91,7 +91,8 @@ fair_end_checks : (asked : Asked) → AllFair (end_checks asked)
 unfolding AllFair
 fair_end_checks (ls_refs q) = tt
 fair_end_checks (fetch q) = search (rules, fair_check, true_false)
-fair_end_checks (object_info q) = (fair_check (flag_among q Flag.Size ≡ true) (flag_among q Flag.Size ≡ false) NoSize (λ p r. true_false (flag_among q Flag.Size) p r), tt)
+fair_end_checks (object_info q) =
+    (fair_check (flag_among q Flag.Size ≡ true) (flag_among q Flag.Size ≡ false) NoSize (λ p r. true_false (flag_among q Flag.Size) p r), tt)
 
 fair_at_end : (lines : List Line) → IsFair (at_end lines)
 fair_at_end lines = search (rules, same_command, passes_or_refuses, fair_end_checks, one_name)

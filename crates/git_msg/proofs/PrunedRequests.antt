@@ -1,5 +1,6 @@
 -- A request whose prefixes are sorted, and some of them dropped: its bytes are counted as before.
-use Rattle.std.proofs.Common.{◌≡◌, ℕ, ◌+◌, ◌≤◌, ◌<◌, Bool, true, false, if◌then◌else◌, List, ◌∷◌, ◌++◌, All, length, map, ap, sym, ◌∙◌, subst, arith, take, drop}
+use Rattle.std.proofs.Common.{◌≡◌, ℕ, ◌+◌, ◌≤◌, ◌<◌, Bool, true, false, if◌then◌else◌, List, ◌∷◌, ◌++◌, All, length, map}
+use Rattle.std.proofs.Common.{ap, sym, ◌∙◌, subst, arith, take, drop}
 use Rattle.std.specs.List.{dedup, dedup_from, flat_map, sum_by}
 use Rattle.std.specs.List.Sorted.{IsPermutation}
 use Rattle.std.proofs.lemmas.List.{get_or-map, length-map}
@@ -115,7 +116,9 @@ module _ {A : Type 0} where
           (values_pruned (IsInRange format) (with_text ref_prefix) (front_of q) (back_of q) (texts_of q.ref_prefixes) prunes.moved prunes.same
           (subst (All (IsInRange format)) (parted q) h.ranges));
       in_order = held_in_order new;
-      written = let fewer = bytes_pruned (IsInRange format) (with_text ref_prefix) (front_of q) (back_of q) (texts_of q.ref_prefixes) prunes.moved prunes.same in
+      written =
+          let fewer =
+          bytes_pruned (IsInRange format) (with_text ref_prefix) (front_of q) (back_of q) (texts_of q.ref_prefixes) prunes.moved prunes.same in
           omega (arith, fewer, h.written, ap bytes_of (parted q), ap bytes_of now);
       covered = omega (arith, less, h.covered);
       space = h.space;

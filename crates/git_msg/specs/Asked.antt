@@ -178,6 +178,16 @@ deepen_since_in = number deepen_since
 abbrev pub done_in : List Arg → Bool
 done_in args = flag_among args Flag.Done
 
+-- what an ls-refs wants to see of references
+abbrev pub symrefs_in : List Arg → Bool
+symrefs_in args = flag_among args Flag.Symrefs
+
+abbrev pub peel_in : List Arg → Bool
+peel_in args = flag_among args Flag.Peel
+
+abbrev pub unborn_in : List Arg → Bool
+unborn_in args = flag_among args Flag.Unborn
+
 -- whether the request has the flag
 abbrev pub has_flag : Flag → Asked → Bool
 has_flag flag asked = flag_among (arguments_in asked) flag

@@ -5,9 +5,8 @@ use Rattle.std.specs.List.Sorted.{IsPermutation}
 use Rattle.std.specs.Ordering.{nat_cmp, is_le}
 use Rattle.std.specs.Cmp.Lexicographic.{slice_cmp}
 use Rattle.std.specs.declared.cmp.Ordering.{Ordering}
-use Rattle.git_msg.specs.declared.flags.Flag.{Flag}
 use Rattle.git_msg.specs.Arguments.{Arg}
-use Rattle.git_msg.specs.Asked.{flag_among, ref_prefixes_in}
+use Rattle.git_msg.specs.Asked.{ref_prefixes_in, peel_in, symrefs_in, unborn_in}
 use Rattle.git_msg.specs.Kept.{Kept}
 
 -- the order of texts by their bytes
@@ -56,9 +55,9 @@ pub record Prunes (ps qs : List (List ℕ)) : Type 0 where
 
 -- the same request, with prefixes that show the same names
 pub record OrdersPrefixes (old new : Kept (List Arg)) : Type 0 where
-  pub symrefs : flag_among new.asked Flag.Symrefs ≡ flag_among old.asked Flag.Symrefs
-  pub peel : flag_among new.asked Flag.Peel ≡ flag_among old.asked Flag.Peel
-  pub unborn : flag_among new.asked Flag.Unborn ≡ flag_among old.asked Flag.Unborn
+  pub symrefs : symrefs_in new.asked ≡ symrefs_in old.asked
+  pub peel : peel_in new.asked ≡ peel_in old.asked
+  pub unborn : unborn_in new.asked ≡ unborn_in old.asked
   pub alike : ShowAlike (ref_prefixes_in old.asked) (ref_prefixes_in new.asked)
   pub kept : new.kept ≡ old.kept
   pub limit : new.limit ≡ old.limit

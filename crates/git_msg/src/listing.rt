@@ -18,7 +18,7 @@ pub struct Listing<A: Allocator + Copy> {
 impl<A: Allocator + Copy> Model for Listing<A> {
     ghost use Rattle.std.specs.Prelude.{List};
     ghost use Rattle.git_msg.specs.Arguments.{Arg};
-    ghost use Rattle.git_msg.specs.Asked.{ref_prefixes_in};
+    ghost use Rattle.git_msg.specs.Asked.{ref_prefixes_in, peel_in, symrefs_in, unborn_in};
     ghost use Rattle.git_msg.specs.Kept.{Kept};
     ghost use Rattle.git_msg.specs.Prefixes.{IsOrdered};
 
@@ -67,21 +67,21 @@ impl<A: Allocator + Copy> Listing<A> {
 
     /// Whether symbolic references are to be shown with what they point to.
     pub fn symrefs(&self) -> bool
-        ensures { result ≡ flag_among self.now.asked Flag.Symrefs }
+        ensures { result ≡ symrefs_in self.now.asked }
     {
         self.request.symrefs()
     }
 
     /// Whether annotated tags are to be shown with what they peel to.
     pub fn peel(&self) -> bool
-        ensures { result ≡ flag_among self.now.asked Flag.Peel }
+        ensures { result ≡ peel_in self.now.asked }
     {
         self.request.peel()
     }
 
     /// Whether to show, too, what `HEAD` points to if that has no commit yet.
     pub fn unborn(&self) -> bool
-        ensures { result ≡ flag_among self.now.asked Flag.Unborn }
+        ensures { result ≡ unborn_in self.now.asked }
     {
         self.request.unborn()
     }

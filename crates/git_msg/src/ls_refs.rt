@@ -35,7 +35,7 @@ impl<A: Allocator + Copy> Model for LsRefs<A> {
 
 impl<A: Allocator + Copy> LsRefs<A> {
     ghost use Rattle.git_msg.specs.Arguments.{most_text};
-    ghost use Rattle.git_msg.specs.Asked.{flag_among, ref_prefixes_in};
+    ghost use Rattle.git_msg.specs.Asked.{flag_among, ref_prefixes_in, peel_in, symrefs_in, unborn_in};
     ghost use Rattle.git_msg.specs.Kept.{AreOf, HasNone};
     ghost use Rattle.git_msg.specs.Prefixes.{IsOrdered, OrdersPrefixes, SplitsAt, is_shown};
 
@@ -48,21 +48,21 @@ impl<A: Allocator + Copy> LsRefs<A> {
 
     /// Whether symbolic references are to be shown with what they point to.
     pub fn symrefs(&self) -> bool
-        ensures { result ≡ flag_among self.now.asked Flag.Symrefs }
+        ensures { result ≡ symrefs_in self.now.asked }
     {
         self.arguments.has(Flag::Symrefs)
     }
 
     /// Whether annotated tags are to be shown with what they peel to.
     pub fn peel(&self) -> bool
-        ensures { result ≡ flag_among self.now.asked Flag.Peel }
+        ensures { result ≡ peel_in self.now.asked }
     {
         self.arguments.has(Flag::Peel)
     }
 
     /// Whether to show, too, what `HEAD` points to if that has no commit yet.
     pub fn unborn(&self) -> bool
-        ensures { result ≡ flag_among self.now.asked Flag.Unborn }
+        ensures { result ≡ unborn_in self.now.asked }
     {
         self.arguments.has(Flag::Unborn)
     }

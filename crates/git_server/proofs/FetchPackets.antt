@@ -169,7 +169,8 @@ after_ends first P packets none ends h = omega (arith, ap flushes h.packets_are,
 
 refs_end : (repo : Repository) (q : List Arg) (at : SectionPlace) (packets : List Pkt)
     → IsFetchFrom whole repo q (WantedRefs at) packets → flushes packets ≡ 1
-refs_end repo q at packets = after_ends (wanted_from repo (want_refs_in q) at) (IsPackfile whole (repo.pack q)) packets (wanted_has_none repo (want_refs_in q) at)
+refs_end repo q at packets =
+    after_ends (wanted_from repo (want_refs_in q) at) (IsPackfile whole (repo.pack q)) packets (wanted_has_none repo (want_refs_in q) at)
     (packfile_ends_later (repo.pack q) PackHeader)
 
 boundary_ends : (repo : Repository) (q : List Arg) (at : SectionPlace) (packets : List Pkt)

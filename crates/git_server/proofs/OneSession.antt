@@ -9,7 +9,7 @@ use Rattle.git_pkt.proofs.Written.{spells_written}
 use Rattle.git_pkt.specs.Splits.{Given}
 use Rattle.git_pkt.proofs.Streams.{one_split}
 use Rattle.git_msg.specs.declared.offers.Offer.{Offer}
-use Rattle.git_msg.specs.Asked.{Asked, ls_refs, fetch, object_info, flag_among, oids_in, ref_prefixes_in}
+use Rattle.git_msg.specs.Asked.{Asked, ls_refs, fetch, object_info, oids_in, ref_prefixes_in, peel_in, symrefs_in}
 use Rattle.git_msg.specs.References.{reference_text}
 use Rattle.git_msg.specs.ResponseLines.{info_text}
 use Rattle.git_msg.specs.WrittenRequest.{text_line}
@@ -40,7 +40,6 @@ use Rattle.git_server.proofs.Begun.{begun_has_no_flush}
 use Rattle.git_server.proofs.Sent.{is_whole}
 use Rattle.git_server.proofs.Going.{goes_on, no_outcome, nothing_unsent, some_unsent}
 use Rattle.git_msg.specs.Arguments.{Arg}
-use Rattle.git_msg.specs.declared.flags.Flag.{Flag}
 
 module _ (s : Setting) where
   pub no_request : (left : List Given) → NoFlush left → NoRequest (IsRequest s) left
@@ -75,8 +74,8 @@ unborn_have_none q (Some target) = unborn_has_none target (asks_for_unborn q)
 references_end : (q : List Arg) (repo : Repository) (place : ReferencesPlace) → flushes (references_from q repo place) ≡ 1
 references_end q repo First =
     let split = flushes-append (unborn_packets q repo.unborn_head) (reference_packets q repo.refs) in
-    omega (arith, split, unborn_have_none q repo.unborn_head, refs_end (flag_among q Flag.Symrefs) (flag_among q Flag.Peel) (shown_refs (ref_prefixes_in q) repo.refs))
-references_end q repo (EntryPlace next) = refs_end (flag_among q Flag.Symrefs) (flag_among q Flag.Peel) (shown_refs (ref_prefixes_in q) (drop next repo.refs))
+    omega (arith, split, unborn_have_none q repo.unborn_head, refs_end (symrefs_in q) (peel_in q) (shown_refs (ref_prefixes_in q) repo.refs))
+references_end q repo (EntryPlace next) = refs_end (symrefs_in q) (peel_in q) (shown_refs (ref_prefixes_in q) (drop next repo.refs))
 
 infos_end : (repo : Repository) (ids : List ObjectName)
     → flushes (map (λ id. text_line (info_text (record { id = id; size = repo.object_size id }))) ids ++ flush ∷ []) ≡ 1

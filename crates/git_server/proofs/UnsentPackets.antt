@@ -23,8 +23,7 @@ use Rattle.git_server.specs.declared.outcome.Outcome.TheVariants.{Refused}
 use Rattle.git_server.specs.declared.server.Phase.{Phase}
 use Rattle.git_server.specs.declared.server.Phase.TheVariants.{Advertising, Between, Answering, Refusing}
 use Rattle.git_server.proofs.FetchPackets.{some_of_fetch}
-use Rattle.git_msg.specs.Asked.{flag_among, oids_in, ref_prefixes_in}
-use Rattle.git_msg.specs.declared.flags.Flag.{Flag}
+use Rattle.git_msg.specs.Asked.{oids_in, ref_prefixes_in, peel_in, symrefs_in}
 
 option_lines : (offer : Offer) (b : Bool)
     → offered_line b (codes "server-option") ++ format_on offer ≡ advertisement_from offer (if b then ServerOption else ObjectFormat)
@@ -106,8 +105,8 @@ module _ {A : Type 0} where
   -- something of an answer that is not whole is left
   pub some_left : (repo : Repository) (answer : Answer A) → 0 < most_from repo answer
   some_left repo (References request First) = some_after (unborn_packets request.asked repo.unborn_head)
-      (map (reference_packet (flag_among request.asked Flag.Symrefs) (flag_among request.asked Flag.Peel)) (shown_refs (ref_prefixes_in request.asked) repo.refs))
-  some_left repo (References request (Entry next)) = some_packets (map (reference_packet (flag_among request.asked Flag.Symrefs) (flag_among request.asked Flag.Peel))
+      (map (reference_packet (symrefs_in request.asked) (peel_in request.asked)) (shown_refs (ref_prefixes_in request.asked) repo.refs))
+  some_left repo (References request (Entry next)) = some_packets (map (reference_packet (symrefs_in request.asked) (peel_in request.asked))
       (shown_refs (ref_prefixes_in request.asked) (drop next repo.refs)))
   some_left repo (Fetching request place) = some_of_fetch repo request.asked place
   some_left repo (Sizes request SizesHeader) = omega arith

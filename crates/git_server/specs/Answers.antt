@@ -8,7 +8,7 @@ use Rattle.git_pkt.specs.declared.fault.Kind.{Kind}
 use Rattle.git_pkt.specs.declared.fault.Kind.TheVariants.{RemoteError}
 use Rattle.git_msg.specs.declared.offers.Offer.{Offer}
 use Rattle.git_names.specs.ObjectName.{ObjectName}
-use Rattle.git_msg.specs.Asked.{Asked, ls_refs, fetch, object_info, flag_among, oids_in, ref_prefixes_in}
+use Rattle.git_msg.specs.Asked.{Asked, ls_refs, fetch, object_info, oids_in, ref_prefixes_in, peel_in, symrefs_in, unborn_in}
 use Rattle.git_msg.specs.Features.{capability_text, fetch_features, ls_refs_features}
 use Rattle.git_msg.specs.WrittenRequest.{text_line, agent_line, format_line}
 use Rattle.git_msg.specs.References.{Ref, reference_of, reference_text}
@@ -18,7 +18,6 @@ use Rattle.git_server.specs.Repository.{Entry, Repository}
 use Rattle.git_server.specs.Packs.{Manner, whole, broken}
 use Rattle.git_server.specs.FetchAnswers.{IsFetchAnswer}
 use Rattle.git_msg.specs.Arguments.{Arg}
-use Rattle.git_msg.specs.declared.flags.Flag.{Flag}
 
 -- the bytes of the packets as they are written
 abbrev pub spelled : List Pkt → List ℕ
@@ -71,7 +70,7 @@ unborn_packet target = text_line (reference_text (reference_of None (codes "HEAD
 
 -- whether the request asks for that: for unborn references and for targets of references, with prefixes that show `HEAD`
 abbrev pub asks_for_unborn : List Arg → Bool
-asks_for_unborn q = (flag_among q Flag.Unborn) && (flag_among q Flag.Symrefs) && is_shown (ref_prefixes_in q) (codes "HEAD")
+asks_for_unborn q = (unborn_in q) && (symrefs_in q) && is_shown (ref_prefixes_in q) (codes "HEAD")
 
 -- it comes first, if it is asked for and `HEAD` is unborn
 abbrev pub unborn_packets : List Arg → Option (List ℕ) → List Pkt
@@ -80,7 +79,7 @@ unborn_packets q (Some target) = if asks_for_unborn q then unborn_packet target 
 
 -- the packets of these references, and the flush
 abbrev pub reference_packets : List Arg → List Entry → List Pkt
-reference_packets q refs = map (reference_packet (flag_among q Flag.Symrefs) (flag_among q Flag.Peel)) (shown_refs (ref_prefixes_in q) refs) ++ flush ∷ []
+reference_packets q refs = map (reference_packet (symrefs_in q) (peel_in q)) (shown_refs (ref_prefixes_in q) refs) ++ flush ∷ []
 
 -- the answer to a request for references
 abbrev pub ls_refs_answer : List Arg → Repository → List Pkt

@@ -41,6 +41,7 @@ announced_unshallow lines q =
     let unshallow = filter (is_unshallow_line (shallows_in q)) lines in
     where_deepened (IsUnshallowOf (shallows_in q)) (is_deepened q) (announced_lines lines (shallows_in q))
     (All-append (IsUnshallowOf (shallows_in q)) shallow unshallow
-    (All-weaker (λ line. is_shallow_line line ≡ true) (IsUnshallowOf (shallows_in q)) (shallow_means (shallows_in q)) shallow (filter_passes is_shallow_line lines))
+    (All-weaker (λ line. is_shallow_line line ≡ true) (IsUnshallowOf (shallows_in q)) (shallow_means (shallows_in q)) shallow
+    (filter_passes is_shallow_line lines))
     (All-weaker (λ line. is_unshallow_line (shallows_in q) line ≡ true) (IsUnshallowOf (shallows_in q)) (unshallow_means (shallows_in q)) unshallow
     (filter_passes (is_unshallow_line (shallows_in q)) lines)))

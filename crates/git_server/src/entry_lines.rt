@@ -7,8 +7,7 @@ ghost use Rattle.git_msg.specs.Prefixes.{IsOrdered};
 ghost use Rattle.git_msg.specs.References.{IsWritable, reference_of, shown_reference};
 ghost use Rattle.git_server.specs.Answers.{asks_for_unborn as asks, shown_line};
 ghost use Rattle.git_server.specs.Repository.{HasOneFormat};
-ghost use Rattle.git_msg.specs.Asked.{flag_among, ref_prefixes_in};
-ghost use Rattle.git_msg.specs.declared.flags.Flag.{Flag};
+ghost use Rattle.git_msg.specs.Asked.{ref_prefixes_in, peel_in, symrefs_in};
 
 use crate::entry::RefEntry;
 use git_msg::{Listing, Reference};
@@ -21,7 +20,7 @@ pub fn entry_line<'a, A: Allocator + Copy>(
     listing: &Listing<A>,
 ) -> Reference<'a>
     requires { HasOneFormat entry.now }
-    ensures shown { shown_reference result ≡ shown_line (flag_among listing.now.asked Flag.Symrefs) (flag_among listing.now.asked Flag.Peel) entry.now }
+    ensures shown { shown_reference result ≡ shown_line (symrefs_in listing.now.asked) (peel_in listing.now.asked) entry.now }
     ensures writable { IsWritable (shown_reference result) }
 {
     Reference {

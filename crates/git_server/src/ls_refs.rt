@@ -10,8 +10,7 @@ ghost use Rattle.git_server.specs.Answers.{is_shown, reference_packet, shown_ref
 ghost use Rattle.git_server.specs.NextShown.{NextShown};
 ghost use Rattle.git_server.specs.Machine.WrittenPackets.{Writes};
 ghost use Rattle.git_server.specs.Repository.{Entry, HasOneFormat, IsRising, comes_before};
-ghost use Rattle.git_msg.specs.Asked.{flag_among, ref_prefixes_in};
-ghost use Rattle.git_msg.specs.declared.flags.Flag.{Flag};
+ghost use Rattle.git_msg.specs.Asked.{ref_prefixes_in, peel_in, symrefs_in};
 
 use crate::entry::RefEntry;
 use crate::entry_lines::{asks_for_unborn, entry_line, unborn_line};
@@ -114,7 +113,7 @@ fn write_entry<A: Allocator + Copy>(
 )
     requires between { is_open reader.old ≡ false }
     requires format { HasOneFormat entry.now }
-    ensures { Writes reader.old (reference_packet (flag_among listing.now.asked Flag.Symrefs) (flag_among listing.now.asked Flag.Peel) entry.now) reader.new }
+    ensures { Writes reader.old (reference_packet (symrefs_in listing.now.asked) (peel_in listing.now.asked) entry.now) reader.new }
 {
     put_reference(reader.lend(), entry_line(entry, listing));
     let _ = reader.hold();
