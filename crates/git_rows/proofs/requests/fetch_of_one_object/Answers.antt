@@ -38,7 +38,7 @@ returns-clause-asks c = asks_fetch 49 (omega arith)
 pub returns-clause-not_with_haves_to_come : goal.returns-clause-not_with_haves_to_come
 returns-clause-not_with_haves_to_come c = λ h.
     let same = one_request offer_all 49 fetch_done_packets _ _ _ _ h (asks_fetch 49 (omega arith)) in
-    let is_done : false ≡ true = ap has_flag Flag.Done same.0 in
+    let is_done : false ≡ true = ap (has_flag Flag.Done) same.0 in
     cc
 
 pub returns-clause-not_past_the_limit : goal.returns-clause-not_past_the_limit
