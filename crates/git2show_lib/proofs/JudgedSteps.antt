@@ -512,7 +512,8 @@ module _ {A : Type 0} (old new : JudgedRequests A) (used : ℕ) (ready : IsJudgi
     (sound : packet_fault new.packets ≡ None) (gathers : passes_of new.packets ≡ false) (same_offer : new.judge.offer ≡ old.judge.offer)
     (same_limit : new.judge.limits.args ≡ old.judge.limits.args) where
   -- it goes on
-  ready_with : takes_bytes new.judge.stage ≡ true → reader_fault new.judge.requests ≡ None → HasTaken new.judge.requests → offer_in new.judge.requests ≡ offer_in old.judge.requests
+  ready_with : takes_bytes new.judge.stage ≡ true → reader_fault new.judge.requests ≡ None → HasTaken new.judge.requests
+      → offer_in new.judge.requests ≡ offer_in old.judge.requests
       → limit_in new.judge.requests ≡ limit_in old.judge.requests → new.judge.kept ≤ old.judge.limits.args → IsReady new
   ready_with wants open_ended taken offer limit kept = record {
     judging = record {
@@ -531,11 +532,12 @@ module _ {A : Type 0} (old new : JudgedRequests A) (used : ℕ) (ready : IsJudgi
   -- with the reader inside as it was
   ready_still : new.judge.requests ≡ old.judge.requests → new.judge.kept ≤ old.judge.limits.args → takes_bytes new.judge.stage ≡ true → IsReady new
   ready_still same kept wants =
-      ready_with wants (rw same ready.open_ended) (subst (λ (r : RequestReader A). HasTaken r) (sym same) ready.taken) (ap (λ (r : RequestReader A). offer_in r) same)
-      (ap (λ (r : RequestReader A). limit_in r) same) kept
+      ready_with wants (rw same ready.open_ended) (subst (λ (r : RequestReader A). HasTaken r) (sym same) ready.taken)
+      (ap (λ (r : RequestReader A). offer_in r) same) (ap (λ (r : RequestReader A). limit_in r) same) kept
 
   -- or with a new one
-  pub named_leaves : new.judge.stage ≡ Passing → reader_fault new.judge.requests ≡ None → Takes [] new.judge.requests → offer_in new.judge.requests ≡ old.judge.offer → limit_in new.judge.requests ≡ old.judge.limits.args
+  pub named_leaves : new.judge.stage ≡ Passing → reader_fault new.judge.requests ≡ None → Takes [] new.judge.requests
+      → offer_in new.judge.requests ≡ old.judge.offer → limit_in new.judge.requests ≡ old.judge.limits.args
       → new.judge.kept ≡ 0 → StepLeaves {A = A} Got.More used new
   named_leaves is open_ended takes offer limit kept = (
     some,

@@ -3,9 +3,9 @@ use Rattle.std.proofs.Common.{◌≡◌, ◌≢◌, ◌⊎◌, ℕ, ◌+◌, ◌
 use Rattle.std.proofs.Common.{refl, ap, sym, ◌∙◌, subst, inl, inr, arith, rules}
 use Rattle.std.specs.Prelude.{is_some}
 use Rattle.std.proofs.lemmas.List.{append-nil}
-use Rattle.git_pkt.specs.Packets.{Pkt, flush, delim, resp_end, payload, text_of}
+use Rattle.git_pkt.specs.Packets.{Pkt, flush, delim, payload, text_of}
 use Rattle.git_pkt.specs.declared.fault.Kind.{Kind}
-use Rattle.git_pkt.specs.declared.fault.Kind.TheVariants.{TooMuchKept, UnexpectedPacket}
+use Rattle.git_pkt.specs.declared.fault.Kind.TheVariants.{TooMuchKept}
 use Rattle.git_msg.specs.declared.offers.Offer.{Offer}
 use Rattle.git_msg.specs.declared.arguments.Command.{Command}
 use Rattle.git_msg.specs.declared.arguments.Command.TheVariants.{LsRefs}
@@ -208,10 +208,6 @@ module _ {A : Type 0} where
     pub end_refused : (r : RequestReader A) (kind : Kind) → r.part ≡ Arguments → Refuses (end_checks (asked_of r.request)) kind
         → StepsOn barred r flush (Err kind) r
     end_refused r kind part refuses = search (rules, in_arguments, by_itself, not_for_limit_by_end)
-
-    -- another packet after the delimiter
-    pub strange : (r : RequestReader A) (p : Pkt) → r.part ≡ Arguments → (p ≡ delim) ⊎ (p ≡ resp_end) → StepsOn barred r p (Err UnexpectedPacket) r
-    strange r p part is = search (rules, in_arguments, by_itself)
 
     pub unread : (r : RequestReader A) (bytes : List ℕ) (kind : Kind)
         → r.part ≡ Arguments → Refuses (text_checks (command_of r.request) r.offer (text_of bytes)) kind → StepsOn barred r (payload bytes) (Err kind) r
