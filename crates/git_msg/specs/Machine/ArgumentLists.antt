@@ -13,7 +13,7 @@ use Rattle.git_msg.specs.Asked.{where_asked, where_given}
 use Rattle.git_msg.specs.Flags.{is_held}
 use Rattle.git_msg.specs.Machine.HeldTexts.{texts_of, texts_stored}
 
--- the arguments of a word with these values: its shape says which of them it has
+-- the arguments of a word: of these values, those that its shape allows
 abbrev pub with_values : Shape → Word → List ObjectName → List (List ℕ) → Option ℕ → List Arg
 with_values flag_word word ids texts number = []
 with_values object_name word ids texts number = map (with_id word) ids
