@@ -21,6 +21,8 @@ pub mod Closed
 pub mod Determined
 pub mod Writing
 pub mod EventLines
+pub mod RowSpace
+pub mod GatheredRows
 pub mod Faults
 pub mod OneFault
 pub mod Packs
@@ -37,6 +39,7 @@ pub mod ResponseRules
 pub mod ConversationRules
 pub mod WaitingLines
 pub mod ReceivingSteps
+pub mod GatheredChunks
 pub mod SendingSteps
 pub mod ReceivingBytes
 pub mod Notes

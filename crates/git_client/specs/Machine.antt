@@ -4,6 +4,8 @@ pub mod Client
 pub mod Choosing
 pub mod HandedOut
 pub mod LineParts
+pub mod Gathered
 pub mod Runs
 pub mod RunSteps
+pub mod Running
 pub mod Calls

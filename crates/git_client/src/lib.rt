@@ -7,6 +7,7 @@ mod client;
 mod conversing;
 mod event_parts;
 mod events;
+mod gathered;
 mod judge;
 mod judge_lines;
 pub mod laws;
@@ -17,8 +18,9 @@ mod sections;
 mod transcript;
 
 pub use crate::client::Client;
-pub use crate::conversing::{ask_next, converse};
+pub use crate::conversing::{ask_next, ask_unsent, converse};
 pub use crate::event_parts::{EventKind, EventParts};
 pub use crate::events::{Ending, Event, Received, ReceivedGot, Sent};
+pub use crate::gathered::{Gathered, GatheredLines, gather_chunk};
 pub use crate::receiving::{Counts, Window, receive_chunk, receive_response};
 pub use crate::transcript::{write_asked, write_event};
