@@ -10,6 +10,7 @@ pub mod CheckSteps
 pub mod Sieving
 pub mod CheckedStreams
 pub mod TurnSteps
+pub mod Checking
 pub mod HeldScripts
 pub mod ScriptLines
 pub mod ScriptFaults
