@@ -1,16 +1,20 @@
 -- What holds of a client after any sequence of calls.
 use Rattle.std.proofs.Common.{arith, ◌≡◌, ◌≢◌, ℕ, ◌+◌, ◌≤◌, true, false, List, [], ◌∷◌, ◌++◌, Option, Some, None, length, take, refl, sym, ◌∙◌, ap, subst}
 use Rattle.std.proofs.Common.{length-append, append-nil}
-use Rattle.std.specs.Prelude.{flat_map}
+use Rattle.std.specs.Prelude.{flat_map, sum_by}
 use Rattle.std.proofs.lemmas.List.{length-take-le}
+use Rattle.std.proofs.lemmas.List.Sums.{sum_by-cons}
+use Rattle.git_names.specs.declared.object_format.Format.{Format}
 use Rattle.git_pkt.specs.Machine.Credit.{ArePaid, MakesAll, credit_of}
 use Rattle.git_pkt.proofs.Credits.{all_paid}
 use Rattle.git_msg.specs.Machine.HeldRequest.{kept_of, limit_of as request_limit, stored_of}
 use Rattle.git_msg.specs.declared.requests.Request.{Request}
-use Rattle.git_client.specs.Parts.{Terms}
+use Rattle.git_client.specs.Parts.{Terms, terms_of}
 use Rattle.git_client.specs.Events.{EventValue}
-use Rattle.git_client.specs.Machine.Client.{History, Converses, nothing_yet, can_ask, phase_of, reader_of, stored_in, kept_in, limit_in}
+use Rattle.git_client.specs.Machine.Choosing.{ChoosesFormat}
+use Rattle.git_client.specs.Machine.Client.{History, Converses, format_of, nothing_yet, can_ask, phase_of, reader_of, stored_in, kept_in, limit_in}
 use Rattle.git_client.specs.Machine.Turns.{fault_in, has_left_in, is_asking, is_ready, left_in, takes_packets}
+use Rattle.git_client.specs.Machine.AnyCalls.{AnyCall, MakesAny, choose, other, others_of, terms_after}
 use Rattle.git_client.specs.Machine.Calls.{Call, ask, ask_refused, leave, pull, feed, close, Makes, Headline, after_call, history_after, feeds_by, feeds_in}
 use Rattle.git_client.specs.declared.client.Client.{Client}
 use Rattle.git_client.specs.declared.phase.Phase.{Phase}
@@ -62,10 +66,18 @@ module _ {A : Type 0} where
   goes_on t (close fault) h before old after new made c =
       subst (λ (now : History). Converses t now new) (nothing_more h) (made.0.carries t h c)
 
-  all_go_on : (t : Terms) (calls : List (Call A)) (h : History) (before : ℕ) (old : Client A) (after : ℕ) (new : Client A)
-      → MakesAll Makes calls before old after new → Converses t h old → Converses t (history_after h calls) new
+  -- a call of `choose_format` leaves the history as it was, in the format chosen
+  pub chosen_on : (t : Terms) (format : Format) (h : History) (old new : Client A) → ChoosesFormat old new → format_of new ≡ format → Converses t h old
+      → Converses (terms_of format t.ending) h new
+  chosen_on t format h old new chosen is c = subst (λ (f : Format). Converses (terms_of f t.ending) h new) is (chosen.carries t h c)
+
+  all_go_on : (t : Terms) (calls : List (AnyCall A)) (h : History) (before : ℕ) (old : Client A) (after : ℕ) (new : Client A)
+      → MakesAll MakesAny calls before old after new → Converses t h old
+      → Converses (terms_after t calls) (history_after h (others_of calls)) new
   all_go_on t [] h before old after new (counter, same) c = subst (λ (client : Client A). Converses t h client) (sym same) c
-  all_go_on t (call ∷ calls) h before old after new (next, between, made, more) c =
+  all_go_on t (choose format ∷ calls) h before old after new (next, between, (chosen, is, counter), more) c =
+      all_go_on (terms_of format t.ending) calls h next between after new more (chosen_on t format h old between chosen is c)
+  all_go_on t (other call ∷ calls) h before old after new (next, between, made, more) c =
       all_go_on t calls (after_call h call) next between after new more (goes_on t call h before old next between made c)
 
   -- the bytes that the call uses
@@ -78,10 +90,31 @@ module _ {A : Type 0} where
   adds_used (feed chunk answer) h = length-append h.used (take answer.used chunk)
   adds_used call h = omega arith
 
-  all_used : (calls : List (Call A)) (h : History) → length (history_after h calls).used ≡ length h.used + length (flat_map used_by calls)
+  abbrev used_by_any : AnyCall A → List ℕ
+  used_by_any (choose format) = []
+  used_by_any (other call) = used_by call
+
+  all_used : (calls : List (AnyCall A)) (h : History)
+      → length (history_after h (others_of calls)).used ≡ length h.used + length (flat_map used_by_any calls)
   all_used [] h = omega arith
-  all_used (call ∷ calls) h =
-      omega (arith, all_used calls (after_call h call), adds_used call h, length-append (used_by call) (flat_map used_by calls))
+  all_used (choose format ∷ calls) h = all_used calls h
+  all_used (other call ∷ calls) h =
+      omega (arith, all_used calls (after_call h call), adds_used call h, length-append (used_by call) (flat_map used_by_any calls))
+
+  abbrev feeds_by_any : AnyCall A → ℕ
+  feeds_by_any (choose format) = 0
+  feeds_by_any (other call) = feeds_by call
+
+  all_feeds : (calls : List (AnyCall A)) → sum_by feeds_by_any calls ≡ feeds_in (others_of calls)
+  all_feeds [] = refl
+  all_feeds (choose format ∷ calls) = all_feeds calls
+  all_feeds (other call ∷ calls) =
+      omega (
+        arith,
+        all_feeds calls,
+        sum_by-cons feeds_by_any (other call) calls,
+        sum_by-cons feeds_by call (others_of calls),
+      )
 
   abbrev credit : Client A → ℕ
   credit client = credit_of (reader_of client)
@@ -102,23 +135,31 @@ module _ {A : Type 0} where
   each_paid (close fault) before old after new (closes, same) =
       record { rises = omega (arith, same); within = omega (arith, same, closes.credit) }
 
-  pub headline : (t : Terms) (calls : List (Call A)) (before after : ℕ) (first last : Client A) → Converses t nothing_yet first
-      → credit first ≡ 0 → MakesAll Makes calls before first after last
-      → Headline t (history_after nothing_yet calls) (feeds_in calls) before after last
-  headline t calls before after first last begun none made =
-      let h = history_after nothing_yet calls in
-      let c = all_go_on t calls nothing_yet before first after last made begun in
-      let paid = all_paid Makes credit used_by feeds_by each_paid calls before first after last made in
+  any_paid : (call : AnyCall A) (before : ℕ) (old : Client A) (after : ℕ) (new : Client A) → MakesAny call before old after new
+      → ArePaid (length (used_by_any call)) (feeds_by_any call) before after (credit old) (credit new)
+  any_paid (choose format) before old after new (chosen, is, same) =
+      record { rises = omega (arith, same); within = omega (arith, same, ap credit_of chosen.reader) }
+  any_paid (other call) before old after new made = each_paid call before old after new made
+
+  pub headline : (start : Terms) (calls : List (AnyCall A)) (before after : ℕ) (first last : Client A) → Converses start nothing_yet first
+      → credit first ≡ 0 → MakesAll MakesAny calls before first after last
+      → Headline (terms_after start calls) (history_after nothing_yet (others_of calls)) (feeds_in (others_of calls)) before after last
+  headline start calls before after first last begun none made =
+      let t = terms_after start calls in
+      let h = history_after nothing_yet (others_of calls) in
+      let c = all_go_on start calls nothing_yet before first after last made begun in
+      let paid = all_paid MakesAny credit used_by_any feeds_by_any any_paid calls before first after last made in
       let events = has_events t h last c in
       let stored = stored_within last.request last.covered in
       let kept = kept_within last.request last.within in
       record {
+        format = c.format_is;
         held = omega (arith, c.reads.fits, stored, kept);
         hold = c.reads.fits;
         stored = stored;
         kept = kept;
         rises = paid.rises;
-        steps = omega (arith, paid.within, none, all_used calls nothing_yet);
+        steps = omega (arith, paid.within, none, all_used calls nothing_yet, all_feeds calls);
         events = events;
         noted = has_noted t h last c;
         given = all_is_sent t h last c;

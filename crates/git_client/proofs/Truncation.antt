@@ -5,18 +5,21 @@ use Rattle.git_pkt.specs.Packets.{Pkt, flush, flushes, payload}
 use Rattle.git_pkt.specs.Splits.{Given, Splits}
 use Rattle.git_pkt.specs.Machine.Credit.{MakesAll}
 use Rattle.git_pkt.specs.declared.fault.Fault.{Fault}
+use Rattle.git_pkt.specs.declared.fault.Kind.TheVariants.{Truncated}
 use Rattle.git_pkt.specs.declared.reader.PacketReader.{PacketReader}
 use Rattle.git_pkt.proofs.Streams.{one_split}
 use Rattle.git_msg.specs.Asked.{Asked}
 use Rattle.git_msg.specs.Machine.HeldRequest.{asked_of}
 use Rattle.git_msg.specs.declared.requests.Request.{Request}
-use Rattle.git_client.specs.Parts.{Terms, closing, answer_to, nearest, message_of, part_after}
+use Rattle.git_client.specs.Parts.{Terms, terms_of, closing, answer_to, nearest, message_of, part_after}
 use Rattle.git_client.specs.Places.{place_after, place_of}
 use Rattle.git_client.specs.Events.{EventValue}
 use Rattle.git_client.specs.Conversation.{FirstFault, GiveAll, HasExpected}
 use Rattle.git_client.specs.Machine.Turns.{fault_in, has_left_in, is_ready, left_in, question_in, takes_packets}
 use Rattle.git_client.specs.Machine.Client.{AreWhole, Asks, Converses, Feeds, History, IsAsked, Leaves, LeavesAfter, StandsIn, Announces}
 use Rattle.git_client.specs.Machine.Client.{can_ask, fault_of, left_to_send, phase_of, reader_of, request_of, wants_input}
+use Rattle.git_client.specs.Machine.AnyCalls.{AnyCall, MakesAny, choose, other, others_of}
+use Rattle.git_client.specs.Machine.Choosing.{ChoosesFormat}
 use Rattle.git_client.specs.Machine.Calls.{Call, ask, ask_refused, leave, pull, feed, close, IsTruncated, Makes, after_call, closes}
 use Rattle.git_client.specs.declared.client.Client.{Client}
 use Rattle.git_client.specs.declared.events.Event.{Event}
@@ -27,7 +30,7 @@ use Rattle.git_client.specs.declared.events.ReceivedGot.TheVariants.{More, Event
 use Rattle.git_client.specs.declared.events.Sent.TheVariants.{Packet, NeedInput, CanAsk, Finished, Failed as FailedSent}
 use Rattle.git_client.specs.declared.phase.Phase.{Phase}
 use Rattle.git_client.specs.declared.phase.Phase.TheVariants.{Receiving, Ready, Asking, Leaving, Left, Failed}
-use Rattle.git_client.proofs.Calls.{goes_on}
+use Rattle.git_client.proofs.Calls.{chosen_on, goes_on}
 use Rattle.git_client.proofs.OneFault.{none_among}
 use Rattle.git_client.proofs.Sequences.{gives_more, place_more}
 
@@ -166,6 +169,10 @@ module _ {A : Type 0} (t : Terms) (h : History) (old : Client A) (f : Fault) (c 
 
 -- ---- each call
 
+-- the error of a client whose input ended
+abbrev IsOfTheEnd : Option Fault → Type 0
+IsOfTheEnd error = (fault : Fault) × (error ≡ Some fault) × (fault.kind ≡ Truncated)
+
 module _ {A : Type 0} where
   -- after an event a client has no error
   event_or_failed : (event : Event) (client : Client A) (f : Fault) → LeavesAfter event client → fault_of client ≡ Some f → ⊥
@@ -236,10 +243,17 @@ module _ {A : Type 0} where
 
   -- ---- all calls
 
-  all_stay : (t : Terms) (calls : List (Call A)) (h : History) (before : ℕ) (old : Client A) (after : ℕ) (new : Client A)
-      → MakesAll Makes calls before old after new → Converses t h old → IsTruncated old → IsTruncated new
+  -- the choice of a format changes no error
+  errors_stay : (old new : Client A) → ChoosesFormat old new → fault_of old ≡ fault_of new
+  errors_stay old new chosen = ap fault_in (sym chosen.phase)
+
+  all_stay : (t : Terms) (calls : List (AnyCall A)) (h : History) (before : ℕ) (old : Client A) (after : ℕ) (new : Client A)
+      → MakesAll MakesAny calls before old after new → Converses t h old → IsTruncated old → IsTruncated new
   all_stay t [] h before old after new (counter, same) c cut = subst IsTruncated (sym same) cut
-  all_stay t (call ∷ calls) h before old after new (next, between, made, more) c cut =
+  all_stay t (choose format ∷ calls) h before old after new (next, between, (chosen, is, counter), more) c cut =
+      all_stay (terms_of format t.ending) calls h next between after new more (chosen_on t format h old between chosen is c)
+      (subst IsOfTheEnd (errors_stay old between chosen) cut)
+  all_stay t (other call ∷ calls) h before old after new (next, between, made, more) c cut =
       all_stay t calls (after_call h call) next between after new more (goes_on t call h before old next between made c)
       (stays_truncated t call h before old next between made c cut)
 
@@ -257,29 +271,36 @@ module _ {A : Type 0} where
   closed_now fault before old after new made = (fault, made.0.refused, made.0.kind)
 
   -- if one of them is, the client is truncated
-  where_closed : (t : Terms) (calls : List (Call A)) (h : History) (before : ℕ) (old : Client A) (after : ℕ) (new : Client A)
-      → MakesAll Makes calls before old after new → Converses t h old → closes calls ≡ true → IsTruncated new
+  where_closed : (t : Terms) (calls : List (AnyCall A)) (h : History) (before : ℕ) (old : Client A) (after : ℕ) (new : Client A)
+      → MakesAll MakesAny calls before old after new → Converses t h old → closes (others_of calls) ≡ true → IsTruncated new
   where_closed t [] h before old after new made c e = absurd (cc)
-  where_closed t (call ∷ calls) h before old after new (next, between, made, more) c e =
+  where_closed t (choose format ∷ calls) h before old after new (next, between, (chosen, is, counter), more) c e =
+      where_closed (terms_of format t.ending) calls h next between after new more (chosen_on t format h old between chosen is c) e
+  where_closed t (other call ∷ calls) h before old after new (next, between, made, more) c e =
       let d = goes_on t call h before old next between made c in
-      elim (closes_first call calls e) [
+      elim (closes_first call (others_of calls) e) [
         | inl (fault, is) ↦ all_stay t calls (after_call h call) next between after new more d
             (closed_now fault before old next between (subst (λ (x : Call A). Makes x before old next between) is made))
         | inr later ↦ where_closed t calls (after_call h call) next between after new more d later
       ]
 
   -- and only then
-  closed_or_was : (calls : List (Call A)) (before : ℕ) (old : Client A) (after : ℕ) (new : Client A) → MakesAll Makes calls before old after new
-      → IsTruncated new → IsTruncated old ⊎ (closes calls ≡ true)
+  closed_or_was : (calls : List (AnyCall A)) (before : ℕ) (old : Client A) (after : ℕ) (new : Client A) → MakesAll MakesAny calls before old after new
+      → IsTruncated new → IsTruncated old ⊎ (closes (others_of calls) ≡ true)
   closed_or_was [] before old after new (counter, same) cut = inl (subst IsTruncated same cut)
-  closed_or_was (call ∷ calls) before old after new (next, between, made, more) cut =
+  closed_or_was (choose format ∷ calls) before old after new (next, between, (chosen, is, counter), more) cut =
       elim (closed_or_was calls next between after new more cut) [
-        | inl was ↦ was_truncated call calls before old next between made was
-        | inr closed ↦ inr (closes_more call calls closed)
+        | inl was ↦ inl (subst IsOfTheEnd (sym (errors_stay old between chosen)) was)
+        | inr closed ↦ inr closed
+      ]
+  closed_or_was (other call ∷ calls) before old after new (next, between, made, more) cut =
+      elim (closed_or_was calls next between after new more cut) [
+        | inl was ↦ was_truncated call (others_of calls) before old next between made was
+        | inr closed ↦ inr (closes_more call (others_of calls) closed)
       ]
 
-  pub truncated_where_closed : (t : Terms) (h : History) (calls : List (Call A)) (before after : ℕ) (first last : Client A) → Converses t h first
-      → fault_of first ≡ None → MakesAll Makes calls before first after last → (closes calls ≡ true) ↔ IsTruncated last
+  pub truncated_where_closed : (t : Terms) (h : History) (calls : List (AnyCall A)) (before after : ℕ) (first last : Client A) → Converses t h first
+      → fault_of first ≡ None → MakesAll MakesAny calls before first after last → (closes (others_of calls) ≡ true) ↔ IsTruncated last
   truncated_where_closed t h calls before after first last c sound made = (
     where_closed t calls h before first after last made c,
     λ cut. elim (closed_or_was calls before first after last made cut) [

@@ -7,3 +7,4 @@ pub mod LineParts
 pub mod Runs
 pub mod RunSteps
 pub mod Calls
+pub mod AnyCalls

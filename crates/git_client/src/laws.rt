@@ -18,9 +18,10 @@ ghost use Rattle.git_client.specs.Packs.{HasPack};
 ghost use Rattle.git_client.specs.Responses.{GoesByMessages, IsResponse};
 ghost use Rattle.git_client.specs.Conversation.{GivesAt, GiveAll, RefusesAt, FirstFault, HasEvents, HasNoted, FirstMalformed, GoesWell, IsConversation};
 ghost use Rattle.git_client.specs.Machine.Client.{Converses, History, bytes_held, limit_of, fault_of, can_ask, left_to_send, sent_of, spelled, caps_of};
-ghost use Rattle.git_client.specs.Machine.Client.{bytes_held_by_fields, nothing_yet, reader_of, wants_input};
+ghost use Rattle.git_client.specs.Machine.Client.{bytes_held_by_fields, format_of, nothing_yet, reader_of, wants_input};
 ghost use Rattle.git_client.specs.Machine.Client.{AreWhole, Asks, Feeds, ReceivesOn, Leaves, Pulls, RefusesToAsk};
-ghost use Rattle.git_client.specs.Machine.Choosing.{format_by};
+ghost use Rattle.git_client.specs.Machine.AnyCalls.{AnyCall, MakesAny, choose, other, others_of, terms_after};
+ghost use Rattle.git_client.specs.Machine.Choosing.{ChoosesFormat, format_by};
 ghost use Rattle.git_client.specs.Machine.RunSteps.{CanCount};
 ghost use Rattle.git_client.specs.Machine.Calls.{Call, Headline, IsTruncated, Makes, closes, feeds_in, history_after};
 ghost use Rattle.git_client.specs.Machine.Calls.{ask, ask_refused, leave, pull, feed, close};
@@ -167,10 +168,13 @@ pub fn methods_make_calls<A: Allocator + Copy>()
         → ((t : Terms) (h : History) (given : List Given) (rest : List ℕ) → Converses t h old → Splits 0 h.used given rest
         → fault.offset + length rest ≡ length h.used)
         → credit_of (reader_of new) ≤ credit_of (reader_of old) → Makes (close fault) steps old steps new }
-    ensures none { (client : Client A) (steps : ℕ) → MakesAll Makes [] steps client steps client }
-    ensures more { (call : Call A) (calls : List (Call A)) (before next after : ℕ) (old between new : Client A)
-        → Makes call before old next between → MakesAll Makes calls next between after new
-        → MakesAll Makes (call ∷ calls) before old after new }
+    ensures chosen { (old new : Client A) (steps : ℕ) → ChoosesFormat old new → MakesAny (choose (format_of new)) steps old steps new }
+    ensures any { (call : Call A) (before after : ℕ) (old new : Client A) → Makes call before old after new
+        → MakesAny (other call) before old after new }
+    ensures none { (client : Client A) (steps : ℕ) → MakesAll MakesAny [] steps client steps client }
+    ensures more { (call : AnyCall A) (calls : List (AnyCall A)) (before next after : ℕ) (old between new : Client A)
+        → MakesAny call before old next between → MakesAll MakesAny calls next between after new
+        → MakesAll MakesAny (call ∷ calls) before old after new }
 {}
 
 /// Counts of bytes that are together at most the number of a client's events do not overflow with the events that it receives next.
@@ -186,16 +190,16 @@ pub fn chosen_format_is_advertised()
 
 /// After any calls, a client that had not failed before them has failed with `Truncated` if and only if one of the calls closed its input.
 pub fn truncated_where_closed<A: Allocator + Copy>()
-    ensures { (t : Terms) (h : History) (calls : List (Call A)) (before after : ℕ) (first last : Client A)
-        → Converses t h first → fault_of first ≡ None → MakesAll Makes calls before first after last
-        → (closes calls ≡ true) ↔ IsTruncated last }
+    ensures { (t : Terms) (h : History) (calls : List (AnyCall A)) (before after : ℕ) (first last : Client A)
+        → Converses t h first → fault_of first ≡ None → MakesAll MakesAny calls before first after last
+        → (closes (others_of calls) ≡ true) ↔ IsTruncated last }
 {}
 
-/// Take a client that was new, any calls after that, and any chunks of input. The client then has no more bytes than the longest packet and
+/// Take a client that was new, of one object format or of any, any calls after that, and any chunks of input. The client then has no more bytes than the longest packet and
 /// the limit of the request that it asks; it took at most 64 steps for each byte used and for each call of `feed`; its events
 /// are those of the bytes; its pack bytes are the pack; and if it refused, it did so at the first malformed packet.
 pub fn headline<A: Allocator + Copy>()
-    ensures { (t : Terms) (calls : List (Call A)) (before after : ℕ) (first last : Client A)
-        → Converses t nothing_yet first → credit_of (reader_of first) ≡ 0 → MakesAll Makes calls before first after last
-        → Headline t (history_after nothing_yet calls) (feeds_in calls) before after last }
+    ensures { (t : Terms) (calls : List (AnyCall A)) (before after : ℕ) (first last : Client A)
+        → Converses t nothing_yet first → credit_of (reader_of first) ≡ 0 → MakesAll MakesAny calls before first after last
+        → Headline (terms_after t calls) (history_after nothing_yet (others_of calls)) (feeds_in (others_of calls)) before after last }
 {}

@@ -12,7 +12,7 @@ use Rattle.git_client.specs.Events.{pack_bytes, turns_of}
 use Rattle.git_client.specs.Packs.{HasPack}
 use Rattle.git_client.specs.Conversation.{HasEvents, HasNoted, FirstMalformed, GoesOn, GoesWell, IsConversation}
 use Rattle.git_client.specs.Machine.Client.{History, Converses, ReceivesOn, Asks, RefusesToAsk, Leaves, Pulls, Feeds, given_by, events_of}
-use Rattle.git_client.specs.Machine.Client.{bytes_held, stored_in, kept_by, limit_of, reader_of, request_of, caps_of, fault_of, can_ask, wants_input}
+use Rattle.git_client.specs.Machine.Client.{bytes_held, format_of, stored_in, kept_by, limit_of, reader_of, request_of, caps_of, fault_of, can_ask, wants_input}
 use Rattle.git_client.specs.Machine.Client.{left_to_send, sent_of, spelled}
 use Rattle.git_client.specs.declared.client.Client.{Client}
 use Rattle.git_client.specs.declared.events.Received.{Received}
@@ -84,6 +84,8 @@ module _ {A : Type 0} where
   -- The promises about a client after any calls: the calls resulted in this history, `feeds` of them were of `feed`, and the counter of steps
   -- went from `before` to `after`.
   pub record Headline (t : Terms) (h : History) (feeds before after : ℕ) (client : Client A) : Type 0 where
+    -- the format of the conversation is the client's
+    pub format : format_of client ≡ t.format
     -- the client has no more bytes than the longest packet and the limit of the request that it asks
     pub held : bytes_held client ≤ 65520 + limit_of client
     -- it has no more bytes of packets than the longest packet, whatever was received

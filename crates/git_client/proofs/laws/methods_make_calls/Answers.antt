@@ -12,6 +12,8 @@ returns g c = record {
     record { waits = waits; carries = carries; refused = refused; kind = kind; offset = offset; credit = credit },
     refl,
   );
+  chosen = λ old new steps chosen. (chosen, refl, refl);
+  any = λ call before after old new made. made;
   none = λ client steps. (refl, refl);
   more = λ call calls before next after old between new made others. (next, between, made, others);
 }
