@@ -195,9 +195,9 @@ pub fn truncated_where_closed<A: Allocator + Copy>()
         → (closes (others_of calls) ≡ true) ↔ IsTruncated last }
 {}
 
-/// Take a client that was new, of one object format or of any, any calls after that, and any chunks of input. The client then has no more bytes than the longest packet and
-/// the limit of the request that it asks; it took at most 64 steps for each byte used and for each call of `feed`; its events
-/// are those of the bytes; its pack bytes are the pack; and if it refused, it did so at the first malformed packet.
+/// Take a client that was new, of one object format or of any, any calls after that, and any chunks of input. The client then has no more
+/// bytes than the longest packet and the limit of the request that it asks; it took at most 64 steps for each byte used and for each call of
+/// `feed`; its events are those of the bytes; its pack bytes are the pack; and if it refused, it did so at the first malformed packet.
 pub fn headline<A: Allocator + Copy>()
     ensures { (t : Terms) (calls : List (AnyCall A)) (before after : ℕ) (first last : Client A)
         → Converses t nothing_yet first → credit_of (reader_of first) ≡ 0 → MakesAll MakesAny calls before first after last
