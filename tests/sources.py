@@ -50,6 +50,7 @@ git_server ls_refs: object_info fetching server io
 git_server object_info: ls_refs fetching server io
 git_server admission: Packet PacketReader
 git_server machine: io
+git_server one_request: answer Request
 git_server run: answer Request
 git_host *: io Recorded
 git_host admission: put Packet
@@ -84,7 +85,6 @@ git2show_lib others sieve: Allocator
 git2show_lib lines: Read
 git2show_lib showing: escape_into
 git2show main failures explanations: Packet PacketReader
-git2show one_request: clap
 git2show pack_file remote_lines: git_pkt git_client
 """
 

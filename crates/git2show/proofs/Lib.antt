@@ -1,1 +1,1 @@
-pub mod OneRequestTaken
+pub mod Requests

@@ -9,7 +9,6 @@ mod explanations;
 mod failures;
 mod fetching;
 mod line_reasons;
-mod one_request;
 mod pack_file;
 mod packets_around;
 mod reasons;
@@ -21,17 +20,17 @@ use crate::checking::{check_command, run_check};
 use crate::explanations::explain;
 use crate::failures::{Cause, FailedCall, Failure, FileArgument, Stream, Watched};
 use crate::fetching::run_fetch;
-use crate::one_request::{Left, take_request};
 use crate::showing::{run_show, show_command};
 use crate::tracing::run_trace;
 use clap::error::ErrorKind;
 use clap::{Arg, ArgAction, ArgMatches, Command, Error, value_parser};
 use git_client::Ending;
+use git_loop::OneInput;
 use git_msg::{Limits, Offer, Request};
 use git_names::Format;
 use git_pkt::{Discard, LONGEST_PACKET, Recorded, Retries, RunFault};
 use git_repository::{LONGEST_LINE, Packs, RepositoryReader, TextFault};
-use git_server::{LateRepo, ListRepo, Outcome, Pack, Repo, Server, serve, write_pending};
+use git_server::{LateRepo, ListRepo, Outcome, Pack, Repo, Server, serve, take_request, write_pending};
 use git2show_lib::{ProgramFault, play, read_script, report};
 use std::alloc::{AllocError, Global};
 use std::fs::File;
@@ -340,30 +339,17 @@ fn answer_all<In: Read, W: Write>(
     output: &mut W,
     server: &mut FileServer<'_>,
 ) -> Result<Outcome, RunFault> {
+    let mut reader = Recorded::new(input);
     let mut chunk = [0; CHUNK];
-    let mut kept = [0; CHUNK];
-    let mut left = Left::NONE;
-    let mut turns = TURNS;
+    let mut requests = OneInput::new(&mut reader, &mut chunk);
     for _ in 0..TURNS {
         if let Some(outcome) = write_pending(&mut Recorded::new(&mut *output), server)? {
             return Ok(outcome);
         }
-        let rest = &chunk[left.from..left.to];
-        let count = rest.len();
-        kept[..count].copy_from_slice(rest);
-        let mut reader = Recorded::new((&kept[..count]).chain(&mut *input));
-        left = take_request(&mut reader, &mut chunk, server, turns)?;
-        turns = turns.saturating_sub(reader.reads());
+        let turns = TURNS.saturating_sub(requests.reads());
+        take_request(&mut requests, server, turns)?;
         if server.wants_pack() {
             server.read_packs();
-            let mut reader = Recorded::new((&chunk[left.from..left.to]).chain(input));
-            return serve(
-                &mut reader,
-                &mut Recorded::new(output),
-                &mut kept,
-                server,
-                turns,
-            );
         }
     }
     Err(RunFault::ReadLimit)
@@ -375,15 +361,10 @@ fn take_one_request(rt: &HostRuntime, server: &mut FileServer<'_>) -> Result<(),
         return Ok(());
     }
     let mut input = Watched::new(Stream::Input, Retries::new(rt.stdin()));
-    match take_request(
-        &mut Recorded::new(&mut input),
-        &mut [0; CHUNK],
-        server,
-        TURNS,
-    ) {
-        Ok(_) => Ok(()),
-        Err(fault) => Err(Failure::of_run(fault, input.failed_call())),
-    }
+    let mut reader = Recorded::new(&mut input);
+    let mut chunk = [0; CHUNK];
+    let done = take_request(&mut OneInput::new(&mut reader, &mut chunk), server, TURNS);
+    done.map_err(|fault| Failure::of_run(fault, input.failed_call()))
 }
 
 /// Writes on standard output what the server has to send.

@@ -1,5 +1,5 @@
 -- A move of one input or output, among all numbers.
-use Rattle.std.proofs.Common.{◌≡◌, ◌≢◌, ℕ, eqb, Bool, true, false, if◌then◌else◌, List, [], ◌∷◌, ◌++◌, refl, sym, ap, ◌∙◌, subst, append-nil}
+use Rattle.std.proofs.Common.{◌≡◌, ◌≢◌, ℕ, eqb, Bool, true, false, if◌then◌else◌, List, [], ◌++◌, refl, sym, subst, append-nil}
 use Rattle.std.proofs.lemmas.Bool.{eqb-true, eqb-false}
 
 by_number : (k n : ℕ) (b : Bool) → eqb k n ≡ b → {T : Type 0} (x y : T) (P : T → Type 0) → (k ≡ n → P x) → (k ≢ n → P y) → P (if b then x else y)

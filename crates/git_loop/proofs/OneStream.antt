@@ -43,9 +43,6 @@ window_later start end count memory within =
     let parts : end - start ≡ count + later = omega (arith, fits) in
     sym (ap (λ (n : ℕ). drop count (take n rest)) parts ∙ drop-take count later rest ∙ ap (take later) (drop-drop count start memory))
 
-pub window_none : (start end : ℕ) (memory : List ℕ) → end ≡ start → window_of start end memory ≡ []
-window_none start end memory same = let none : end - start ≡ 0 = omega (arith, same) in ap (λ (n : ℕ). take n (drop start memory)) none
-
 pub consumes_first : {R : Type 0} (remaining : R → Option (List ℕ)) (reader : Recorded R) (n count start end : ℕ) (memory : List ℕ) → n ≡ 0
     → count ≤ length (one_input (recorded_input remaining reader (window_of start end memory)) n).window
     → Consumed count (one_input (recorded_input remaining reader (window_of start end memory)) n)

@@ -1,19 +1,20 @@
 -- A run of a machine, one call after another.
 use Rattle.std.proofs.Common.{arith, ◌≡◌, ◌≢◌, ◌⊎◌, inl, inr, ℕ, ◌+◌, ◌≤◌, ◌<◌, Bool, true, false, Option, Some, None, Result, Ok, Err}
 use Rattle.std.proofs.Common.{IsErrAnd, OnErr, ◌||◌, eqb}
-use Rattle.std.proofs.Common.{List, [], ◌∷◌, ◌++◌, length, length-drop, take, drop, length-append, append_assoc, append-nil}
+use Rattle.std.proofs.Common.{List, [], ◌∷◌, ◌++◌, length, length-drop, take, drop, length-append}
 use Rattle.std.proofs.Common.{refl, sym, ap, ◌∙◌, subst}
 use Rattle.std.proofs.lemmas.Bool.{eqb-true, eqb-false}
 use Rattle.std.proofs.Math.Seq.{drop-nil}
 use Rattle.std.proofs.lemmas.List.{length-take-le}
-use Rattle.std.specs.Io.KnownBytes.{Consumes, Keeps}
+use Rattle.std.specs.Io.KnownBytes.{Keeps}
 use Rattle.std.proofs.KnownBytes.{Consumes-nil, Consumes-trans, Consumes-kept}
-use Rattle.git_pkt.specs.Streams.{flow, WrittenAs}
+use Rattle.git_pkt.specs.Streams.{flow, is_broken, WrittenAs}
 use Rattle.git_pkt.specs.declared.fault.RunFault.{RunFault}
 use Rattle.git_pkt.proofs.EngineLemmas.{written_nothing, written_then, written_flushed, written_whole, at_fault}
-use Rattle.git_loop.specs.Moves.{Move, closed, gave, used, ended_after, given_to, used_of, ended_after-append, given_to-append, used_of-append}
+use Rattle.git_loop.specs.Moves.{Move, closed, gave, used, ended_after, given_to, ended_after-append, given_to-append, used_of-append}
 use Rattle.git_loop.specs.Streams.{Consumed, Fills, InputState, IsOpen, KeepsOthers, Sends, found_end}
-use Rattle.git_loop.specs.Machines.{AreSound, EndStates, FailedAlone, GivesPart, IsAt, RanOver, SameCalls, States, Uses, Went}
+use Rattle.git_loop.specs.Machines.{AreSound, EndStates, EndsFlushed, FailedAlone, GivesPart, IsAt, IsNeeded, KnowsEnds, LeadBy, Moment, RanOver, Reading}
+use Rattle.git_loop.specs.Machines.{ReadsAsNeeded, ReadsNone, ReadsOnce, SameCalls, States, Uses, Views, Went, WentOn}
 use Rattle.git_loop.proofs.Numbers.{at_number, over_number}
 
 -- the fault that `?` returns is the one that it met
@@ -26,6 +27,17 @@ pub ran_at : {M : Type 0} {states : States M} {at_end : EndStates} {has : ℕ �
     → RanOver states at_end has result old new first now before after
 ran_at {M} {states} {at_end} {has} met {result} {fault} {old} {new} {first} {now} {before} {after} named returned ran =
     at_fault result fault met (λ (r : Result (Unit {0}) RunFault). RanOver states at_end has r old new first now before after) named returned ran
+
+pub reads_at : {M I O : Type 0} {states : States M} {views : Views I O} (met : RunFault) (result : Result (Unit {0}) RunFault) {fault : RunFault}
+    {first now : Moment M I O} → fault ≡ met → IsErrAnd result (λ e. e ≡ fault) → ReadsAsNeeded states views (is_broken {T = Unit {0}} (Err met)) first now
+    → ReadsAsNeeded states views (is_broken result) first now
+reads_at {M} {I} {O} {states} {views} met result {fault} {first} {now} named returned reads =
+    at_fault result fault met (λ (r : Result (Unit {0}) RunFault). ReadsAsNeeded states views (is_broken r) first now) named returned reads
+
+pub flushed_at : (met : RunFault) (result : Result (Unit {0}) RunFault) {fault : RunFault} (flushed : Bool) → fault ≡ met
+    → IsErrAnd result (λ e. e ≡ fault) → EndsFlushed (Err met) flushed → EndsFlushed result flushed
+flushed_at met result {fault} flushed named returned ends =
+    at_fault result fault met (λ (r : Result (Unit {0}) RunFault). EndsFlushed r flushed) named returned ends
 
 or-false : (b : Bool) → (b || false) ≡ b
 or-false true = refl
@@ -56,7 +68,11 @@ pub calls_consumed : (from count : ℕ) {first mid now : ℕ → InputState} →
     → Consumed count (mid from) (now from) → KeepsOthers from mid now → (k : ℕ) → SameCalls (first k) (now k)
 calls_consumed from count {first} {mid} {now} so_far consumed others k = over_number k from true (λ (b : Bool). SameCalls (first k) (now k))
     (λ here. subst (λ (n : ℕ). SameCalls (first n) (now n)) (sym here)
-    (record { failed = consumed.failed ∙ (so_far from).failed; ended = consumed.ended ∙ (so_far from).ended }))
+    (record {
+      reads = consumed.reads ∙ (so_far from).reads;
+      failed = consumed.failed ∙ (so_far from).failed;
+      ended = consumed.ended ∙ (so_far from).ended;
+    }))
     (λ other. subst (λ (i : InputState). SameCalls (first k) i) (sym (others k other)) (so_far k))
 
 -- ---- what each input knows of its reads
@@ -81,25 +97,35 @@ failed_alone {has} {first} {now} from exists failed others sound = record {
   others = λ k here other. ap (λ (i : InputState). i.failed) (others k other) ∙ sound k here;
 }
 
--- the machine is done with each input that has ended
-abbrev pub EndsKnown : (ℕ → Type 0) → (ℕ → InputState) → (ℕ → Type 0) → Type 0
-EndsKnown has inputs done = (k : ℕ) → has k → (inputs k).ended ≡ true → done k
-
 pub known_so : {has done after : ℕ → Type 0} {first now : ℕ → InputState} → ((k : ℕ) → SameCalls (first k) (now k)) → ((k : ℕ) → done k → after k)
-    → EndsKnown has first done → EndsKnown has now after
+    → KnowsEnds has first done → KnowsEnds has now after
 known_so calls goes known k exists ended = goes k (known k exists (sym (calls k).ended ∙ ended))
 
 pub known_read : {has done after : ℕ → Type 0} {first now : ℕ → InputState} (from : ℕ) → ((now from).ended ≡ true → after from)
-    → KeepsOthers from first now → ((k : ℕ) → done k → after k) → EndsKnown has first done → EndsKnown has now after
+    → KeepsOthers from first now → ((k : ℕ) → done k → after k) → KnowsEnds has first done → KnowsEnds has now after
 known_read {has} {done} {after} {first} {now} from found others goes known k exists ended = over_number k from true (λ (b : Bool). after k)
     (λ here. subst after (sym here) (found (subst (λ (n : ℕ). (now n).ended ≡ true) here ended)))
     (λ other. goes k (known k exists (sym (ap (λ (i : InputState). i.ended) (others k other)) ∙ ended)))
 
 -- before the first read no input has ended
 pub known_first : {has : ℕ → Type 0} (done : ℕ → Type 0) {first now : ℕ → InputState} → ((k : ℕ) → SameCalls (first k) (now k))
-    → ((k : ℕ) → has k → IsOpen (first k)) → EndsKnown has now done
+    → ((k : ℕ) → has k → IsOpen (first k)) → KnowsEnds has now done
 known_first done calls unended k exists ended =
     let e : true ≡ false = sym ended ∙ (calls k).ended ∙ (unended k exists).unended in absurd (cc)
+
+-- a read of the input of this number was made, and no other one
+pub once_read : {first mid now : ℕ → InputState} (from : ℕ) → (mid from).reads ≤ (first from).reads + 1 → KeepsOthers from first mid
+    → ((k : ℕ) → SameCalls (mid k) (now k)) → ReadsOnce from first now
+once_read from once others calls = record {
+  once = omega (arith, once, (calls from).reads);
+  others = λ k other. (calls k).reads ∙ ap (λ (i : InputState). i.reads) (others k other);
+}
+
+pub same_reads : {first now : ℕ → InputState} → ((k : ℕ) → SameCalls (first k) (now k)) → ReadsNone first now
+same_reads calls k = (calls k).reads
+
+pub same_calls : (input : InputState) → SameCalls input input
+same_calls input = record { reads = refl; failed = refl; ended = refl }
 
 pub not_ended : (b : Bool) → (b ≡ true → ⊥) → b ≡ false
 not_ended true not = absurd (not refl)
@@ -199,6 +225,35 @@ module _ {M : Type 0} (states : States M) where
             → (now k).window ≡ (mid k).window → ((now k).window ≢ []) ⊎ (states.stopped_short old k × ((now k).window ≡ (first k).window))
         short_then k (inl more) same = inl (λ none. more (sym same ∙ none))
         short_then k (inr (s, before_same)) same = inr (s, same ∙ before_same)
+
+    module _ {I O : Type 0} (views : Views I O) (broken : Bool) where
+      lead_on : (first before now : Moment M I O) (readings : List (Reading M I O)) → LeadBy states views false first readings before
+          → WentOn states views broken before now → ReadsNone (views.input before.inputs) (views.input now.inputs)
+          → LeadBy states views broken first readings now
+      lead_on first before now [] (went, none) more quiet = (went_then broken went more, λ k. quiet k ∙ none k)
+      lead_on first before now (reading ∷ earlier) (lead, needed, went, read) more quiet = (
+        lead,
+        needed,
+        went_then broken went more,
+        record { once = omega (arith, quiet reading.from, read.once); others = λ k other. quiet k ∙ read.others k other },
+      )
+
+      -- a run went on without a read
+      pub reads_no_more : {first before now : Moment M I O} → ReadsAsNeeded states views false first before → WentOn states views broken before now
+          → ReadsNone (views.input before.inputs) (views.input now.inputs) → ReadsAsNeeded states views broken first now
+      reads_no_more {first} {before} {now} h more quiet = record {
+        readings = h.readings;
+        lead = lead_on first before now h.readings h.lead more quiet;
+      }
+
+      -- it went on with a read of the input of this number
+      pub reads_once_more : {first before now : Moment M I O} (from : ℕ) → ReadsAsNeeded states views false first before → IsNeeded states views (record { at = before; from = from })
+          → WentOn states views broken before now → ReadsOnce from (views.input before.inputs) (views.input now.inputs)
+          → ReadsAsNeeded states views broken first now
+      reads_once_more {first} {before} {now} from h needed more read = record {
+        readings = record { at = before; from = from } ∷ h.readings;
+        lead = (h.lead, needed, more, read);
+      }
 
   -- the machine gave a part, which was written as far as that went
   pub went_gave : (broken : Bool) {old new : M} (to : ℕ) (inputs : ℕ → InputState) {held after : ℕ → Option (List ℕ)} {Lends : M → List ℕ → Type 0}

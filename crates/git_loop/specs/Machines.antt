@@ -16,9 +16,19 @@ StateRelation M = M → List Move → M → Type 0
 -- what a machine names of its states
 pub record States (M : Type 0) : Type 1 where
   pub reaches : StateRelation M
+  pub needs_input : M → ℕ → Type 0
   pub done_with : M → ℕ → Type 0
   pub stopped_short : M → ℕ → Type 0
   pub reachable : M → Type 0
+
+abbrev pub states_of : {M : Type 0} → StateRelation M → (M → ℕ → Type 0) → (M → ℕ → Type 0) → (M → ℕ → Type 0) → (M → Type 0) → States M
+states_of reaches needs_input done_with stopped_short reachable = record {
+  reaches = reaches;
+  needs_input = needs_input;
+  done_with = done_with;
+  stopped_short = stopped_short;
+  reachable = reachable;
+}
 
 -- the last call gave these bytes as the next part of the output of this number, and the machine lends them
 pub record GivesPart {M : Type 0} (Reaches : StateRelation M) (Lends : M → List ℕ → Type 0) (old : M) (to : ℕ) (new : M) : Type 0 where
@@ -58,12 +68,75 @@ abbrev pub HasNothing : Option ℕ → (ℕ → InputState) → Type 0
 HasNothing (Some from) inputs = (inputs from).window ≡ []
 HasNothing None inputs = Unit {0}
 
--- no read failed or found the end
+-- no read was made
 pub record SameCalls (old new : InputState) : Type 0 where
+  pub reads : new.reads ≡ old.reads
   pub failed : new.failed ≡ old.failed
   pub ended : new.ended ≡ old.ended
 
+-- ---- the reads of a run
+
+-- how a run sees its inputs and outputs
+pub record Views (I O : Type 0) : Type 0 where
+  pub input : I → ℕ → InputState
+  pub contents : O → ℕ → Option (List ℕ)
+  pub flushed : O → Bool
+
+-- a moment of a run
+pub record Moment (M I O : Type 0) : Type 0 where
+  pub machine : M
+  pub inputs : I
+  pub outputs : O
+
+-- a read of the input of this number, and the moment before it
+pub record Reading (M I O : Type 0) : Type 0 where
+  pub at : Moment M I O
+  pub from : ℕ
+
+-- at most one read was made, of the input of this number
+pub record ReadsOnce (from : ℕ) (old new : ℕ → InputState) : Type 0 where
+  pub once : (new from).reads ≤ (old from).reads + 1
+  pub others : (k : ℕ) → k ≢ from → (new k).reads ≡ (old k).reads
+
+abbrev pub ReadsNone : (ℕ → InputState) → (ℕ → InputState) → Type 0
+ReadsNone old new = (k : ℕ) → (new k).reads ≡ (old k).reads
+
+module _ {M I O : Type 0} (states : States M) (views : Views I O) where
+  abbrev pub WentOn : Bool → Moment M I O → Moment M I O → Type 0
+  WentOn broken old new = Went states broken old.machine new.machine (views.input old.inputs) (views.input new.inputs) (views.contents old.outputs)
+      (views.contents new.outputs)
+
+  -- the machine needs the input that is read, no bytes of that wait, and all that was sent was flushed
+  pub record IsNeeded (reading : Reading M I O) : Type 0 where
+    pub needs : states.needs_input reading.at.machine reading.from
+    pub empty : (views.input reading.at.inputs reading.from).window ≡ []
+    pub flushed : views.flushed reading.at.outputs ≡ true
+
+  -- a run led from the first moment to the last by these reads and no others, the last read first, and each was needed
+  abbrev pub LeadBy : Bool → Moment M I O → List (Reading M I O) → Moment M I O → Type 0
+  LeadBy broken first [] now = WentOn broken first now × ReadsNone (views.input first.inputs) (views.input now.inputs)
+  LeadBy broken first (reading ∷ earlier) now =
+      LeadBy false first earlier reading.at × IsNeeded reading × WentOn broken reading.at now
+      × ReadsOnce reading.from (views.input reading.at.inputs) (views.input now.inputs)
+
+  -- a run made a read only when it was needed
+  pub record ReadsAsNeeded (broken : Bool) (first now : Moment M I O) : Type 0 where
+    pub readings : List (Reading M I O)
+    pub lead : LeadBy broken first readings now
+
 -- ---- the end of a run
+
+-- the machine is done with each input that has ended
+abbrev pub KnowsEnds : (ℕ → Type 0) → (ℕ → InputState) → (ℕ → Type 0) → Type 0
+KnowsEnds has inputs done = (k : ℕ) → has k → (inputs k).ended ≡ true → done k
+
+-- all that was sent was flushed, unless a write or a flush failed
+abbrev pub EndsFlushed : Result (Unit {0}) RunFault → Bool → Type 0
+EndsFlushed (Err WriteFault) flushed = Unit {0}
+EndsFlushed (Err ReadFault) flushed = flushed ≡ true
+EndsFlushed (Err ReadLimit) flushed = flushed ≡ true
+EndsFlushed (Err (Refused fault)) flushed = flushed ≡ true
+EndsFlushed (Ok done) flushed = flushed ≡ true
 
 -- the machine needs the input of this number, which has not ended, and has used all that was read of it
 pub record WaitsFor (needs_input : ℕ → Type 0) (inputs : ℕ → InputState) (from : ℕ) : Type 0 where

@@ -1,5 +1,5 @@
 -- What the calls of a machine did, in their order.
-use Rattle.std.specs.Prelude.{◌≡◌, ℕ, eqb, Bool, true, false, if◌then◌else◌, List, [], ◌∷◌, ◌++◌}
+use Rattle.std.specs.Prelude.{◌≡◌, ℕ, eqb, Bool, true, if◌then◌else◌, List, [], ◌∷◌, ◌++◌}
 use Rattle.std.proofs.Common.{refl, sym, ap, ◌∙◌, append_assoc}
 
 -- bytes of the input of this number were used, that input ended, or bytes went to the output of this number

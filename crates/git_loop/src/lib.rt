@@ -7,4 +7,4 @@ mod streams;
 
 pub use crate::machine::{Machine, Next};
 pub use crate::running::{run, run_streams};
-pub use crate::streams::{Inputs, Outputs};
+pub use crate::streams::{Inputs, NoOutput, OneInput, OneOutput, Outputs};

@@ -42,6 +42,8 @@ pub trait Machine {
     ghost holds: { Self → List ℕ → Type 0 };
     /// With the first bytes fed last, the second ones are the part that the machine lends.
     ghost lends: { Self → List ℕ → List ℕ → Type 0 };
+    /// The part that it lends is one of the output of this number.
+    ghost gives_to: { Self → ℕ → Type 0 };
     /// How many parts it gives at most before it needs input or has finished.
     ghost parts_left: { Self → ℕ };
     /// It has given all, and waits for bytes of the input of this number or for its end.
@@ -60,6 +62,7 @@ pub trait Machine {
         requires { holds self.old fed.now }
         ensures holds { holds self.new fed.now }
         ensures part { (to : ℕ) → result ≡ Next.Part to → GivesPart reaches (λ m bytes. lends m fed.now bytes) self.old to self.new }
+        ensures to { (to : ℕ) → result ≡ Next.Part to → gives_to self.new to }
         ensures fewer { (to : ℕ) → result ≡ Next.Part to → parts_left self.new < parts_left self.old }
         ensures needs_input { (from : ℕ) → result ≡ Next.NeedInput from → needs_input self.new from × reaches self.old [] self.new }
         ensures finished { result ≡ Next.Finished → finished self.new × reaches self.old [] self.new }

@@ -6,10 +6,12 @@ ghost use Rattle.git_pkt.specs.Machine.Recorded.{reads_of, has_failed, has_waste
 ghost use Rattle.git_pkt.specs.Machine.Engine.{FailsAs, IsShownBy, IsSpent};
 ghost use Rattle.git_pkt.specs.Streams.{is_broken};
 ghost use Rattle.git_loop.specs.Streams.{InputState, IsOpen, KeepsOthers};
-ghost use Rattle.git_loop.specs.Machines.{HasNothing, IsAt, RanOne, RanOver, SameCalls, WaitsFor, Went};
+ghost use Rattle.git_loop.specs.Machines.{EndsFlushed, HasNothing, IsAt, KnowsEnds, RanOne, RanOver, ReadsAsNeeded, SameCalls, WaitsFor, Went};
+ghost use Rattle.git_loop.specs.Machines.{states_of};
+ghost use Rattle.git_loop.specs.OneStreams.{waiting_in};
 
 use crate::machine::{Machine, Next};
-use crate::streams::{Inputs, OneInput, OneOutput, Outputs};
+use crate::streams::{FirstOutput, Inputs, OneInput, Outputs};
 use git_pkt::{Recorded, RunFault};
 use std::io::{Read, Write};
 
@@ -20,20 +22,11 @@ fn drain<M: Machine, O: Outputs>(
     fed: &[u8],
     outputs: &mut O,
 ) -> Result<Option<u8>, RunFault>
-    requires { M.holds machine.old fed.now }
-    ensures ok { OnOk result ((inputs : ℕ → InputState) → Went (record {
-      reaches = M.reaches;
-      done_with = M.done_with;
-      stopped_short = M.stopped_short;
-      reachable = M.reachable;
-    }) false machine.old machine.new inputs inputs
+    requires outputs { (m : M) (to : ℕ) → M.gives_to m to → O.has to }
+    requires holds { M.holds machine.old fed.now }
+    ensures ok { OnOk result ((inputs : ℕ → InputState) → Went (states_of M.reaches M.needs_input M.done_with M.stopped_short M.reachable) false machine.old machine.new inputs inputs
         (O.contents outputs.old) (O.contents outputs.new)) }
-    ensures front { OnErr result ((inputs : ℕ → InputState) → Went (record {
-      reaches = M.reaches;
-      done_with = M.done_with;
-      stopped_short = M.stopped_short;
-      reachable = M.reachable;
-    }) true machine.old machine.new inputs inputs
+    ensures front { OnErr result ((inputs : ℕ → InputState) → Went (states_of M.reaches M.needs_input M.done_with M.stopped_short M.reachable) true machine.old machine.new inputs inputs
         (O.contents outputs.old) (O.contents outputs.new)) }
     ensures at { IfOk result (λ next. IsAt next (M.needs_input machine.new) (M.finished machine.new)) }
     ensures fault { IfErr result (λ fault. fault ≡ RunFault.WriteFault) }
@@ -59,18 +52,14 @@ fn read_more<M: Machine, I: Inputs>(
     requires exists { I.has from }
     requires empty { (I.input inputs.old from).window ≡ [] }
     requires unended { (I.input inputs.old from).ended ≡ false }
-    ensures went { (held : ℕ → Option (List ℕ)) → Went (record {
-      reaches = M.reaches;
-      done_with = M.done_with;
-      stopped_short = M.stopped_short;
-      reachable = M.reachable;
-    }) false machine.old machine.new (I.input inputs.old) (I.input inputs.new)
+    ensures went { (held : ℕ → Option (List ℕ)) → Went (states_of M.reaches M.needs_input M.done_with M.stopped_short M.reachable) false machine.old machine.new (I.input inputs.old) (I.input inputs.new)
         held held }
     ensures holds { OnOk result (M.holds machine.new []) }
     ensures ended { (I.input inputs.new from).ended ≡ true → M.done_with machine.new from }
     ensures unread { OnErr result ((machine.new ≡ machine.old) × WaitsFor (M.needs_input machine.new) (I.input inputs.new) from) }
     ensures failed { (I.input inputs.new from).failed ≡ ((I.input inputs.old from).failed || is_err result) }
     ensures others { KeepsOthers from (I.input inputs.old) (I.input inputs.new) }
+    ensures once { (I.input inputs.new from).reads ≤ (I.input inputs.old from).reads + 1 }
     ensures counted { I.reads inputs.new ≡ min (I.reads inputs.old + 1) u64.MAX }
     ensures fault { IfErr result (λ fault. fault ≡ RunFault.ReadFault) }
     ensures same_readers { I.same_readers inputs.old inputs.new }
@@ -90,20 +79,11 @@ fn advance<M: Machine, I: Inputs, O: Outputs>(
     outputs: &mut O,
 ) -> Result<Option<u8>, RunFault>
     requires inputs { (m : M) (k : ℕ) → M.needs_input m k → I.has k }
+    requires outputs { (m : M) (to : ℕ) → M.gives_to m to → O.has to }
     requires holds { M.holds machine.old [] }
-    ensures ok { OnOk result (Went (record {
-      reaches = M.reaches;
-      done_with = M.done_with;
-      stopped_short = M.stopped_short;
-      reachable = M.reachable;
-    }) false machine.old machine.new (I.input inputs.old) (I.input inputs.new)
+    ensures ok { OnOk result (Went (states_of M.reaches M.needs_input M.done_with M.stopped_short M.reachable) false machine.old machine.new (I.input inputs.old) (I.input inputs.new)
         (O.contents outputs.old) (O.contents outputs.new)) }
-    ensures front { OnErr result (Went (record {
-      reaches = M.reaches;
-      done_with = M.done_with;
-      stopped_short = M.stopped_short;
-      reachable = M.reachable;
-    }) true machine.old machine.new (I.input inputs.old) (I.input inputs.new)
+    ensures front { OnErr result (Went (states_of M.reaches M.needs_input M.done_with M.stopped_short M.reachable) true machine.old machine.new (I.input inputs.old) (I.input inputs.new)
         (O.contents outputs.old) (O.contents outputs.new)) }
     ensures at { IfOk result (λ next. IsAt next (M.needs_input machine.new) (M.finished machine.new)) }
     ensures nothing { IfOk result (λ next. HasNothing next (I.input inputs.new)) }
@@ -144,18 +124,25 @@ pub fn run_streams<M: Machine, I: Inputs, O: Outputs>(
     turns: u64,
 ) -> Result<(), RunFault>
     requires inputs { (m : M) (k : ℕ) → M.needs_input m k → I.has k }
+    requires outputs { (m : M) (to : ℕ) → M.gives_to m to → O.has to }
     requires open_inputs { (k : ℕ) → I.has k → IsOpen (I.input inputs.old k) }
     requires sound_outputs { O.failed outputs.old ≡ false }
     requires holds { M.holds machine.old [] }
 
     ensures reads { I.reads inputs.new ≤ I.reads inputs.old + turns }
-    ensures ran { RanOver (record { reaches = M.reaches; done_with = M.done_with; stopped_short = M.stopped_short; reachable = M.reachable })
+    ensures ran { RanOver (states_of M.reaches M.needs_input M.done_with M.stopped_short M.reachable)
         (record {
           needs_input = M.needs_input machine.new;
           finished = M.finished machine.new;
           spent = min (I.reads inputs.old + turns) u64.MAX ≤ I.reads inputs.new;
           write_failed = O.failed outputs.new;
         }) I.has result machine.old machine.new (I.input inputs.old) (I.input inputs.new) (O.contents outputs.old) (O.contents outputs.new) }
+    ensures needed { ReadsAsNeeded (states_of M.reaches M.needs_input M.done_with M.stopped_short M.reachable)
+        (record { input = I.input; contents = O.contents; flushed = O.flushed }) (is_broken result)
+        (record { machine = machine.old; inputs = inputs.old; outputs = outputs.old })
+        (record { machine = machine.new; inputs = inputs.new; outputs = outputs.new }) }
+    ensures flushed { EndsFlushed result (O.flushed outputs.new) }
+    ensures ends_known { KnowsEnds I.has (I.input inputs.new) (M.done_with machine.new) }
     ensures same_readers { I.same_readers inputs.old inputs.new }
     ensures same_writers { O.same_writers outputs.old outputs.new }
 {
@@ -206,26 +193,24 @@ pub fn run<M: Machine, R: Read, W: Write>(
     ensures fault { IfErr result (IsShownBy (IsTrue (has_failed reader.new)) (IsTrue (has_failed writer.new)) (IsSpent reader.new turns)) }
     ensures failed { FailsAs result (has_failed reader.new) (has_failed writer.new) }
 {
-    let mut input = OneInput {
-        reader,
-        buffer,
-        start: 0,
-        end: 0,
+    let mut input = OneInput::new(reader, buffer);
+    let mut output = FirstOutput {
+        writer,
+        flushed: false,
     };
-    let mut output = OneOutput { writer };
     run_one(machine, &mut input, &mut output, turns)
 }
 
-// Runs a machine over the one input and the one output that it has.
+// Runs a machine over its one input and the output 0.
 fn run_one<M: Machine, R: Read, W: Write>(
     machine: &mut M,
     input: &mut OneInput<'_, R>,
-    output: &mut OneOutput<'_, W>,
+    output: &mut FirstOutput<'_, W>,
     turns: u64,
 ) -> Result<(), RunFault>
     requires one { (m : M) (k : ℕ) → M.needs_input m k → k ≡ 0 }
     requires holds { M.holds machine.old [] }
-    requires empty { input.old.end ≡ input.old.start }
+    requires empty { waiting_in input.old ≡ [] }
     requires new_reader { IsNew input.old.reader.now }
     requires sound_writer { has_failed output.old.writer.now ≡ false }
 

@@ -43,3 +43,4 @@ pub mod Calls
 pub mod Listed
 pub mod Rising
 pub mod UnbornHead
+pub mod OneRequestTaken

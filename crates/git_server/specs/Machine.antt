@@ -17,6 +17,7 @@ pub mod LateRepo
 pub mod Server
 pub mod ServerCalls
 pub mod Moved
+pub mod OneRequest
 pub mod Unsent
 pub mod Runs
 pub mod Calls

@@ -19,6 +19,8 @@ impl<R: Repo, A: Allocator + Copy> Machine for Server<R, A> {
 
     ghost lends = { λ server fed bytes. LendsPacket server bytes };
 
+    ghost gives_to = { λ server k. k ≡ 0 };
+
     ghost parts_left = { λ server. most_left R.state server };
 
     ghost needs_input = { λ server k. (k ≡ 0) × (wants_input server ≡ true) };

@@ -25,6 +25,7 @@ pub fn write_pending<W: Write, R: Repo, A: Allocator + Copy>(
         (flow (W.contents (inner_of writer.old)) (W.contents (inner_of writer.new)))) }
     ensures front { OnErr result (WritesPart true R.state server.old server.new []
         (flow (W.contents (inner_of writer.old)) (W.contents (inner_of writer.new)))) }
+    ensures outcome { OnOk result (IsAfterPull (outcome_of server.old) (outcome_of server.new)) }
     ensures unread { HasNoPackUnsent R.state server.old → OnOk result (WritesUnread false R.state server.old server.new
         (flow (W.contents (inner_of writer.old)) (W.contents (inner_of writer.new)))) }
     ensures fault { IfErr result (λ fault. fault ≡ RunFault.WriteFault) }

@@ -18,6 +18,8 @@ impl<S: Store, A: Memory + Copy> Machine for Hosted<S, A> {
 
     ghost lends = { λ hosted fed bytes. bytes ≡ bytes_of (server_of hosted) };
 
+    ghost gives_to = { λ hosted k. k ≡ 0 };
+
     ghost parts_left = { λ hosted. left_of hosted };
 
     ghost needs_input = { λ hosted k. (k ≡ 0) × (reads_on (server_of hosted) ≡ true) };

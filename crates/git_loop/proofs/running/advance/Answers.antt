@@ -1,6 +1,5 @@
-use Rattle.std.proofs.Common.{rules, true, false, inl, inr, ◌<◌, length, sym, ap, subst, refl, ℕ}
-use Rattle.git_loop.specs.Machines.{SameCalls}
-use Rattle.git_loop.proofs.RunLemmas.{calls_consumed, if_needed, none_needed, on_err_at, turn_less, went_fed, went_nothing, went_then}
+use Rattle.std.proofs.Common.{rules, true, false, inl, inr, ◌<◌, length, refl}
+use Rattle.git_loop.proofs.RunLemmas.{calls_consumed, none_needed, on_err_at, same_calls, turn_less, went_fed, went_then}
 use Rattle.git_loop.proofs.running.advance.Goals as goal
 
 pub returns-in_err-next-2-clause-front : goal.returns-in_err-next-2-clause-front
@@ -18,7 +17,7 @@ loop-next-init g c = record {
   at = c.in_ok-next.ensures.at;
   failed = search rules;
   counted = refl;
-  calls = λ k. record { failed = refl; ended = refl };
+  calls = λ k. same_calls _;
   same_readers = g.met.I.Inputs.same_itself _;
   same_writers = c.in_ok-next.ensures.same_writers;
   went = c.in_ok-next.ensures.ok _;

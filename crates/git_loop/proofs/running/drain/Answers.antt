@@ -1,4 +1,4 @@
-use Rattle.std.proofs.Common.{rules, sym, refl, subst, true, false}
+use Rattle.std.proofs.Common.{rules, sym, refl, true, false}
 use Rattle.git_loop.proofs.RunLemmas.{on_err_at, went_gave, went_nothing, went_quiet, went_then}
 use Rattle.git_loop.proofs.running.drain.Goals as goal
 
@@ -9,6 +9,9 @@ loop-to-init g c = record {
   same_writers = g.met.O.Outputs.same_itself _;
   went = λ inputs. went_nothing _ g.met.M.Machine.reaches_itself _ inputs _;
 }
+
+pub send-requires : goal.send-requires
+send-requires g c = record { exists = c.requires.outputs _ _ (c.next.ensures.to _ c.in-Part.is) }
 
 pub part-requires : goal.part-requires
 part-requires g c = let gives = c.next.ensures.part _ c.in-Part.is in (gives.bytes, gives.lent)

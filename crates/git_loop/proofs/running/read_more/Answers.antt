@@ -1,4 +1,4 @@
-use Rattle.std.proofs.Common.{rules, true, false, refl, Ok, Err}
+use Rattle.std.proofs.Common.{true, refl, Ok, Err}
 use Rattle.git_loop.proofs.RunLemmas.{went_closed, went_read}
 use Rattle.git_loop.proofs.running.read_more.Goals as goal
 

@@ -1,6 +1,7 @@
-use Rattle.std.proofs.Common.{rules, true, false, refl, ℕ}
+use Rattle.std.proofs.Common.{rules, true, false, refl, ℕ, []}
 use Rattle.git_pkt.specs.declared.fault.RunFault.TheVariants.{ReadFault, WriteFault}
-use Rattle.git_loop.proofs.RunLemmas.{failed_alone, known_first, known_read, known_so, not_ended, ran_at, sound_read, sound_so, went_flushed, went_then}
+use Rattle.git_loop.proofs.RunLemmas.{failed_alone, flushed_at, known_first, known_read, known_so, once_read, ran_at, reads_at, reads_no_more, reads_once_more}
+use Rattle.git_loop.proofs.RunLemmas.{same_calls, same_reads, sound_read, sound_so, went_flushed, went_then}
 use Rattle.git_loop.proofs.running.run_streams.Goals as goal
 
 -- ---- before the first read
@@ -25,6 +26,7 @@ loop-init g c = record {
   same_readers = c.in_ok-next.ensures.same_readers;
   same_writers = c.in_ok-next.ensures.same_writers;
   went = c.in_ok-next.ensures.ok;
+  needed = record { readings = []; lead = (c.in_ok-next.ensures.ok, same_reads c.in_ok-next.ensures.calls) };
 }
 
 -- ---- a turn
@@ -90,6 +92,16 @@ loop-preserved g c =
           (went_then _ g.met.M.Machine.reaches_further g.met.M.Machine.stays_reachable false c.loop.invariant.went
           (went_flushed _ false g.met.M.Machine.reaches_itself _ _ c.in_ok-flush.ensures.kept))
           (c.in_ok-read_more.ensures.went _)) c.in_ok-next-2.ensures.ok;
+      needed = reads_once_more _ g.met.M.Machine.reaches_further g.met.M.Machine.stays_reachable _ false c.in-Some.from
+          (reads_no_more _ g.met.M.Machine.reaches_further g.met.M.Machine.stays_reachable _ false c.loop.invariant.needed
+          (went_flushed _ false g.met.M.Machine.reaches_itself _ _ c.in_ok-flush.ensures.kept) (λ k. refl))
+          (record {
+            needs = rw c.in-Some.is at c.loop.invariant.at;
+            empty = rw c.in-Some.is at c.loop.invariant.nothing;
+            flushed = c.in_ok-flush.ensures.flushed;
+          })
+          (went_then _ g.met.M.Machine.reaches_further g.met.M.Machine.stays_reachable false (c.in_ok-read_more.ensures.went _) c.in_ok-next-2.ensures.ok)
+          (once_read c.in-Some.from c.in_ok-read_more.ensures.once c.in_ok-read_more.ensures.others c.in_ok-next-2.ensures.calls);
     }
 
 pub returns-in_err-flush-2-clause-ran : goal.returns-in_err-flush-2-clause-ran
@@ -100,3 +112,97 @@ returns-in_err-flush-2-clause-ran g c =
       ends = tt;
       failed = (c.loop.invariant.sound, search rules);
     })
+
+-- ---- the reads
+
+pub returns-in_err-next-clause-needed : goal.returns-in_err-next-clause-needed
+returns-in_err-next-clause-needed g c =
+    reads_at WriteFault _ c.in_err-next.ensures.fault c.from_residual.ensures.1 (record {
+      readings = [];
+      lead = (c.in_err-next.ensures.front, same_reads c.in_err-next.ensures.calls);
+    })
+
+pub returns-in_err-flush-clause-needed : goal.returns-in_err-flush-clause-needed
+returns-in_err-flush-clause-needed g c =
+    reads_at WriteFault _ c.in_err-flush.ensures.fault c.from_residual-in_err-flush.ensures.1
+    (reads_no_more _ g.met.M.Machine.reaches_further g.met.M.Machine.stays_reachable _ true c.loop.invariant.needed (went_flushed _ true g.met.M.Machine.reaches_itself _ _ c.in_err-flush.ensures.kept) (λ k. refl))
+
+pub returns-in_err-flush-2-clause-needed : goal.returns-in_err-flush-2-clause-needed
+returns-in_err-flush-2-clause-needed g c =
+    reads_at WriteFault _ c.in_err-flush-2.ensures.fault c.from_residual-in_err-flush-2.ensures.1
+    (reads_no_more _ g.met.M.Machine.reaches_further g.met.M.Machine.stays_reachable _ true c.loop.invariant.needed (went_flushed _ true g.met.M.Machine.reaches_itself _ _ c.in_err-flush-2.ensures.kept) (λ k. refl))
+
+pub returns-in_err-read_more-clause-needed : goal.returns-in_err-read_more-clause-needed
+returns-in_err-read_more-clause-needed g c =
+    reads_at ReadFault _ c.in_err-read_more.ensures.fault c.from_residual-in_err-read_more.ensures.1
+    (reads_once_more _ g.met.M.Machine.reaches_further g.met.M.Machine.stays_reachable _ false c.in-Some.from (reads_no_more _ g.met.M.Machine.reaches_further g.met.M.Machine.stays_reachable _ false c.loop.invariant.needed
+    (went_flushed _ false g.met.M.Machine.reaches_itself _ _ c.in_ok-flush.ensures.kept) (λ k. refl)) (record {
+      needs = rw c.in-Some.is at c.loop.invariant.at;
+      empty = rw c.in-Some.is at c.loop.invariant.nothing;
+      flushed = c.in_ok-flush.ensures.flushed;
+    })
+    (c.in_err-read_more.ensures.went _)
+    (once_read c.in-Some.from c.in_err-read_more.ensures.once c.in_err-read_more.ensures.others (λ k. same_calls _)))
+
+pub returns-in_err-next-2-clause-needed : goal.returns-in_err-next-2-clause-needed
+returns-in_err-next-2-clause-needed g c =
+    reads_at WriteFault _ c.in_err-next-2.ensures.fault c.from_residual-in_err-next-2.ensures.1
+    (reads_once_more _ g.met.M.Machine.reaches_further g.met.M.Machine.stays_reachable _ true c.in-Some.from (reads_no_more _ g.met.M.Machine.reaches_further g.met.M.Machine.stays_reachable _ false c.loop.invariant.needed
+    (went_flushed _ false g.met.M.Machine.reaches_itself _ _ c.in_ok-flush.ensures.kept) (λ k. refl)) (record {
+      needs = rw c.in-Some.is at c.loop.invariant.at;
+      empty = rw c.in-Some.is at c.loop.invariant.nothing;
+      flushed = c.in_ok-flush.ensures.flushed;
+    })
+    (went_then _ g.met.M.Machine.reaches_further g.met.M.Machine.stays_reachable true (c.in_ok-read_more.ensures.went _) c.in_err-next-2.ensures.front)
+    (once_read c.in-Some.from c.in_ok-read_more.ensures.once c.in_ok-read_more.ensures.others c.in_err-next-2.ensures.calls))
+
+pub returns-in_default-clause-needed : goal.returns-in_default-clause-needed
+returns-in_default-clause-needed g c =
+    reads_no_more _ g.met.M.Machine.reaches_further g.met.M.Machine.stays_reachable _ false c.loop.invariant.needed
+    (went_flushed _ false g.met.M.Machine.reaches_itself _ _ c.in_ok-flush.ensures.kept) (λ k. refl)
+
+pub returns-in-Some-next-clause-needed : goal.returns-in-Some-next-clause-needed
+returns-in-Some-next-clause-needed g c =
+    reads_no_more _ g.met.M.Machine.reaches_further g.met.M.Machine.stays_reachable _ false c.loop.invariant.needed
+    (went_flushed _ false g.met.M.Machine.reaches_itself _ _ c.in_ok-flush-2.ensures.kept) (λ k. refl)
+
+pub returns-in-None-clause-needed : goal.returns-in-None-clause-needed
+returns-in-None-clause-needed g c =
+    reads_no_more _ g.met.M.Machine.reaches_further g.met.M.Machine.stays_reachable _ false c.loop.invariant.needed
+    (went_flushed _ false g.met.M.Machine.reaches_itself _ _ c.in_ok-flush-2.ensures.kept) (λ k. refl)
+
+-- ---- which inputs have ended
+
+pub returns-in_err-next-clause-ends_known : goal.returns-in_err-next-clause-ends_known
+returns-in_err-next-clause-ends_known g c = known_first _ c.in_err-next.ensures.calls c.requires.open_inputs
+
+pub returns-in_err-read_more-clause-ends_known : goal.returns-in_err-read_more-clause-ends_known
+returns-in_err-read_more-clause-ends_known g c =
+    known_read c.in-Some.from c.in_err-read_more.ensures.ended c.in_err-read_more.ensures.others
+    (c.in_err-read_more.ensures.went (g.O.Outputs.contents c.loop.outputs)).done c.loop.invariant.known
+
+pub returns-in_err-next-2-clause-ends_known : goal.returns-in_err-next-2-clause-ends_known
+returns-in_err-next-2-clause-ends_known g c =
+    known_so c.in_err-next-2.ensures.calls c.in_err-next-2.ensures.front.done
+    (known_read c.in-Some.from c.in_ok-read_more.ensures.ended c.in_ok-read_more.ensures.others
+    (c.in_ok-read_more.ensures.went (g.O.Outputs.contents c.loop.outputs)).done c.loop.invariant.known)
+
+-- ---- the last flush
+
+pub returns-in_err-next-clause-flushed : goal.returns-in_err-next-clause-flushed
+returns-in_err-next-clause-flushed g c = flushed_at WriteFault _ _ c.in_err-next.ensures.fault c.from_residual.ensures.1 tt
+
+pub returns-in_err-flush-clause-flushed : goal.returns-in_err-flush-clause-flushed
+returns-in_err-flush-clause-flushed g c = flushed_at WriteFault _ _ c.in_err-flush.ensures.fault c.from_residual-in_err-flush.ensures.1 tt
+
+pub returns-in_err-read_more-clause-flushed : goal.returns-in_err-read_more-clause-flushed
+returns-in_err-read_more-clause-flushed g c =
+    flushed_at ReadFault _ _ c.in_err-read_more.ensures.fault c.from_residual-in_err-read_more.ensures.1 c.in_ok-flush.ensures.flushed
+
+pub returns-in_err-next-2-clause-flushed : goal.returns-in_err-next-2-clause-flushed
+returns-in_err-next-2-clause-flushed g c =
+    flushed_at WriteFault _ _ c.in_err-next-2.ensures.fault c.from_residual-in_err-next-2.ensures.1 tt
+
+pub returns-in_err-flush-2-clause-flushed : goal.returns-in_err-flush-2-clause-flushed
+returns-in_err-flush-2-clause-flushed g c =
+    flushed_at WriteFault _ _ c.in_err-flush-2.ensures.fault c.from_residual-in_err-flush-2.ensures.1 tt

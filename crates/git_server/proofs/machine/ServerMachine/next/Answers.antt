@@ -19,3 +19,6 @@ returns-in-Packet-clause-done g c = λ k. stays_ended _ _ c.give.ensures.gives.o
 
 pub returns-in-Packet-clause-short : goal.returns-in-Packet-clause-short
 returns-in-Packet-clause-short g c = λ k short. (short.0, too_long_by_pull _ _ c.give.ensures.gives.outcome short.1)
+
+pub returns-in-Packet-clause-to : goal.returns-in-Packet-clause-to
+returns-in-Packet-clause-to g c = λ to is. cc
