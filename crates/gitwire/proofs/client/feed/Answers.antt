@@ -31,14 +31,14 @@ returns-in-Event c =
     let feeds = c.feed-arrived.follows.holds-at-none.0 in
     let fits = subst (λ (got : ReceivedGot). all_parts_length (events_of got) ≤ longest_payload) c.in-Event.is c.feed-arrived.ensures.fits in
     let buffer = c.list.ensures.buffer ∙ placed_first (copied_of c.in-Event.event) c.args.buffer.now in
-    let answered_as = λ (g : ReceivedGot). c.list.result.event ≡ answer_of (wants_input c.args.client.now) used g in
+    let answered_as = λ (g : ReceivedGot). c.list.new.place ≡ answer_of (wants_input c.args.client.now) used g in
     record {
       small = λ short. absurd (omega (arith, short, c.if-buffer-lt-LONGEST_PARTS.false));
       large = λ _. record {
         arrived = c.feed-arrived.result;
         feeds = record { chosen = _; chooses = c.choose_format.ensures; feeds = feeds };
         within = c.feed-arrived.ensures.used;
-        fits = answer_fits used 0 c.in-Event.event c.list.result.event fits c.list.ensures.event;
+        fits = answer_fits used 0 c.in-Event.event c.list.new.place fits c.list.ensures.event;
         answer_is = subst answered_as (sym c.in-Event.is) c.list.ensures.event;
         buffer_is = subst (λ (g : ReceivedGot). c.list.new.buffer ≡ filled_by g c.args.buffer.now) (sym c.in-Event.is) buffer;
         lies = lies _ c.feed-arrived.follows.lender-at-none c.args.chunk.now used got feeds;
