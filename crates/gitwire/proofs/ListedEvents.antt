@@ -1,5 +1,5 @@
 -- The events of an array, one call of `feed` after another.
-use Rattle.std.proofs.Common.{arith, ◌≡◌, ◌∙◌, ℕ, ◌+◌, ◌<◌, ◌≤◌, false, true, List, [], ◌∷◌, ◌++◌, length, take, drop, set}
+use Rattle.std.proofs.Common.{arith, ◌≡◌, ◌∙◌, ℕ, ◌+◌, ◌<◌, ◌≤◌, false, true, List, [], ◌∷◌, ◌++◌, length, take, drop}
 use borrow.Rule.Slice.PartMut.{put_mid}
 use Rattle.std.proofs.Common.{◌-◌, ◌⊎◌, inl, inr, zero, suc, Bor, sym, ap, refl, subst, length-append, append_assoc, append-nil, take-add, drop-drop}
 use Rattle.std.proofs.Math.ListN.{drop_of_length-le}

@@ -1,4 +1,4 @@
-use Rattle.std.proofs.Common.{arith, ◌≡◌, ◌∙◌, ◌<◌, ◌+◌, ◌⊎◌, inl, inr, ap, length, length-set, refl, sym}
+use Rattle.std.proofs.Common.{arith, ◌≡◌, ◌∙◌, ◌<◌, ◌+◌, ◌⊎◌, inl, inr, ap, length, refl, sym}
 use Rattle.git_pkt.specs.Packets.{longest_payload}
 use Rattle.gitwire.specs.declared.event_list.Extent.{Extent}
 use Rattle.gitwire.proofs.ListedEvents.{end_within, listed_more, nothing_listed, some_listed, stopped_full, stopped_none, stopped_turn}
