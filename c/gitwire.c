@@ -3,6 +3,9 @@
  * texts that last, and where the parts of an event and a payload are. Nothing here is proved. It is linked with libgitwire.a, whose calls `_init`,
  * `_clear`, `_words` and `_text` below are not in the header.
  */
+
+/* The calls that the header defines as well are defined here for whoever calls them. */
+#define GITWIRE_IN_PLACE
 #include <gitwire.h>
 
 #include <pthread.h>
@@ -283,29 +286,6 @@ void gitwire_repository_free(gitwire_repository *repository)
 	gitwire_repository_clear(&repository->handle);
 	pthread_mutex_destroy(&repository->lock);
 	drop_handle(repository);
-}
-
-const uint8_t *gitwire_payload(const gitwire_answer *packet, const uint8_t *chunk, const uint8_t *buffer)
-{
-	return packet->length <= packet->used ? chunk + (packet->used - packet->length) : buffer;
-}
-
-gitwire_text gitwire_event_part(const gitwire_event *event, gitwire_part part, const uint8_t *chunk, const uint8_t *buffer)
-{
-	const size_t lengths[] = { event->id_length, event->name_length, event->text_length, event->peeled_length };
-	const uint8_t *parts = event->kind == GITWIRE_PACK || event->kind == GITWIRE_PROGRESS ? chunk : buffer;
-	gitwire_text found = { NULL, 0 };
-	size_t before = 0;
-
-	if (part < GITWIRE_PART_ID || part > GITWIRE_PART_PEELED)
-		return found;
-	found.length = lengths[part - GITWIRE_PART_ID];
-	if (found.length == 0 && !(part == GITWIRE_PART_TEXT && event->has_text))
-		return found;
-	for (gitwire_part other = GITWIRE_PART_ID; other < part; other++)
-		before += lengths[other - GITWIRE_PART_ID];
-	found.at = (const char *)parts + event->offset + before;
-	return found;
 }
 
 void gitwire_version_text(gitwire_text *text);

@@ -27,6 +27,14 @@ extern "C" {
 #define GITWIRE_BOTH_LOOKED_AT
 #endif
 
+/*
+ * Two short calls are defined in the header as well, so that a compiler can put them in place: gitwire_payload and gitwire_event_part. The library
+ * has them like every other call, and a compiler that optimizes nothing, or has no such definitions, calls those.
+ */
+#if defined(__GNUC__) && !defined(GITWIRE_IN_PLACE)
+#define GITWIRE_IN_PLACE extern inline __attribute__((gnu_inline))
+#endif
+
 /* The version of the library with which this header is installed. */
 #define GITWIRE_VERSION "0.3.0"
 #define GITWIRE_VERSION_MAJOR 0

@@ -73,6 +73,38 @@ typedef enum gitwire_part {
 } gitwire_part;
 GITWIRE_LOOKED_AT
 gitwire_text gitwire_event_part(const gitwire_event *event, gitwire_part part, const uint8_t *chunk, const uint8_t *buffer);
+#ifdef GITWIRE_IN_PLACE
+GITWIRE_IN_PLACE gitwire_text gitwire_event_part(const gitwire_event *event, gitwire_part part, const uint8_t *chunk,
+	const uint8_t *buffer)
+{
+	const uint8_t *parts = event->kind == GITWIRE_PACK || event->kind == GITWIRE_PROGRESS ? chunk : buffer;
+	gitwire_text found = { NULL, 0 };
+	size_t before = 0;
+
+	switch (part) {
+	case GITWIRE_PART_ID:
+		found.length = event->id_length;
+		break;
+	case GITWIRE_PART_NAME:
+		before = event->id_length;
+		found.length = event->name_length;
+		break;
+	case GITWIRE_PART_TEXT:
+		before = event->id_length + event->name_length;
+		found.length = event->text_length;
+		break;
+	case GITWIRE_PART_PEELED:
+		before = event->id_length + event->name_length + event->text_length;
+		found.length = event->peeled_length;
+		break;
+	default:
+		break;
+	}
+	if (found.length > 0 || (part == GITWIRE_PART_TEXT && event->has_text))
+		found.at = (const char *)parts + event->offset + before;
+	return found;
+}
+#endif
 
 /*
  * Reads up to an event, the end of the chunk or the first error, whichever comes first: `used` is how many bytes it used.

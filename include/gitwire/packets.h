@@ -48,6 +48,12 @@ gitwire_answer gitwire_packet_reader_packets(gitwire_packet_reader *reader, cons
 /* Where the payload of a packet of the array is: in the chunk or in the buffer of that call. Its length is the packet's `length`. */
 GITWIRE_LOOKED_AT
 const uint8_t *gitwire_payload(const gitwire_answer *packet, const uint8_t *chunk, const uint8_t *buffer);
+#ifdef GITWIRE_IN_PLACE
+GITWIRE_IN_PLACE const uint8_t *gitwire_payload(const gitwire_answer *packet, const uint8_t *chunk, const uint8_t *buffer)
+{
+	return packet->length <= packet->used ? chunk + (packet->used - packet->length) : buffer;
+}
+#endif
 
 /*
  * Reports the end of the input. DONE between two packets, and nothing changes. FAILED inside a packet, with Truncated at the

@@ -1,5 +1,5 @@
 -- The events of an array, one call of `feed` after another.
-use Rattle.std.proofs.Common.{arith, ◌≡◌, ◌∙◌, ℕ, ◌+◌, ◌<◌, ◌≤◌, false, true, List, [], ◌∷◌, ◌++◌, length, take, drop, set}
+use Rattle.std.proofs.Common.{arith, ◌≡◌, ◌∙◌, ℕ, ◌+◌, ◌<◌, ◌≤◌, false, true, List, [], ◌∷◌, ◌++◌, length, take, drop}
 use borrow.Rule.Slice.PartMut.{put_mid}
 use Rattle.std.proofs.Common.{◌-◌, ◌⊎◌, inl, inr, zero, suc, Bor, sym, ap, refl, subst, length-append, append_assoc, append-nil, take-add, drop-drop}
 use Rattle.std.proofs.Math.ListN.{drop_of_length-le}
@@ -21,7 +21,7 @@ use Rattle.gitwire.specs.Buffers.{put_before}
 use Rattle.gitwire.specs.declared.answer.GitwireAnswer.{GitwireAnswer}
 use Rattle.gitwire.specs.declared.answer.What.TheVariants as What
 use Rattle.gitwire.specs.declared.event.GitwireEvent.{GitwireEvent}
-use Rattle.gitwire.specs.declared.event_list.Listed.{Listed}
+use Rattle.gitwire.specs.declared.event_list.Extent.{Extent}
 use Rattle.gitwire.proofs.FilledArrays.{filled_place}
 use Rattle.gitwire.proofs.FilledBuffers.{filled_more}
 use Rattle.gitwire.proofs.ShownLengths.{shown_fits}
@@ -128,24 +128,24 @@ nothing_listed old chunk events buffer = record {
 }
 
 pub listed_more : (old mid new : Client Global) (chunk : List ℕ) (events : List GitwireEvent) (buffer : List ℕ) (used count texts : ℕ)
-    (filled next : List GitwireEvent) (written : List ℕ) (then : List ℕ) (one : Listed)
+    (filled next : List GitwireEvent) (written : List ℕ) (then : List ℕ) (further : Extent)
     → ListedSoFar old chunk events buffer mid used count texts filled written → count < length events
-    → GivesEvent mid chunk used texts written one then new → next ≡ set filled count one.event
-    → ListedSoFar old chunk events buffer new one.event.used (count + 1) one.texts next then
-listed_more old mid new chunk events buffer used count texts filled next written then one h within gives sets =
-    let end : one.event.used ≡ used + gives.used = ap (λ (e : GitwireEvent). e.used) gives.event_is in
-    let e_is : one.event ≡ shown_at gives.event (used + gives.used) (length h.bytes) =
-    gives.event_is ∙ ap (shown_at gives.event (used + gives.used)) h.long in
-    let more : FeedsEach old chunk 0 [] (h.listed ++ one.event ∷ []) new (used + gives.used) (h.bytes ++ copied_of gives.event) =
-    feeds_more h.listed old mid new chunk 0 used [] h.bytes h.feeds gives.event gives.used one.event
+    → GivesEvent mid chunk used count texts filled written further next then new
+    → ListedSoFar old chunk events buffer new further.used further.count further.texts next then
+listed_more old mid new chunk events buffer used count texts filled next written then further h within gives =
+    let one = shown_at gives.event (used + gives.used) texts in
+    let e_is : one ≡ shown_at gives.event (used + gives.used) (length h.bytes) = ap (shown_at gives.event (used + gives.used)) h.long in
+    let more : FeedsEach old chunk 0 [] (h.listed ++ one ∷ []) new (used + gives.used) (h.bytes ++ copied_of gives.event) =
+    feeds_more h.listed old mid new chunk 0 used [] h.bytes h.feeds gives.event gives.used one
     (record { feeds = gives.feeds; lies = gives.lies; listed_is = e_is }) in
+    let used_is = ap (λ (e : Extent). e.used) gives.further_is in
     record {
-      listed = h.listed ++ one.event ∷ [];
+      listed = h.listed ++ one ∷ [];
       bytes = h.bytes ++ copied_of gives.event;
-      feeds = subst (λ (n : ℕ). FeedsEach old chunk 0 [] (h.listed ++ one.event ∷ []) new n (h.bytes ++ copied_of gives.event)) (sym end) more;
-      counts = omega (arith, h.counts, length-append h.listed (one.event ∷ []));
-      long = omega (arith, gives.texts_are, h.long, length-append h.bytes (copied_of gives.event));
-      events_are = filled_place events h.listed filled next count one.event h.counts within h.events_are sets;
+      feeds = subst (λ (n : ℕ). FeedsEach old chunk 0 [] (h.listed ++ one ∷ []) new n (h.bytes ++ copied_of gives.event)) (sym used_is) more;
+      counts = omega (arith, ap (λ (e : Extent). e.count) gives.further_is, h.counts, length-append h.listed (one ∷ []));
+      long = omega (arith, ap (λ (e : Extent). e.texts) gives.further_is, h.long, length-append h.bytes (copied_of gives.event));
+      events_are = filled_place events h.listed filled next count one h.counts within h.events_are gives.events_are;
       buffer_is = filled_more buffer h.bytes (copied_of gives.event) written then texts h.long h.buffer_is gives.buffer_is;
     }
 
@@ -206,11 +206,11 @@ stopped_full old last chunk events buffer used count texts answer filled written
 
 -- one more call gives no event
 pub stopped_none : (old last new : Client Global) (chunk : List ℕ) (events : List GitwireEvent) (buffer : List ℕ) (used count texts : ℕ)
-    (answer : GitwireAnswer) (filled : List GitwireEvent) (written then : List ℕ)
+    (answer : GitwireAnswer) (filled next : List GitwireEvent) (written then : List ℕ)
     → ListedSoFar old chunk events buffer last used count texts filled written
-    → count ≤ length events → texts ≤ length buffer → EndsHere last chunk used count written answer then new
-    → ListsEvents old chunk events buffer answer filled then new
-stopped_none old last new chunk events buffer used count texts answer filled written then h places fits here = record {
+    → count ≤ length events → texts ≤ length buffer → EndsHere last chunk used count filled written answer next then new
+    → ListsEvents old chunk events buffer answer next then new
+stopped_none old last new chunk events buffer used count texts answer filled next written then h places fits here = record {
   listed = h.listed;
   texts = h.bytes;
   end = used;
@@ -220,8 +220,8 @@ stopped_none old last new chunk events buffer used count texts answer filled wri
   within = here.1;
   count_fits = omega (arith, h.counts, places);
   texts_fit = omega (arith, h.long, fits);
-  events_are = h.events_are;
-  buffer_is = here.2 ∙ h.buffer_is;
+  events_are = here.2 ∙ h.events_are;
+  buffer_is = here.3 ∙ h.buffer_is;
 }
 
 -- there are events, where the texts have some bytes
@@ -230,7 +230,8 @@ some_listed zero texts begins some = absurd (some (begins refl))
 some_listed (suc count) texts begins some = omega arith
 
 -- an event ends in the chunk
-pub end_within : (old : Client Global) (chunk : List ℕ) (from texts : ℕ) (buffer : List ℕ) (listed : Listed) (written : List ℕ) (new : Client Global)
-    → GivesEvent old chunk from texts buffer listed written new → listed.event.used ≤ length chunk
-end_within old chunk from texts buffer listed written new gives =
-    omega (arith, ap (λ (e : GitwireEvent). e.used) gives.event_is, gives.within)
+pub end_within : (old : Client Global) (chunk : List ℕ) (from count texts : ℕ) (events : List GitwireEvent) (buffer : List ℕ) (further : Extent)
+    (filled : List GitwireEvent) (written : List ℕ) (new : Client Global)
+    → GivesEvent old chunk from count texts events buffer further filled written new → further.used ≤ length chunk
+end_within old chunk from count texts events buffer further filled written new gives =
+    omega (arith, ap (λ (e : Extent). e.used) gives.further_is, gives.within)

@@ -1,5 +1,5 @@
 -- Several events of one call of C: those that calls of `feed` give one after another.
-use Rattle.std.specs.Prelude.{◌≡◌, ℕ, ◌+◌, ◌<◌, ◌≤◌, ◌⊎◌, Bool, true, false, List, [], ◌∷◌, ◌++◌, length, take, drop}
+use Rattle.std.specs.Prelude.{◌≡◌, ℕ, ◌+◌, ◌<◌, ◌≤◌, ◌⊎◌, Bool, true, false, List, [], ◌∷◌, ◌++◌, length, take, drop, set}
 use Rattle.std.specs.Global.{Global}
 use Rattle.git_pkt.specs.Packets.{longest_payload}
 use Rattle.git_client.specs.Machine.Client.{can_ask, wants_input}
@@ -14,7 +14,7 @@ use Rattle.gitwire.specs.Buffers.{put_before}
 use Rattle.gitwire.specs.declared.answer.GitwireAnswer.{GitwireAnswer}
 use Rattle.gitwire.specs.declared.answer.What.TheVariants as What
 use Rattle.gitwire.specs.declared.event.GitwireEvent.{GitwireEvent}
-use Rattle.gitwire.specs.declared.event_list.Listed.{Listed}
+use Rattle.gitwire.specs.declared.event_list.Extent.{Extent}
 
 -- a call of `feed` on the bytes of the chunk from this place on gives this event, which is listed so, after events with these texts in the buffer;
 -- a client of any format chooses it first
@@ -82,20 +82,21 @@ pub record ListsInBuffer (old : Client Global) (chunk : List ℕ) (events : List
 abbrev pub ListsNothing : List GitwireEvent → List ℕ → GitwireAnswer → List GitwireEvent → List ℕ → Type 0
 ListsNothing events buffer answer filled written = (answer ≡ answering What.NoHandle) × (filled ≡ events) × (written ≡ buffer)
 
--- one call of `feed` on the bytes of the chunk from this place on gives an event, whose texts are written to the buffer after these many bytes
-pub record GivesEvent (old : Client Global) (chunk : List ℕ) (from texts : ℕ) (buffer : List ℕ) (listed : Listed) (written : List ℕ) (new : Client Global)
-    : Type 0 where
+-- one call of `feed` on the bytes of the chunk from this place on gives an event, which is shown in the array after so many others, and whose texts are
+-- written to the buffer after these many bytes
+pub record GivesEvent (old : Client Global) (chunk : List ℕ) (from count texts : ℕ) (events : List GitwireEvent) (buffer : List ℕ) (further : Extent)
+    (filled : List GitwireEvent) (written : List ℕ) (new : Client Global) : Type 0 where
   pub event : Event
   pub used : ℕ
   pub feeds : FeedsOn old (drop from chunk) (record { used = used; got = Got.Event event }) new
   pub within : from + used ≤ length chunk
   pub lies : LieInChunk (Got.Event event) (from + used) chunk
-  pub event_is : listed.event ≡ shown_at event (from + used) texts
-  pub texts_are : listed.texts ≡ texts + length (copied_of event)
-  pub texts_fit : listed.texts ≤ length buffer
+  pub further_is : further ≡ record { used = from + used; count = count + 1; texts = texts + length (copied_of event) }
+  pub texts_fit : further.texts ≤ length buffer
+  pub events_are : filled ≡ set events count (shown_at event (from + used) texts)
   pub buffer_is : written ≡ take texts buffer ++ copied_of event ++ drop (texts + length (copied_of event)) buffer
 
--- the same call gives none, and the buffer is unchanged
-abbrev pub EndsHere : Client Global → List ℕ → ℕ → ℕ → List ℕ → GitwireAnswer → List ℕ → Client Global → Type 0
-EndsHere old chunk from count buffer answer written new =
-    GivesNone old chunk from count answer new × (answer.used ≤ length chunk) × (written ≡ buffer)
+-- the same call gives none, and the array and the buffer are unchanged
+abbrev pub EndsHere : Client Global → List ℕ → ℕ → ℕ → List GitwireEvent → List ℕ → GitwireAnswer → List GitwireEvent → List ℕ → Client Global → Type 0
+EndsHere old chunk from count events buffer answer filled written new =
+    GivesNone old chunk from count answer new × (answer.used ≤ length chunk) × (filled ≡ events) × (written ≡ buffer)

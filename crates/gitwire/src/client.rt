@@ -115,7 +115,11 @@ fn feed(client: &mut Client<Global>, chunk: &[u8], buffer: &mut [u8]) -> Gitwire
     let arrived = client.feed(chunk, &mut Steps::new());
     match arrived.got {
         ReceivedGot::More => GitwireEvent::none(arrived.used, What::more(expected)),
-        ReceivedGot::Event(event) => list(event, arrived.used, buffer, 0).event,
+        ReceivedGot::Event(event) => {
+            let mut shown = GitwireEvent::none(arrived.used, What::More);
+            list(event, arrived.used, &mut shown, buffer, 0);
+            shown
+        }
         ReceivedGot::Failed(fault) => GitwireEvent::of_fault(arrived.used, fault),
     }
 }

@@ -3,10 +3,10 @@
 ghost use Rattle.std.specs.Prelude.{◌≡◌, ◌+◌, ◌-◌, ◌≤◌, ◌<◌, ◌++◌, ℕ, List, MatchResult, false, length, take, drop};
 ghost use Rattle.git_pkt.specs.Packets.{longest_payload};
 ghost use Rattle.gitwire.specs.Calls.{On};
-ghost use Rattle.git_client.specs.EventParts.{of_text};
+ghost use Rattle.git_client.specs.EventParts.{of_text, parts_shown};
 ghost use Rattle.git_client.specs.Machine.Client.{can_ask};
 ghost use Rattle.gitwire.specs.Answers.{answering_packet};
-ghost use Rattle.gitwire.specs.EventAnswers.{copied_of, passed_of, shown_at, announcing_parts};
+ghost use Rattle.gitwire.specs.EventAnswers.{announcing_parts, bytes_shown, copied_of, passed_of, shown_at};
 ghost use Rattle.gitwire.specs.EventLists.{EndsHere, GivesEvent, ListsEvents, ListsInBuffer, ListsNothing};
 ghost use Rattle.gitwire.specs.Handles.{client_in};
 
@@ -14,25 +14,18 @@ use crate::answer::{GitwireAnswer, What};
 use crate::client::LONGEST_PARTS;
 use crate::event::GitwireEvent;
 use crate::handles::{GitwireClient, Holds};
-use git_client::{Client, Event, EventKind, ReceivedGot};
+use git_client::{Client, Event, EventKind, EventParts, ReceivedGot};
 use git_names::Steps;
 use std::alloc::Global;
 
 /// How far a call has come.
 #[derive(Clone, Copy, Debug)]
-struct Extent {
+pub(crate) struct Extent {
     /// How many bytes of the chunk are used.
     used: usize,
     /// How many events are in the array.
     count: usize,
     /// How many bytes of the buffer their texts have.
-    texts: usize,
-}
-
-/// An event as it is shown, and how many bytes of the buffer the texts up to its end have.
-#[derive(Clone, Copy, Debug)]
-pub(crate) struct Listed {
-    pub(crate) event: GitwireEvent,
     texts: usize,
 }
 
@@ -92,14 +85,9 @@ fn fill_events(
         texts: 0,
     };
     while so_far.count < events.len() && LONGEST_PARTS <= buffer.len() - so_far.texts {
-        match next(client, chunk, so_far, buffer) {
-            Ok(listed) => {
-                events[so_far.count] = listed.event;
-                so_far = Extent {
-                    used: listed.event.used,
-                    count: so_far.count + 1,
-                    texts: listed.texts,
-                };
+        match next(client, chunk, so_far, events, buffer) {
+            Ok(further) => {
+                so_far = further;
                 if client.can_ask() {
                     return so_far.answer(What::CanAsk);
                 }
@@ -119,20 +107,23 @@ impl Extent {
     }
 }
 
-/// One call of `feed`, on the other bytes of the chunk: the event, or what is reported if there is none. The texts of the event are written to
-/// the buffer. A client of any format chooses it first.
+/// One call of `feed`, on the other bytes of the chunk: how far that came, or what is reported if there is no event. The event is shown at its place in
+/// the array, and its texts are written to the buffer. A client of any format chooses it first.
 #[inline(always)]
 fn next(
     client: &mut Client<Global>,
     chunk: &[u8],
     so_far: Extent,
+    events: &mut [GitwireEvent],
     buffer: &mut [u8],
-) -> Result<Listed, GitwireAnswer>
+) -> Result<Extent, GitwireAnswer>
     requires within { so_far.used ≤ length chunk.now }
+    requires place { so_far.count < length events.old }
     requires suffices { so_far.texts + longest_payload ≤ length buffer.old }
     requires goes_on { 0 < so_far.count → can_ask client.old ≡ false }
-    ensures { MatchResult result (λ listed. GivesEvent client.old chunk.now so_far.used so_far.texts buffer.old listed buffer.new client.new)
-        (λ answer. EndsHere client.old chunk.now so_far.used so_far.count buffer.old answer buffer.new client.new) }
+    ensures { MatchResult result
+        (λ further. GivesEvent client.old chunk.now so_far.used so_far.count so_far.texts events.old buffer.old further events.new buffer.new client.new)
+        (λ answer. EndsHere client.old chunk.now so_far.used so_far.count events.old buffer.old answer events.new buffer.new client.new) }
 {
     let expected = client.wants_input();
     client.choose_format();
@@ -142,7 +133,14 @@ fn next(
         ReceivedGot::More => {
             Err(GitwireAnswer::of_packet(used, 0, so_far.count, What::more(expected)))
         }
-        ReceivedGot::Event(event) => Ok(list(event, used, buffer, so_far.texts)),
+        ReceivedGot::Event(event) => {
+            let place = &mut events[so_far.count];
+            Ok(Extent {
+                used,
+                count: so_far.count + 1,
+                texts: list(event, used, place, buffer, so_far.texts),
+            })
+        }
         ReceivedGot::Failed(fault) => Err(GitwireAnswer {
             length: so_far.count,
             ..GitwireAnswer::of_fault(used, fault)
@@ -150,45 +148,66 @@ fn next(
     }
 }
 
-/// The event as it is shown, when so many bytes of the chunk are used. Its texts are written to the buffer from this place on.
+/// Shows the event at this place, when so many bytes of the chunk are used. Its texts are written to the buffer from `at` on. Returns how many bytes of
+/// the buffer are used up to their end.
 #[inline(always)]
-pub(crate) fn list(event: Event<'_>, used: usize, buffer: &mut [u8], at: usize) -> Listed
+pub(crate) fn list(
+    event: Event<'_>,
+    used: usize,
+    place: &mut GitwireEvent,
+    buffer: &mut [u8],
+    at: usize,
+) -> usize
     requires copied { at + length (copied_of event) ≤ length buffer.old }
     requires passed { length (passed_of event) ≤ used }
-    ensures event { result.event ≡ shown_at event.entry used at }
-    ensures texts { result.texts ≡ at + length (copied_of event.entry) }
+    ensures event { place.new ≡ shown_at event.entry used at }
+    ensures texts { result ≡ at + length (copied_of event.entry) }
     ensures buffer { buffer.new ≡ take at buffer.old ++ copied_of event.entry ++ drop (at + length (copied_of event.entry)) buffer.old }
 {
     match event {
-        Event::Pack(bytes) => list_passed(used, EventKind::Pack, bytes.len(), at),
-        Event::Progress(bytes) => list_passed(used, EventKind::Progress, bytes.len(), at),
-        _ => {
-            let event = GitwireEvent {
-                offset: at as u64,
-                ..GitwireEvent::of_parts(used, event.parts(), &mut buffer[at..])
-            };
-            let end = at
-                + event.id_length
-                + event.name_length
-                + event.text_length
-                + event.peeled_length;
-            Listed { event, texts: end }
+        Event::Pack(bytes) => {
+            *place = passed(used, EventKind::Pack, bytes.len());
+            at
         }
+        Event::Progress(bytes) => {
+            *place = passed(used, EventKind::Progress, bytes.len());
+            at
+        }
+        _ => list_texts(event.parts(), used, place, buffer, at),
     }
 }
 
-/// So many bytes, which are the last ones of the chunk that are used.
-fn list_passed(used: usize, kind: EventKind, count: usize, texts: usize) -> Listed
-    requires { count ≤ used }
-    ensures event { (bytes : List ℕ) → length bytes ≡ count
-        → result.event ≡ record (announcing_parts used (of_text kind bytes)) { offset = used - count } }
-    ensures texts { result.texts ≡ texts }
+/// The same for an event of these parts that has no bytes in the chunk. This is a call of its own, so that the loop over the bytes of a pack has the registers.
+#[inline(never)]
+fn list_texts(
+    parts: EventParts<'_>,
+    used: usize,
+    place: &mut GitwireEvent,
+    buffer: &mut [u8],
+    at: usize,
+) -> usize
+    requires { at + length (bytes_shown (parts_shown parts)) ≤ length buffer.old }
+    ensures event { place.new ≡ record (announcing_parts used (parts_shown parts.entry)) { offset = at } }
+    ensures texts { result ≡ at + length (bytes_shown (parts_shown parts.entry)) }
+    ensures buffer { buffer.new ≡ take at buffer.old ++ bytes_shown (parts_shown parts.entry)
+        ++ drop (at + length (bytes_shown (parts_shown parts.entry))) buffer.old }
 {
-    Listed {
-        event: GitwireEvent {
-            offset: (used - count) as u64,
-            ..GitwireEvent::of_bytes(used, kind, count)
-        },
-        texts,
+    let event = GitwireEvent {
+        offset: at as u64,
+        ..GitwireEvent::of_parts(used, parts, &mut buffer[at..])
+    };
+    *place = event;
+    at + event.id_length + event.name_length + event.text_length + event.peeled_length
+}
+
+/// An event of so many bytes, which are the last ones of the chunk that are used.
+fn passed(used: usize, kind: EventKind, count: usize) -> GitwireEvent
+    requires { count ≤ used }
+    ensures { (bytes : List ℕ) → length bytes ≡ count
+        → result ≡ record (announcing_parts used (of_text kind bytes)) { offset = used - count } }
+{
+    GitwireEvent {
+        offset: (used - count) as u64,
+        ..GitwireEvent::of_bytes(used, kind, count)
     }
 }

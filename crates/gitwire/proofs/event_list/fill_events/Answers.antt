@@ -1,5 +1,6 @@
-use Rattle.std.proofs.Common.{arith, ◌≡◌, ◌∙◌, ◌<◌, ◌+◌, ◌⊎◌, inl, inr, length, length-set, refl, slice_set, sym}
+use Rattle.std.proofs.Common.{arith, ◌≡◌, ◌∙◌, ◌<◌, ◌+◌, ◌⊎◌, inl, inr, ap, length, refl, sym}
 use Rattle.git_pkt.specs.Packets.{longest_payload}
+use Rattle.gitwire.specs.declared.event_list.Extent.{Extent}
 use Rattle.gitwire.proofs.ListedEvents.{end_within, listed_more, nothing_listed, some_listed, stopped_full, stopped_none, stopped_turn}
 use Rattle.gitwire.proofs.event_list.fill_events.Goals as goal
 use Rattle.gitwire.proofs.event_list.fill_events.Goals.{then-loop-so_far-test+else-buffer-so_far-ge-LONGEST_PARTS, else-loop-so_far-test}
@@ -16,21 +17,26 @@ loop-so_far-init c = record {
   turn = λ some. absurd (omega (arith, some));
 }
 
+pub next-requires-clause-place : goal.next-requires-clause-place
+next-requires-clause-place c = omega (arith, c.loop-so_far.invariant.same_places, c.loop-so_far-test.true)
+
 pub returns-then-can_ask : goal.returns-then-can_ask
 returns-then-can_ask c =
     let before = c.loop-so_far.invariant in
     let place : c.loop-so_far.so_far.count < length c.args.events.now = omega (arith, before.same_places, c.loop-so_far-test.true) in
+    let gives = c.in-Ok.ensures in
+    let further = c.in-Ok.further in
+    let counts = ap (λ (e : Extent). e.count) gives.further_is in
     let more =
     listed_more c.args.client.now c.loop-so_far.client c.next.new.client c.args.chunk.now c.args.events.now c.args.buffer.now c.loop-so_far.so_far.used
-    c.loop-so_far.so_far.count c.loop-so_far.so_far.texts c.loop-so_far.events
-    (slice_set c.loop-so_far.events c.loop-so_far.so_far.count c.in-Ok.listed.event)
-    c.loop-so_far.buffer c.next.new.buffer c.in-Ok.listed before.so_far place c.in-Ok.ensures refl in
-    stopped_turn c.args.client.now c.next.new.client c.args.chunk.now c.args.events.now c.args.buffer.now c.in-Ok.listed.event.used
-    (c.loop-so_far.so_far.count + 1) c.in-Ok.listed.texts c.answer.result _ c.next.new.buffer more
-    (end_within _ _ _ _ _ _ _ _ c.in-Ok.ensures)
-    (omega (arith, place))
-    (omega (arith, c.in-Ok.ensures.texts_fit, before.same_buffer))
-    (omega arith)
+    c.loop-so_far.so_far.count c.loop-so_far.so_far.texts c.loop-so_far.events c.next.new.events c.loop-so_far.buffer c.next.new.buffer further
+    before.so_far place gives in
+    stopped_turn c.args.client.now c.next.new.client c.args.chunk.now c.args.events.now c.args.buffer.now further.used
+    further.count further.texts c.answer.result c.next.new.events c.next.new.buffer more
+    (end_within _ _ _ _ _ _ _ _ _ _ _ gives)
+    (omega (arith, place, counts))
+    (omega (arith, gives.texts_fit, before.same_buffer))
+    (omega (arith, counts))
     (sym c.can_ask.ensures.value ∙ c.if-can_ask.true)
     c.answer.ensures
 
@@ -38,18 +44,19 @@ pub loop-so_far-preserved : goal.loop-so_far-preserved
 loop-so_far-preserved c =
     let before = c.loop-so_far.invariant in
     let place : c.loop-so_far.so_far.count < length c.args.events.now = omega (arith, before.same_places, c.loop-so_far-test.true) in
-    let filled = slice_set c.loop-so_far.events c.loop-so_far.so_far.count c.in-Ok.listed.event in
+    let gives = c.in-Ok.ensures in
+    let counts = ap (λ (e : Extent). e.count) gives.further_is in
     record {
-      within = end_within _ _ _ _ _ _ _ _ c.in-Ok.ensures;
-      same_places = length-set c.loop-so_far.events c.loop-so_far.so_far.count c.in-Ok.listed.event ∙ before.same_places;
+      within = end_within _ _ _ _ _ _ _ _ _ _ _ gives;
+      same_places = omega (arith, c.next.auto.events, before.same_places);
       same_buffer = omega (arith, c.next.auto.buffer, before.same_buffer);
-      count_fits = omega (arith, place);
-      texts_fit = omega (arith, c.in-Ok.ensures.texts_fit, before.same_buffer);
+      count_fits = omega (arith, place, counts);
+      texts_fit = omega (arith, gives.texts_fit, before.same_buffer);
       so_far =
           listed_more c.args.client.now c.loop-so_far.client c.next.new.client c.args.chunk.now c.args.events.now c.args.buffer.now c.loop-so_far.so_far.used
-          c.loop-so_far.so_far.count c.loop-so_far.so_far.texts c.loop-so_far.events filled
-          c.loop-so_far.buffer c.next.new.buffer c.in-Ok.listed before.so_far place c.in-Ok.ensures refl;
-      begins = λ none. absurd (omega (arith, none));
+          c.loop-so_far.so_far.count c.loop-so_far.so_far.texts c.loop-so_far.events c.next.new.events
+          c.loop-so_far.buffer c.next.new.buffer c.in-Ok.further before.so_far place gives;
+      begins = λ none. absurd (omega (arith, none, counts));
       turn = λ _. sym c.can_ask.ensures.value ∙ c.if-can_ask.false;
     }
 
@@ -57,7 +64,7 @@ pub returns-in-Err : goal.returns-in-Err
 returns-in-Err c =
     let before = c.loop-so_far.invariant in
     stopped_none c.args.client.now c.loop-so_far.client c.next.new.client c.args.chunk.now c.args.events.now c.args.buffer.now c.loop-so_far.so_far.used
-    c.loop-so_far.so_far.count c.loop-so_far.so_far.texts c.in-Err.answer c.loop-so_far.events c.loop-so_far.buffer c.next.new.buffer
+    c.loop-so_far.so_far.count c.loop-so_far.so_far.texts c.in-Err.answer c.loop-so_far.events c.next.new.events c.loop-so_far.buffer c.next.new.buffer
     before.so_far before.count_fits before.texts_fit c.in-Err.ensures
 
 pub returns : goal.returns

@@ -1,4 +1,4 @@
-use Rattle.std.proofs.Common.{arith, ◌≡◌, ◌∙◌, ◌≤◌, ◌+◌, ◌-◌, ℕ, List, ap, refl, subst, sym, take, drop, length}
+use Rattle.std.proofs.Common.{arith, ◌≡◌, ◌∙◌, ◌≤◌, ◌+◌, ◌-◌, ℕ, List, ap, refl, set, subst, sym, take, drop, length}
 use Rattle.std.proofs.lemmas.List.{take_rest}
 use Rattle.git_pkt.specs.Packets.{longest_payload}
 use Rattle.git_client.specs.Events.{all_parts_length}
@@ -56,6 +56,7 @@ returns-in-More c =
       ends_within c.args.chunk.now c.args.so_far.used c.feed-arrived.result.used _ c.feed-arrived.ensures.used c.requires.within
           (ap (λ (a : GitwireAnswer). a.used) answered),
       refl,
+      refl,
     )
 
 pub returns-in-Event : goal.returns-in-Event
@@ -79,8 +80,8 @@ returns-in-Event c =
       };
       within = ends_within c.args.chunk.now from used (from + used) c.feed-arrived.ensures.used c.requires.within refl;
       lies = lies_after c.in-Event.event from used c.args.chunk.now lies_there;
-      event_is = c.list.ensures.event;
-      texts_are = c.list.ensures.texts;
+      further_is = ap (λ (n : ℕ). record { used = from + used; count = c.args.so_far.count + 1; texts = n }) c.list.ensures.texts;
+      events_are = ap (set c.args.events.now c.args.so_far.count) c.list.ensures.event;
       texts_fit = texts_within c.args.so_far.texts _ _ _ _ c.list.ensures.texts (copied_fits c.in-Event.event) fits c.requires.suffices;
       buffer_is = c.list.ensures.buffer;
     }
@@ -104,5 +105,6 @@ returns-in-Failed c =
       },
       ends_within c.args.chunk.now c.args.so_far.used c.feed-arrived.result.used _ c.feed-arrived.ensures.used c.requires.within
           (ap (λ (a : GitwireAnswer). a.used) answered),
+      refl,
       refl,
     )
