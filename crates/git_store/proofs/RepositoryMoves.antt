@@ -203,11 +203,11 @@ boundary_over false r q t packets h is = h.ended
 -- whether the store is ready was reported where the request negotiates and may have a pack, as the repository answers
 ready_so : (alone able b : Bool) (reported r : Option Bool) (q : FetchAsked) (t : FetchFacts) (packets : List Pkt)
     → IsFetchAnswerWhere b r whole q t packets → b ≡ true → r ≡ (if alone then Some false else reported)
-    → ForSome reported (λ ready. ready ≡ able) → r ≡ Some (not alone && able)
+    → ForSome reported (λ reply. reply ≡ able) → r ≡ Some (not alone && able)
 ready_so true able true reported r q t packets h is from so = from
-ready_so false able true (Some ready) r q t packets h is from so = from ∙ ap Some (so ready refl)
+ready_so false able true (Some reply) r q t packets h is from so = from ∙ ap Some (so reply refl)
 ready_so false able true None None q t packets h is from so = absurd h
-ready_so false able true None (Some ready) q t packets h is from so = absurd (cc)
+ready_so false able true None (Some reply) q t packets h is from so = absurd (cc)
 ready_so alone able false reported r q t packets h is from so = absurd (cc)
 
 found_all : (refs : List Entry) (names : List (List ℕ)) (ids : List ObjectName) → map (found_ref refs) names ≡ map Some ids → AreFound refs names ids

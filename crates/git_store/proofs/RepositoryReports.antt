@@ -102,7 +102,7 @@ pub record FetchSoFar (repo : Repository) (at : ℕ) (q : FetchAsked) (a : Admis
   pub lines : IsFront t.boundary (repo.boundaries q)
   pub count : length t.boundary ≡ at
   pub all : t.boundary_ended ≡ true → t.boundary ≡ repo.boundaries q
-  pub ready : ForSome t.ready (λ ready. ready ≡ repo.is_ready q)
+  pub ready : ForSome t.ready (λ b. b ≡ repo.is_ready q)
   pub progress : t.progress ≡ []
 
 -- by the command
@@ -121,7 +121,7 @@ nothing_so_far repo (fetch q) = record {
   lines = (repo.boundaries q, refl);
   count = refl;
   all = λ is. absurd (cc);
-  ready = λ ready is. absurd (cc);
+  ready = λ b is. absurd (cc);
   progress = refl;
 }
 nothing_so_far repo (object_info q) = (map repo.object_size q.oids, refl)
@@ -226,7 +226,7 @@ module _ (repo : Repository) (rising : IsRising repo.refs) (at : ℕ) (named : B
           lines = h.lines;
           count = h.count;
           all = h.all;
-          ready = λ ready reported. let same : b ≡ ready = cc in sym same ∙ is;
+          ready = λ other reported. let same : b ≡ other = cc in sym same ∙ is;
           progress = h.progress;
         }))
     one_ready reply report is reports = absurd is
@@ -275,7 +275,7 @@ module _ (repo : Repository) (rising : IsRising repo.refs) (at : ℕ) (named : B
       lines = subst (λ (l : List Boundary). IsFront l (repo.boundaries q)) (sym lines) h.lines;
       count = ap length lines ∙ h.count;
       all = λ is. lines ∙ h.all (sym ended ∙ is);
-      ready = λ ready is. h.ready ready (sym able ∙ is);
+      ready = λ b is. h.ready b (sym able ∙ is);
       progress = quiet ∙ h.progress;
     }
 
